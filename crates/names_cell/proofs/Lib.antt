@@ -1,0 +1,4 @@
+pub mod ComponentLemmas
+pub mod Fronts
+pub mod Lasts
+pub mod Lines

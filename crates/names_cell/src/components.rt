@@ -1,0 +1,87 @@
+//! Components of names.
+ghost use Rattle.std.specs.Prelude.{◌≡◌, Some, Ok, Err, true, nat_eq, if◌then◌else◌};
+ghost use Rattle.std.specs.Cmp.{partial_equiv_from_equiv};
+ghost use Rattle.std.specs.Cmp.Lexicographic.{pointwise, nat_list_eq_equiv};
+ghost use Rattle.plain.specs.Results.{Gives};
+ghost use Rattle.names_cell.specs.Text.{is_component};
+
+use crate::faults::NameFault;
+use crate::grammar;
+use plain::Same;
+use std::alloc::{AllocError, Global};
+use std::fmt;
+use std::marker::Model;
+
+/// One component of a name, 1 to 64 bytes: it also names a cell, and an ACL. To a contract, its bytes.
+#[derive(Debug, Drop)]
+pub struct Component {
+    text: String,
+}
+
+impl Model for Component {
+    ghost use Rattle.std.specs.Prelude.{◌≡◌, List, ℕ, true, string_bytes};
+    ghost use Rattle.names_cell.specs.Text.{is_component};
+
+    ghost Value = { List ℕ };
+
+    ghost view = { λ a. string_bytes a.text };
+
+    ghost invariant = { λ a. is_component (string_bytes a.text) ≡ true };
+}
+
+impl Component {
+    /// Reads a component.
+    pub fn parse(alloc: Global, text: &str) -> Result<Component, NameFault>
+        ensures { Gives NameFault.NoMemory result (if is_component text.now then Ok text.now else Err NameFault.BadName) }
+    {
+        if !grammar::is_component(text.as_bytes()) {
+            return Err(NameFault::BadName);
+        }
+        Ok(Component {
+            text: text.to_string(alloc)?,
+        })
+    }
+
+    pub fn as_str(&self) -> &str
+        ensures text { result.now ≡ self.now }
+        ensures component { is_component self.now ≡ true }
+    {
+        self.text.as_str()
+    }
+}
+
+impl fmt::Display for Component {
+    ghost output = { λ n. Some n };
+
+    fn fmt<W: fmt::Write>(&self, f: &mut fmt::Formatter<W>) -> fmt::Result {
+        f.write_str(self.as_str())
+    }
+}
+
+impl Clone for Component {
+    ghost is_clone = { λ s t. t ≡ s };
+
+    fn clone(&self) -> Result<Component, AllocError> {
+        Ok(Component {
+            text: self.text.clone()?,
+        })
+    }
+}
+
+impl Same for Component {
+    ghost exact = { λ x y h. h };
+}
+
+impl PartialEq for Component {
+    ghost eq = { pointwise nat_eq };
+
+    ghost laws = { partial_equiv_from_equiv nat_list_eq_equiv };
+
+    fn eq(&self, other: &Component) -> bool {
+        self.text == other.text
+    }
+}
+
+impl Eq for Component {
+    ghost laws = { nat_list_eq_equiv };
+}

@@ -1,0 +1,15 @@
+//! Base types that contracts see as plain lists, so that two values with the same contents are equal in a proof.
+#![tactic(auto)]
+
+mod clones;
+mod contents;
+mod lists;
+mod tables;
+
+pub use clones::Same;
+pub use contents::Bytes;
+pub use lists::Items;
+pub use tables::Table;
+
+#[cfg(test)]
+mod tests;

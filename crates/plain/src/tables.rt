@@ -1,0 +1,95 @@
+//! A map that contracts see as the list of its entries.
+ghost use Rattle.std.specs.Prelude.{◌≡◌, ◌==◌, List, [], length, IfOk, IfErr, OnOk, OnErr, Some, None};
+ghost use Rattle.std.specs.Option.{option_copied};
+ghost use Rattle.std.specs.Map.{lookup, remove_entry, set_value};
+ghost use Rattle.std.specs.BTreeMap.{is_at, insert_entry};
+
+use crate::clones::Same;
+use std::alloc::{AllocError, Global};
+use std::collections::BTreeMap;
+use std::marker::Model;
+use std::mem;
+
+/// A map. To a contract it is the list of its entries in the order of the keys.
+#[derive(Drop)]
+pub struct Table<K: Ord, V> {
+    map: BTreeMap<K, V>,
+}
+
+impl<K: Ord, V> Model for Table<K, V> {
+    ghost use Rattle.std.specs.Prelude.{List};
+
+    ghost Value = { List (K × V) };
+
+    ghost view = { λ a. a.map.entries };
+}
+
+impl<K: Ord, V> Table<K, V> {
+    /// No entries; takes no memory yet.
+    pub fn new(alloc: Global) -> Table<K, V>
+        ensures { result ≡ [] }
+    {
+        Table {
+            map: BTreeMap::new(alloc),
+        }
+    }
+
+    /// The value of a key: one look-up in the tree.
+    pub fn get(&self, key: &K) -> Option<&V>
+        ensures { option_copied result ≡ lookup (is_at (K.cmp key.now)) self.now }
+    {
+        self.map.get(key)
+    }
+
+    /// The entries, for loops and chains.
+    pub fn as_map(&self) -> &BTreeMap<K, V>
+        ensures { result.now.entries ≡ self.now }
+    {
+        &self.map
+    }
+}
+
+impl<K: Ord + Drop, V: Drop> Table<K, V> {
+    /// Sets the value of a key, and gives the one before.
+    pub fn put(&mut self, key: K, value: V) -> Result<Option<V>, AllocError>
+        ensures former { IfOk result (λ former. former ≡ lookup (is_at (K.cmp key)) self.old) }
+        ensures ok { OnOk result (self.new ≡ insert_entry K.cmp self.old key value) }
+        ensures err { OnErr result (self.new ≡ self.old) }
+    {
+        Ok(self.map.insert(key, value)?)
+    }
+
+    /// Sets the value of a key that is there, which takes no memory. Where it isn't there the value comes back.
+    pub fn replace(&mut self, key: &K, value: V) -> Result<V, V>
+        ensures found { IfOk result (λ former. lookup (is_at (K.cmp key.now)) self.old ≡ Some former) }
+        ensures set { OnOk result (self.new ≡ set_value (is_at (K.cmp key.now)) self.old value) }
+        ensures absent { IfErr result (λ back. (lookup (is_at (K.cmp key.now)) self.old ≡ None) × (back ≡ value) × (self.new ≡ self.old)) }
+    {
+        match self.map.get_mut(key) {
+            Some(slot) => Ok(mem::replace(slot, value)),
+            None => Err(value),
+        }
+    }
+
+    /// Removes a key, and gives its value.
+    pub fn remove(&mut self, key: &K) -> Option<V>
+        ensures former { result ≡ lookup (is_at (K.cmp key.now)) self.old }
+        ensures removed { self.new ≡ remove_entry (is_at (K.cmp key.now)) self.old }
+    {
+        self.map.remove(key)
+    }
+}
+
+impl<K: Ord + Same, V: Same> Clone for Table<K, V> {
+    ghost is_clone = { λ s t. t ≡ s };
+
+    fn clone(&self) -> Result<Table<K, V>, AllocError> {
+        Ok(Table {
+            map: self.map.clone()?,
+        })
+    }
+}
+
+impl<K: Ord + Same, V: Same> Same for Table<K, V> {
+    ghost exact = { λ x y h. h };
+}
