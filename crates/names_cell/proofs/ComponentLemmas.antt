@@ -65,3 +65,9 @@ acl_file_is_name cell acl c a =
     let s = slice_split_at is_slash cell 47 (97 ∷ 99 ∷ 108 ∷ 47 ∷ acl) (no_slash cell c) refl in
     let n = slice_split_none is_slash acl (no_slash acl a) in
     rw e (rw (s, c, n, a) refl)
+
+pub root_is_name : (cell : List ℕ) → is_component cell ≡ true → is_name (codes "/ls/" ++ cell) ≡ true
+root_is_name cell c =
+    let n = length_of cell c in
+    let e = le-leb (length (codes "/ls/" ++ cell)) 512 (omega arith) in
+    rw e (rw (slice_split_none is_slash cell (no_slash cell c), c) refl)

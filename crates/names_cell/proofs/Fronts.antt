@@ -11,7 +11,7 @@ onto_front : {X : Type 0} (x : X) (part : List X) (parts back : List (List X)) �
 onto_front x part parts back = refl
 
 -- there is always a first part
-first_part : (bs : List ℕ) → (part : List ℕ) × (parts : List (List ℕ)) × (slice_split is_slash bs ≡ part ∷ parts)
+pub first_part : (bs : List ℕ) → (part : List ℕ) × (parts : List (List ℕ)) × (slice_split is_slash bs ≡ part ∷ parts)
 first_part [] = ([], [], refl)
 first_part (b ∷ bs) =
     let t = first_part bs in
@@ -19,11 +19,11 @@ first_part (b ∷ bs) =
     [ true ↦ ([], slice_split is_slash bs, refl) | false ↦ (b ∷ t.0, t.1, ap (onto_first b) t.2) ]
 
 -- what was put in front, read back
-put_none : (b : ℕ) (o : Option (List ℕ)) → put_front b o ≡ None → (o ≡ None) × (eqb b 47 ≡ false)
+pub put_none : (b : ℕ) (o : Option (List ℕ)) → put_front b o ≡ None → (o ≡ None) × (eqb b 47 ≡ false)
 put_none b (Some f) h = cc
 put_none b None h = (refl, grind (arith, nat_tests))
 
-put_some : (b : ℕ) (o : Option (List ℕ)) (f : List ℕ) → put_front b o ≡ Some f → ((g : List ℕ) × (o ≡ Some g) × (f ≡ b ∷ g)) ⊎ ((o ≡ None) × (eqb b 47 ≡ true) × (f ≡ []))
+pub put_some : (b : ℕ) (o : Option (List ℕ)) (f : List ℕ) → put_front b o ≡ Some f → ((g : List ℕ) × (o ≡ Some g) × (f ≡ b ∷ g)) ⊎ ((o ≡ None) × (eqb b 47 ≡ true) × (f ≡ []))
 put_some b (Some g) f h = inl (g, refl, cc)
 put_some b None f h =
     let P : Bool → Type 0 = λ v. cond v (Some []) None ≡ Some f → (v ≡ true) × (f ≡ []) in
@@ -31,7 +31,7 @@ put_some b None f h =
     inr (refl, t.0, t.1)
 
 -- with no slash there is one part
-one_part : (bs : List ℕ) → front_of bs ≡ None → slice_split is_slash bs ≡ bs ∷ []
+pub one_part : (bs : List ℕ) → front_of bs ≡ None → slice_split is_slash bs ≡ bs ∷ []
 one_part [] h = refl
 one_part (b ∷ bs) h = let p = put_none b (front_of bs) h in rw (p.1, one_part bs p.0) refl
 

@@ -2,3 +2,4 @@ pub mod ComponentLemmas
 pub mod Fronts
 pub mod Lasts
 pub mod Lines
+pub mod Parts

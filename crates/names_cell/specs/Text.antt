@@ -48,6 +48,10 @@ cell_of name = before_first is_slash (drop 4 name)
 abbrev pub is_child : List ℕ → List ℕ → Bool
 is_child name parent = option_map_or (λ front. bytes_eq front parent) (parent_of name) false
 
+-- the root of a cell
+abbrev pub root_of : List ℕ → List ℕ
+root_of cell = codes "/ls/" ++ cell
+
 -- where the ACL of this name stands in the cell of the other
 abbrev pub acl_file_of : List ℕ → List ℕ → List ℕ
 acl_file_of name acl = codes "/ls/" ++ (cell_of name ++ (codes "/acl/" ++ acl))

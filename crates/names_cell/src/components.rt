@@ -1,5 +1,5 @@
 //! Components of names.
-ghost use Rattle.std.specs.Prelude.{◌≡◌, Some, Ok, Err, true, nat_eq, if◌then◌else◌};
+ghost use Rattle.std.specs.Prelude.{◌≡◌, Some, Ok, Err, true, nat_eq, if◌then◌else◌, IfOk};
 ghost use Rattle.std.specs.Cmp.{partial_equiv_from_equiv};
 ghost use Rattle.std.specs.Cmp.Lexicographic.{pointwise, nat_list_eq_equiv};
 ghost use Rattle.plain.specs.Results.{Gives};
@@ -37,6 +37,16 @@ impl Component {
         if !grammar::is_component(text.as_bytes()) {
             return Err(NameFault::BadName);
         }
+        Ok(Component {
+            text: text.to_string(alloc)?,
+        })
+    }
+
+    // A text that is known to be a component.
+    pub(crate) fn known(alloc: Global, text: &str) -> Result<Component, AllocError>
+        requires { is_component text.now ≡ true }
+        ensures { IfOk result (λ c. c ≡ text.now) }
+    {
         Ok(Component {
             text: text.to_string(alloc)?,
         })

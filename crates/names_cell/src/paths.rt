@@ -6,7 +6,7 @@ ghost use Rattle.std.specs.Cmp.{partial_equiv_from_equiv};
 ghost use Rattle.std.specs.Cmp.Lexicographic.{slice_cmp, pointwise, nat_list_eq_equiv, nat_list_cmp_total, texts_ties, texts_po};
 ghost use Rattle.std.specs.Ordering.{nat_cmp};
 ghost use Rattle.plain.specs.Results.{Gives};
-ghost use Rattle.names_cell.specs.Text.{is_component, is_name, is_slash, parent_of, is_child, cell_of, last_of, acl_file_of};
+ghost use Rattle.names_cell.specs.Text.{is_component, is_name, is_slash, parent_of, is_child, cell_of, last_of, root_of, acl_file_of};
 
 use crate::components::Component;
 use crate::faults::NameFault;
@@ -55,6 +55,16 @@ impl Name {
         self.text.as_str()
     }
 
+    /// The root of a cell: `/ls/` and the cell.
+    pub fn root(alloc: Global, cell: &Component) -> Result<Name, AllocError>
+        ensures { IfOk result (λ root. root ≡ root_of cell.now) }
+    {
+        let cell = cell.as_str();
+        Ok(Name {
+            text: format!(in alloc; "/ls/{cell}")?,
+        })
+    }
+
     /// The name without its last component; the root, `/ls/` and the cell, has none.
     pub fn parent(&self) -> Result<Option<Name>, AllocError>
         ensures { IfOk result (λ p. p ≡ parent_of self.now) }
@@ -79,6 +89,13 @@ impl Name {
         ensures last { result.now ≡ last_of self.now }
     {
         grammar::last_of(self.as_str())
+    }
+
+    /// The last component, as a value of its own; of the root it is the cell.
+    pub fn last_component(&self) -> Result<Component, AllocError>
+        ensures { IfOk result (λ last. last ≡ last_of self.now) }
+    {
+        Component::known(*self.text.allocator(), grammar::last_of(self.path()))
     }
 
     /// Whether it is the root of its cell.

@@ -113,10 +113,12 @@ fn parts_of_a_name(rt: HostRuntime) -> Result<(), Fail> {
 
 #[test]
 fn root_of_a_cell(rt: HostRuntime) -> Result<(), Fail> {
-    let root = Name::parse(rt.alloc(), "/ls/c")?;
+    let root = Name::root(rt.alloc(), &Component::parse(rt.alloc(), "c")?)?;
+    assert!(rt; root == Name::parse(rt.alloc(), "/ls/c")?);
     assert!(rt; root.is_root());
     assert!(rt; root.parent()?.is_none());
     assert_eq!(rt; root.last(), "c");
+    assert_eq!(rt; root.last_component()?.as_str(), "c");
     let acl = Component::parse(rt.alloc(), "base")?;
     let file = root.acl_file(&acl)?;
     let shown = format!(in rt.alloc(); "{file}")?;

@@ -4,11 +4,13 @@
 mod clones;
 mod contents;
 mod lists;
+mod secrets;
 mod tables;
 
 pub use clones::Same;
 pub use contents::Bytes;
 pub use lists::Items;
+pub use secrets::Secret;
 pub use tables::Table;
 
 #[cfg(test)]

@@ -2,6 +2,7 @@
 ghost use Rattle.std.specs.Prelude.{◌≡◌, ◌==◌, List, [], length, IfOk, IfErr, OnOk, OnErr, Some, None};
 ghost use Rattle.std.specs.Option.{option_copied};
 ghost use Rattle.std.specs.Map.{lookup, remove_entry, set_value};
+ghost use Rattle.std.specs.Map.Calls.{CalledAtPair, TakesPair, CallableOnEachPair, RetainsPairs};
 ghost use Rattle.std.specs.BTreeMap.{is_at, insert_entry};
 
 use crate::clones::Same;
@@ -77,6 +78,15 @@ impl<K: Ord + Drop, V: Drop> Table<K, V> {
         ensures removed { self.new ≡ remove_entry (is_at (K.cmp key.now)) self.old }
     {
         self.map.remove(key)
+    }
+
+    /// Keeps the entries at which the test answers yes, which takes no memory. The test is called once at each entry,
+    /// in the order of the keys.
+    pub fn retain<F: FnMut(&K, &mut V) -> bool>(&mut self, test: F)
+        requires { CallableOnEachPair (CalledAtPair F.FnMut) (TakesPair F.FnMut) test self.old }
+        ensures { RetainsPairs (CalledAtPair F.FnMut) test self.old self.new }
+    {
+        self.map.retain(test);
     }
 }
 

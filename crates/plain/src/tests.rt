@@ -1,5 +1,5 @@
 //! Each public call once on its happy path: that memory is there is what no clause says.
-use crate::{Bytes, Items, Table};
+use crate::{Bytes, Items, Secret, Table};
 use std::test::Fail;
 
 #[test]
@@ -43,6 +43,9 @@ fn table_of_numbers(rt: HostRuntime) -> Result<(), Fail> {
     assert_eq!(rt; table.get(&2), None);
     assert_eq!(rt; copy.get(&2).copied(), Some(21));
     assert_eq!(rt; copy.as_map().len(), 2);
+    let mut even = copy;
+    even.retain(|key, _| *key % 2 == 0);
+    assert_eq!(rt; even.as_map().len(), 1);
     Ok(())
 }
 
@@ -55,5 +58,15 @@ fn bytes_are_shared(rt: HostRuntime) -> Result<(), Fail> {
     assert_eq!(rt; copy.as_slice(), b"abc".as_slice());
     assert_eq!(rt; copy.len(), 3);
     assert!(rt; Bytes::copy_of(rt.alloc(), b"")?.is_empty());
+    Ok(())
+}
+
+#[test]
+fn secret_is_not_shown(rt: HostRuntime) -> Result<(), Fail> {
+    let secret = Secret::new([7; 32]);
+    let copy = secret.clone()?;
+    assert_eq!(rt; copy.as_bytes(), [7; 32].as_slice());
+    let shown = format!(in rt.alloc(); "{copy:?}")?;
+    assert_eq!(rt; shown.as_str(), "Secret");
     Ok(())
 }

@@ -1,0 +1,60 @@
+-- The rows, what edits make of them, and the map that they hold.
+use Rattle.std.specs.Prelude.{ℕ, not, ◌==◌, List, [], ◌∷◌, Option, Some, None, map, filter}
+use Rattle.std.specs.Option.{option_map_or}
+use Rattle.std.specs.Map.{lookup, remove_entry, set_value}
+use Rattle.std.specs.BTreeMap.{is_at, insert_entry}
+use Rattle.std.specs.Cmp.Lexicographic.{slice_cmp}
+use Rattle.std.specs.Ordering.{nat_cmp}
+use Rattle.node_core.specs.Nodes.{Nodes}
+use Rattle.rows_cell.specs.declared.tables.Node.{Node}
+use Rattle.rows_cell.specs.declared.tables.Session.{Session}
+use Rattle.rows_cell.specs.declared.tables.LockRow.{LockRow}
+use Rattle.rows_cell.specs.declared.keys.LockKey.{LockKey}
+use Rattle.rows_cell.specs.declared.tables.Rows.{Rows}
+use Rattle.rows_cell.specs.declared.tables.Edit.{Edit}
+use Rattle.rows_cell.specs.declared.tables.Edit.TheVariants.{Epoch, NextInstance, PutNode, LockGeneration, RemoveNode, PutSession, PutLock, RemoveLock}
+use Rattle.rows_cell.specs.Keys.{lock_order}
+
+-- entries of names and stored nodes
+abbrev pub StoredNodes : Type 0
+StoredNodes = List (List ℕ × Node)
+
+abbrev pub StoredLocks : Type 0
+StoredLocks = List (LockKey × LockRow)
+
+abbrev pub stored_node : StoredNodes → List ℕ → Option Node
+stored_node nodes name = lookup (is_at (slice_cmp nat_cmp name)) nodes
+
+-- the views of stored nodes
+abbrev pub views_of : StoredNodes → Nodes
+views_of nodes = map (λ e. (e.0, e.1.view)) nodes
+
+-- the map of names to nodes that the rows hold: the nodes without their locks' generations
+abbrev pub map_of : Rows → Nodes
+map_of rows = views_of rows.nodes
+
+-- the locks of all other nodes
+abbrev pub without_locks_of : Option Node → StoredLocks → StoredLocks
+without_locks_of None locks = locks
+without_locks_of (Some node) locks = filter (λ e. not (e.0.instance == node.view.instance)) locks
+
+abbrev pub at_generation : StoredNodes → List ℕ → Option Node → ℕ → StoredNodes
+at_generation nodes name None generation = nodes
+at_generation nodes name (Some node) generation = set_value (is_at (slice_cmp nat_cmp name)) nodes (record node { lock_generation = generation })
+
+-- the rows after one edit
+abbrev pub edited : Rows → Edit → Rows
+edited rows (Epoch epoch) = record rows { epoch = epoch }
+edited rows (NextInstance next) = record rows { next_instance = next }
+edited rows (PutNode name node) = record rows { nodes = insert_entry (slice_cmp nat_cmp) rows.nodes name node }
+edited rows (LockGeneration name generation) = record rows { nodes = at_generation rows.nodes name (stored_node rows.nodes name) generation }
+edited rows (RemoveNode name) =
+    record rows { nodes = remove_entry (is_at (slice_cmp nat_cmp name)) rows.nodes; locks = without_locks_of (stored_node rows.nodes name) rows.locks }
+edited rows (PutSession client session) = record rows { sessions = insert_entry nat_cmp rows.sessions client session }
+edited rows (PutLock key row) = record rows { locks = insert_entry lock_order rows.locks key row }
+edited rows (RemoveLock key) = record rows { locks = remove_entry (is_at (lock_order key)) rows.locks }
+
+-- the rows after a change: its edits, in order
+abbrev pub changed_rows : Rows → List Edit → Rows
+changed_rows rows [] = rows
+changed_rows rows (edit ∷ edits) = changed_rows (edited rows edit) edits

@@ -1,0 +1,14 @@
+//! What outlives a master: the rows of a cell, and who keeps them.
+#![tactic(auto)]
+
+mod keys;
+mod lists;
+mod records;
+mod settings;
+mod tables;
+
+pub use keys::LockKey;
+pub use lists::ListRecords;
+pub use records::{Records, StoreFault};
+pub use settings::{Settings, SettingsFault};
+pub use tables::{Edit, LockRow, LockState, Node, Rows, Session};
