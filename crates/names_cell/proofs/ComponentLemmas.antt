@@ -1,5 +1,5 @@
 -- Components, and names that are made of them.
-use Rattle.std.proofs.Common.{◌≡◌, ℕ, suc, ◌+◌, ◌≤◌, List, [], ◌∷◌, ◌++◌, length, take, Bool, true, false, cond, refl, sym, ap, ◌∙◌, arith, length-append}
+use Rattle.std.proofs.Common.{◌≡◌, ℕ, suc, ◌+◌, ◌≤◌, List, [], ◌∷◌, ◌++◌, length, take, Bool, true, false, cond, refl, sym, ap, ◌∙◌, arith, length-append, Some, None}
 use Rattle.std.specs.Prelude.{not, nat_le, ◌&&◌, codes}
 use Rattle.std.specs.List.{list_all, slice_split, onto_first, before_first, position_or_len, All}
 use Rattle.std.specs.Str.{bytes_eq}
@@ -7,7 +7,7 @@ use Rattle.std.proofs.lemmas.List.Sums.{AllPass-from_list_all}
 use Rattle.std.proofs.lemmas.List.Splits.{slice_split_none, slice_split_at}
 use Rattle.std.proofs.lemmas.Bool.Decides.{nat_tests}
 use Rattle.std.proofs.lemmas.Bool.{le-leb}
-use Rattle.names_cell.specs.Text.{is_component, is_component_byte, is_slash, is_name}
+use Rattle.names_cell.specs.Text.{is_component, is_component_byte, is_slash, is_name, front_of, parent_of, cell_of, root_of}
 
 both : (a b : Bool) → (a && b) ≡ true → (a ≡ true) × (b ≡ true)
 both true b h = (refl, h)
@@ -71,3 +71,45 @@ root_is_name cell c =
     let n = length_of cell c in
     let e = le-leb (length (codes "/ls/" ++ cell)) 512 (omega arith) in
     rw e (rw (slice_split_none is_slash cell (no_slash cell c), c) refl)
+
+-- a text without a slash stands before its first slash
+all_before : (bs : List ℕ) → list_all is_component_byte bs ≡ true → before_first is_slash bs ≡ bs
+all_before [] h = refl
+all_before (b ∷ bs) h =
+    let t = both (is_component_byte b) (list_all is_component_byte bs) h in
+    let n : ℕ = position_or_len is_slash bs in
+    let e : is_slash b ≡ false = byte_no_slash b t.0 in
+    rw e (front_more b n bs ∙ ap (λ f. b ∷ f) (all_before bs t.1))
+
+before_joined : (bs more : List ℕ) → list_all is_component_byte bs ≡ true → before_first is_slash (bs ++ 47 ∷ more) ≡ bs
+before_joined [] more h = refl
+before_joined (b ∷ bs) more h =
+    let t = both (is_component_byte b) (list_all is_component_byte bs) h in
+    let n : ℕ = position_or_len is_slash (bs ++ 47 ∷ more) in
+    let e : is_slash b ≡ false = byte_no_slash b t.0 in
+    rw e (front_more b n (bs ++ 47 ∷ more) ∙ ap (λ f. b ∷ f) (before_joined bs more t.1))
+
+no_front : (bs : List ℕ) → list_all is_component_byte bs ≡ true → front_of bs ≡ None
+no_front [] h = refl
+no_front (b ∷ bs) h =
+    let t = both (is_component_byte b) (list_all is_component_byte bs) h in
+    let e : is_slash b ≡ false = byte_no_slash b t.0 in
+    rw (no_front bs t.1, e) refl
+
+front_joined : (front last : List ℕ) → front_of last ≡ None → front_of (front ++ 47 ∷ last) ≡ Some front
+front_joined [] last h = rw h refl
+front_joined (b ∷ front) last h = rw (front_joined front last h) refl
+
+-- the cell of a cell's root, and of what stands below it
+pub cell_of_root : (cell : List ℕ) → is_component cell ≡ true → cell_of (root_of cell) ≡ cell
+cell_of_root cell c = all_before cell (parts_of_component cell c).bytes
+
+pub cell_of_below : (cell more : List ℕ) → is_component cell ≡ true → cell_of (root_of cell ++ 47 ∷ more) ≡ cell
+cell_of_below cell more c = before_joined cell more (parts_of_component cell c).bytes
+
+pub no_parent_of_root : (cell : List ℕ) → is_component cell ≡ true → parent_of (root_of cell) ≡ None
+no_parent_of_root cell c = rw (no_front cell (parts_of_component cell c).bytes) refl
+
+-- a name and a component behind it
+pub parent_of_joined : (front last : List ℕ) → is_component last ≡ true → parent_of (codes "/ls/" ++ (front ++ 47 ∷ last)) ≡ Some (codes "/ls/" ++ front)
+parent_of_joined front last c = rw (front_joined front last (no_front last (parts_of_component last c).bytes)) refl

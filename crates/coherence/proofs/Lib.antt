@@ -1,0 +1,10 @@
+pub mod Members
+pub mod Invariant
+pub mod Time
+pub mod Epochs
+pub mod Rights
+pub mod Views
+pub mod Old
+pub mod Runs
+pub mod Joint
+pub mod Example

@@ -1,0 +1,14 @@
+//! A client's lease by its own clock: whether it still runs, and which of two ends later.
+//!
+//! Nothing here takes memory, and every call succeeds. Moments and spans are whole milliseconds below 2^53.
+#![tactic(auto)]
+
+mod clock;
+mod laws;
+mod lease;
+#[cfg(test)]
+mod tests;
+
+pub use clock::Clock;
+pub use laws::better_lasts_longer;
+pub use lease::{Lease, MOMENT_LIMIT};
