@@ -3,3 +3,4 @@ pub mod Fronts
 pub mod Lasts
 pub mod Lines
 pub mod Parts
+pub mod Subtrees

@@ -52,6 +52,14 @@ is_child name parent = option_map_or (λ front. bytes_eq front parent) (parent_o
 abbrev pub root_of : List ℕ → List ℕ
 root_of cell = codes "/ls/" ++ cell
 
+-- one name lies below another, at any depth: it begins with the other and a slash
+abbrev pub is_under : List ℕ → List ℕ → Bool
+is_under name top = starts_with nat_eq name (top ++ codes "/")
+
+-- the least name that a child may have, since a dash is the least byte of a component; a name of more than 510 bytes has no room for a child
+abbrev pub first_child_of : List ℕ → Option (List ℕ)
+first_child_of name = if nat_le (length name) 510 then Some (name ++ codes "/-") else None
+
 -- where the ACL of this name stands in the cell of the other
 abbrev pub acl_file_of : List ℕ → List ℕ → List ℕ
 acl_file_of name acl = codes "/ls/" ++ (cell_of name ++ (codes "/acl/" ++ acl))

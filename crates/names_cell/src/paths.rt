@@ -6,7 +6,7 @@ ghost use Rattle.std.specs.Cmp.{partial_equiv_from_equiv};
 ghost use Rattle.std.specs.Cmp.Lexicographic.{slice_cmp, pointwise, nat_list_eq_equiv, nat_list_cmp_total, texts_ties, texts_po};
 ghost use Rattle.std.specs.Ordering.{nat_cmp};
 ghost use Rattle.plain.specs.Results.{Gives};
-ghost use Rattle.names_cell.specs.Text.{is_component, is_name, is_slash, parent_of, is_child, cell_of, last_of, root_of, acl_file_of};
+ghost use Rattle.names_cell.specs.Text.{is_component, is_name, is_slash, parent_of, is_child, is_under, first_child_of, cell_of, last_of, root_of, acl_file_of};
 
 use crate::components::Component;
 use crate::faults::NameFault;
@@ -113,6 +113,30 @@ impl Name {
             Some(front) => front == parent.path(),
             None => false,
         }
+    }
+
+    /// Whether it lies below the other name, at any depth. Takes no memory.
+    pub fn is_under(&self, top: &Name) -> bool
+        ensures { result ≡ is_under self.now top.now }
+    {
+        let top = top.as_str().as_bytes();
+        match self.as_str().as_bytes().strip_prefix(top) {
+            Some(rest) => rest.starts_with(b"/"),
+            None => false,
+        }
+    }
+
+    /// The least name, in order of bytes, that a child of this one can have; none where there is no room for a child.
+    pub fn first_child(&self) -> Result<Option<Name>, AllocError>
+        ensures { IfOk result (λ first. first ≡ first_child_of self.now) }
+    {
+        if self.text.len() > 510 {
+            return Ok(None);
+        }
+        let path = self.path();
+        Ok(Some(Name {
+            text: format!(in *self.text.allocator(); "/ls/{path}/-")?,
+        }))
     }
 
     /// The file of an ACL in this name's cell: `/ls/`, the cell, `/acl/` and the ACL's name.

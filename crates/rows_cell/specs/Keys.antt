@@ -1,5 +1,5 @@
 -- The order of the keys of locks.
-use Rattle.std.specs.Prelude.{ℕ, Ordering, Bool}
+use Rattle.std.specs.declared.cmp.Ordering.{Ordering}
 use Rattle.std.specs.Ordering.{nat_cmp, ordering_then}
 use Rattle.rows_cell.specs.declared.keys.LockKey.{LockKey}
 

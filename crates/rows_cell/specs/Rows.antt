@@ -6,8 +6,8 @@ use Rattle.std.specs.BTreeMap.{is_at, insert_entry}
 use Rattle.std.specs.Cmp.Lexicographic.{slice_cmp}
 use Rattle.std.specs.Ordering.{nat_cmp}
 use Rattle.node_core.specs.Nodes.{Nodes}
+use Rattle.node_core.specs.declared.views.View.{View}
 use Rattle.rows_cell.specs.declared.tables.Node.{Node}
-use Rattle.rows_cell.specs.declared.tables.Session.{Session}
 use Rattle.rows_cell.specs.declared.tables.LockRow.{LockRow}
 use Rattle.rows_cell.specs.declared.keys.LockKey.{LockKey}
 use Rattle.rows_cell.specs.declared.tables.Rows.{Rows}
@@ -42,11 +42,16 @@ abbrev pub at_generation : StoredNodes → List ℕ → Option Node → ℕ → 
 at_generation nodes name None generation = nodes
 at_generation nodes name (Some node) generation = set_value (is_at (slice_cmp nat_cmp name)) nodes (record node { lock_generation = generation })
 
+-- with another view at a name: the generation of the node's lock stays, and that of a new node is 0
+abbrev pub put_view : StoredNodes → List ℕ → View → StoredNodes
+put_view nodes name view =
+    insert_entry (slice_cmp nat_cmp) nodes name (record { view = view; lock_generation = option_map_or (λ node. node.lock_generation) (stored_node nodes name) 0 })
+
 -- the rows after one edit
 abbrev pub edited : Rows → Edit → Rows
 edited rows (Epoch epoch) = record rows { epoch = epoch }
 edited rows (NextInstance next) = record rows { next_instance = next }
-edited rows (PutNode name node) = record rows { nodes = insert_entry (slice_cmp nat_cmp) rows.nodes name node }
+edited rows (PutNode name view) = record rows { nodes = put_view rows.nodes name view }
 edited rows (LockGeneration name generation) = record rows { nodes = at_generation rows.nodes name (stored_node rows.nodes name) generation }
 edited rows (RemoveNode name) =
     record rows { nodes = remove_entry (is_at (slice_cmp nat_cmp name)) rows.nodes; locks = without_locks_of (stored_node rows.nodes name) rows.locks }

@@ -12,3 +12,6 @@ pub use lists::ListRecords;
 pub use records::{Records, StoreFault};
 pub use settings::{Settings, SettingsFault};
 pub use tables::{Edit, LockRow, LockState, Node, Rows, Session};
+
+#[cfg(test)]
+mod tests;

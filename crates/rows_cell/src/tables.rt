@@ -1,12 +1,16 @@
 //! The rows, and the edits of them.
-ghost use Rattle.std.specs.Prelude.{◌≡◌, IfOk, OnOk};
-ghost use Rattle.rows_cell.specs.Rows.{edited, changed_rows};
+ghost use Rattle.std.specs.Prelude.{◌≡◌, ◌==◌, not, filter, IfOk, OnOk};
+ghost use Rattle.std.specs.Map.{remove_entry};
+ghost use Rattle.std.specs.BTreeMap.{is_at};
+ghost use Rattle.std.specs.Cmp.Lexicographic.{slice_cmp};
+ghost use Rattle.std.specs.Ordering.{nat_cmp};
+ghost use Rattle.rows_cell.specs.Rows.{edited, changed_rows, map_of, stored_node, put_view, at_generation, without_locks_of};
 
 use crate::keys::LockKey;
 use names_cell::{Component, Name, Principal};
-use node_core::View;
+use node_core::{Map, View};
 use plain::{Items, Same, Secret, Table};
-use std::alloc::AllocError;
+use std::alloc::{AllocError, Global};
 
 /// A node as it is stored: what is seen of it, and the generation of its lock.
 #[derive(Debug, Drop)]
@@ -113,7 +117,8 @@ impl Same for Rows {
 pub enum Edit {
     Epoch(u64),
     NextInstance(u64),
-    PutNode(Name, Node),
+    /// The generation of its lock stays; that of a new node is 0.
+    PutNode(Name, View),
     /// Of the node of this name, where it is there.
     LockGeneration(Name, u64),
     /// With its locks.
@@ -122,4 +127,97 @@ pub enum Edit {
     PutSession(u64, Session),
     PutLock(LockKey, LockRow),
     RemoveLock(LockKey),
+}
+
+impl Rows {
+    /// Does one edit. Where memory is refused the rows may have any form.
+    fn edit(&mut self, edit: &Edit) -> Result<(), AllocError>
+        ensures ok { OnOk result (self.new ≡ edited self.old edit.now) }
+    {
+        match edit {
+            Edit::Epoch(epoch) => self.epoch = *epoch,
+            Edit::NextInstance(next) => self.next_instance = *next,
+            Edit::PutNode(name, view) => self.put_node(name, view)?,
+            Edit::LockGeneration(name, generation) => self.set_generation(name, *generation)?,
+            Edit::RemoveNode(name) => self.remove_node(name),
+            Edit::PutSession(client, session) => {
+                self.sessions.put(*client, session.clone()?)?;
+            }
+            Edit::PutLock(key, row) => {
+                self.locks.put(*key, *row)?;
+            }
+            Edit::RemoveLock(key) => {
+                self.locks.remove(key);
+            }
+        }
+        Ok(())
+    }
+
+    /// The map of names to nodes that the rows hold.
+    pub fn map(&self, alloc: Global) -> Result<Map, AllocError>
+        ensures { IfOk result (λ map. map ≡ map_of self.now) }
+    {
+        let stored = self.nodes.as_map();
+        let _count = stored.len();
+        let mut map = Map::new(alloc);
+        for (name, node) in stored {
+            map.set(name.clone()?, node.view.clone()?)?;
+        }
+        Ok(map)
+    }
+
+    fn put_node(&mut self, name: &Name, view: &View) -> Result<(), AllocError>
+        ensures ok { OnOk result (self.new ≡ record self.old { nodes = put_view self.old.nodes name.now view.now }) }
+    {
+        let lock_generation = match self.nodes.get(name) {
+            Some(node) => node.lock_generation,
+            None => 0,
+        };
+        let node = Node {
+            view: view.clone()?,
+            lock_generation,
+        };
+        self.nodes.put(name.clone()?, node)?;
+        Ok(())
+    }
+
+    fn set_generation(&mut self, name: &Name, generation: u64) -> Result<(), AllocError>
+        ensures ok { OnOk result (self.new ≡ record self.old { nodes = at_generation self.old.nodes name.now (stored_node self.old.nodes name.now) generation }) }
+    {
+        let Some(node) = self.nodes.get(name) else {
+            return Ok(());
+        };
+        let node = Node {
+            view: node.view.clone()?,
+            lock_generation: generation,
+        };
+        let _ = self.nodes.replace(name, node);
+        Ok(())
+    }
+
+    fn remove_node(&mut self, name: &Name)
+        ensures { self.new ≡ record self.old { nodes = remove_entry (is_at (slice_cmp nat_cmp name.now)) self.old.nodes; locks = without_locks_of (stored_node self.old.nodes name.now) self.old.locks } }
+    {
+        if let Some(node) = self.nodes.remove(name) {
+            remove_locks_of(&mut self.locks, node.view.instance);
+        }
+    }
+
+    /// The rows after a change, which are a copy: it costs what copying all rows costs.
+    pub(crate) fn after(&self, change: &[Edit]) -> Result<Rows, AllocError>
+        ensures { IfOk result (λ rows. rows ≡ changed_rows self.now change.now) }
+    {
+        let mut rows = self.clone()?;
+        for edit in change {
+            rows.edit(edit)?;
+        }
+        Ok(rows)
+    }
+}
+
+// Keeps the locks of all other nodes.
+fn remove_locks_of(locks: &mut Table<LockKey, LockRow>, instance: u64)
+    ensures { locks.new ≡ filter (λ e. not (e.0.instance == instance)) locks.old }
+{
+    locks.retain(|key, _| key.instance != instance);
 }

@@ -1,0 +1,83 @@
+//! The master in memory.
+use crate::pending::{Kept, Pending};
+use names_cell::Component;
+use node_core::Map;
+use plain::{Items, Table};
+use rows_cell::{Rows, Session};
+use std::alloc::{AllocError, Global};
+use std::marker::Model;
+use tags_cell::ClientNumber;
+
+/// How many changes may wait at once.
+pub const PENDING_LIMIT: usize = 4096;
+
+/// Moments end below 2^53, in milliseconds.
+pub const MOMENT_LIMIT: u64 = 0x20_0000_0000_0000;
+
+/// A master in memory: what it read from the rows when it came up and has committed since, the changes that wait, and
+/// the last call of each client. It commits nothing by itself.
+#[derive(Drop)]
+pub struct Cell {
+    pub(crate) alloc: Global,
+    pub(crate) name: Component,
+    pub(crate) epoch: u64,
+    pub(crate) next_instance: u64,
+    pub(crate) map: Map,
+    pub(crate) sessions: Table<u64, Session>,
+    pub(crate) queue: Items<Pending>,
+    pub(crate) kept: Table<ClientNumber, Kept>,
+    pub(crate) clock: u64,
+    pub(crate) lease: u64,
+}
+
+impl Model for Cell {
+    ghost use Rattle.cell_core.specs.State.{MasterState};
+
+    ghost Value = { MasterState };
+
+    ghost view = { λ c. record {
+      name = c.name;
+      epoch = c.epoch;
+      next_instance = c.next_instance;
+      nodes = c.map;
+      sessions = c.sessions;
+      queue = c.queue;
+      kept = c.kept;
+      clock = c.clock;
+      lease = c.lease;
+    } };
+}
+
+impl Cell {
+    ghost use Rattle.std.specs.Prelude.{◌≡◌, IfOk};
+    ghost use Rattle.cell_core.specs.State.{master_of};
+
+    /// A master that comes up with these rows, with its lease and the moment in milliseconds: nothing waits, and it
+    /// knows of no call.
+    pub fn of_rows(alloc: Global, rows: Rows, lease: u64, now: u64) -> Result<Cell, AllocError>
+        ensures { IfOk result (λ cell. cell ≡ master_of rows lease now) }
+    {
+        let map = rows.map(alloc)?;
+        let Rows {
+            cell,
+            secret: _,
+            epoch,
+            next_instance,
+            nodes: _,
+            sessions,
+            locks: _,
+        } = rows;
+        Ok(Cell {
+            alloc,
+            name: cell,
+            epoch,
+            next_instance,
+            map,
+            sessions,
+            queue: Items::new(alloc),
+            kept: Table::new(alloc),
+            clock: now,
+            lease,
+        })
+    }
+}

@@ -1,0 +1,90 @@
+//! What a master keeps of calls, and what a step of it answers.
+ghost use Rattle.std.specs.Prelude.{◌≡◌};
+
+use names_cell::Principal;
+use node_core::Line;
+use plain::{Items, Same};
+use std::alloc::AllocError;
+use tags_cell::{Call, CallResult, ClientNumber, MessageNumber, Out};
+
+/// What a change that waits will do.
+#[derive(Debug, Drop)]
+pub enum Work {
+    /// A Start: it commits the client's session.
+    Starts(Principal),
+    /// A call that may change the map.
+    Calls(Call),
+}
+
+impl Clone for Work {
+    ghost is_clone = { λ s t. t ≡ s };
+
+    fn clone(&self) -> Result<Work, AllocError> {
+        Ok(match self {
+            Work::Starts(principal) => Work::Starts(principal.clone()?),
+            Work::Calls(call) => Work::Calls(call.clone()?),
+        })
+    }
+}
+
+impl Same for Work {
+    ghost exact = { λ x y h. h };
+}
+
+/// A change that waits for its turn (Burrows 2006, section 2.7: a modification is held until every cache has let go).
+#[derive(Debug, Drop)]
+pub struct Pending {
+    pub client: ClientNumber,
+    /// The number of the Start or of the call.
+    pub number: MessageNumber,
+    pub work: Work,
+}
+
+impl Clone for Pending {
+    ghost is_clone = { λ s t. t ≡ s };
+
+    fn clone(&self) -> Result<Pending, AllocError> {
+        Ok(Pending {
+            client: self.client,
+            number: self.number,
+            work: self.work.clone()?,
+        })
+    }
+}
+
+impl Same for Pending {
+    ghost exact = { λ x y h. h };
+}
+
+/// The last call of a client, and its result once there is one: the same call gets it again.
+#[derive(Debug, Drop)]
+pub struct Kept {
+    pub number: MessageNumber,
+    /// None while the call waits.
+    pub result: Option<CallResult>,
+}
+
+impl Clone for Kept {
+    ghost is_clone = { λ s t. t ≡ s };
+
+    fn clone(&self) -> Result<Kept, AllocError> {
+        Ok(Kept {
+            number: self.number,
+            result: match &self.result {
+                Some(result) => Some(result.clone()?),
+                None => None,
+            },
+        })
+    }
+}
+
+impl Same for Kept {
+    ghost exact = { λ x y h. h };
+}
+
+/// What a step prints and sends.
+#[derive(Debug, Drop)]
+pub struct Taken {
+    pub lines: Items<Line>,
+    pub outs: Items<Out>,
+}

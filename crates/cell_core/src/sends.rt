@@ -1,0 +1,111 @@
+//! What a master sends, and the tests of who may call.
+ghost use Rattle.std.specs.Prelude.{◌≡◌, [], IfOk};
+ghost use Rattle.cell_core.specs.Step.{refusal, turned_away, reply, repeated, may_start, is_live, is_full};
+
+use crate::cells::{Cell, PENDING_LIMIT};
+use crate::pending::{Kept, Taken};
+use names_cell::Principal;
+use node_core::{Fault, Line};
+use plain::Items;
+use std::alloc::AllocError;
+use tags_cell::{CallResult, ClientNumber, MessageNumber, Out, Refused, Reply};
+
+impl Cell {
+    // What is sent and printed, and not recorded.
+    pub(crate) fn refusal(
+        &self,
+        client: ClientNumber,
+        number: MessageNumber,
+        fault: Fault,
+    ) -> Result<Taken, AllocError>
+        ensures { IfOk result (λ taken. taken ≡ refusal self.now client number fault) }
+    {
+        let mut taken = self.turned_away(client, number, fault)?;
+        taken.lines.push(Line::Refused(fault))?;
+        Ok(taken)
+    }
+
+    // What is sent, and neither printed nor recorded.
+    pub(crate) fn turned_away(
+        &self,
+        client: ClientNumber,
+        number: MessageNumber,
+        fault: Fault,
+    ) -> Result<Taken, AllocError>
+        ensures { IfOk result (λ taken. taken ≡ turned_away self.now client number fault) }
+    {
+        let epoch = self.epoch;
+        let mut taken = self.nothing();
+        taken.outs.push(Out::Refused(Refused {
+            client,
+            epoch,
+            number,
+            fault,
+        }))?;
+        Ok(taken)
+    }
+
+    // The reply to a call.
+    pub(crate) fn reply_of(
+        &self,
+        client: ClientNumber,
+        number: MessageNumber,
+        answer: &CallResult,
+    ) -> Result<Taken, AllocError>
+        ensures { IfOk result (λ taken. taken ≡ reply self.now client number answer.now) }
+    {
+        let epoch = self.epoch;
+        let mut taken = self.nothing();
+        taken.outs.push(Out::Reply(Reply {
+            client,
+            epoch,
+            number,
+            result: answer.clone()?,
+        }))?;
+        Ok(taken)
+    }
+
+    // The result of the last call again, or nothing while it waits.
+    pub(crate) fn repeated(&self, client: ClientNumber, kept: &Kept) -> Result<Taken, AllocError>
+        ensures { IfOk result (λ taken. taken ≡ repeated self.now client kept.now) }
+    {
+        match &kept.result {
+            Some(answer) => self.reply_of(client, kept.number, answer),
+            None => Ok(self.nothing()),
+        }
+    }
+
+    pub(crate) fn nothing(&self) -> Taken
+        ensures lines { result.lines ≡ [] }
+        ensures outs { result.outs ≡ [] }
+    {
+        Taken {
+            lines: Items::new(self.alloc),
+            outs: Items::new(self.alloc),
+        }
+    }
+
+    pub(crate) fn may_start(&self, client: ClientNumber, principal: &Principal) -> bool
+        ensures { result ≡ may_start self.now client principal.now }
+    {
+        match self.sessions.get(&client.get()) {
+            None => true,
+            Some(session) => session.live && session.principal == *principal,
+        }
+    }
+
+    pub(crate) fn is_live(&self, client: ClientNumber) -> bool
+        ensures { result ≡ is_live self.now client }
+    {
+        match self.sessions.get(&client.get()) {
+            None => false,
+            Some(session) => session.live,
+        }
+    }
+
+    pub(crate) fn is_full(&self) -> bool
+        ensures { result ≡ is_full self.now }
+    {
+        self.queue.len() >= PENDING_LIMIT
+    }
+}

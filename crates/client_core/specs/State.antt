@@ -1,0 +1,53 @@
+-- What a client is, and when it is.
+use Rattle.std.specs.Prelude.{◌≡◌, ◌≢◌, ℕ, ◌+◌, ◌<◌, ◌≤◌, ◌^◌, nat_lt, max, List, [], Option, Some, None, Result, Ok, Err, if◌then◌else◌}
+use Rattle.node_core.specs.declared.refusals.Fault.{Fault}
+use Rattle.node_core.specs.declared.refusals.Fault.TheVariants as faults
+use Rattle.tags_cell.specs.declared.calls.Handle.{Handle}
+use Rattle.tags_cell.specs.declared.requests.Request.{Request}
+use Rattle.client_core.specs.declared.sessions.Session.{Session}
+use Rattle.client_core.specs.declared.sessions.Session.TheVariants as sessions
+
+pub record ClientState : Type 0 where
+  pub number : ℕ
+  pub principal : List ℕ
+  -- the moment that it noted last, in milliseconds
+  pub clock : ℕ
+  -- the number of its newest Start, 0 before the first
+  pub starts : ℕ
+  pub session : Session
+  -- the number of its newest call, 0 before the first
+  pub calls : ℕ
+  -- the message of the call that has no reply yet
+  pub outstanding : Option Request
+  -- its handles by its own numbers for them
+  pub handles : List (ℕ × Handle)
+  -- the newest of these numbers, 0 before the first
+  pub opened : ℕ
+
+-- a client that has done nothing yet
+abbrev pub new_client : ℕ → List ℕ → ClientState
+new_client number principal =
+    record { number = number; principal = principal; clock = 0; starts = 0; session = sessions.Unstarted; calls = 0; outstanding = None; handles = []; opened = 0 }
+
+abbrev pub count_of : Option Request → ℕ
+count_of None = 0
+count_of (Some message) = 1
+
+-- messages are numbered up to 2^63-1; each handle came of a call of its own that has ended
+pub record IsWithin (starts calls opened : ℕ) (outstanding : Option Request) : Type 0 where
+  pub last_start : starts < 2 ^ 63
+  pub last_call : calls < 2 ^ 63
+  pub ended_calls : opened + count_of outstanding ≤ calls
+
+-- the moment that is noted: an earlier one counts as the last one, and none is 2^53 or later
+abbrev pub moment : ℕ → ℕ → Result ℕ Fault
+moment clock now = if nat_lt now (2 ^ 53) then Ok (max clock now) else Err faults.Exhausted
+
+-- the client at a moment
+abbrev pub at_moment : ClientState → ℕ → ClientState
+at_moment s noted = record s { clock = noted }
+
+-- a method does the step, with its new state and its answer; or memory ran out, and nothing changed
+abbrev pub Does : {X : Type 0} → ClientState → ClientState → Result X Fault → ClientState × Result X Fault → Type 0
+Does old new (Ok x) step = step ≡ (new, Ok x)
+Does old new (Err fault) step = (fault ≢ faults.NoMemory → step ≡ (new, Err fault)) × (fault ≡ faults.NoMemory → new ≡ old)

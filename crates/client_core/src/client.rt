@@ -1,0 +1,328 @@
+//! A client.
+ghost use Rattle.std.specs.Prelude.{◌≡◌, ◌≢◌, ◌==◌, ◌&&◌, ◌∷◌, [], ◌^◌, ◌<◌, nat_lt, Option, Some, None, Ok, Err, IsSome, OnOk, OnErr, IfOk, IfErr};
+ghost use Rattle.std.specs.Option.{option_copied};
+ghost use Rattle.plain.specs.Results.{Gives};
+ghost use Rattle.client_core.specs.State.{new_client, moment, Does};
+ghost use Rattle.client_core.specs.Asks.{ask_step, call_to_send, call_of, handle_of, send_step};
+ghost use Rattle.client_core.specs.Beats.{beat_step, start_step};
+ghost use Rattle.client_core.specs.Gives.{give_step, taken_own, taken, start_taken, is_awaited, is_for, is_live_in, answer_of, ended, reply_step, refused_step};
+
+use crate::asks::{Ask, Asked};
+use crate::sessions::Session;
+use names_cell::Principal;
+use node_core::{Answer, Fault, Line};
+use plain::{Items, Table};
+use std::alloc::{AllocError, Global};
+use std::marker::Model;
+use tags_cell::{
+    Call, CallMessage, CallResult, ClientNumber, Handle, MessageNumber, Out, Refused, Reply,
+    Request, Start, Started,
+};
+
+/// Every moment is below this many milliseconds: 2^53.
+const MOMENT_LIMIT: u64 = 0x20_0000_0000_0000;
+
+/// A client of a cell (Burrows 2006, section 2.7): its session, its handles, and its call that has no reply yet. To a
+/// contract, the record of these.
+///
+/// Each of `ask`, `give` and `beat` first notes the time, in milliseconds by the client's own clock: a moment that is
+/// earlier than the last one counts as that, and one of 2^53 or more is refused as Exhausted and changes nothing. Where
+/// memory runs out nothing changes either, not even the noted time.
+///
+/// What isn't there yet: a lease and what ends with it, a cache, Beats, events, and a change of the master's epoch.
+#[derive(Drop)]
+pub struct Client {
+    alloc: Global,
+    number: ClientNumber,
+    principal: Principal,
+    clock: u64,
+    starts: u64,
+    session: Session,
+    calls: u64,
+    outstanding: Option<Request>,
+    handles: Table<u64, Handle>,
+    opened: u64,
+}
+
+impl Model for Client {
+    ghost use Rattle.client_core.specs.State.{ClientState, IsWithin};
+
+    ghost Value = { ClientState };
+
+    ghost view = { λ c. record {
+      number = c.number;
+      principal = c.principal;
+      clock = c.clock;
+      starts = c.starts;
+      session = c.session;
+      calls = c.calls;
+      outstanding = c.outstanding;
+      handles = c.handles;
+      opened = c.opened;
+    } };
+
+    ghost invariant = { λ c. IsWithin c.starts c.calls c.opened c.outstanding };
+}
+
+impl Client {
+    /// A client without a session, its clock at 0. Takes no memory yet. A number is used by one client alone, which is
+    /// the caller's to see to.
+    pub fn new(alloc: Global, number: ClientNumber, principal: Principal) -> Client
+        ensures { result ≡ new_client number principal }
+    {
+        Client {
+            alloc,
+            number,
+            principal,
+            clock: 0,
+            starts: 0,
+            session: Session::Unstarted,
+            calls: 0,
+            outstanding: None,
+            handles: Table::new(alloc),
+            opened: 0,
+        }
+    }
+
+    /// Asks for a call. Refused, in this order: without a session as NoSession, and where it was lost as SessionExpired;
+    /// for a handle number that isn't open as BadHandle; while a call is outstanding as CallOutstanding; behind the last
+    /// call number, 2^63-1, as Exhausted. The last of these changes nothing, and the others note the time alone.
+    #[tactic(auto, unfolding(crate::specs::Asks::ask_step))]
+    pub fn ask(&mut self, now: u64, asked: &Ask) -> Result<Asked, Fault>
+        ensures { Does self.old self.new result (ask_step self.old now asked.now) }
+    {
+        let moment = self.moment(now)?;
+        match self.call_to_send(asked) {
+            Ok((epoch, call)) => self.send(moment, epoch, call),
+            Err(Fault::NoMemory) => Err(Fault::NoMemory),
+            Err(fault) => {
+                self.clock = moment;
+                Err(fault)
+            }
+        }
+    }
+
+    /// Asks for what keeps the session: a Start under the next number until the client has a session, and then nothing
+    /// more, also where the session is lost. (Beats come with leases.) Behind the last number, 2^63-1, it is refused as
+    /// Exhausted, and nothing changes.
+    #[tactic(auto, unfolding(crate::specs::Beats::beat_step))]
+    pub fn beat(&mut self, now: u64) -> Result<Option<Request>, Fault>
+        ensures { Does self.old self.new result (beat_step self.old now) }
+    {
+        let moment = self.moment(now)?;
+        match self.session {
+            Session::Unstarted => self.start(moment),
+            Session::Live(_) | Session::Lost | Session::TurnedAway => {
+                self.clock = moment;
+                Ok(None)
+            }
+        }
+    }
+
+    /// Gives the client a message of a master, and answers the lines that are printed.
+    ///
+    /// A Started gives it the session that its newest Start asked for. A Reply ends the outstanding call, if it is for
+    /// that call and of the client's epoch; a handle gets the client's next number for it, and none is given out twice.
+    /// A refusal as NoSession, unless it is of an earlier epoch, ends the session. Every other message changes nothing
+    /// but the noted time: a repeated one, one of another epoch, another refusal, and one for another client, which
+    /// can't come where messages are delivered to those that they name.
+    #[tactic(auto, unfolding(crate::specs::Gives::give_step))]
+    pub fn give(&mut self, now: u64, out: &Out) -> Result<Items<Line>, Fault>
+        ensures { Does self.old self.new result (give_step self.old now out.now) }
+    {
+        let before = self.clock;
+        self.clock = self.moment(now)?;
+        match self.take(out) {
+            Ok(lines) => Ok(lines),
+            Err(_) => {
+                self.clock = before;
+                Err(Fault::NoMemory)
+            }
+        }
+    }
+
+    /// The outstanding call's message, as it was sent, to be sent again; None where no call is outstanding.
+    pub fn again(&self) -> Option<&Request>
+        ensures { option_copied result ≡ self.now.outstanding }
+    {
+        self.outstanding.as_ref()
+    }
+
+    // The moment that is noted.
+    fn moment(&self, now: u64) -> Result<u64, Fault>
+        ensures { result ≡ moment self.now.clock now }
+    {
+        if now < MOMENT_LIMIT {
+            Ok(self.clock.max(now))
+        } else {
+            Err(Fault::Exhausted)
+        }
+    }
+
+    // The call that may be sent now, and its epoch.
+    fn call_to_send(&self, asked: &Ask) -> Result<(u64, Call), Fault>
+        ensures { Gives Fault.NoMemory result (call_to_send self.now asked.now) }
+    {
+        let epoch = self.session.epoch()?;
+        let Some(call) = self.call_of(asked)? else {
+            return Err(Fault::BadHandle);
+        };
+        if self.outstanding.is_some() {
+            return Err(Fault::CallOutstanding);
+        }
+        Ok((epoch, call))
+    }
+
+    // What is asked for, with the master's handle in the place of the client's number for it.
+    fn call_of(&self, asked: &Ask) -> Result<Option<Call>, AllocError>
+        ensures { IfOk result (λ call. call ≡ call_of self.now.handles asked.now) }
+    {
+        match asked {
+            Ask::Open(open) => Ok(Some(Call::Open(open.clone()?))),
+            Ask::Read(number) => match self.handles.get(number) {
+                Some(handle) => Ok(Some(Call::Read(handle.clone()?))),
+                None => Ok(None),
+            },
+            Ask::Set(number, content, generation) => match self.handles.get(number) {
+                Some(handle) => Ok(Some(Call::Set {
+                    handle: handle.clone()?,
+                    content: content.clone()?,
+                    generation: *generation,
+                })),
+                None => Ok(None),
+            },
+        }
+    }
+
+    // Numbers the call, and keeps its message.
+    fn send(&mut self, moment: u64, epoch: u64, call: Call) -> Result<Asked, Fault>
+        ensures { Does self.old self.new result (send_step self.old moment epoch call) }
+    {
+        let Some(number) = MessageNumber::new(self.calls + 1) else {
+            return Err(Fault::Exhausted);
+        };
+        let client = self.number;
+        let request = Request::Call(CallMessage {
+            client,
+            epoch,
+            number,
+            call,
+        });
+        let kept = request.clone()?;
+        self.clock = moment;
+        self.calls += 1;
+        self.outstanding = Some(kept);
+        Ok(Asked::Sent(request))
+    }
+
+    // Asks for a session under the next number.
+    fn start(&mut self, moment: u64) -> Result<Option<Request>, Fault>
+        ensures { Does self.old self.new result (start_step self.old moment) }
+    {
+        let Some(number) = MessageNumber::new(self.starts + 1) else {
+            return Err(Fault::Exhausted);
+        };
+        let client = self.number;
+        let principal = self.principal.clone()?;
+        self.clock = moment;
+        self.starts += 1;
+        Ok(Some(Request::Start(Start {
+            client,
+            number,
+            principal,
+        })))
+    }
+
+    // Does what the message asks for, at the noted time.
+    fn take(&mut self, out: &Out) -> Result<Items<Line>, AllocError>
+        ensures ok { IfOk result (λ lines. taken_own self.old out.now ≡ (self.new, lines)) }
+        ensures err { OnErr result (self.new ≡ self.old) }
+    {
+        if out.client() != self.number {
+            return Ok(Items::new(self.alloc));
+        }
+        match out {
+            Out::Started(started) => {
+                self.take_started(started);
+                Ok(Items::new(self.alloc))
+            }
+            Out::Reply(reply) => self.take_reply(reply),
+            Out::Refused(refused) => self.take_refused(refused),
+        }
+    }
+
+    fn take_started(&mut self, started: &Started)
+        ensures { self.new ≡ start_taken self.old started.now }
+    {
+        if self.session == Session::Unstarted && started.number.get() == self.starts {
+            self.session = Session::Live(started.epoch);
+        }
+    }
+
+    fn take_reply(&mut self, reply: &Reply) -> Result<Items<Line>, AllocError>
+        ensures ok { IfOk result (λ lines. reply_step self.old reply.now ≡ (self.new, lines)) }
+        ensures err { OnErr result (self.new ≡ self.old) }
+    {
+        let mut lines = Items::new(self.alloc);
+        if self.is_awaited(reply) {
+            let client = self.number.get();
+            let answer = self.answer_of(&reply.result)?;
+            lines.push(Line::Done(client, reply.number.get(), answer))?;
+            self.end_call(&reply.result)?;
+        }
+        Ok(lines)
+    }
+
+    // Whether it is of the client's epoch and for the outstanding call.
+    fn is_awaited(&self, reply: &Reply) -> bool
+        ensures { result ≡ is_awaited self.now reply.now }
+    {
+        if self.session != Session::Live(reply.epoch) {
+            return false;
+        }
+        match &self.outstanding {
+            Some(request) => reply.number == request.number(),
+            None => false,
+        }
+    }
+
+    // How a call ended, as it is told.
+    fn answer_of(&self, outcome: &CallResult) -> Result<Answer, AllocError>
+        ensures { IfOk result (λ answer. answer ≡ answer_of self.now outcome.now) }
+    {
+        Ok(match outcome {
+            CallResult::Opened(_) => Answer::Opened(self.opened + 1),
+            CallResult::Viewed(view) => Answer::Viewed(view.clone()?),
+            CallResult::Done => Answer::Okay,
+            CallResult::Refused(fault) => Answer::Refused(*fault),
+        })
+    }
+
+    // Ends the outstanding call, and keeps a new handle under the next number.
+    fn end_call(&mut self, outcome: &CallResult) -> Result<(), AllocError>
+        requires { IsSome self.old.outstanding }
+        ensures ok { OnOk result (self.new ≡ ended self.old outcome.now) }
+        ensures err { OnErr result (self.new ≡ self.old) }
+    {
+        if let CallResult::Opened(handle) = outcome {
+            let opened = self.opened + 1;
+            self.handles.put(opened, handle.clone()?)?;
+            self.opened = opened;
+        }
+        self.outstanding = None;
+        Ok(())
+    }
+
+    fn take_refused(&mut self, refused: &Refused) -> Result<Items<Line>, AllocError>
+        ensures ok { IfOk result (λ lines. refused_step self.old refused.now ≡ (self.new, lines)) }
+        ensures err { OnErr result (self.new ≡ self.old) }
+    {
+        let mut lines = Items::new(self.alloc);
+        let Some(session) = self.session.after(refused.epoch, refused.fault) else {
+            return Ok(lines);
+        };
+        lines.push(Line::Lost(self.number.get()))?;
+        self.session = session;
+        Ok(lines)
+    }
+}

@@ -1,0 +1,5 @@
+use Rattle.node_core.proofs.Walks.{Walked}
+use Rattle.node_core.proofs.maps.Map.children.Given as goal
+
+abbrev pub invariant-loop-child : goal.invariant-loop-child
+invariant-loop-child l = Walked l.self l.name l.names l.child-iterator

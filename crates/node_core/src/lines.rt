@@ -1,0 +1,133 @@
+//! The lines that are printed.
+ghost use Rattle.std.specs.Prelude.{◌≡◌, Some};
+ghost use Rattle.node_core.specs.Texts.{line_text};
+
+use crate::answers::Answer;
+use crate::events::Event;
+use crate::kinds::LockMode;
+use crate::refusals::Fault;
+use crate::views::{Mod, View};
+use names_cell::Name;
+use plain::Same;
+use std::alloc::AllocError;
+use std::fmt;
+
+/// A line that is printed, without the LF behind it.
+#[derive(Debug, Drop)]
+pub enum Line {
+    /// A master came up: its epoch.
+    Up(u64),
+    Down,
+    Recovered,
+    /// The client's session was committed as live.
+    Started(u64),
+    /// The client's session was committed as ended.
+    Ended(u64),
+    /// A change of the map was committed: client, number of its call, change. `0 0` is the cell's own deletion of an
+    /// ephemeral node.
+    Applied(u64, u64, Mod),
+    /// A new right to cache: its number, the client, the name.
+    Granted(u64, u64, Name),
+    /// The right of this number ended by an acknowledgement.
+    Acked(u64),
+    /// The right of this number ended with its session.
+    Expired(u64),
+    /// A lock was taken: client, instance, mode, generation.
+    Locked(u64, u64, LockMode, u64),
+    /// A lock was given back: client, instance.
+    Freed(u64, u64),
+    /// A holder's session expired: client, instance.
+    Lapsed(u64, u64),
+    /// A lock-delay ended: instance.
+    Reopened(u64),
+    /// Answered from the client's cache: client, name, and the view or absence.
+    Served(u64, Name, Option<View>),
+    /// A call ended: client, number of its call (0 where the client answered by itself), answer.
+    Done(u64, u64, Answer),
+    /// The client was told of an event.
+    Told(u64, Event),
+    /// The client's lease has ended.
+    Jeopardy(u64),
+    /// The client has a lease again.
+    Safe(u64),
+    /// The client's session is lost.
+    Lost(u64),
+    /// A step was refused, or a call, or a message.
+    Refused(Fault),
+}
+
+impl Clone for Line {
+    ghost is_clone = { λ s t. t ≡ s };
+
+    fn clone(&self) -> Result<Line, AllocError> {
+        Ok(match self {
+            Line::Up(epoch) => Line::Up(*epoch),
+            Line::Down => Line::Down,
+            Line::Recovered => Line::Recovered,
+            Line::Started(client) => Line::Started(*client),
+            Line::Ended(client) => Line::Ended(*client),
+            Line::Applied(client, call, change) => Line::Applied(*client, *call, change.clone()?),
+            Line::Granted(right, client, name) => Line::Granted(*right, *client, name.clone()?),
+            Line::Acked(right) => Line::Acked(*right),
+            Line::Expired(right) => Line::Expired(*right),
+            Line::Locked(client, instance, mode, generation) => Line::Locked(
+                *client,
+                *instance,
+                *mode,
+                *generation,
+            ),
+            Line::Freed(client, instance) => Line::Freed(*client, *instance),
+            Line::Lapsed(client, instance) => Line::Lapsed(*client, *instance),
+            Line::Reopened(instance) => Line::Reopened(*instance),
+            Line::Served(client, name, None) => Line::Served(*client, name.clone()?, None),
+            Line::Served(client, name, Some(view)) => Line::Served(
+                *client,
+                name.clone()?,
+                Some(view.clone()?),
+            ),
+            Line::Done(client, call, answer) => Line::Done(*client, *call, answer.clone()?),
+            Line::Told(client, event) => Line::Told(*client, event.clone()?),
+            Line::Jeopardy(client) => Line::Jeopardy(*client),
+            Line::Safe(client) => Line::Safe(*client),
+            Line::Lost(client) => Line::Lost(*client),
+            Line::Refused(fault) => Line::Refused(*fault),
+        })
+    }
+}
+
+impl Same for Line {
+    ghost exact = { λ x y h. h };
+}
+
+impl fmt::Display for Line {
+    ghost output = { λ x. Some (line_text x) };
+
+    fn fmt<W: fmt::Write>(&self, f: &mut fmt::Formatter<W>) -> fmt::Result {
+        match self {
+            Line::Up(epoch) => write!(f, "up {epoch}"),
+            Line::Down => write!(f, "down"),
+            Line::Recovered => write!(f, "recovered"),
+            Line::Started(client) => write!(f, "started {client}"),
+            Line::Ended(client) => write!(f, "ended {client}"),
+            Line::Applied(client, call, change) => write!(f, "applied {client} {call} {change}"),
+            Line::Granted(right, client, name) => write!(f, "granted {right} {client} {name}"),
+            Line::Acked(right) => write!(f, "acked {right}"),
+            Line::Expired(right) => write!(f, "expired {right}"),
+            Line::Locked(client, instance, mode, generation) => write!(
+                f,
+                "locked {client} {instance} {mode} {generation}"
+            ),
+            Line::Freed(client, instance) => write!(f, "freed {client} {instance}"),
+            Line::Lapsed(client, instance) => write!(f, "lapsed {client} {instance}"),
+            Line::Reopened(instance) => write!(f, "reopened {instance}"),
+            Line::Served(client, name, None) => write!(f, "served {client} {name} absent"),
+            Line::Served(client, name, Some(view)) => write!(f, "served {client} {name} {view}"),
+            Line::Done(client, call, answer) => write!(f, "done {client} {call} {answer}"),
+            Line::Told(client, event) => write!(f, "event {client} {event}"),
+            Line::Jeopardy(client) => write!(f, "jeopardy {client}"),
+            Line::Safe(client) => write!(f, "safe {client}"),
+            Line::Lost(client) => write!(f, "lost {client}"),
+            Line::Refused(fault) => write!(f, "refused {fault}"),
+        }
+    }
+}

@@ -1,0 +1,275 @@
+//! The map of names to nodes.
+ghost use Rattle.std.specs.Prelude.{◌≡◌, ◌≢◌, ◌∷◌, [], Some, None, IfOk, IfErr, OnOk, OnErr};
+ghost use Rattle.std.specs.Option.{option_copied};
+ghost use Rattle.std.specs.BTreeMap.{is_at, insert_entry};
+ghost use Rattle.std.specs.Map.{remove_entry};
+ghost use Rattle.std.specs.Cmp.Lexicographic.{slice_cmp};
+ghost use Rattle.std.specs.Ordering.{nat_cmp};
+ghost use Rattle.node_core.specs.Nodes.{HasNamesInOrder, get_node, children, has_children, misfit, put_misfit, parent_misfit, limit_misfit, present_misfit, gone_misfit, after, name_of};
+ghost use Rattle.node_core.specs.Access.{first_name};
+
+use crate::faults::NodeFault;
+use crate::kinds::Kind;
+use crate::views::{Mod, View};
+use names_cell::{Component, Name};
+use plain::{Items, Same, Table};
+use std::alloc::{AllocError, Global};
+use std::collections::BTreeMap;
+use std::marker::Model;
+
+/// The greatest length of a content, in bytes.
+pub const CONTENT_LIMIT: usize = 262_144;
+
+/// The greatest instance and the greatest generation: 2^63-1.
+pub const NUMBER_LIMIT: u64 = 0x7fff_ffff_ffff_ffff;
+
+/// What a change of the map found.
+#[derive(Debug, Drop, PartialEq)]
+pub struct Outcome {
+    /// The node that stood at the name before, if any.
+    pub former: Option<View>,
+}
+
+/// The nodes of a cell, by their names (Burrows 2006, section 2.3). To a contract, the entries in the order of the
+/// names' bytes. No lock's generation is in it.
+#[derive(Drop)]
+pub struct Map {
+    alloc: Global,
+    nodes: Table<Name, View>,
+}
+
+impl Model for Map {
+    ghost use Rattle.std.specs.Prelude.{List, ℕ};
+    ghost use Rattle.node_core.specs.declared.views.View.{View};
+    ghost use Rattle.node_core.specs.Nodes.{HasNamesInOrder};
+
+    ghost Value = { List (List ℕ × View) };
+
+    ghost view = { λ m. m.nodes };
+
+    ghost invariant = { λ m. HasNamesInOrder m.nodes };
+}
+
+impl Clone for Map {
+    ghost is_clone = { λ s t. t ≡ s };
+
+    fn clone(&self) -> Result<Map, AllocError> {
+        Ok(Map {
+            alloc: self.alloc,
+            nodes: self.nodes.clone()?,
+        })
+    }
+}
+
+impl Same for Map {
+    ghost exact = { λ x y h. h };
+}
+
+impl Map {
+    /// No nodes; takes no memory yet.
+    pub fn new(alloc: Global) -> Map
+        ensures { result ≡ [] }
+    {
+        Map {
+            alloc,
+            nodes: Table::new(alloc),
+        }
+    }
+
+    /// The node of a name: one look-up in a tree. Takes no memory.
+    pub fn get(&self, name: &Name) -> Option<&View>
+        ensures { option_copied result ≡ get_node self.now name.now }
+    {
+        self.nodes.get(name)
+    }
+
+    /// The entries, for loops and chains.
+    pub fn as_map(&self) -> &BTreeMap<Name, View>
+        ensures entries { result.now.entries ≡ self.now }
+        ensures ordered { HasNamesInOrder self.now }
+    {
+        self.nodes.as_map()
+    }
+
+    /// The first of the names, in order of bytes.
+    pub fn first(&self) -> Option<&Name>
+        ensures { option_copied result ≡ first_name self.now }
+    {
+        let (name, _) = self.nodes.as_map().first_key_value()?;
+        Some(name)
+    }
+
+    /// The last components of the children of a name, in order of bytes. It walks over the names below this one and
+    /// no others.
+    pub fn children(&self, name: &Name) -> Result<Items<Component>, AllocError>
+        ensures { IfOk result (λ names. names ≡ children self.now name.now) }
+    {
+        let entries = self.as_map();
+        let mut names = Items::new(self.alloc);
+        let Some(first) = name.first_child()? else {
+            return Ok(names);
+        };
+        for (child, _) in entries.range(&first..) {
+            if !child.is_under(name) {
+                return Ok(names);
+            }
+            if child.is_child_of(name) {
+                names.push(child.last_component()?)?;
+            }
+        }
+        Ok(names)
+    }
+
+    /// Whether any name has this one as its parent. It walks over the names below this one up to the first child.
+    pub fn has_children(&self, name: &Name) -> Result<bool, AllocError>
+        ensures { IfOk result (λ any. any ≡ has_children self.now name.now) }
+    {
+        let entries = self.as_map();
+        let Some(first) = name.first_child()? else {
+            return Ok(false);
+        };
+        for (child, _) in entries.range(&first..) {
+            if !child.is_under(name) {
+                return Ok(false);
+            }
+            if child.is_child_of(name) {
+                return Ok(true);
+            }
+        }
+        Ok(false)
+    }
+
+    /// Sets a node, whether it fits or not. What stood at the name is given back.
+    pub fn set(&mut self, name: Name, view: View) -> Result<Option<View>, AllocError>
+        ensures ok { OnOk result (self.new ≡ insert_entry (slice_cmp nat_cmp) self.old name view) }
+        ensures former { IfOk result (λ former. former ≡ get_node self.old name) }
+        ensures err { OnErr result (self.new ≡ self.old) }
+    {
+        let _text = name.as_str();
+        self.nodes.put(name, view)
+    }
+
+    /// Takes a node away, whether it fits or not. What stood at the name is given back. Takes no memory.
+    pub fn unset(&mut self, name: &Name) -> Option<View>
+        ensures after { self.new ≡ remove_entry (is_at (slice_cmp nat_cmp name.now)) self.old }
+        ensures former { result ≡ get_node self.old name.now }
+    {
+        self.nodes.remove(name)
+    }
+
+    /// Does a change where it fits, and else gives the first reason why it doesn't; the map is then as it was. A Put
+    /// of a node that is there costs a look-up in a tree.
+    pub fn apply(&mut self, change: &Mod) -> Result<Outcome, NodeFault>
+        ensures after { OnOk result (after self.old change.now ≡ Some self.new) }
+        ensures former { IfOk result (λ outcome. outcome.former ≡ get_node self.old (name_of change.now)) }
+        ensures fault { IfErr result (λ e. e ≢ NodeFault.NoMemory → misfit self.old change.now ≡ Some e) }
+        ensures err { OnErr result (self.new ≡ self.old) }
+    {
+        match change {
+            Mod::Put(name, view) => self.put(name, view),
+            Mod::Gone(name) => self.remove(name),
+        }
+    }
+
+    fn put(&mut self, name: &Name, view: &View) -> Result<Outcome, NodeFault>
+        ensures fits { OnOk result (put_misfit self.old name.now view.now ≡ None) }
+        ensures changed { OnOk result (self.new ≡ insert_entry (slice_cmp nat_cmp) self.old name.now view.now) }
+        ensures former { IfOk result (λ outcome. outcome.former ≡ get_node self.old name.now) }
+        ensures fault { IfErr result (λ e. e ≢ NodeFault.NoMemory → put_misfit self.old name.now view.now ≡ Some e) }
+        ensures err { OnErr result (self.new ≡ self.old) }
+    {
+        if let Some(fault) = self.put_misfit(name, view)? {
+            return Err(fault);
+        }
+        let name = name.clone()?;
+        let view = view.clone()?;
+        let former = self.set(name, view)?;
+        Ok(Outcome { former })
+    }
+
+    fn remove(&mut self, name: &Name) -> Result<Outcome, NodeFault>
+        ensures fits { OnOk result (gone_misfit self.old name.now ≡ None) }
+        ensures changed { OnOk result (self.new ≡ remove_entry (is_at (slice_cmp nat_cmp name.now)) self.old) }
+        ensures former { IfOk result (λ outcome. outcome.former ≡ get_node self.old name.now) }
+        ensures fault { IfErr result (λ e. e ≢ NodeFault.NoMemory → gone_misfit self.old name.now ≡ Some e) }
+        ensures err { OnErr result (self.new ≡ self.old) }
+    {
+        if let Some(fault) = self.gone_misfit(name)? {
+            return Err(fault);
+        }
+        let former = self.unset(name);
+        Ok(Outcome { former })
+    }
+
+    // The first fault of a Put.
+    fn put_misfit(&self, name: &Name, view: &View) -> Result<Option<NodeFault>, AllocError>
+        ensures { IfOk result (λ fault. fault ≡ put_misfit self.now name.now view.now) }
+    {
+        if let Some(fault) = self.parent_misfit(name)? {
+            return Ok(Some(fault));
+        }
+        if let Some(fault) = limit_misfit(view) {
+            return Ok(Some(fault));
+        }
+        Ok(self.present_misfit(name, view))
+    }
+
+    // What is wrong with the parent.
+    fn parent_misfit(&self, name: &Name) -> Result<Option<NodeFault>, AllocError>
+        ensures { IfOk result (λ fault. fault ≡ parent_misfit self.now name.now) }
+    {
+        let Some(parent) = name.parent()? else {
+            return Ok(None);
+        };
+        Ok(match self.get(&parent) {
+            None => Some(NodeFault::NotFound),
+            Some(view) => match view.kind {
+                Kind::Directory => None,
+                Kind::File => Some(NodeFault::WrongKind(Kind::File)),
+            },
+        })
+    }
+
+    // What is wrong with the node that stands there.
+    fn present_misfit(&self, name: &Name, view: &View) -> Option<NodeFault>
+        ensures { result ≡ present_misfit (get_node self.now name.now) view.now }
+    {
+        let present = self.get(name)?;
+        if present.instance != view.instance {
+            return Some(NodeFault::StaleInstance);
+        }
+        if present.kind != view.kind {
+            return Some(NodeFault::WrongKind(present.kind));
+        }
+        None
+    }
+
+    // The first fault of a Gone.
+    fn gone_misfit(&self, name: &Name) -> Result<Option<NodeFault>, AllocError>
+        ensures { IfOk result (λ fault. fault ≡ gone_misfit self.now name.now) }
+    {
+        if self.get(name).is_none() {
+            return Ok(Some(NodeFault::NotFound));
+        }
+        if self.has_children(name)? || name.is_root() {
+            return Ok(Some(NodeFault::NotEmpty));
+        }
+        Ok(None)
+    }
+}
+
+// What is wrong with the view itself.
+fn limit_misfit(view: &View) -> Option<NodeFault>
+    ensures { result ≡ limit_misfit view.now }
+{
+    if view.content.len() > CONTENT_LIMIT {
+        return Some(NodeFault::TooLarge);
+    }
+    if view.instance > NUMBER_LIMIT
+        || view.content_generation > NUMBER_LIMIT
+        || view.acl_generation > NUMBER_LIMIT
+    {
+        return Some(NodeFault::Exhausted);
+    }
+    None
+}

@@ -1,0 +1,153 @@
+//! Parts of the printed texts.
+ghost use Rattle.std.specs.Prelude.{◌≡◌, Some};
+ghost use Rattle.std.specs.List.{flat_map};
+ghost use Rattle.node_core.specs.Texts.{hex_text, hex_pair, header_text, acls_text, names_text};
+
+use crate::kinds::Kind;
+use crate::stats::Stat;
+use crate::views::View;
+use names_cell::Component;
+use std::fmt;
+
+/// The kind of a node and its numbers.
+#[derive(Clone, Copy)]
+pub(crate) struct Header {
+    kind: Kind,
+    instance: u64,
+    content_generation: u64,
+    acl_generation: u64,
+}
+
+impl Header {
+    pub(crate) fn of_view(view: &View) -> Header
+        ensures kind { result.kind ≡ view.now.kind }
+        ensures instance { result.instance ≡ view.now.instance }
+        ensures content { result.content_generation ≡ view.now.content_generation }
+        ensures acl { result.acl_generation ≡ view.now.acl_generation }
+    {
+        Header {
+            kind: view.kind,
+            instance: view.instance,
+            content_generation: view.content_generation,
+            acl_generation: view.acl_generation,
+        }
+    }
+
+    pub(crate) fn of_stat(stat: &Stat) -> Header
+        ensures kind { result.kind ≡ stat.now.kind }
+        ensures instance { result.instance ≡ stat.now.instance }
+        ensures content { result.content_generation ≡ stat.now.content_generation }
+        ensures acl { result.acl_generation ≡ stat.now.acl_generation }
+    {
+        Header {
+            kind: stat.kind,
+            instance: stat.instance,
+            content_generation: stat.content_generation,
+            acl_generation: stat.acl_generation,
+        }
+    }
+}
+
+impl fmt::Display for Header {
+    ghost output = { λ x. Some (header_text x.kind x.instance x.content_generation x.acl_generation) };
+
+    fn fmt<W: fmt::Write>(&self, f: &mut fmt::Formatter<W>) -> fmt::Result {
+        let kind = self.kind;
+        let instance = self.instance;
+        let content = self.content_generation;
+        let acl = self.acl_generation;
+        write!(f, "{kind} {instance} {content} {acl}")
+    }
+}
+
+/// The names of the three ACLs of a node.
+#[derive(Clone, Copy)]
+pub(crate) struct AclNames<'a> {
+    read: &'a Component,
+    write: &'a Component,
+    change: &'a Component,
+}
+
+impl<'a> AclNames<'a> {
+    pub(crate) fn of_view(view: &'a View) -> AclNames<'a>
+        ensures read { result.read.now ≡ view.now.read }
+        ensures write { result.write.now ≡ view.now.write }
+        ensures change { result.change.now ≡ view.now.change }
+    {
+        AclNames {
+            read: &view.read,
+            write: &view.write,
+            change: &view.change,
+        }
+    }
+
+    pub(crate) fn of_stat(stat: &'a Stat) -> AclNames<'a>
+        ensures read { result.read.now ≡ stat.now.read }
+        ensures write { result.write.now ≡ stat.now.write }
+        ensures change { result.change.now ≡ stat.now.change }
+    {
+        AclNames {
+            read: &stat.read,
+            write: &stat.write,
+            change: &stat.change,
+        }
+    }
+}
+
+impl fmt::Display for AclNames<'_> {
+    ghost output = { λ x. Some (acls_text x.read.now x.write.now x.change.now) };
+
+    fn fmt<W: fmt::Write>(&self, f: &mut fmt::Formatter<W>) -> fmt::Result {
+        let read = self.read;
+        let write = self.write;
+        let change = self.change;
+        write!(f, "{read} {write} {change}")
+    }
+}
+
+/// The first 16 bytes of a content; a dash for none.
+#[derive(Clone, Copy)]
+pub(crate) struct Hex<'a>(pub(crate) &'a [u8]);
+
+impl fmt::Display for Hex<'_> {
+    ghost output = { λ x. Some (hex_text x.0.now) };
+
+    fn fmt<W: fmt::Write>(&self, f: &mut fmt::Formatter<W>) -> fmt::Result {
+        if self.0.is_empty() {
+            return f.write_str("-");
+        }
+        let shown = HexBytes(&self.0[..self.0.len().min(16)]);
+        write!(f, "{shown}")
+    }
+}
+
+/// All of these bytes, two lower case hexadecimal digits each.
+#[derive(Clone, Copy)]
+pub(crate) struct HexBytes<'a>(pub(crate) &'a [u8]);
+
+impl fmt::Display for HexBytes<'_> {
+    ghost output = { λ x. Some (flat_map hex_pair x.0.now) };
+
+    fn fmt<W: fmt::Write>(&self, f: &mut fmt::Formatter<W>) -> fmt::Result {
+        for b in self.0 {
+            let byte = *b;
+            write!(f, "{byte:02x}")?;
+        }
+        Ok(())
+    }
+}
+
+/// Names, each behind a space.
+#[derive(Clone, Copy)]
+pub(crate) struct Listed<'a>(pub(crate) &'a [Component]);
+
+impl fmt::Display for Listed<'_> {
+    ghost output = { λ x. Some (names_text x.0.now) };
+
+    fn fmt<W: fmt::Write>(&self, f: &mut fmt::Formatter<W>) -> fmt::Result {
+        for name in self.0 {
+            write!(f, " {name}")?;
+        }
+        Ok(())
+    }
+}

@@ -1,0 +1,3 @@
+pub mod OpeningRows
+pub mod EditedRows
+pub mod MapOfRows

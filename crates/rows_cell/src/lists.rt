@@ -1,0 +1,137 @@
+//! Rows in memory.
+ghost use Rattle.std.specs.Prelude.{◌≡◌, ◌++◌, true, IfOk, codes};
+ghost use Rattle.names_cell.specs.Text.{root_of};
+ghost use Rattle.rows_cell.specs.Opening.{opening, opening_node};
+ghost use Rattle.rows_cell.specs.Sound.{sound};
+
+use crate::records::{Records, StoreFault};
+use crate::settings::{Settings, component};
+use crate::tables::{Edit, Node, Rows};
+use names_cell::{Component, Name};
+use node_core::{Kind, Life, View};
+use plain::{Bytes, Items, Table};
+use std::alloc::{AllocError, Global};
+
+/// Rows in memory, which no crash outlives. No call is refused but for want of memory.
+#[derive(Drop)]
+pub struct ListRecords {
+    rows: Rows,
+    ghost sound_rows: { sound rows.cell rows ≡ true },
+}
+
+impl ListRecords {
+    /// The rows of a new store: the root, the directory of the ACLs, and the ACL `base` with the settings' principals.
+    pub fn new(alloc: Global, settings: &Settings) -> Result<ListRecords, AllocError>
+        ensures { IfOk result (λ records. records.rows ≡ opening settings.now) }
+    {
+        let _cell = settings.cell().as_str();
+        let _base = settings.base();
+        let rows = opening(alloc, settings)?;
+        Ok(ListRecords { rows })
+    }
+}
+
+impl Records for ListRecords {
+    ghost use Rattle.std.specs.Prelude.{◌∷◌, []};
+
+    ghost cell = { λ s. s.rows.cell };
+
+    ghost rows = { λ s. s.rows };
+
+    ghost may_leave = { λ s. s.rows ∷ [] };
+
+    ghost refusals = { λ s. 0 };
+
+    fn load(&mut self) -> Result<Rows, StoreFault> {
+        Ok(self.rows.clone()?)
+    }
+
+    fn commit(&mut self, change: &Items<Edit>) -> Result<(), StoreFault> {
+        let rows = self.rows.after(change.as_slice())?;
+        self.rows = rows;
+        Ok(())
+    }
+}
+
+fn opening(alloc: Global, settings: &Settings) -> Result<Rows, AllocError>
+    ensures { IfOk result (λ rows. rows ≡ opening settings.now) }
+{
+    let base = component(alloc, "base")?;
+    Ok(Rows {
+        cell: settings.cell().clone()?,
+        secret: settings.secret().clone()?,
+        epoch: 0,
+        next_instance: 4,
+        nodes: opening_nodes(alloc, settings, &base)?,
+        sessions: Table::new(alloc),
+        locks: Table::new(alloc),
+    })
+}
+
+fn opening_nodes(
+    alloc: Global,
+    settings: &Settings,
+    base: &Component,
+) -> Result<Table<Name, Node>, AllocError>
+    requires { base.now ≡ codes "base" }
+    ensures { IfOk result (λ nodes. nodes ≡ (opening settings.now).nodes) }
+{
+    let (root, directory, file) = opening_names(alloc, settings.cell(), base)?;
+    let content = settings.base().clone()?;
+    let nothing = Bytes::copy_of(alloc, &[])?;
+    let mut nodes = Table::new(alloc);
+    nodes.put(
+        root,
+        opening_node(Kind::Directory, 1, base, nothing.clone()?)?,
+    )?;
+    nodes.put(directory, opening_node(Kind::Directory, 2, base, nothing)?)?;
+    nodes.put(file, opening_node(Kind::File, 3, base, content)?)?;
+    Ok(nodes)
+}
+
+// The root, the directory of the ACLs, and the file of the ACL `base`.
+fn opening_names(
+    alloc: Global,
+    cell: &Component,
+    base: &Component,
+) -> Result<(Name, Name, Name), AllocError>
+    requires { base.now ≡ codes "base" }
+    ensures root { IfOk result (λ names. names.0 ≡ root_of cell.now) }
+    ensures directory { IfOk result (λ names. names.1 ≡ root_of cell.now ++ codes "/acl") }
+    ensures file { IfOk result (λ names. names.2 ≡ root_of cell.now ++ codes "/acl/base") }
+{
+    let _cell = cell.as_str();
+    let root = Name::root(alloc, cell)?;
+    let file = root.acl_file(base)?;
+    let directory = file.parent()?.unwrap();
+    Ok((root, directory, file))
+}
+
+// A new node under one ACL.
+fn opening_node(
+    kind: Kind,
+    instance: u64,
+    acl: &Component,
+    content: Bytes,
+) -> Result<Node, AllocError>
+    ensures { IfOk result (λ node. node ≡ opening_node kind instance acl.now content) }
+{
+    let content_generation = match kind {
+        Kind::File => 1,
+        Kind::Directory => 0,
+    };
+    Ok(Node {
+        view: View {
+            kind,
+            instance,
+            content_generation,
+            acl_generation: 1,
+            read: acl.clone()?,
+            write: acl.clone()?,
+            change: acl.clone()?,
+            life: Life::Permanent,
+            content,
+        },
+        lock_generation: 0,
+    })
+}

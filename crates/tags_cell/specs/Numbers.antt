@@ -1,0 +1,10 @@
+-- The ranges of the numbers of clients and messages.
+use Rattle.std.specs.Prelude.{ℕ, ◌≤◌, ◌<◌, ◌^◌}
+
+-- 1 to 2^53-1
+abbrev pub IsClientNumber : ℕ → Type 0
+IsClientNumber n = (1 ≤ n) × (n < 2 ^ 53)
+
+-- 1 to 2^63-1
+abbrev pub IsMessageNumber : ℕ → Type 0
+IsMessageNumber n = (1 ≤ n) × (n < 2 ^ 63)
