@@ -4,3 +4,5 @@ pub use Rattle.node_core.specs.Nodes
 pub mod State
 pub mod Step
 pub mod Effect
+pub mod Store
+pub mod Sweep

@@ -80,4 +80,17 @@ impl Cell {
             lease,
         })
     }
+
+    pub fn epoch(&self) -> u64
+        ensures { result ≡ self.now.epoch }
+    {
+        self.epoch
+    }
+
+    /// The nodes of the cell, as the rows hold them.
+    pub fn map(&self) -> &Map
+        ensures { result.now ≡ self.now.nodes }
+    {
+        &self.map
+    }
 }

@@ -1,12 +1,14 @@
 -- The keys of a map stay names, in order, through a change.
-use Rattle.std.proofs.Common.{◌≡◌, ℕ, List, [], ◌∷◌, Bool, true, false, cond, Ordering, Less, Equal, Greater, refl, ap, ◌∙◌, Result, Ok, Err, Option}
+use Rattle.std.proofs.Common.{◌≡◌, ℕ, List, [], ◌∷◌, Bool, true, false, cond, Ordering, Less, Equal, Greater, refl, ap, ◌∙◌, Result, Ok, Err, Option, Some, None}
 use Rattle.std.specs.Prelude.{OnOk, OnErr}
 use Rattle.std.specs.Ordering.{match_ordering, ordering_reverse, nat_cmp}
 use Rattle.std.specs.Cmp.{IsTotalOrder}
 use Rattle.std.specs.Cmp.Lexicographic.{slice_cmp, nat_list_cmp_total}
 use Rattle.std.specs.List.{AllByRecursion}
 use Rattle.std.specs.List.Sorted.{IsStrictlySortedBy}
-use Rattle.std.specs.Map.{keys_of, remove_entry}
+use Rattle.std.specs.Map.{keys_of, remove_entry, set_value}
+use Rattle.std.proofs.lemmas.Map.{keys-set_value}
+use Rattle.plain.specs.Tables.{with_former}
 use Rattle.std.specs.BTreeMap.{is_at, insert_entry}
 use Rattle.names_cell.specs.Text.{is_name}
 use Rattle.node_core.specs.Nodes.{Nodes, HasNamesInOrder}
@@ -74,3 +76,10 @@ gone_in_order nodes name h = record {
 pub set_in_order : {E : Type 0} (old new : Nodes) (name : List ℕ) (view : View) (r : Result (Option View) E) → OnOk r (new ≡ insert_entry (slice_cmp nat_cmp) old name view) → OnErr r (new ≡ old) → HasNamesInOrder old → is_name name ≡ true → HasNamesInOrder new
 set_in_order old new name view (Ok x) ok err h named = rw ok (put_in_order old name view h named)
 set_in_order old new name view (Err e) ok err h named = rw err h
+
+-- a put that is taken back
+pub former_in_order : (nodes : Nodes) (name : List ℕ) (former : Option View) → HasNamesInOrder nodes → HasNamesInOrder (with_former (slice_cmp nat_cmp) nodes name former)
+former_in_order nodes name None h = gone_in_order nodes name h
+former_in_order nodes name (Some view) h =
+    let e = keys-set_value (is_at (slice_cmp nat_cmp name)) nodes view in
+    record { in_order = rw e h.in_order; names = rw e h.names }

@@ -7,6 +7,7 @@ ghost use Rattle.std.specs.Cmp.Lexicographic.{slice_cmp};
 ghost use Rattle.std.specs.Ordering.{nat_cmp};
 ghost use Rattle.node_core.specs.Nodes.{HasNamesInOrder, get_node, children, has_children, misfit, put_misfit, parent_misfit, limit_misfit, present_misfit, gone_misfit, after, name_of};
 ghost use Rattle.node_core.specs.Access.{first_name};
+ghost use Rattle.plain.specs.Tables.{with_former};
 
 use crate::faults::NodeFault;
 use crate::kinds::Kind;
@@ -143,10 +144,18 @@ impl Map {
     pub fn set(&mut self, name: Name, view: View) -> Result<Option<View>, AllocError>
         ensures ok { OnOk result (self.new ≡ insert_entry (slice_cmp nat_cmp) self.old name view) }
         ensures former { IfOk result (λ former. former ≡ get_node self.old name) }
+        ensures undone { IfOk result (λ former. with_former (slice_cmp nat_cmp) self.new name former ≡ self.old) }
         ensures err { OnErr result (self.new ≡ self.old) }
     {
         let _text = name.as_str();
         self.nodes.put(name, view)
+    }
+
+    /// Gives a name the node that it had before a `set`, or none where it had none. Takes no memory.
+    pub fn restore(&mut self, name: &Name, former: Option<View>)
+        ensures { self.new ≡ with_former (slice_cmp nat_cmp) self.old name.now former }
+    {
+        self.nodes.restore(name, former);
     }
 
     /// Takes a node away, whether it fits or not. What stood at the name is given back. Takes no memory.

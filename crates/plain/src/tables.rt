@@ -4,6 +4,7 @@ ghost use Rattle.std.specs.Option.{option_copied};
 ghost use Rattle.std.specs.Map.{lookup, remove_entry, set_value};
 ghost use Rattle.std.specs.Map.Calls.{CalledAtPair, TakesPair, CallableOnEachPair, RetainsPairs};
 ghost use Rattle.std.specs.BTreeMap.{is_at, insert_entry};
+ghost use Rattle.plain.specs.Tables.{with_former};
 
 use crate::clones::Same;
 use std::alloc::{AllocError, Global};
@@ -55,6 +56,7 @@ impl<K: Ord + Drop, V: Drop> Table<K, V> {
     pub fn put(&mut self, key: K, value: V) -> Result<Option<V>, AllocError>
         ensures former { IfOk result (λ former. former ≡ lookup (is_at (K.cmp key)) self.old) }
         ensures ok { OnOk result (self.new ≡ insert_entry K.cmp self.old key value) }
+        ensures undone { IfOk result (λ former. with_former K.cmp self.new key former ≡ self.old) }
         ensures err { OnErr result (self.new ≡ self.old) }
     {
         Ok(self.map.insert(key, value)?)
@@ -78,6 +80,28 @@ impl<K: Ord + Drop, V: Drop> Table<K, V> {
         ensures removed { self.new ≡ remove_entry (is_at (K.cmp key.now)) self.old }
     {
         self.map.remove(key)
+    }
+
+    /// Gives a key the value that it had before a `put`, or takes it out where it had none. Takes no memory.
+    pub fn restore(&mut self, key: &K, former: Option<V>)
+        ensures { self.new ≡ with_former K.cmp self.old key.now former }
+    {
+        match former {
+            Some(value) => self.write(key, value),
+            None => {
+                self.remove(key);
+            }
+        }
+    }
+
+    // Sets the value of a key, where it is there.
+    #[tactic(auto, using(crate::proofs::Formers::set_absent))]
+    fn write(&mut self, key: &K, value: V)
+        ensures { self.new ≡ set_value (is_at (K.cmp key.now)) self.old value }
+    {
+        if let Some(slot) = self.map.get_mut(key) {
+            *slot = value;
+        }
     }
 
     /// Keeps the entries at which the test answers yes, which takes no memory. The test is called once at each entry,

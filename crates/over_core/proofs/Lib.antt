@@ -1,0 +1,4 @@
+mod KeptByTakes
+mod FitsByEffects
+mod KeptBySweeps
+mod KeptByUps

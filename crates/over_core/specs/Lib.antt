@@ -1,0 +1,11 @@
+pub use Rattle.plain.specs.Results
+pub use Rattle.names_cell.specs.Text
+pub use Rattle.node_core.specs.Nodes
+pub use Rattle.rows_cell.specs.Rows
+pub use Rattle.rows_cell.specs.Sound
+pub use Rattle.cell_core.specs.State
+pub use Rattle.cell_core.specs.Step
+pub use Rattle.cell_core.specs.Store
+pub use Rattle.cell_core.specs.Sweep
+pub mod Kept
+pub mod Up

@@ -1,0 +1,9 @@
+//! A master over its records: it comes up, takes messages, sweeps, and goes down.
+#![tactic(auto)]
+
+mod cells;
+
+pub use cells::Cell;
+
+#[cfg(test)]
+mod tests;
