@@ -1,0 +1,11 @@
+pub mod OneMessage
+pub mod SeatAnswers
+pub mod SentStays
+pub mod StepKinds
+pub mod TakesAreSilent
+pub mod OnceByTakes
+pub mod OnceByRuns
+pub mod RowsByRuns
+pub mod CallsByTakes
+pub mod CallsBySweeps
+pub mod CallsByRuns

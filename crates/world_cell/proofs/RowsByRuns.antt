@@ -1,0 +1,127 @@
+-- What the printed lines tell of the rows.
+use Rattle.std.proofs.Common.{◌≡◌, ℕ, List, [], ◌∷◌, ◌++◌, Bool, true, false, cond, refl, sym, ap, ◌∙◌}
+use Rattle.node_core.specs.declared.refusals.Fault.TheVariants as faults
+use Rattle.node_core.specs.declared.lines.Line.{Line}
+use Rattle.node_core.specs.declared.lines.Line.TheVariants as lines
+use Rattle.node_core.specs.declared.views.Mod.TheVariants.{Put, Gone}
+use Rattle.node_core.specs.Nodes.{Nodes}
+use Rattle.rows_cell.specs.declared.tables.Rows.{Rows}
+use Rattle.rows_cell.specs.Rows.{changed_rows, map_of}
+use Rattle.rows_cell.proofs.RowViews.{views_put, views_gone}
+use Rattle.cell_core.specs.declared.effects.Effect.{Effect}
+use Rattle.cell_core.specs.declared.effects.Effect.TheVariants.{Answers, Changes}
+use Rattle.cell_core.specs.declared.pending.Pending.{Pending}
+use Rattle.cell_core.specs.declared.pending.Work.{Work}
+use Rattle.cell_core.specs.declared.pending.Work.TheVariants as works
+use Rattle.cell_core.specs.declared.plans.Deed.TheVariants as deeds
+use Rattle.cell_core.specs.declared.plans.Plan.{Plan}
+use Rattle.cell_core.specs.State.{MasterState}
+use Rattle.cell_core.specs.Step.{is_live, may_start, turned_away}
+use Rattle.cell_core.specs.Effect.{effect}
+use Rattle.cell_core.specs.Sweep.{noted, started_out, plan_session, plan_start, plan_effect, plan_work, edits_of, queue_edits, sweep_by}
+use Rattle.world_cell.specs.declared.steps.Step.{Step}
+use Rattle.world_cell.specs.World.{WorldState}
+use Rattle.world_cell.specs.Runs.{Does, Run, map_by, map_at, epoch_by, epoch_at}
+use Rattle.world_cell.proofs.StepKinds.{IsSilentLine, IsSilent, Made, is_quiet, is_up, is_take, is_sweep, made}
+use Rattle.world_cell.proofs.TakesAreSilent.{take_silent}
+
+-- the new rows are those that the lines make of the former ones
+pub record Tells (old new : Rows) (printed : List Line) : Type 0 where
+  pub is_map : map_of new ≡ map_at (map_of old) printed
+  pub is_epoch : new.epoch ≡ epoch_at old.epoch printed
+
+-- ---- silent lines
+
+line_map : (nodes : Nodes) (line : Line) → IsSilentLine line → map_by nodes line ≡ nodes
+line_map nodes (lines.Applied client number change) h = absurd h
+line_map nodes _ h = refl
+
+line_epoch : (epoch : ℕ) (line : Line) → IsSilentLine line → epoch_by epoch line ≡ epoch
+line_epoch epoch (lines.Up next) h = absurd h
+line_epoch epoch _ h = refl
+
+pub silent_map : (nodes : Nodes) (printed : List Line) → IsSilent printed → map_at nodes printed ≡ nodes
+silent_map nodes [] h = refl
+silent_map nodes (line ∷ rest) h = ap (λ n. map_at n rest) (line_map nodes line h.0) ∙ silent_map nodes rest h.1
+
+pub silent_epoch : (epoch : ℕ) (printed : List Line) → IsSilent printed → epoch_at epoch printed ≡ epoch
+silent_epoch epoch [] h = refl
+silent_epoch epoch (line ∷ rest) h = ap (λ e. epoch_at e rest) (line_epoch epoch line h.0) ∙ silent_epoch epoch rest h.1
+
+silent_tells : (old new : Rows) (printed : List Line) → IsSilent printed → new ≡ old → Tells old new printed
+silent_tells old new printed silent same = record {
+  is_map = ap (λ r. map_of r) same ∙ sym (silent_map (map_of old) printed silent);
+  is_epoch = ap (λ r. r.epoch) same ∙ sym (silent_epoch old.epoch printed silent);
+}
+
+-- ---- a sweep
+
+-- what a plan commits is what it prints
+abbrev PlanTells : Rows → Plan → Type 0
+PlanTells rows plan = Tells rows (changed_rows rows (edits_of plan.deed)) plan.taken.lines
+
+either : (rows : Rows) (b : Bool) (x y : Plan) → PlanTells rows x → PlanTells rows y → PlanTells rows (cond b x y)
+either rows true x y h k = h
+either rows false x y h k = k
+
+effect_tells : (rows : Rows) (s : MasterState) (client number : ℕ) (done : Effect) → PlanTells rows (plan_effect s client number done)
+effect_tells rows s client number (Answers answer) = record { is_map = refl; is_epoch = refl }
+effect_tells rows s client number (Changes (Put name view) next answer) = record { is_map = views_put rows.nodes name view; is_epoch = refl }
+effect_tells rows s client number (Changes (Gone name) next answer) = record { is_map = views_gone rows.nodes name; is_epoch = refl }
+
+start_tells : (rows : Rows) (s : MasterState) (client number : ℕ) (principal : List ℕ) → PlanTells rows (plan_start s client number principal)
+start_tells rows s client number principal =
+    let live : Plan = record { deed = deeds.Nothing; taken = started_out s client number } in
+    let fresh : Plan = record {
+      deed = deeds.Starts client (record { principal = principal; live = true });
+      taken = record { lines = lines.Started client ∷ []; outs = (started_out s client number).outs };
+    } in
+    let other : Plan = record { deed = deeds.Nothing; taken = turned_away s client number faults.NoSession } in
+    either rows (may_start s client principal) (plan_session s client number principal) other
+    (either rows (is_live s client) live fresh (record { is_map = refl; is_epoch = refl }) (record { is_map = refl; is_epoch = refl })) (record { is_map = refl; is_epoch = refl })
+
+work_tells : (rows : Rows) (s : MasterState) (client number : ℕ) (work : Work) → PlanTells rows (plan_work s client number work)
+work_tells rows s client number (works.Starts principal) = start_tells rows s client number principal
+work_tells rows s client number (works.Calls call) = effect_tells rows s client number (effect s client number call)
+
+sweep_tells : (rows : Rows) (s : MasterState) (queue : List Pending) → Tells rows (changed_rows rows (queue_edits s queue)) (sweep_by s queue).1.lines
+sweep_tells rows s [] = record { is_map = refl; is_epoch = refl }
+sweep_tells rows s (pending ∷ rest) = work_tells rows s pending.client pending.number pending.work
+
+-- ---- a step
+
+made_tells : (old : WorldState) (step : Step) (new : WorldState) (printed : List Line) → Made old step new printed → Tells old.rows new.rows printed
+made_tells old step new printed (is_quiet q) = silent_tells old.rows new.rows printed q.silent q.rows
+made_tells old step new printed (is_up u) = rw (u.tells, u.rows) (record { is_map = refl; is_epoch = refl })
+made_tells old step new printed (is_take t) = silent_tells old.rows new.rows printed (rw t.tells (take_silent (noted t.master old.clock) t.request)) t.rows
+made_tells old step new printed (is_sweep w) = rw (w.tells, w.rows) (sweep_tells old.rows (noted w.master old.clock) w.master.queue)
+
+pub step_tells : (old : WorldState) (step : Step) (new : WorldState) (printed : List Line) → Does old step new printed → Tells old.rows new.rows printed
+step_tells old step new printed h = made_tells old step new printed (made old step new printed h)
+
+-- ---- a run
+
+pub map_more : (nodes : Nodes) (xs ys : List Line) → map_at nodes (xs ++ ys) ≡ map_at (map_at nodes xs) ys
+map_more nodes [] ys = refl
+map_more nodes (x ∷ xs) ys = map_more (map_by nodes x) xs ys
+
+pub epoch_more : (epoch : ℕ) (xs ys : List Line) → epoch_at epoch (xs ++ ys) ≡ epoch_at (epoch_at epoch xs) ys
+epoch_more epoch [] ys = refl
+epoch_more epoch (x ∷ xs) ys = epoch_more (epoch_by epoch x) xs ys
+
+pub tells_more : (old mid new : Rows) (xs ys : List Line) → Tells old mid xs → Tells mid new ys → Tells old new (xs ++ ys)
+tells_more old mid new xs ys h k = record {
+  is_map = k.is_map ∙ ap (λ n. map_at n ys) h.is_map ∙ sym (map_more (map_of old) xs ys);
+  is_epoch = k.is_epoch ∙ ap (λ e. epoch_at e ys) h.is_epoch ∙ sym (epoch_more old.epoch xs ys);
+}
+
+run_tells : (old : WorldState) (steps : List Step) (printed : List Line) (new : WorldState) → Run old steps printed new → Tells old.rows new.rows printed
+run_tells old [] printed new h = rw (h.0, h.1) (record { is_map = refl; is_epoch = refl })
+run_tells old (step ∷ steps) printed new h =
+    rw h.5 (tells_more old.rows h.0.rows new.rows h.1 h.2 (step_tells old step h.0 h.1 h.3) (run_tells h.0 steps h.2 new h.4))
+
+pub run_map : (old : WorldState) (steps : List Step) (printed : List Line) (new : WorldState) → Run old steps printed new → map_of new.rows ≡ map_at (map_of old.rows) printed
+run_map old steps printed new h = (run_tells old steps printed new h).is_map
+
+pub run_epoch : (old : WorldState) (steps : List Step) (printed : List Line) (new : WorldState) → Run old steps printed new → new.rows.epoch ≡ epoch_at old.rows.epoch printed
+run_epoch old steps printed new h = (run_tells old steps printed new h).is_epoch

@@ -1,0 +1,195 @@
+-- A world: the rows, the master while one is up, the clients, and all messages; and what each step does.
+use Rattle.std.specs.Prelude.{◌≡◌, ℕ, ◌+◌, ◌-◌, ◌^◌, Bool, true, false, List, [], ◌∷◌, ◌++◌, map, Option, Some, None, Result, Ok, Err, if◌then◌else◌, is_some}
+use Rattle.std.specs.Option.{option_map_or}
+use Rattle.std.specs.Map.{lookup, set_value}
+use Rattle.std.specs.BTreeMap.{is_at, insert_entry}
+use Rattle.std.specs.Ordering.{nat_cmp}
+use Rattle.node_core.specs.declared.refusals.Fault.{Fault}
+use Rattle.node_core.specs.declared.refusals.Fault.TheVariants as faults
+use Rattle.node_core.specs.declared.lines.Line.{Line}
+use Rattle.node_core.specs.declared.lines.Line.TheVariants as lines
+use Rattle.rows_cell.specs.declared.tables.Rows.{Rows}
+use Rattle.rows_cell.specs.Rows.{changed_rows}
+use Rattle.tags_cell.specs.declared.requests.Request.{Request}
+use Rattle.tags_cell.specs.declared.outs.Out.{Out}
+use Rattle.tags_cell.specs.Messages.{out_client}
+use Rattle.cell_core.specs.declared.pending.Taken.{Taken}
+use Rattle.cell_core.specs.declared.sweeps.Swept.{Swept}
+use Rattle.cell_core.specs.State.{MasterState}
+use Rattle.cell_core.specs.Step.{take_step}
+use Rattle.cell_core.specs.Sweep.{sweep_step, sweep_edits}
+use Rattle.over_core.specs.Up.{up_step, up_edits}
+use Rattle.client_core.specs.declared.asks.Ask.{Ask}
+use Rattle.client_core.specs.declared.asks.Asked.{Asked}
+use Rattle.client_core.specs.declared.asks.Asked.TheVariants.{Sent}
+use Rattle.client_core.specs.State.{ClientState, new_client}
+use Rattle.client_core.specs.Asks.{ask_step}
+use Rattle.client_core.specs.Beats.{beat_step}
+use Rattle.client_core.specs.Gives.{give_step}
+use Rattle.world_cell.specs.declared.mail.Sent.{Sent as SentMessage}
+use Rattle.world_cell.specs.declared.steps.Step.{Step}
+use Rattle.world_cell.specs.declared.steps.Step.TheVariants as steps
+use Rattle.world_cell.specs.declared.worlds.Turn.{Turn}
+use Rattle.world_cell.specs.Messages.{new_out, new_request, request_at, out_at, delivered}
+
+-- rows: those that stand. clock: the master's, in milliseconds. clients: by number. messages: all that were sent, in order. lease: in milliseconds
+pub record WorldState : Type 0 where
+  pub rows : Rows
+  pub master : Option MasterState
+  pub clock : ℕ
+  pub clients : List (ℕ × ClientState)
+  pub messages : List SentMessage
+  pub lease : ℕ
+
+-- a world and its store: the rows that a crash may leave, and how often the store refused
+pub record WorldView : Type 0 where
+  pub world : WorldState
+  pub may_leave : List Rows
+  pub refusals : ℕ
+
+-- no master is up, no client has joined, nothing was sent
+abbrev pub new_world : Rows → ℕ → WorldState
+new_world rows lease = record { rows = rows; master = None; clock = 0; clients = []; messages = []; lease = lease }
+
+-- what a master's store holds while one is up, and else the records by themselves
+abbrev pub store_of : {X : Type 0} → X → Option X → Option X → X
+store_of none (Some x) records = x
+store_of none None (Some x) = x
+store_of none None None = none
+
+abbrev pub no_rows : Rows
+no_rows = record { cell = []; secret = []; epoch = 0; next_instance = 0; nodes = []; sessions = []; locks = [] }
+
+abbrev pub rows_of : Option Rows → Option Rows → Rows
+rows_of master records = store_of no_rows master records
+
+abbrev pub leave_of : Option (List Rows) → Option (List Rows) → List Rows
+leave_of master records = store_of [] master records
+
+abbrev pub refusals_of : Option ℕ → Option ℕ → ℕ
+refusals_of master records = store_of 0 master records
+
+-- a step's new state and lines, or why it is refused
+abbrev pub Outcome : Type 0
+Outcome = Result (WorldState × List Line) Fault
+
+-- ---- the master comes up
+
+abbrev pub came_up : WorldState → ℕ → Result MasterState Fault → Outcome
+came_up w now (Err fault) = Err fault
+came_up w now (Ok master) =
+    Ok (record w { rows = changed_rows w.rows (up_edits w.rows); master = Some master; clock = now }, lines.Up master.epoch ∷ [])
+
+-- one master at a time
+abbrev pub world_up : WorldState → ℕ → Option MasterState → Outcome
+world_up w now (Some master) = Err faults.MasterUp
+world_up w now None = came_up w now (up_step w.rows w.lease now)
+
+-- ---- clients
+
+abbrev pub client_of : WorldState → ℕ → Option ClientState
+client_of w number = lookup (is_at (nat_cmp number)) w.clients
+
+-- a number is used once
+abbrev pub world_join : WorldState → ℕ → List ℕ → Outcome
+world_join w number principal =
+    if is_some (client_of w number) then Err faults.Exists
+    else Ok (record w { clients = insert_entry nat_cmp w.clients number (new_client number principal) }, [])
+
+abbrev pub with_client : WorldState → ℕ → ClientState → WorldState
+with_client w number client = record w { clients = set_value (is_at (nat_cmp number)) w.clients client }
+
+abbrev pub sends : WorldState → Request → WorldState
+sends w request = record w { messages = w.messages ++ new_request request ∷ [] }
+
+-- a number at its end refuses the step; any other refusal is the client's own, and a line
+abbrev pub own_refusal : WorldState → Fault → Outcome
+own_refusal w faults.Exhausted = Err faults.Exhausted
+own_refusal w fault = Ok (w, lines.Refused fault ∷ [])
+
+abbrev pub asked_by : WorldState → Result Asked Fault → Outcome
+asked_by w (Ok (Sent request)) = Ok (sends w request, [])
+asked_by w (Err fault) = own_refusal w fault
+
+abbrev pub asked : WorldState → ℕ → ClientState × Result Asked Fault → Outcome
+asked w number step = asked_by (with_client w number step.0) step.1
+
+-- a client's own clock stands at 0
+abbrev pub world_ask : WorldState → ℕ → Ask → Outcome
+world_ask w number ask = option_map_or (λ client. asked w number (ask_step client 0 ask)) (client_of w number) (Err faults.NoSession)
+
+abbrev pub beaten_by : WorldState → Result (Option Request) Fault → Outcome
+beaten_by w (Ok (Some request)) = Ok (sends w request, [])
+beaten_by w (Ok None) = Ok (w, [])
+beaten_by w (Err fault) = Err fault
+
+abbrev pub beaten : WorldState → ℕ → ClientState × Result (Option Request) Fault → Outcome
+beaten w number step = beaten_by (with_client w number step.0) step.1
+
+abbrev pub world_beat : WorldState → ℕ → Outcome
+world_beat w number = option_map_or (λ client. beaten w number (beat_step client 0)) (client_of w number) (Err faults.NoSession)
+
+-- ---- messages are delivered
+
+abbrev pub took : WorldState → ℕ → Result (MasterState × Taken) Fault → Outcome
+took w number (Err fault) = Err fault
+took w number (Ok step) = Ok (record w { master = Some step.0; messages = delivered w.messages number ++ map new_out step.1.outs }, step.1.lines)
+
+abbrev pub world_take : WorldState → ℕ → Option MasterState → Outcome
+world_take w number None = Err faults.MasterDown
+world_take w number (Some master) = option_map_or (λ request. took w number (take_step master w.clock request)) (request_at w.messages number) (Err faults.NoSuchMessage)
+
+abbrev pub gave_by : WorldState → Result (List Line) Fault → Outcome
+gave_by w (Ok printed) = Ok (w, printed)
+gave_by w (Err fault) = Err fault
+
+abbrev pub gave : WorldState → ℕ → ℕ → ClientState × Result (List Line) Fault → Outcome
+gave w number client step = gave_by (record (with_client w client step.0) { messages = delivered w.messages number }) step.1
+
+abbrev pub given_to : WorldState → ℕ → Out → Outcome
+given_to w number out = option_map_or (λ client. gave w number (out_client out) (give_step client 0 out)) (client_of w (out_client out)) (Err faults.NoSession)
+
+abbrev pub world_give : WorldState → ℕ → Outcome
+world_give w number = option_map_or (λ out. given_to w number out) (out_at w.messages number) (Err faults.NoSuchMessage)
+
+-- ---- the master sweeps
+
+abbrev pub swept : WorldState → MasterState → Result (MasterState × Swept) Fault → Result (WorldState × Turn) Fault
+swept w master (Err fault) = Err fault
+swept w master (Ok step) = Ok (
+  record w {
+    rows = changed_rows w.rows (sweep_edits master w.clock);
+    master = Some step.0;
+    messages = w.messages ++ map new_out step.1.outs;
+  },
+  record { lines = step.1.lines; quiet = step.1.quiet },
+)
+
+abbrev pub world_sweep : WorldState → Option MasterState → Result (WorldState × Turn) Fault
+world_sweep w None = Err faults.MasterDown
+world_sweep w (Some master) = swept w master (sweep_step master w.clock)
+
+abbrev pub without_quiet : Result (WorldState × Turn) Fault → Outcome
+without_quiet (Ok p) = Ok (p.0, p.1.lines)
+without_quiet (Err fault) = Err fault
+
+-- ---- the table
+
+unfoldable pub world_step : WorldState → Step → Outcome
+world_step w (steps.Up now) = world_up w now w.master
+world_step w (steps.Join number principal) = world_join w number principal
+world_step w (steps.Ask number ask) = world_ask w number ask
+world_step w (steps.Beat number) = world_beat w number
+world_step w (steps.Take number) = world_take w number w.master
+world_step w (steps.Give number) = world_give w number
+world_step w steps.Sweep = without_quiet (world_sweep w w.master)
+
+-- ---- what the table doesn't decide
+
+-- want of memory and the store may refuse a step that would change the rows, by the count of the store's refusals before and after
+abbrev pub IsOutside : Fault → ℕ → ℕ → Type 0
+IsOutside faults.NoMemory before after = after ≡ before
+IsOutside faults.Exhausted before after = (before ≡ 2 ^ 63 - 1) × (after ≡ before)
+IsOutside faults.StoreRefused before after = after ≡ before + 1
+IsOutside faults.StoreDamaged before after = after ≡ before
+IsOutside _ before after = ⊥

@@ -1,0 +1,12 @@
+//! A world: records, a master while one is up, clients, and the messages between them.
+#![tactic(auto)]
+
+mod mail;
+mod runs;
+mod seats;
+mod steps;
+mod worlds;
+
+pub use mail::{Message, Sent};
+pub use steps::Step;
+pub use worlds::{Turn, World};

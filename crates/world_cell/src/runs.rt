@@ -1,0 +1,55 @@
+//! Whole runs.
+ghost use Rattle.std.specs.Prelude.{◌≡◌, ◌++◌, ◌∷◌, [], None, IfOk, ℕ, List};
+ghost use Rattle.rows_cell.specs.Rows.{map_of};
+ghost use Rattle.node_core.specs.declared.lines.Line.{Line as PrintedLine};
+ghost use Rattle.node_core.specs.declared.views.Mod.{Mod};
+ghost use Rattle.world_cell.specs.Runs.{Does, Run, map_at, epoch_at, applied, Rises, IsOfCall};
+
+use crate::steps::Step;
+use crate::worlds::World;
+use node_core::{Fault, Line};
+use plain::Items;
+use rows_cell::Records;
+use std::alloc::{AllocError, Global};
+
+impl<R: Records + Drop> World<R> {
+    /// Steps, one behind the other; a refused step is the one line that says so. Where memory ends, the steps made so
+    /// far stand, the last one too, and the lines of all of them are lost.
+    pub fn run(&mut self, steps: &[Step]) -> Result<Items<Line>, AllocError>
+        ensures run { IfOk result (λ lines. Run self.old.world steps.now lines self.new.world) }
+        // The rows hold the map that the printed changes make of the former one.
+        ensures map { IfOk result (λ lines. map_of self.new.world.rows ≡ map_at (map_of self.old.world.rows) lines) }
+        // The epoch is that of the last master that came up.
+        ensures epoch { IfOk result (λ lines. self.new.world.rows.epoch ≡ epoch_at self.old.world.rows.epoch lines) }
+        // Each call is applied at most once: the numbers of a client's applied calls rise.
+        ensures once { IfOk result (λ lines. self.old.world.master ≡ None → (client : ℕ) → Rises (applied client lines)) }
+        // Each applied change is the effect of a call that its client sent and that came to the master of its epoch.
+        ensures calls { IfOk result (λ lines. self.old.world.master ≡ None → (before rest : List PrintedLine) (client number : ℕ) (change : Mod) →
+            lines ≡ before ++ Line.Applied client number change ∷ rest → IsOfCall self.old.world steps.now before client number change self.new.world) }
+    {
+        let mut lines = Items::new(self.alloc());
+        for step in steps {
+            let here = self.line_step(step)?;
+            lines.append(here)?;
+        }
+        Ok(lines)
+    }
+
+    // One step; a refused one is one line.
+    fn line_step(&mut self, step: &Step) -> Result<Items<Line>, AllocError>
+        ensures ok { IfOk result (λ lines. Does self.old.world step.now self.new.world lines) }
+    {
+        match self.step(step) {
+            Ok(lines) => Ok(lines),
+            Err(fault) => refused(self.alloc(), fault),
+        }
+    }
+}
+
+fn refused(alloc: Global, fault: Fault) -> Result<Items<Line>, AllocError>
+    ensures { IfOk result (λ lines. lines ≡ Line.Refused fault ∷ []) }
+{
+    let mut lines = Items::new(alloc);
+    lines.push(Line::Refused(fault))?;
+    Ok(lines)
+}

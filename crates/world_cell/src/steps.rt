@@ -1,0 +1,23 @@
+//! What may be done in a world.
+use client_core::Ask;
+use names_cell::Principal;
+use tags_cell::ClientNumber;
+
+/// What may be done in a world. Messages are numbered from 1 in the order in which they were sent, in both directions
+/// together, and may be delivered in any order, any number of times, or never.
+#[derive(Debug, Drop)]
+pub enum Step {
+    /// A master comes up, its clock at this moment in milliseconds.
+    Up(u64),
+    /// A client of this number joins, which acts for the principal.
+    Join(ClientNumber, Principal),
+    /// The client of this number is asked for a call.
+    Ask(u64, Ask),
+    /// The client of this number is asked for what keeps its session.
+    Beat(u64),
+    /// The message of this number comes to the master.
+    Take(u64),
+    /// The message of this number comes to its client.
+    Give(u64),
+    Sweep,
+}

@@ -1,0 +1,288 @@
+//! A world.
+ghost use Rattle.std.specs.Prelude.{◌≡◌, ◌⊎◌, [], ◌∷◌, Some, None, Ok, Err, IfOk, IfErr, OnErr, is_some};
+ghost use Rattle.world_cell.specs.World.{new_world, world_step, world_up, world_join, world_ask, world_beat, world_take, world_give, world_sweep, IsOutside};
+ghost use Rattle.world_cell.specs.Messages.{waiting_behind};
+
+use crate::mail::{self, Sent};
+use crate::seats::Seats;
+use crate::steps::Step;
+use client_core::{Ask, Asked};
+use names_cell::Principal;
+use node_core::{Fault, Line};
+use over_core::Cell;
+use plain::Items;
+use rows_cell::{Records, Settings};
+use std::alloc::{AllocError, Global};
+use std::marker::Model;
+use tags_cell::ClientNumber;
+
+/// The most messages that one step of a master sends.
+const MESSAGES_A_STEP: usize = 1;
+
+/// What a sweep prints, and whether it found nothing to do.
+#[derive(Debug, Drop)]
+pub struct Turn {
+    pub lines: Items<Line>,
+    pub quiet: bool,
+}
+
+/// A cell with all that happens around it: records, at most one master, clients, and every message that was sent. To a
+/// contract, plain lists of these.
+#[derive(Drop)]
+pub struct World<R: Records> {
+    alloc: Global,
+    master: Option<Cell<R>>,
+    records: Option<R>,
+    clock: u64,
+    clients: Seats,
+    messages: Vec<Sent>,
+    lease: u64,
+}
+
+impl<R: Records> Model for World<R> {
+    ghost use Rattle.std.specs.Prelude.{◌≡◌, ◌≤◌, not, is_some};
+    ghost use Rattle.std.specs.Option.{option_map};
+    ghost use Rattle.world_cell.specs.World.{WorldView, rows_of, leave_of, refusals_of};
+
+    ghost Value = { WorldView };
+
+    ghost view = { λ w. record {
+      world = record {
+        rows = rows_of (option_map (λ c. c.rows) w.master) (option_map R.rows w.records);
+        master = option_map (λ c. c.master) w.master;
+        clock = w.clock;
+        clients = w.clients;
+        messages = w.messages.items;
+        lease = w.lease;
+      };
+      may_leave = leave_of (option_map (λ c. c.may_leave) w.master) (option_map R.may_leave w.records);
+      refusals = refusals_of (option_map (λ c. c.refusals) w.master) (option_map R.refusals w.records);
+    } };
+
+    ghost invariant = { λ w. (is_some w.records ≡ not (is_some w.master)) × (1000 ≤ w.lease) × (w.lease ≤ 60000) };
+}
+
+impl<R: Records + Drop> World<R> {
+    /// No master is up, no client has joined, nothing was sent. Takes no memory yet.
+    pub fn new(alloc: Global, records: R, settings: &Settings) -> World<R>
+        ensures { result ≡ record { world = new_world (R.rows records) settings.now.lease; may_leave = R.may_leave records; refusals = R.refusals records } }
+    {
+        World {
+            alloc,
+            master: None,
+            records: Some(records),
+            clock: 0,
+            clients: Seats::new(alloc),
+            messages: Vec::new(alloc),
+            lease: settings.lease(),
+        }
+    }
+
+    /// One step. What a client refuses by itself is no refusal of the step: it is a line, and the last one.
+    ///
+    /// Refused, and nothing changed but perhaps the store's count of its refusals: a master that would come up while
+    /// one is up; a message for a master while none is up; a number that a client joined with before; a client that
+    /// hasn't joined; a message that was never sent, or of the other direction; a moment or a number at its end; where
+    /// the store refuses or its rows aren't sound; and for want of memory.
+    #[tactic(auto, unfolding(crate::specs::World::world_step))]
+    pub fn step(&mut self, step: &Step) -> Result<Items<Line>, Fault>
+        ensures ok { IfOk result (λ lines. world_step self.old.world step.now ≡ Ok (self.new.world, lines)) }
+        ensures fault { IfErr result (λ e. (world_step self.old.world step.now ≡ Err e) ⊎ IsOutside e self.old.refusals self.new.refusals) }
+        ensures err { OnErr result (self.new.world ≡ self.old.world) }
+    {
+        match step {
+            Step::Up(now) => self.up(*now),
+            Step::Join(number, principal) => self.join(*number, principal),
+            Step::Ask(number, ask) => self.ask(*number, ask),
+            Step::Beat(number) => self.beat(*number),
+            Step::Take(number) => self.take(*number),
+            Step::Give(number) => self.give(*number),
+            Step::Sweep => Ok(self.sweep()?.lines),
+        }
+    }
+
+    /// The step by which the master sweeps, with word of whether it found nothing to do.
+    #[tactic(auto, using(crate::proofs::OneMessage::sweep_few))]
+    pub fn sweep(&mut self) -> Result<Turn, Fault>
+        ensures ok { IfOk result (λ turn. world_sweep self.old.world self.old.world.master ≡ Ok (self.new.world, turn)) }
+        ensures fault { IfErr result (λ e. (world_sweep self.old.world self.old.world.master ≡ Err e) ⊎ IsOutside e self.old.refusals self.new.refusals) }
+        ensures err { OnErr result (self.new.world ≡ self.old.world) }
+    {
+        match &mut self.master {
+            None => Err(Fault::MasterDown),
+            Some(cell) => {
+                self.messages.reserve(MESSAGES_A_STEP)?;
+                let swept = cell.sweep(self.clock)?;
+                mail::send_all(&mut self.messages, swept.outs);
+                Ok(Turn {
+                    lines: swept.lines,
+                    quiet: swept.quiet,
+                })
+            }
+        }
+    }
+
+    /// The step that delivers the first message that came to nobody, behind a count of messages; None where each of
+    /// them came to its receiver.
+    pub fn waiting_behind(&self, count: usize) -> Option<Step>
+        ensures { result ≡ waiting_behind self.now.world.messages count }
+    {
+        mail::waiting_behind(self.messages.as_slice(), count)
+    }
+
+    /// Whether a master is up.
+    pub fn is_up(&self) -> bool
+        ensures { result ≡ is_some self.now.world.master }
+    {
+        self.master.is_some()
+    }
+
+    /// The records, with the rows that stand. A master that is up is gone.
+    pub fn close(self) -> R
+        ensures rows { R.rows result ≡ self.world.rows }
+        ensures leave { R.may_leave result ≡ self.may_leave }
+        ensures refusals { R.refusals result ≡ self.refusals }
+    {
+        let World {
+            alloc: _,
+            master,
+            records,
+            clock: _,
+            clients: _,
+            messages: _,
+            lease: _,
+        } = self;
+        match master {
+            Some(cell) => cell.down(),
+            None => records.unwrap(),
+        }
+    }
+
+    pub(crate) fn alloc(&self) -> Global {
+        self.alloc
+    }
+
+    fn up(&mut self, now: u64) -> Result<Items<Line>, Fault>
+        ensures ok { IfOk result (λ lines. world_up self.old.world now self.old.world.master ≡ Ok (self.new.world, lines)) }
+        ensures fault { IfErr result (λ e. (world_up self.old.world now self.old.world.master ≡ Err e) ⊎ IsOutside e self.old.refusals self.new.refusals) }
+        ensures err { OnErr result (self.new.world ≡ self.old.world) }
+    {
+        let mut lines = Items::new(self.alloc);
+        lines.push(Line::Down)?;
+        match self.records.take() {
+            None => Err(Fault::MasterUp),
+            Some(records) => match Cell::up(self.alloc, records, self.lease, now) {
+                Ok(cell) => {
+                    lines.set(0, Line::Up(cell.epoch()));
+                    self.master = Some(cell);
+                    self.clock = now;
+                    Ok(lines)
+                }
+                Err((fault, records)) => {
+                    self.records = Some(records);
+                    Err(fault)
+                }
+            },
+        }
+    }
+
+    fn join(&mut self, number: ClientNumber, principal: &Principal) -> Result<Items<Line>, Fault>
+        ensures ok { IfOk result (λ lines. world_join self.old.world number principal.now ≡ Ok (self.new.world, lines)) }
+        ensures fault { IfErr result (λ e. (world_join self.old.world number principal.now ≡ Err e) ⊎ IsOutside e self.old.refusals self.new.refusals) }
+        ensures err { OnErr result (self.new.world ≡ self.old.world) }
+    {
+        if self.clients.is_taken(number) {
+            return Err(Fault::Exists);
+        }
+        self.clients.join(number, principal)?;
+        Ok(Items::new(self.alloc))
+    }
+
+    fn ask(&mut self, number: u64, ask: &Ask) -> Result<Items<Line>, Fault>
+        ensures ok { IfOk result (λ lines. world_ask self.old.world number ask.now ≡ Ok (self.new.world, lines)) }
+        ensures fault { IfErr result (λ e. (world_ask self.old.world number ask.now ≡ Err e) ⊎ IsOutside e self.old.refusals self.new.refusals) }
+        ensures err { OnErr result (self.new.world ≡ self.old.world) }
+    {
+        let mut lines = room(self.alloc)?;
+        self.messages.reserve(1)?;
+        match self.clients.ask(number, ask) {
+            None => Err(Fault::NoSession),
+            Some(Ok(Asked::Sent(request))) => {
+                mail::send(&mut self.messages, request);
+                Ok(Items::new(self.alloc))
+            }
+            Some(Err(Fault::NoMemory)) => Err(Fault::NoMemory),
+            Some(Err(Fault::Exhausted)) => Err(Fault::Exhausted),
+            Some(Err(fault)) => {
+                lines.set(0, Line::Refused(fault));
+                Ok(lines)
+            }
+        }
+    }
+
+    fn beat(&mut self, number: u64) -> Result<Items<Line>, Fault>
+        ensures ok { IfOk result (λ lines. world_beat self.old.world number ≡ Ok (self.new.world, lines)) }
+        ensures fault { IfErr result (λ e. (world_beat self.old.world number ≡ Err e) ⊎ IsOutside e self.old.refusals self.new.refusals) }
+        ensures err { OnErr result (self.new.world ≡ self.old.world) }
+    {
+        self.messages.reserve(1)?;
+        match self.clients.beat(number) {
+            None => Err(Fault::NoSession),
+            Some(Ok(request)) => {
+                if let Some(request) = request {
+                    mail::send(&mut self.messages, request);
+                }
+                Ok(Items::new(self.alloc))
+            }
+            Some(Err(fault)) => Err(fault),
+        }
+    }
+
+    #[tactic(auto, using(crate::proofs::OneMessage::take_few))]
+    fn take(&mut self, number: u64) -> Result<Items<Line>, Fault>
+        ensures ok { IfOk result (λ lines. world_take self.old.world number self.old.world.master ≡ Ok (self.new.world, lines)) }
+        ensures fault { IfErr result (λ e. (world_take self.old.world number self.old.world.master ≡ Err e) ⊎ IsOutside e self.old.refusals self.new.refusals) }
+        ensures err { OnErr result (self.new.world ≡ self.old.world) }
+    {
+        match &mut self.master {
+            None => Err(Fault::MasterDown),
+            Some(cell) => {
+                self.messages.reserve(MESSAGES_A_STEP)?;
+                let Some(request) = mail::request_at(self.messages.as_slice(), number) else {
+                    return Err(Fault::NoSuchMessage);
+                };
+                let taken = cell.take(self.clock, request)?;
+                mail::deliver(&mut self.messages, number);
+                mail::send_all(&mut self.messages, taken.outs);
+                Ok(taken.lines)
+            }
+        }
+    }
+
+    fn give(&mut self, number: u64) -> Result<Items<Line>, Fault>
+        ensures ok { IfOk result (λ lines. world_give self.old.world number ≡ Ok (self.new.world, lines)) }
+        ensures fault { IfErr result (λ e. (world_give self.old.world number ≡ Err e) ⊎ IsOutside e self.old.refusals self.new.refusals) }
+        ensures err { OnErr result (self.new.world ≡ self.old.world) }
+    {
+        let Some(out) = mail::out_at(self.messages.as_slice(), number) else {
+            return Err(Fault::NoSuchMessage);
+        };
+        match self.clients.give(out.client(), out) {
+            None => Err(Fault::NoSession),
+            Some(Ok(lines)) => {
+                mail::deliver(&mut self.messages, number);
+                Ok(lines)
+            }
+            Some(Err(fault)) => Err(fault),
+        }
+    }
+}
+
+// One line, whose place is kept.
+fn room(alloc: Global) -> Result<Items<Line>, AllocError>
+    ensures { IfOk result (λ lines. lines ≡ Line.Down ∷ []) }
+{
+    let mut lines = Items::new(alloc);
+    lines.push(Line::Down)?;
+    Ok(lines)
+}
