@@ -15,6 +15,3 @@ pub use effects::Effect;
 pub use pending::{Kept, Pending, Taken, Work};
 pub use plans::{Deed, Plan};
 pub use sweeps::Swept;
-
-#[cfg(test)]
-mod tests;

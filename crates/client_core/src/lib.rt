@@ -10,6 +10,3 @@ pub use asks::{Ask, Asked};
 pub use client::Client;
 pub use laws::{handle_numbers_rise, handle_numbers_stay, repeated_reply_is_dropped};
 pub use sessions::Session;
-
-#[cfg(test)]
-mod tests;

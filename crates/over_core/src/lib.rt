@@ -4,6 +4,3 @@
 mod cells;
 
 pub use cells::Cell;
-
-#[cfg(test)]
-mod tests;

@@ -1,0 +1,64 @@
+//! The command line.
+use crate::scripts::script;
+use anyhow::{Context, Result, bail};
+use clap::Command;
+use clap::error::ErrorKind;
+use rows_cell::{ListRecords, Settings};
+use std::alloc::{AllocError, Global};
+use std::{env, io};
+
+/// Does what the command line asks for, and answers the exit status: that of the script; 2 for a wrong command line;
+/// 4 where memory runs out before.
+pub(crate) fn run(rt: &HostRuntime) -> u8 {
+    match run_command(rt) {
+        Ok(status) => status,
+        Err(error) => {
+            let _ = eprintln!(rt; "cellctl: {error:#}");
+            4
+        }
+    }
+}
+
+fn run_command(rt: &HostRuntime) -> Result<u8> {
+    let alloc = rt.alloc();
+    let words: Vec<String> = env::args(rt)
+        .context("reading the command line")?
+        .collect(alloc)
+        .context("reading the command line")?;
+    let asked = cellctl(alloc)?.try_get_matches_from(words.as_slice());
+    match asked {
+        Ok(_) => run_script(rt),
+        Err(error) => {
+            if error.kind() == ErrorKind::OutOfMemory {
+                bail!("out of memory");
+            }
+            error.print(rt).context("writing to the terminal")?;
+            Ok(error.exit_code() as u8)
+        }
+    }
+}
+
+fn cellctl<'a>(alloc: Global) -> Result<Command<'a>, AllocError> {
+    let run = Command::new(alloc, "run").about(
+        "Runs a script: its steps on standard input, the lines that they print on standard output",
+    );
+    Command::new(alloc, "cellctl")
+        .about("Runs scripts against a cell")
+        .subcommand_required(true)
+        .subcommand(run)
+}
+
+// A script of standard input, over rows in memory, with the standard settings.
+fn run_script(rt: &HostRuntime) -> Result<u8> {
+    let alloc = rt.alloc();
+    let settings = Settings::standard(alloc).context("making the settings")?;
+    let records = ListRecords::new(alloc, &settings).context("making the rows")?;
+    Ok(script(
+        alloc,
+        &settings,
+        records,
+        rt.reader(),
+        rt.stdout(),
+        rt.stderr(),
+    ))
+}

@@ -1,0 +1,103 @@
+//! The words of a step.
+ghost use Rattle.std.specs.Prelude.{◌≡◌, ◌≢◌, ℕ, ◌^◌, ◌<◌, IfSome, IfNone, decimal};
+ghost use Rattle.tags_cell.specs.Modes.{Rights};
+ghost use Rattle.cellctl.specs.Words.{letters_of, HasRight, IsWritten, IsFilled, IsContent, FindsBytes};
+
+use hex::FromHexError;
+use plain::Bytes;
+use std::alloc::{AllocError, Global};
+use tags_cell::Mode;
+
+/// The most bytes of a content that is written as a byte and how often it stands.
+const FILL_LIMIT: u64 = 300_000;
+
+/// A number: decimal, without leading zeros, at most 2^64-1.
+pub(crate) fn number(word: &str) -> Option<u64>
+    ensures some { IfSome result (λ n. decimal n ≡ word.now) }
+    ensures none { IfNone result ((n : ℕ) → n < 2 ^ 64 → decimal n ≢ word.now) }
+{
+    // `parse` takes these too.
+    if word.starts_with('+') {
+        return None;
+    }
+    if word.starts_with('0') && word != "0" {
+        return None;
+    }
+    word.parse::<u64>().ok()
+}
+
+/// A mode: some of the letters `rwc` in this order, at least one.
+pub(crate) fn mode(word: &str) -> Option<Mode>
+    ensures some { IfSome result (λ mode. letters_of mode ≡ word.now) }
+    ensures none { IfNone result ((rights : Rights) → HasRight rights → letters_of rights ≢ word.now) }
+{
+    match word {
+        "r" => Mode::new(true, false, false),
+        "w" => Mode::new(false, true, false),
+        "c" => Mode::new(false, false, true),
+        "rw" => Mode::new(true, true, false),
+        "rc" => Mode::new(true, false, true),
+        "wc" => Mode::new(false, true, true),
+        "rwc" => Mode::new(true, true, true),
+        _ => None,
+    }
+}
+
+/// A content: `-` for an empty one, `fill:` with a count, a colon and a byte for so many times this byte, else bytes,
+/// at least one. A byte is two lower case hexadecimal digits.
+pub(crate) fn content(alloc: Global, word: &str) -> Result<Option<Bytes>, AllocError>
+    ensures { FindsBytes (IsContent word.now) result }
+{
+    if word == "-" {
+        return Ok(Some(Bytes::copy_of(alloc, b"")?));
+    }
+    match word.strip_prefix("fill:") {
+        Some(rest) => filled(alloc, rest),
+        None => written(alloc, word),
+    }
+}
+
+// A count, a colon and a byte.
+fn filled(alloc: Global, word: &str) -> Result<Option<Bytes>, AllocError>
+    ensures { FindsBytes (IsFilled word.now) result }
+{
+    let Some((digits, byte)) = word.split_once(':') else {
+        return Ok(None);
+    };
+    let Some(count) = number(digits) else {
+        return Ok(None);
+    };
+    if count > FILL_LIMIT {
+        return Ok(None);
+    }
+    let Some(byte) = written(alloc, byte)? else {
+        return Ok(None);
+    };
+    let byte = byte.as_slice();
+    if byte.len() != 1 {
+        return Ok(None);
+    }
+    let bytes = vec![in alloc; byte[0]; count as usize]?;
+    Ok(Some(Bytes::from_vec(bytes)?))
+}
+
+// Bytes, at least one. `decode` takes upper case digits too, so the text of the bytes has to be the word again.
+fn written(alloc: Global, word: &str) -> Result<Option<Bytes>, AllocError>
+    ensures { FindsBytes (IsWritten word.now) result }
+{
+    let bytes = match hex::decode(alloc, word) {
+        Ok(bytes) => bytes,
+        Err(fault) => match fault {
+            FromHexError::OutOfMemory => return Err(AllocError),
+            _ => return Ok(None),
+        },
+    };
+    if bytes.is_empty() {
+        return Ok(None);
+    }
+    let text = hex::encode(alloc, bytes.as_slice())?;
+    if text.as_str() != word {
+        return Ok(None);
+    }
+    Ok(Some(Bytes::from_vec(bytes)?))
+}
