@@ -6,8 +6,6 @@
 mod clock;
 mod laws;
 mod lease;
-#[cfg(test)]
-mod tests;
 
 pub use clock::Clock;
 pub use laws::better_lasts_longer;

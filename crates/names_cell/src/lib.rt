@@ -14,5 +14,3 @@ pub use faults::NameFault;
 pub use paths::Name;
 pub use principals::Principal;
 
-#[cfg(test)]
-mod tests;

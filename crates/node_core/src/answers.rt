@@ -12,7 +12,7 @@ use std::alloc::AllocError;
 use std::fmt;
 
 /// How a call ended.
-#[derive(Debug, Drop)]
+#[derive(Drop)]
 pub enum Answer {
     /// An Open: the client's number for the handle.
     Opened(u64),
@@ -74,5 +74,12 @@ impl fmt::Display for Answer {
             Answer::Okay => write!(f, "ok"),
             Answer::Refused(fault) => write!(f, "refused {fault}"),
         }
+    }
+}
+
+// As it is printed.
+impl fmt::Debug for Answer {
+    fn fmt<W: fmt::Write>(&self, f: &mut fmt::Formatter<W>) -> fmt::Result {
+        write!(f, "{self}")
     }
 }

@@ -9,7 +9,7 @@ use std::fmt;
 
 /// What a client is told (Burrows 2006, section 2.5). The first number of each is that of the handle, which is the
 /// call number of its Open.
-#[derive(Debug, Drop, PartialEq)]
+#[derive(Drop, PartialEq)]
 pub enum Event {
     /// A new master has taken over.
     FailOver,
@@ -75,5 +75,12 @@ impl fmt::Display for Event {
             Event::Conflict(handle) => write!(f, "conflict {handle}"),
             Event::Lost => write!(f, "lost"),
         }
+    }
+}
+
+// As it is printed.
+impl fmt::Debug for Event {
+    fn fmt<W: fmt::Write>(&self, f: &mut fmt::Formatter<W>) -> fmt::Result {
+        write!(f, "{self}")
     }
 }

@@ -11,8 +11,6 @@ mod lines;
 mod maps;
 mod refusals;
 mod stats;
-#[cfg(test)]
-mod tests;
 mod texts;
 mod views;
 

@@ -13,7 +13,7 @@ use std::alloc::AllocError;
 use std::fmt;
 
 /// A line that is printed, without the LF behind it.
-#[derive(Debug, Drop)]
+#[derive(Drop)]
 pub enum Line {
     /// A master came up: its epoch.
     Up(u64),
@@ -129,5 +129,12 @@ impl fmt::Display for Line {
             Line::Lost(client) => write!(f, "lost {client}"),
             Line::Refused(fault) => write!(f, "refused {fault}"),
         }
+    }
+}
+
+// As it is printed.
+impl fmt::Debug for Line {
+    fn fmt<W: fmt::Write>(&self, f: &mut fmt::Formatter<W>) -> fmt::Result {
+        write!(f, "{self}")
     }
 }

@@ -13,5 +13,3 @@ pub use lists::Items;
 pub use secrets::Secret;
 pub use tables::Table;
 
-#[cfg(test)]
-mod tests;

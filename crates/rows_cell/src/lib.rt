@@ -13,5 +13,3 @@ pub use records::{Records, StoreFault};
 pub use settings::{Settings, SettingsFault};
 pub use tables::{Edit, LockRow, LockState, Node, Rows, Session};
 
-#[cfg(test)]
-mod tests;

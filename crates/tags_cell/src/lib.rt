@@ -15,5 +15,3 @@ pub use numbers::MessageNumber;
 pub use outs::{CallResult, Out, Refused, Reply, Started};
 pub use requests::{CallMessage, Request, Start};
 
-#[cfg(test)]
-mod tests;

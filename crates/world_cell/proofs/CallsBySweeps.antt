@@ -25,14 +25,17 @@ use Rattle.world_cell.proofs.RowsByRuns.{silent_map, silent_epoch}
 -- ---- lists
 
 -- what stands in two lists together stands in one of them
-pub split : {X : Type 0} (xs ys before rest : List X) (x : X) → xs ++ ys ≡ before ++ x ∷ rest → ((mid : List X) × (xs ≡ before ++ x ∷ mid)) ⊎ ((mid : List X) × (before ≡ xs ++ mid) × (ys ≡ mid ++ x ∷ rest))
+pub split : {X : Type 0} (xs ys before rest : List X) (x : X) → xs ++ ys ≡ before ++ x ∷ rest → ((mid : List X) × (xs ≡ before ++ x ∷ mid) × (rest ≡ mid ++ ys)) ⊎ ((mid : List X) × (before ≡ xs ++ mid) × (ys ≡ mid ++ x ∷ rest))
 split [] ys before rest x h = inr (before, refl, h)
-split (a ∷ xs) ys [] rest x h = let e : a ≡ x = cc in inl (xs, rw e refl)
+split (a ∷ xs) ys [] rest x h =
+    let e : a ≡ x = cc in
+    let t : rest ≡ xs ++ ys = cc in
+    inl (xs, rw e refl, t)
 split {X} (a ∷ xs) ys (b ∷ before) rest x h =
     let e : a ≡ b = cc in
     let t : xs ++ ys ≡ before ++ x ∷ rest = cc in
-    (elim (split xs ys before rest x t) as (λ s. ((mid : List X) × (a ∷ xs ≡ b ∷ before ++ x ∷ mid)) ⊎ ((mid : List X) × (b ∷ before ≡ a ∷ xs ++ mid) × (ys ≡ mid ++ x ∷ rest))) [
-      | inl k ↦ inl (k.0, rw (e, k.1) refl)
+    (elim (split xs ys before rest x t) as (λ s. ((mid : List X) × (a ∷ xs ≡ b ∷ before ++ x ∷ mid) × (rest ≡ mid ++ ys)) ⊎ ((mid : List X) × (b ∷ before ≡ a ∷ xs ++ mid) × (ys ≡ mid ++ x ∷ rest))) [
+      | inl k ↦ inl (k.0, rw (e, k.1) refl, k.2)
       | inr k ↦ inr (k.0, rw (e, k.1) refl, k.2)
     ])
 

@@ -1,11 +1,12 @@
 -- Where the changes that wait come from; and why taking a message keeps it so.
-use Rattle.std.proofs.Common.{◌≡◌, ℕ, List, [], ◌∷◌, ◌++◌, Bool, true, false, cond, Option, Some, None, refl, ◌∙◌, arith, eqb}
+use Rattle.std.proofs.Common.{◌≡◌, ℕ, List, [], ◌∷◌, ◌++◌, Bool, true, false, cond, Option, Some, None, refl, sym, ap, ◌∙◌, arith, eqb, append_assoc}
 use Rattle.std.specs.Prelude.{◌==◌, nat_lt, is_none}
-use Rattle.std.specs.List.{Contains}
 use Rattle.std.proofs.lemmas.Bool.Decides.{nat_tests}
-use Rattle.std.proofs.lemmas.List.Elements.{Contains-append_left}
+use Rattle.std.proofs.lemmas.List.{append-nil}
 use Rattle.node_core.specs.declared.refusals.Fault.TheVariants as faults
+use Rattle.node_core.specs.declared.lines.Line.{Line}
 use Rattle.node_core.specs.Nodes.{Nodes}
+use Rattle.rows_cell.specs.Rows.{map_of}
 use Rattle.tags_cell.specs.declared.calls.Call.{Call}
 use Rattle.tags_cell.specs.declared.requests.Start.{Start}
 use Rattle.tags_cell.specs.declared.requests.CallMessage.{CallMessage}
@@ -19,27 +20,31 @@ use Rattle.cell_core.specs.declared.pending.Work.{Work}
 use Rattle.cell_core.specs.declared.pending.Work.TheVariants as works
 use Rattle.cell_core.specs.State.{MasterState}
 use Rattle.cell_core.specs.Step.{kept_of, is_live, may_start, is_full, queued, answer_of, full_answer, admit_unless, admit_step, new_call, kept_step, call_step, start_step, take_at, nothing, turned_away, refusal, repeated}
-use Rattle.world_cell.specs.declared.mail.Sent.{Sent}
 use Rattle.world_cell.specs.declared.steps.Step.{Step}
 use Rattle.world_cell.specs.declared.steps.Step.TheVariants.{Take}
-use Rattle.world_cell.specs.Messages.{request_at}
-use Rattle.world_cell.proofs.SentStays.{KeepsRequests}
+use Rattle.world_cell.specs.World.{WorldState}
+use Rattle.world_cell.specs.Runs.{Does, Run, IsTaken, map_at, epoch_at}
 
--- what a master stands on: the steps made so far, the messages, and the map and the epoch that the lines tell
+-- what a master stands on: the steps made so far from a former world, the lines that they told, and the world that they led to
 pub record Ground : Type 0 where
+  pub old : WorldState
   pub past : List Step
-  pub messages : List Sent
-  pub nodes : Nodes
-  pub epoch : ℕ
+  pub told : List Line
+  pub here : WorldState
 
-abbrev pub message_of : ℕ → ℕ → ℕ → Call → Request
-message_of client epoch number call = requests.Call (record { client = client; epoch = epoch; number = number; call = call })
+abbrev pub nodes_on : Ground → Nodes
+nodes_on g = map_at (map_of g.old.rows) g.told
 
--- its client sent the call in this epoch, and one of the steps took it
-pub record WasTaken (g : Ground) (client number : ℕ) (call : Call) : Type 0 where
-  pub at : ℕ
-  pub taken : Contains g.past (Take at)
-  pub sent : request_at g.messages at ≡ Some (message_of client g.epoch number call)
+abbrev pub epoch_on : Ground → ℕ
+epoch_on g = epoch_at g.old.rows.epoch g.told
+
+-- the ground after one step more
+abbrev pub ground_after : Ground → Step → List Line → WorldState → Ground
+ground_after g step printed new = record { old = g.old; past = g.past ++ step ∷ []; told = g.told ++ printed; here = new }
+
+-- one of the steps took the call in this epoch
+abbrev pub WasTaken : Ground → ℕ → ℕ → Call → Type 0
+WasTaken g client number call = IsTaken g.old g.past g.told g.here (epoch_on g) client number call
 
 abbrev pub IsCalled : Ground → ℕ → ℕ → Work → Type 0
 IsCalled g client number (works.Starts principal) = Unit {0}
@@ -50,24 +55,49 @@ AreCalled g [] = Unit {0}
 AreCalled g (p ∷ ps) = IsCalled g p.client p.number p.work × AreCalled g ps
 
 pub record IsMaster (g : Ground) (s : MasterState) : Type 0 where
-  pub nodes : s.nodes ≡ g.nodes
-  pub epoch : s.epoch ≡ g.epoch
+  pub nodes : s.nodes ≡ nodes_on g
+  pub epoch : s.epoch ≡ epoch_on g
   pub queue : AreCalled g s.queue
 
 -- ---- later on
 
-work_later : (g h : Ground) (more : List Step) (client number : ℕ) (work : Work) → h.past ≡ g.past ++ more → KeepsRequests g.messages h.messages → h.epoch ≡ g.epoch → IsCalled g client number work → IsCalled h client number work
-work_later g h more client number (works.Starts principal) past mail epoch called = tt
-work_later g h more client number (works.Calls call) past mail epoch called = record {
-  at = called.at;
-  taken = rw past (Contains-append_left g.past more (Take called.at) called.taken);
-  sent = rw epoch (mail.stays called.at (message_of client g.epoch number call) called.sent);
+pub run_push : (w mid new : WorldState) (steps : List Step) (printed : List Line) (step : Step) (told : List Line) → Run w steps printed mid → Does mid step new told → Run w (steps ++ step ∷ []) (printed ++ told) new
+run_push w mid new [] printed step told run does =
+    let none : printed ++ told ≡ told ++ [] = ap (λ l. l ++ told) run.0 ∙ sym (append-nil told) in
+    (new, told, [], rw run.1 at does, (refl, refl), none)
+run_push w mid new (s ∷ steps) printed step told run does =
+    (run.0, run.1, run.2 ++ told, run.3, run_push run.0 mid new steps run.2 step told run.4 does, ap (λ l. l ++ told) run.5 ∙ append_assoc run.1 run.2 told)
+
+taken_later : (old here new : WorldState) (past : List Step) (told : List Line) (step : Step) (printed : List Line) (epoch client number : ℕ) (call : Call) → Does here step new printed → IsTaken old past told here epoch client number call → IsTaken old (past ++ step ∷ []) (told ++ printed) new epoch client number call
+taken_later old here new past told step printed epoch client number call does t = record {
+  front = t.front;
+  at = t.at;
+  back = t.back ++ step ∷ [];
+  is_split = ap (λ l. l ++ step ∷ []) t.is_split ∙ append_assoc t.front (Take t.at ∷ t.back) (step ∷ []);
+  before = t.before;
+  told = t.told;
+  after = t.after ++ printed;
+  are_lines = ap (λ l. l ++ printed) t.are_lines ∙ append_assoc (t.before ++ t.told) t.after printed;
+  here = t.here;
+  next = t.next;
+  first = t.first;
+  is_made = t.is_made;
+  last = run_push t.next here new t.back t.after step printed t.last does;
+  sent = t.sent;
+  master = t.master;
+  is_up = t.is_up;
+  of_epoch = t.of_epoch;
 }
 
-pub calls_later : (g h : Ground) (more : List Step) (queue : List Pending) → h.past ≡ g.past ++ more → KeepsRequests g.messages h.messages → h.epoch ≡ g.epoch → AreCalled g queue → AreCalled h queue
-calls_later g h more [] past mail epoch called = tt
-calls_later g h more (p ∷ ps) past mail epoch called =
-    (work_later g h more p.client p.number p.work past mail epoch called.0, calls_later g h more ps past mail epoch called.1)
+work_later : (g : Ground) (step : Step) (printed : List Line) (new : WorldState) (client number : ℕ) (work : Work) → Does g.here step new printed → epoch_on (ground_after g step printed new) ≡ epoch_on g → IsCalled g client number work → IsCalled (ground_after g step printed new) client number work
+work_later g step printed new client number (works.Starts principal) does epoch called = tt
+work_later g step printed new client number (works.Calls call) does epoch called =
+    rw epoch (taken_later g.old g.here new g.past g.told step printed (epoch_on g) client number call does called)
+
+pub calls_later : (g : Ground) (step : Step) (printed : List Line) (new : WorldState) (queue : List Pending) → Does g.here step new printed → epoch_on (ground_after g step printed new) ≡ epoch_on g → AreCalled g queue → AreCalled (ground_after g step printed new) queue
+calls_later g step printed new [] does epoch called = tt
+calls_later g step printed new (p ∷ ps) does epoch called =
+    (work_later g step printed new p.client p.number p.work does epoch called.0, calls_later g step printed new ps does epoch called.1)
 
 calls_push : (g : Ground) (ps : List Pending) (p : Pending) → AreCalled g ps → IsCalled g p.client p.number p.work → AreCalled g (ps ++ p ∷ [])
 calls_push g [] p h k = (k, tt)
@@ -108,7 +138,7 @@ same : (n m : ℕ) → eqb n m ≡ true → n ≡ m
 same n m h = grind (arith, nat_tests)
 
 -- only a call of the master's own epoch may wait
-call_stands : (g : Ground) (s : MasterState) (message : CallMessage) → IsMaster g s → (message.epoch ≡ g.epoch → WasTaken g message.client message.number message.call) → IsMaster g (call_step s message).0
+call_stands : (g : Ground) (s : MasterState) (message : CallMessage) → IsMaster g s → (message.epoch ≡ epoch_on g → WasTaken g message.client message.number message.call) → IsMaster g (call_step s message).0
 call_stands g s message h k =
     let kept = kept_step s message.client message.number message.call (kept_of s message.client) in
     let live = cond (is_live s message.client) kept (s, refusal s message.client message.number faults.NoSession) in
@@ -124,8 +154,7 @@ start_stands g s start h =
     either g (may_start s start.client start.principal) room (s, refusal s start.client start.number faults.NoSession) (λ may.
     either g (is_full s) (s, turned_away s start.client start.number faults.Busy) waits (λ full. h) (queued_stands g s pending h tt)) h
 
--- the message of a number is taken by a step that is among those made
-pub take_stands : (g : Ground) (s : MasterState) (number : ℕ) (request : Request) → Contains g.past (Take number) → request_at g.messages number ≡ Some request → IsMaster g s → IsMaster g (take_at s request).0
-take_stands g s number (requests.Start start) taken sent h = start_stands g s start h
-take_stands g s number (requests.Call message) taken sent h =
-    call_stands g s message h (λ e. record { at = number; taken = taken; sent = rw (← e) sent })
+-- only a call of the master's own epoch may wait, and it was taken
+pub take_stands : (g : Ground) (s : MasterState) (request : Request) → IsMaster g s → ((message : CallMessage) → request ≡ requests.Call message → message.epoch ≡ epoch_on g → WasTaken g message.client message.number message.call) → IsMaster g (take_at s request).0
+take_stands g s (requests.Start start) h k = start_stands g s start h
+take_stands g s (requests.Call message) h k = call_stands g s message h (k message refl)

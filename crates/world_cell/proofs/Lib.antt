@@ -1,6 +1,5 @@
 pub mod OneMessage
 pub mod SeatAnswers
-pub mod SentStays
 pub mod StepKinds
 pub mod TakesAreSilent
 pub mod OnceByTakes
@@ -9,3 +8,4 @@ pub mod RowsByRuns
 pub mod CallsByTakes
 pub mod CallsBySweeps
 pub mod CallsByRuns
+pub mod PartsOfRuns

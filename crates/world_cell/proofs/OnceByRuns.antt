@@ -134,10 +134,10 @@ step_on client old step new printed last h (is_quiet q) = silent_on client new p
 step_on client old step new printed last h (is_up u) =
     let none : last ≡ None = rw u.none at h in
     record { rises = rw u.tells tt; once = rw (u.tells, u.master) (refl, none) }
-step_on client old step new printed last h (is_take t) =
+step_on client old step new printed last h (is_take t ok) =
     let once : Once client t.master last = rw t.was at h in
     silent_on client new printed last (rw t.tells (take_silent (noted t.master old.clock) t.request)) (rw t.is (take_once client (noted t.master old.clock) t.request last once))
-step_on client old step new printed last h (is_sweep w) =
+step_on client old step new printed last h (is_sweep w ok) =
     let once : Once client w.master last = rw w.was at h in
     let on = sweep_on client (noted w.master old.clock) w.master.queue last refl once in
     record { rises = rw w.tells on.rises; once = rw (w.tells, w.is) on.once }

@@ -1,5 +1,5 @@
 -- A step of a master sends one message at most.
-use Rattle.std.proofs.Common.{◌≡◌, ℕ, ◌+◌, ◌≤◌, List, [], ◌∷◌, length, Bool, true, false, cond, Result, Ok, Err, Option, Some, None, refl, ap, rules, arith, max}
+use Rattle.std.proofs.Common.{◌≡◌, ℕ, ◌≤◌, List, [], ◌∷◌, length, true, false, cond, Result, Ok, Err, Option, Some, None, ap, rules, max}
 use Rattle.std.specs.Prelude.{nat_le, ◌==◌, ◌^◌}
 use Rattle.node_core.specs.declared.refusals.Fault.TheVariants as faults
 use Rattle.tags_cell.specs.declared.calls.Call.{Call}
@@ -17,9 +17,9 @@ use Rattle.cell_core.specs.declared.pending.Work.{Work}
 use Rattle.cell_core.specs.declared.pending.Work.TheVariants as works
 use Rattle.cell_core.specs.declared.sweeps.Swept.{Swept}
 use Rattle.cell_core.specs.State.{MasterState}
-use Rattle.cell_core.specs.Step.{take_step, take_at, start_step, call_step, kept_step, kept_of, new_call, admit_step, is_live, refusal, repeated_result}
+use Rattle.cell_core.specs.Step.{take_step, take_at, start_step, call_step, kept_step, kept_of, new_call, is_live, refusal, repeated_result}
 use Rattle.cell_core.specs.Effect.{effect}
-use Rattle.cell_core.specs.Sweep.{sweep_step, sweep_by, noted, plan_of, plan_work, plan_start, plan_effect}
+use Rattle.cell_core.specs.Sweep.{sweep_step, sweep_by, noted, plan_work, plan_start, plan_effect}
 
 abbrev Few : Taken → Type 0
 Few taken = length taken.outs ≤ 1

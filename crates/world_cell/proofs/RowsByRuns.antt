@@ -93,8 +93,8 @@ sweep_tells rows s (pending ∷ rest) = work_tells rows s pending.client pending
 made_tells : (old : WorldState) (step : Step) (new : WorldState) (printed : List Line) → Made old step new printed → Tells old.rows new.rows printed
 made_tells old step new printed (is_quiet q) = silent_tells old.rows new.rows printed q.silent q.rows
 made_tells old step new printed (is_up u) = rw (u.tells, u.rows) (record { is_map = refl; is_epoch = refl })
-made_tells old step new printed (is_take t) = silent_tells old.rows new.rows printed (rw t.tells (take_silent (noted t.master old.clock) t.request)) t.rows
-made_tells old step new printed (is_sweep w) = rw (w.tells, w.rows) (sweep_tells old.rows (noted w.master old.clock) w.master.queue)
+made_tells old step new printed (is_take t ok) = silent_tells old.rows new.rows printed (rw t.tells (take_silent (noted t.master old.clock) t.request)) t.rows
+made_tells old step new printed (is_sweep w ok) = rw (w.tells, w.rows) (sweep_tells old.rows (noted w.master old.clock) w.master.queue)
 
 pub step_tells : (old : WorldState) (step : Step) (new : WorldState) (printed : List Line) → Does old step new printed → Tells old.rows new.rows printed
 step_tells old step new printed h = made_tells old step new printed (made old step new printed h)

@@ -1,7 +1,7 @@
 -- A client's step among all clients.
-use Rattle.std.proofs.Common.{◌≡◌, ◌≢◌, ℕ, List, Option, Some, Result, Ok, Err, refl, sym, ap, ◌∙◌, arith}
+use Rattle.std.proofs.Common.{◌≡◌, ℕ, Some, Result, Ok, Err, refl, sym, ap, ◌∙◌, arith}
 use Rattle.std.proofs.lemmas.Grind.{common_steps}
-use Rattle.std.specs.Map.{lookup, set_value}
+use Rattle.std.specs.Map.{lookup}
 use Rattle.std.specs.BTreeMap.{is_at}
 use Rattle.std.specs.Ordering.{nat_cmp}
 use Rattle.std.proofs.lemmas.Map.Steps.{set_value_same}
@@ -9,9 +9,9 @@ use Rattle.node_core.specs.declared.refusals.Fault.{Fault}
 use Rattle.node_core.specs.declared.refusals.Fault.TheVariants.{NoMemory, Exhausted}
 use Rattle.client_core.specs.State.{ClientState, Does}
 use Rattle.client_core.specs.declared.asks.Ask.{Ask}
-use Rattle.client_core.specs.Asks.{ask_step, ask_at, ask_by, send_step, call_to_send, session_call, free_call, session_epoch}
-use Rattle.client_core.specs.Beats.{beat_step, beat_at, beat_by, start_step}
-use Rattle.client_core.specs.Gives.{give_step, give_at}
+use Rattle.client_core.specs.Asks.{ask_step}
+use Rattle.client_core.specs.Beats.{beat_step}
+use Rattle.client_core.specs.Gives.{give_step}
 use Rattle.tags_cell.specs.declared.outs.Out.{Out}
 use Rattle.world_cell.specs.Seats.{Clients, seated, Answers, AnswersOrLeaves}
 

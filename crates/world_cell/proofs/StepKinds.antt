@@ -27,10 +27,9 @@ use Rattle.client_core.specs.Beats.{beat_step}
 use Rattle.client_core.specs.Gives.{give_step, give_at, taken_own}
 use Rattle.world_cell.specs.declared.steps.Step.{Step}
 use Rattle.world_cell.specs.declared.steps.Step.TheVariants as steps
-use Rattle.world_cell.specs.Messages.{request_at, out_at, delivered, new_out, new_request}
+use Rattle.world_cell.specs.Messages.{request_at, out_at, delivered, new_out}
 use Rattle.world_cell.specs.World.{WorldState, Outcome, world_step, world_up, came_up, world_join, client_of, with_client, sends, own_refusal, asked_by, asked, beaten_by, beaten, took, world_take, gave_by, gave, given_to, swept, world_sweep, without_quiet}
 use Rattle.world_cell.specs.Runs.{Does}
-use Rattle.world_cell.proofs.SentStays.{KeepsRequests, keeps_same, keeps_more, keeps_delivered, keeps_both}
 
 -- ---- lines that tell of no change and of no new master
 
@@ -49,7 +48,6 @@ IsSilent (line ∷ rest) = IsSilentLine line × IsSilent rest
 pub record IsQuiet (old new : WorldState) (printed : List Line) : Type 0 where
   pub rows : new.rows ≡ old.rows
   pub master : new.master ≡ old.master
-  pub mail : KeepsRequests old.messages new.messages
   pub silent : IsSilent printed
 
 pub record IsUp (old new : WorldState) (printed : List Line) : Type 0 where
@@ -57,7 +55,6 @@ pub record IsUp (old new : WorldState) (printed : List Line) : Type 0 where
   pub none : old.master ≡ None
   pub rows : new.rows ≡ changed_rows old.rows (up_edits old.rows)
   pub master : new.master ≡ Some (master_of (changed_rows old.rows (up_edits old.rows)) old.lease now)
-  pub mail : KeepsRequests old.messages new.messages
   pub tells : printed ≡ lines.Up (old.rows.epoch + 1) ∷ []
 
 pub record IsTake (old : WorldState) (step : Step) (new : WorldState) (printed : List Line) : Type 0 where
@@ -69,22 +66,21 @@ pub record IsTake (old : WorldState) (step : Step) (new : WorldState) (printed :
   pub found : request_at old.messages number ≡ Some request
   pub rows : new.rows ≡ old.rows
   pub is : new.master ≡ Some (take_at (noted master old.clock) request).0
-  pub mail : KeepsRequests old.messages new.messages
   pub tells : printed ≡ (take_at (noted master old.clock) request).1.lines
 
-pub record IsSweep (old new : WorldState) (printed : List Line) : Type 0 where
+pub record IsSweep (old : WorldState) (step : Step) (new : WorldState) (printed : List Line) : Type 0 where
+  pub is_step : step ≡ steps.Sweep
   pub master : MasterState
   pub was : old.master ≡ Some master
   pub rows : new.rows ≡ changed_rows old.rows (sweep_edits master old.clock)
   pub is : new.master ≡ Some (sweep_by (noted master old.clock) master.queue).0
-  pub mail : KeepsRequests old.messages new.messages
   pub tells : printed ≡ (sweep_by (noted master old.clock) master.queue).1.lines
 
 pub data Made (old : WorldState) (step : Step) (new : WorldState) (printed : List Line) : Type 0 where
   is_quiet : IsQuiet old new printed → Made old step new printed
   is_up : IsUp old new printed → Made old step new printed
-  is_take : IsTake old step new printed → Made old step new printed
-  is_sweep : IsSweep old new printed → Made old step new printed
+  is_take : IsTake old step new printed → world_step old step ≡ Ok (new, printed) → Made old step new printed
+  is_sweep : IsSweep old step new printed → world_step old step ≡ Ok (new, printed) → Made old step new printed
 
 pub ok_pair : {A B E : Type 0} (p : A × B) (a : A) (b : B) → (let q : Result (A × B) E = Ok p in q) ≡ Ok (a, b) → (p.0 ≡ a) × (p.1 ≡ b)
 ok_pair {A} {B} p a b h = let e : ◌≡◌ {A = A × B} p (a, b) = cc in (ap (λ (q : A × B). q.0) e, ap (λ (q : A × B). q.1) e)
@@ -97,7 +93,7 @@ came_made w now false new printed none h =
     let master : MasterState = master_of (changed_rows w.rows (up_edits w.rows)) w.lease now in
     let made : WorldState = record w { rows = changed_rows w.rows (up_edits w.rows); master = Some master; clock = now } in
     let p = ok_pair (made, lines.Up master.epoch ∷ []) new printed h in
-    rw (← p.0, ← p.1) (record { now = now; none = none; rows = refl; master = refl; mail = keeps_same w.messages; tells = refl })
+    rw (← p.0, ← p.1) (record { now = now; none = none; rows = refl; master = refl; tells = refl })
 
 up_made : (w : WorldState) (now : ℕ) (m : Option MasterState) (new : WorldState) (printed : List Line) → w.master ≡ m → world_up w now m ≡ Ok (new, printed) → IsUp w new printed
 up_made w now (Some master) new printed e h = cc
@@ -108,13 +104,13 @@ up_made w now None new printed e h = came_made w now (nat_le (2 ^ 53) now || nat
 -- the same world but for its clients
 quiet_as : (w other new : WorldState) (printed : List Line) → other.rows ≡ w.rows → other.master ≡ w.master → other.messages ≡ w.messages → IsQuiet other new printed → IsQuiet w new printed
 quiet_as w other new printed rows master messages q =
-    record { rows = q.rows ∙ rows; master = q.master ∙ master; mail = rw (← messages) q.mail; silent = q.silent }
+    record { rows = q.rows ∙ rows; master = q.master ∙ master; silent = q.silent }
 
 joined_made : (w : WorldState) (number : ℕ) (principal : List ℕ) (b : Bool) (new : WorldState) (printed : List Line) → (let r : Outcome = cond b (Err faults.Exists) (Ok (record w { clients = insert_entry nat_cmp w.clients number (new_client number principal) }, [])) in r) ≡ Ok (new, printed) → IsQuiet w new printed
 joined_made w number principal true new printed h = cc
 joined_made w number principal false new printed h =
     let p = ok_pair (record w { clients = insert_entry nat_cmp w.clients number (new_client number principal) }, []) new printed h in
-    rw (← p.0, ← p.1) (record { rows = refl; master = refl; mail = keeps_same w.messages; silent = tt })
+    rw (← p.0, ← p.1) (record { rows = refl; master = refl; silent = tt })
 
 join_made : (w : WorldState) (number : ℕ) (principal : List ℕ) (new : WorldState) (printed : List Line) → world_join w number principal ≡ Ok (new, printed) → IsQuiet w new printed
 join_made w number principal new printed h = joined_made w number principal (is_some (client_of w number)) new printed h
@@ -123,12 +119,12 @@ refused_made : (w : WorldState) (fault : Fault) (new : WorldState) (printed : Li
 refused_made w faults.Exhausted new printed h = cc
 refused_made w fault new printed h =
     let p = ok_pair (w, lines.Refused fault ∷ []) new printed h in
-    rw (← p.0, ← p.1) (record { rows = refl; master = refl; mail = keeps_same w.messages; silent = (tt, tt) })
+    rw (← p.0, ← p.1) (record { rows = refl; master = refl; silent = (tt, tt) })
 
 asked_made : (w : WorldState) (r : Result Asked Fault) (new : WorldState) (printed : List Line) → asked_by w r ≡ Ok (new, printed) → IsQuiet w new printed
 asked_made w (Ok (Sent request)) new printed h =
     let p = ok_pair (sends w request, []) new printed h in
-    rw (← p.0, ← p.1) (record { rows = refl; master = refl; mail = keeps_more w.messages (new_request request ∷ []); silent = tt })
+    rw (← p.0, ← p.1) (record { rows = refl; master = refl; silent = tt })
 asked_made w (Err fault) new printed h = refused_made w fault new printed h
 
 ask_made : (w : WorldState) (number : ℕ) (ask : Ask) (o : Option ClientState) (new : WorldState) (printed : List Line) → option_map_or (λ client. asked w number (ask_step client 0 ask)) o (Err faults.NoSession) ≡ Ok (new, printed) → IsQuiet w new printed
@@ -140,10 +136,10 @@ ask_made w number ask (Some client) new printed h =
 beaten_made : (w : WorldState) (r : Result (Option Request) Fault) (new : WorldState) (printed : List Line) → beaten_by w r ≡ Ok (new, printed) → IsQuiet w new printed
 beaten_made w (Ok (Some request)) new printed h =
     let p = ok_pair (sends w request, []) new printed h in
-    rw (← p.0, ← p.1) (record { rows = refl; master = refl; mail = keeps_more w.messages (new_request request ∷ []); silent = tt })
+    rw (← p.0, ← p.1) (record { rows = refl; master = refl; silent = tt })
 beaten_made w (Ok None) new printed h =
     let p = ok_pair (w, []) new printed h in
-    rw (← p.0, ← p.1) (record { rows = refl; master = refl; mail = keeps_same w.messages; silent = tt })
+    rw (← p.0, ← p.1) (record { rows = refl; master = refl; silent = tt })
 beaten_made w (Err fault) new printed h = cc
 
 beat_made : (w : WorldState) (number : ℕ) (o : Option ClientState) (new : WorldState) (printed : List Line) → option_map_or (λ client. beaten w number (beat_step client 0)) o (Err faults.NoSession) ≡ Ok (new, printed) → IsQuiet w new printed
@@ -169,7 +165,7 @@ step_silent s now out printed h = give_silent s out (moment s.clock now) printed
 gave_made : (w : WorldState) (r : Result (List Line) Fault) (new : WorldState) (printed : List Line) → ((told : List Line) → r ≡ Ok told → IsSilent told) → gave_by w r ≡ Ok (new, printed) → IsQuiet w new printed
 gave_made w (Ok told) new printed silent h =
     let p = ok_pair (w, told) new printed h in
-    rw (← p.0, ← p.1) (record { rows = refl; master = refl; mail = keeps_same w.messages; silent = silent told refl })
+    rw (← p.0, ← p.1) (record { rows = refl; master = refl; silent = silent told refl })
 gave_made w (Err fault) new printed silent h = cc
 
 given_made : (w : WorldState) (number : ℕ) (out : Out) (o : Option ClientState) (new : WorldState) (printed : List Line) → option_map_or (λ client. gave w number (out_client out) (give_step client 0 out)) o (Err faults.NoSession) ≡ Ok (new, printed) → IsQuiet w new printed
@@ -178,7 +174,7 @@ given_made w number out (Some client) new printed h =
     let step = give_step client 0 out in
     let other : WorldState = record (with_client w (out_client out) step.0) { messages = delivered w.messages number } in
     let q = gave_made other step.1 new printed (λ told e. step_silent client 0 out told e) h in
-    record { rows = q.rows; master = q.master; mail = keeps_both w.messages (delivered w.messages number) new.messages (keeps_delivered w.messages number) q.mail; silent = q.silent }
+    record { rows = q.rows; master = q.master; silent = q.silent }
 
 give_made : (w : WorldState) (number : ℕ) (o : Option Out) (new : WorldState) (printed : List Line) → option_map_or (λ out. given_to w number out) o (Err faults.NoSuchMessage) ≡ Ok (new, printed) → IsQuiet w new printed
 give_made w number None new printed h = cc
@@ -192,8 +188,7 @@ took_made w number master request false new printed was found h =
     let x : MasterState × Taken = take_at (noted master w.clock) request in
     let made : WorldState = record w { master = Some x.0; messages = delivered w.messages number ++ map new_out x.1.outs } in
     let p = ok_pair (made, x.1.lines) new printed h in
-    let mail = keeps_both w.messages (delivered w.messages number) made.messages (keeps_delivered w.messages number) (keeps_more (delivered w.messages number) (map new_out x.1.outs)) in
-    rw (← p.0, ← p.1) (record { number = number; is_step = refl; master = master; was = was; request = request; found = found; rows = refl; is = refl; mail = mail; tells = refl })
+    rw (← p.0, ← p.1) (record { number = number; is_step = refl; master = master; was = was; request = request; found = found; rows = refl; is = refl; tells = refl })
 
 take_made : (w : WorldState) (number : ℕ) (master : MasterState) (o : Option Request) (new : WorldState) (printed : List Line) → w.master ≡ Some master → request_at w.messages number ≡ o → option_map_or (λ request. took w number (take_step master w.clock request)) o (Err faults.NoSuchMessage) ≡ Ok (new, printed) → IsTake w (steps.Take number) new printed
 unfolding take_step
@@ -206,15 +201,15 @@ master_take_made w number (Some master) new printed was h = take_made w number m
 
 -- ---- the master sweeps
 
-swept_made : (w : WorldState) (master : MasterState) (b : Bool) (new : WorldState) (printed : List Line) → w.master ≡ Some master → without_quiet (swept w master (cond b (Err faults.Exhausted) (Ok (sweep_by (noted master w.clock) master.queue)))) ≡ Ok (new, printed) → IsSweep w new printed
+swept_made : (w : WorldState) (master : MasterState) (b : Bool) (new : WorldState) (printed : List Line) → w.master ≡ Some master → without_quiet (swept w master (cond b (Err faults.Exhausted) (Ok (sweep_by (noted master w.clock) master.queue)))) ≡ Ok (new, printed) → IsSweep w steps.Sweep new printed
 swept_made w master true new printed was h = cc
 swept_made w master false new printed was h =
     let x : MasterState × Swept = sweep_by (noted master w.clock) master.queue in
     let made : WorldState = record w { rows = changed_rows w.rows (sweep_edits master w.clock); master = Some x.0; messages = w.messages ++ map new_out x.1.outs } in
     let p = ok_pair (made, x.1.lines) new printed h in
-    rw (← p.0, ← p.1) (record { master = master; was = was; rows = refl; is = refl; mail = keeps_more w.messages (map new_out x.1.outs); tells = refl })
+    rw (← p.0, ← p.1) (record { is_step = refl; master = master; was = was; rows = refl; is = refl; tells = refl })
 
-sweep_made : (w : WorldState) (m : Option MasterState) (new : WorldState) (printed : List Line) → w.master ≡ m → without_quiet (world_sweep w m) ≡ Ok (new, printed) → IsSweep w new printed
+sweep_made : (w : WorldState) (m : Option MasterState) (new : WorldState) (printed : List Line) → w.master ≡ m → without_quiet (world_sweep w m) ≡ Ok (new, printed) → IsSweep w steps.Sweep new printed
 unfolding sweep_step
 sweep_made w None new printed was h = cc
 sweep_made w (Some master) new printed was h = swept_made w master (nat_le (2 ^ 53) w.clock) new printed was h
@@ -227,11 +222,11 @@ step_made w (steps.Up now) new printed h = is_up (up_made w now w.master new pri
 step_made w (steps.Join number principal) new printed h = is_quiet (join_made w number principal new printed h)
 step_made w (steps.Ask number ask) new printed h = is_quiet (ask_made w number ask (client_of w number) new printed h)
 step_made w (steps.Beat number) new printed h = is_quiet (beat_made w number (client_of w number) new printed h)
-step_made w (steps.Take number) new printed h = is_take (master_take_made w number w.master new printed refl h)
+step_made w (steps.Take number) new printed h = is_take (master_take_made w number w.master new printed refl h) h
 step_made w (steps.Give number) new printed h = is_quiet (give_made w number (out_at w.messages number) new printed h)
-step_made w steps.Sweep new printed h = is_sweep (sweep_made w w.master new printed refl h)
+step_made w steps.Sweep new printed h = is_sweep (sweep_made w w.master new printed refl h) h
 
 pub made : (w : WorldState) (step : Step) (new : WorldState) (printed : List Line) → Does w step new printed → Made w step new printed
 made w step new printed (inl h) = step_made w step new printed h
 made w step new printed (inr r) =
-    is_quiet (rw (r.same, r.line) (record { rows = refl; master = refl; mail = keeps_same w.messages; silent = (tt, tt) }))
+    is_quiet (rw (r.same, r.line) (record { rows = refl; master = refl; silent = (tt, tt) }))

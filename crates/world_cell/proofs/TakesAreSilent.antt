@@ -1,5 +1,5 @@
 -- What a master takes tells of no change.
-use Rattle.std.proofs.Common.{ℕ, ◌∷◌, Bool, true, false, cond, Option, Some, None, rules}
+use Rattle.std.proofs.Common.{ℕ, Bool, true, false, cond, Option, Some, None, rules}
 use Rattle.std.specs.Prelude.{◌==◌, nat_lt, is_none}
 use Rattle.node_core.specs.declared.refusals.Fault.TheVariants as faults
 use Rattle.tags_cell.specs.declared.calls.Call.{Call}

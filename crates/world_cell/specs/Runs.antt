@@ -1,6 +1,5 @@
 -- Whole runs of a world.
-use Rattle.std.specs.Prelude.{◌≡◌, ◌⊎◌, ℕ, ◌<◌, ◌==◌, List, [], ◌∷◌, ◌++◌, Option, Some, None, Result, Ok, Err, if◌then◌else◌}
-use Rattle.std.specs.List.{Contains}
+use Rattle.std.specs.Prelude.{◌≡◌, ◌⊎◌, ℕ, ◌<◌, ◌==◌, List, [], ◌∷◌, ◌++◌, Option, Some, None, Ok, Err, if◌then◌else◌}
 use Rattle.node_core.specs.declared.refusals.Fault.{Fault}
 use Rattle.node_core.specs.declared.lines.Line.{Line}
 use Rattle.node_core.specs.declared.lines.Line.TheVariants as lines
@@ -8,14 +7,13 @@ use Rattle.node_core.specs.declared.views.Mod.{Mod}
 use Rattle.node_core.specs.Nodes.{Nodes, changed}
 use Rattle.tags_cell.specs.declared.calls.Call.{Call}
 use Rattle.tags_cell.specs.declared.outs.CallResult.{CallResult}
-use Rattle.tags_cell.specs.declared.requests.Request.{Request}
 use Rattle.tags_cell.specs.declared.requests.Request.TheVariants as requests
 use Rattle.rows_cell.specs.Rows.{map_of}
 use Rattle.cell_core.specs.declared.effects.Effect.TheVariants.{Changes}
 use Rattle.cell_core.specs.State.{MasterState}
 use Rattle.cell_core.specs.Effect.{effect}
 use Rattle.world_cell.specs.declared.steps.Step.{Step}
-use Rattle.world_cell.specs.declared.steps.Step.TheVariants.{Take}
+use Rattle.world_cell.specs.declared.steps.Step.TheVariants.{Take, Sweep}
 use Rattle.world_cell.specs.Messages.{request_at}
 use Rattle.world_cell.specs.World.{WorldState, world_step, IsOutside}
 
@@ -80,14 +78,46 @@ RisesFrom last (number ∷ numbers) = IsAbove last number × RisesFrom (Some num
 abbrev pub Rises : List ℕ → Type 0
 Rises numbers = RisesFrom None numbers
 
--- a change that lines show is the effect of a call on the map before it; the client sent that call, and one of the steps took it to the master of that epoch
-pub record IsOfCall (old : WorldState) (steps : List Step) (before : List Line) (client number : ℕ) (change : Mod) (new : WorldState) : Type 0 where
-  pub call : Call
+-- the master took a call: behind a first part of the steps it was up in that epoch, the next step delivered the call's message and was made, and the others followed
+pub record IsTaken (old : WorldState) (steps : List Step) (printed : List Line) (new : WorldState) (epoch client number : ℕ) (call : Call) : Type 0 where
+  pub front : List Step
   pub at : ℕ
-  pub taken : Contains steps (Take at)
-  pub sent : request_at new.messages at ≡ Some (requests.Call (record { client = client; epoch = epoch_at old.rows.epoch before; number = number; call = call }))
+  pub back : List Step
+  pub is_split : steps ≡ front ++ Take at ∷ back
+  pub before : List Line
+  pub told : List Line
+  pub after : List Line
+  pub are_lines : printed ≡ before ++ told ++ after
+  pub here : WorldState
+  pub next : WorldState
+  pub first : Run old front before here
+  pub is_made : world_step here (Take at) ≡ Ok (next, told)
+  pub last : Run next back after new
+  pub sent : request_at here.messages at ≡ Some (requests.Call (record { client = client; epoch = epoch; number = number; call = call }))
   pub master : MasterState
+  pub is_up : here.master ≡ Some master
+  pub of_epoch : master.epoch ≡ epoch
+
+-- a change that a line shows: behind a first part of the steps, with the lines before it, the master was up with the map and the epoch that these lines tell; the next
+-- step swept and was made; and the change is what a call does there, which that master, or one of its epoch, took before
+pub record IsOfCall (old : WorldState) (steps : List Step) (before : List Line) (client number : ℕ) (change : Mod) (rest : List Line) (new : WorldState) : Type 0 where
+  pub front : List Step
+  pub back : List Step
+  pub is_split : steps ≡ front ++ Sweep ∷ back
+  pub told : List Line
+  pub after : List Line
+  pub are_lines : rest ≡ told ++ after
+  pub here : WorldState
+  pub next : WorldState
+  pub first : Run old front before here
+  pub is_made : world_step here Sweep ≡ Ok (next, lines.Applied client number change ∷ told)
+  pub last : Run next back after new
+  pub master : MasterState
+  pub is_up : here.master ≡ Some master
   pub nodes : master.nodes ≡ map_at (map_of old.rows) before
+  pub epoch : master.epoch ≡ epoch_at old.rows.epoch before
+  pub call : Call
+  pub taken : IsTaken old front before here master.epoch client number call
   pub next_instance : ℕ
   pub answer : CallResult
   pub is_effect : effect master client number call ≡ Changes change next_instance answer

@@ -1,5 +1,5 @@
 //! Whole runs.
-ghost use Rattle.std.specs.Prelude.{◌≡◌, ◌++◌, ◌∷◌, [], None, IfOk, ℕ, List};
+ghost use Rattle.std.specs.Prelude.{◌≡◌, ◌++◌, ◌∷◌, [], None, IfOk, OnErr, ℕ, List, take};
 ghost use Rattle.rows_cell.specs.Rows.{map_of};
 ghost use Rattle.node_core.specs.declared.lines.Line.{Line as PrintedLine};
 ghost use Rattle.node_core.specs.declared.views.Mod.{Mod};
@@ -17,15 +17,16 @@ impl<R: Records + Drop> World<R> {
     /// far stand, the last one too, and the lines of all of them are lost.
     pub fn run(&mut self, steps: &[Step]) -> Result<Items<Line>, AllocError>
         ensures run { IfOk result (λ lines. Run self.old.world steps.now lines self.new.world) }
+        ensures part { OnErr result ((count : ℕ) × (lines : List PrintedLine) × Run self.old.world (take count steps.now) lines self.new.world) }
         // The rows hold the map that the printed changes make of the former one.
         ensures map { IfOk result (λ lines. map_of self.new.world.rows ≡ map_at (map_of self.old.world.rows) lines) }
         // The epoch is that of the last master that came up.
         ensures epoch { IfOk result (λ lines. self.new.world.rows.epoch ≡ epoch_at self.old.world.rows.epoch lines) }
         // Each call is applied at most once: the numbers of a client's applied calls rise.
         ensures once { IfOk result (λ lines. self.old.world.master ≡ None → (client : ℕ) → Rises (applied client lines)) }
-        // Each applied change is the effect of a call that its client sent and that came to the master of its epoch.
+        // Each applied change is what a call does to the map just before it; a master of that epoch took the call before.
         ensures calls { IfOk result (λ lines. self.old.world.master ≡ None → (before rest : List PrintedLine) (client number : ℕ) (change : Mod) →
-            lines ≡ before ++ Line.Applied client number change ∷ rest → IsOfCall self.old.world steps.now before client number change self.new.world) }
+            lines ≡ before ++ Line.Applied client number change ∷ rest → IsOfCall self.old.world steps.now before client number change rest self.new.world) }
     {
         let mut lines = Items::new(self.alloc());
         for step in steps {
@@ -38,6 +39,7 @@ impl<R: Records + Drop> World<R> {
     // One step; a refused one is one line.
     fn line_step(&mut self, step: &Step) -> Result<Items<Line>, AllocError>
         ensures ok { IfOk result (λ lines. Does self.old.world step.now self.new.world lines) }
+        ensures err { OnErr result ((lines : List PrintedLine) × Does self.old.world step.now self.new.world lines) }
     {
         match self.step(step) {
             Ok(lines) => Ok(lines),

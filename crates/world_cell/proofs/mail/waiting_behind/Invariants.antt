@@ -1,4 +1,4 @@
-use Rattle.std.proofs.Common.{◌≡◌, ℕ, ◌+◌, drop}
+use Rattle.std.proofs.Common.{◌≡◌, ◌+◌, drop}
 use Rattle.world_cell.specs.Messages.{first_waiting}
 use Rattle.world_cell.proofs.mail.waiting_behind.Given as goal
 

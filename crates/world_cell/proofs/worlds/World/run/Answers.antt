@@ -1,34 +1,33 @@
-use Rattle.std.proofs.Common.{◌≡◌, List, [], ◌∷◌, ◌++◌, length, drop, refl, sym, arith, subst}
-use Rattle.std.proofs.lemmas.List.{append-nil, drop_all}
-use Rattle.node_core.specs.declared.lines.Line.{Line}
-use Rattle.world_cell.specs.declared.steps.Step.{Step}
-use Rattle.world_cell.specs.World.{WorldState}
-use Rattle.world_cell.specs.Runs.{Run}
+use Rattle.std.proofs.Common.{arith}
 use Rattle.world_cell.proofs.RowsByRuns.{run_map, run_epoch}
 use Rattle.world_cell.proofs.OnceByRuns.{run_once}
 use Rattle.world_cell.proofs.CallsByRuns.{run_calls}
+use Rattle.world_cell.proofs.PartsOfRuns.{run_more, run_part, run_whole}
 use Rattle.world_cell.proofs.worlds.World.run.Goals as goal
 
--- nothing is left at the end
-at_end : (w end : WorldState) (left steps : List Step) (printed : List Line) → left ≡ [] → ((more : List Line) (last : WorldState) → Run end left more last → Run w steps (printed ++ more) last) → Run w steps printed end
-at_end w end left steps printed none h =
-    let all : Run w steps (printed ++ []) end = h [] end (rw none (refl, refl)) in
-    rw append-nil at all
+pub returns-in_err-here-clause-part : goal.returns-in_err-here-clause-part
+returns-in_err-here-clause-part g c =
+    let told = c.in_err-here.ensures.err in
+    run_part c.from_residual.result c.args.self.now.world c.loop-step.self.world c.line_step.new.self.world c.args.steps.now c.loop-step.step-index c.step-item.result c.loop-step.lines told.0 (omega arith) c.step-item.is c.loop-step.invariant told.1
 
-pub returns-clause-run : goal.returns-clause-run
-returns-clause-run g c =
-    at_end c.args.self.now.world c.loop-step.self.world (drop c.loop-step.step-index c.args.steps.now) c.args.steps.now c.loop-step.lines (drop_all c.loop-step.step-index c.args.steps.now (omega arith)) c.loop-step.invariant
+pub returns-in_err-append-clause-part : goal.returns-in_err-append-clause-part
+returns-in_err-append-clause-part g c =
+    run_part c.from_residual-in_err-append.result c.args.self.now.world c.loop-step.self.world c.line_step.new.self.world c.args.steps.now c.loop-step.step-index c.step-item.result c.loop-step.lines c.in_ok-here.here (omega arith) c.step-item.is c.loop-step.invariant c.in_ok-here.ensures.ok
+
+pub loop-step-preserved : goal.loop-step-preserved
+loop-step-preserved g c =
+    rw c.in_ok-append.ensures.ok (run_more c.args.self.now.world c.loop-step.self.world c.line_step.new.self.world c.args.steps.now c.loop-step.step-index c.step-item.result c.loop-step.lines c.in_ok-here.here (omega arith) c.step-item.is c.loop-step.invariant c.in_ok-here.ensures.ok)
 
 pub returns-clause-map : goal.returns-clause-map
-returns-clause-map g c = run_map c.args.self.now.world c.args.steps.now c.loop-step.lines c.loop-step.self.world (returns-clause-run g c)
+returns-clause-map g c = run_map c.args.self.now.world c.args.steps.now c.loop-step.lines c.loop-step.self.world (run_whole c.args.self.now.world c.loop-step.self.world c.args.steps.now c.loop-step.step-index c.loop-step.lines (omega arith) c.loop-step.invariant)
 
 pub returns-clause-epoch : goal.returns-clause-epoch
-returns-clause-epoch g c = run_epoch c.args.self.now.world c.args.steps.now c.loop-step.lines c.loop-step.self.world (returns-clause-run g c)
+returns-clause-epoch g c = run_epoch c.args.self.now.world c.args.steps.now c.loop-step.lines c.loop-step.self.world (run_whole c.args.self.now.world c.loop-step.self.world c.args.steps.now c.loop-step.step-index c.loop-step.lines (omega arith) c.loop-step.invariant)
 
 pub returns-clause-once : goal.returns-clause-once
 returns-clause-once g c = λ none client.
-    run_once client c.args.self.now.world c.args.steps.now c.loop-step.lines c.loop-step.self.world (returns-clause-run g c) none
+    run_once client c.args.self.now.world c.args.steps.now c.loop-step.lines c.loop-step.self.world (run_whole c.args.self.now.world c.loop-step.self.world c.args.steps.now c.loop-step.step-index c.loop-step.lines (omega arith) c.loop-step.invariant) none
 
 pub returns-clause-calls : goal.returns-clause-calls
 returns-clause-calls g c = λ none before rest client number change is.
-    run_calls c.args.self.now.world c.args.steps.now c.loop-step.lines c.loop-step.self.world (returns-clause-run g c) none before rest client number change is
+    run_calls c.args.self.now.world c.args.steps.now c.loop-step.lines c.loop-step.self.world (run_whole c.args.self.now.world c.loop-step.self.world c.args.steps.now c.loop-step.step-index c.loop-step.lines (omega arith) c.loop-step.invariant) none before rest client number change is

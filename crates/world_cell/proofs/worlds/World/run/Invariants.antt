@@ -1,10 +1,7 @@
-use Rattle.std.proofs.Common.{List, ◌++◌, drop}
-use Rattle.node_core.specs.declared.lines.Line.{Line}
-use Rattle.world_cell.specs.World.{WorldState}
+use Rattle.std.proofs.Common.{take}
 use Rattle.world_cell.specs.Runs.{Run}
 use Rattle.world_cell.proofs.worlds.World.run.Given as goal
 
--- what is left to run completes the run
+-- the steps so far were run
 abbrev pub invariant-loop-step : goal.invariant-loop-step
-invariant-loop-step g l =
-    (more : List Line) (end : WorldState) → Run l.self.world (drop l.step-index l.steps) more end → Run l.fn.self.world l.steps (l.lines ++ more) end
+invariant-loop-step g l = Run l.fn.self.world (take l.step-index l.steps) l.lines l.self.world

@@ -1,7 +1,7 @@
 //! The rows of a new store, and each public call once on its happy path.
-use crate::{ListRecords, Records, Settings, SettingsFault};
 use names_cell::{Component, Principal};
 use plain::Secret;
+use rows_cell::{ListRecords, Records, Settings, SettingsFault};
 use std::alloc::Global;
 use std::test::Fail;
 

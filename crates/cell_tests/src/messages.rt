@@ -1,7 +1,7 @@
 //! The ends of the ranges.
-use crate::{ClientNumber, MessageNumber, Mode};
 use node_core::Right;
 use std::test::Fail;
+use tags_cell::{ClientNumber, MessageNumber, Mode};
 
 #[test]
 fn numbers_at_their_ends(rt: HostRuntime) {

@@ -1,5 +1,5 @@
 //! Each public call once on its happy path: that memory is there is what no clause says.
-use crate::{Bytes, Items, Secret, Table};
+use plain::{Bytes, Items, Secret, Table};
 use std::test::Fail;
 
 #[test]

@@ -1,5 +1,5 @@
 //! Texts on both sides of each limit.
-use crate::{AclList, Component, Name, NameFault, Principal};
+use names_cell::{AclList, Component, Name, NameFault, Principal};
 use std::alloc::{AllocError, Global};
 use std::test::Fail;
 

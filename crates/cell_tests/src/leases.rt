@@ -1,6 +1,6 @@
 ghost use Rattle.lease_core.specs.Lease.{IsMoment};
 
-use crate::{Clock, Lease};
+use lease_core::{Clock, Lease};
 use std::test::Fail;
 
 const LAST_MOMENT: u64 = 9_007_199_254_740_991;

@@ -1,6 +1,6 @@
 //! The texts of the lines, and a small map.
-use crate::*;
 use names_cell::{Component, Name, Principal};
+use node_core::*;
 use plain::{Bytes, Items};
 use std::alloc::Global;
 use std::process::Abort;
