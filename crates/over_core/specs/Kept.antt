@@ -16,9 +16,10 @@ use Rattle.cell_core.specs.declared.pending.Work.TheVariants as works
 use Rattle.cell_core.specs.State.{MasterState}
 use Rattle.cell_core.specs.Step.{is_of_cell, node_of_handle}
 
--- a master, and its store: the rows that stand, the rows that a crash may leave, and how often the store refused
+-- a master, and its store: the name of its cell, the rows that stand, the rows that a crash may leave, and how often the store refused
 pub record CellState : Type 0 where
   pub master : MasterState
+  pub cell : List ℕ
   pub rows : Rows
   pub may_leave : List Rows
   pub refusals : ℕ

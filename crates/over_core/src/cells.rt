@@ -16,7 +16,7 @@ use std::marker::Model;
 use tags_cell::Request;
 
 /// A master of a cell with the records that outlive it (Burrows 2006, sections 2.7 and 2.13). To a contract, what the
-/// master is, the rows that stand, the rows that a crash may leave, and how often the store refused.
+/// master is, the name of its cell, the rows that stand, the rows that a crash may leave, and how often the store refused.
 #[derive(Drop)]
 pub struct Cell<R: Records> {
     records: R,
@@ -30,6 +30,7 @@ impl<R: Records> Model for Cell<R> {
 
     ghost view = { λ c. record {
       master = c.master;
+      cell = R.cell c.records;
       rows = R.rows c.records;
       may_leave = R.may_leave c.records;
       refusals = R.refusals c.records;
@@ -48,6 +49,7 @@ impl<R: Records> Cell<R> {
     pub fn up(alloc: Global, mut records: R, lease: u64, now: u64) -> Result<Cell<R>, (Fault, R)>
         requires { (1000 ≤ lease) × (lease ≤ 60000) }
         ensures ok { IfOk result (λ cell. up_step (R.rows records) lease now ≡ Ok cell.master) }
+        ensures same { IfOk result (λ cell. cell.cell ≡ R.cell records) }
         ensures committed { IfOk result (λ cell. IsCommitted (up_edits (R.rows records)) (R.rows records) cell.rows (R.may_leave records) cell.may_leave (R.refusals records) cell.refusals) }
         ensures fault { IfErr result (λ e. (up_step (R.rows records) lease now ≡ Err e.0) ⊎ MayRefuseUp e.0 (R.cell records) (R.rows records) (R.refusals records) (R.refusals e.1)) }
         ensures rows { IfErr result (λ e. R.rows e.1 ≡ R.rows records) }
@@ -82,6 +84,7 @@ impl<R: Records> Cell<R> {
         ensures fault { IfErr result (λ e. (sweep_step self.old.master now ≡ Err e × self.new ≡ self.old)
             ⊎ IsRefused e (sweep_edits self.old.master now) self.old.rows self.new.rows self.old.may_leave self.new.may_leave self.old.refusals self.new.refusals) }
         ensures err { OnErr result (self.new.master ≡ self.old.master) }
+        ensures cell { self.new.cell ≡ self.old.cell }
     {
         let _nodes = self.master.map().as_map();
         self.master.sweep(now, &mut self.records)
@@ -99,6 +102,7 @@ impl<R: Records> Cell<R> {
         ensures rows { R.rows result ≡ self.rows }
         ensures leave { R.may_leave result ≡ self.may_leave }
         ensures refusals { R.refusals result ≡ self.refusals }
+        ensures cell { R.cell result ≡ self.cell }
     {
         let Cell { records, .. } = self;
         records

@@ -21,7 +21,7 @@ use Rattle.cell_core.specs.Effect.{effect}
 use Rattle.cell_core.specs.Sweep.{noted, sweep_by}
 use Rattle.world_cell.specs.declared.steps.Step.{Step}
 use Rattle.world_cell.specs.World.{WorldState, world_step}
-use Rattle.world_cell.specs.Runs.{Does, Run, map_at, epoch_at, IsTaken, IsOfCall}
+use Rattle.world_cell.specs.Runs.{Does, Run, map_at, epoch_at, change_of, IsTaken, IsOfCall}
 use Rattle.world_cell.proofs.StepKinds.{IsSilent, IsUp, IsTake, IsSweep, Made, is_quiet, is_up, is_take, is_sweep, made}
 use Rattle.world_cell.proofs.TakesAreSilent.{take_silent}
 use Rattle.world_cell.proofs.RowsByRuns.{Tells, silent_map, silent_epoch, map_more, epoch_more, tells_more, step_tells}
@@ -208,9 +208,7 @@ of_sweep g step next printed before told later client number change steps rest n
       epoch = was.epoch;
       call = here.call;
       taken = in_epoch g t.master.epoch client number here.call was.epoch here.was;
-      next_instance = here.next_instance;
-      answer = here.answer;
-      is_effect = sym (noted_effect t.master g.here.clock client number here.call) ∙ here.is_effect;
+      is_effect = ap change_of (sym (noted_effect t.master g.here.clock client number here.call) ∙ here.is_effect);
     })
 
 made_here : (g : Ground) (step : Step) (next : WorldState) (printed before told later : List Line) (client number : ℕ) (change : Mod) (steps : List Step) (rest : List Line) (new : WorldState) → Stands g → Made g.here step next printed → Run next steps later new → printed ≡ before ++ lines.Applied client number change ∷ told → rest ≡ told ++ later → IsOfCall g.old (g.past ++ step ∷ steps) (g.told ++ before) client number change rest new

@@ -10,15 +10,15 @@ use Rattle.world_cell.specs.World.{WorldState, world_step, IsOutside}
 use Rattle.world_cell.specs.Runs.{Does, Run}
 use Rattle.world_cell.proofs.CallsByTakes.{run_push}
 
-why_refused : (old : WorldState) (step : Step) (fault : Fault) (before later : ℕ) → (world_step old step ≡ Err fault) ⊎ IsOutside fault before later → (world_step old step ≡ Err fault) ⊎ ((before : ℕ) × (later : ℕ) × IsOutside fault before later)
-why_refused old step fault before later (inl h) = inl h
-why_refused old step fault before later (inr h) = inr (before, later, h)
+why_refused : (old : WorldState) (step : Step) (fault : Fault) (cell : List ℕ) (before later : ℕ) → (world_step old step ≡ Err fault) ⊎ IsOutside fault cell old.rows before later → (world_step old step ≡ Err fault) ⊎ ((cell : List ℕ) × (before : ℕ) × (later : ℕ) × IsOutside fault cell old.rows before later)
+why_refused old step fault cell before later (inl h) = inl h
+why_refused old step fault cell before later (inr h) = inr (cell, before, later, h)
 
 -- a refused step is a step of a run, also where its line can't be made
-pub refused_does : {X E : Type 0} (told : Result X E) (old new : WorldState) (step : Step) (fault : Fault) (before later : ℕ) → (world_step old step ≡ Err fault) ⊎ IsOutside fault before later → new ≡ old → OnErr told ((printed : List Line) × Does old step new printed)
-refused_does (Ok x) old new step fault before later why same = tt
-refused_does (Err e) old new step fault before later why same =
-    (lines.Refused fault ∷ [], inr (record { fault = fault; why = why_refused old step fault before later why; same = same; line = refl }))
+pub refused_does : {X E : Type 0} (told : Result X E) (old new : WorldState) (step : Step) (fault : Fault) (cell : List ℕ) (before later : ℕ) → (world_step old step ≡ Err fault) ⊎ IsOutside fault cell old.rows before later → new ≡ old → OnErr told ((printed : List Line) × Does old step new printed)
+refused_does (Ok x) old new step fault cell before later why same = tt
+refused_does (Err e) old new step fault cell before later why same =
+    (lines.Refused fault ∷ [], inr (record { fault = fault; why = why_refused old step fault cell before later why; same = same; line = refl }))
 
 take_more : {X : Type 0} (xs : List X) (i : ℕ) (x : X) → i < length xs → x ≡ slice_index_or xs i x → take (i + 1) xs ≡ take i xs ++ x ∷ []
 take_more xs i x less is =

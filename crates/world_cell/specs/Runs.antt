@@ -6,10 +6,10 @@ use Rattle.node_core.specs.declared.lines.Line.TheVariants as lines
 use Rattle.node_core.specs.declared.views.Mod.{Mod}
 use Rattle.node_core.specs.Nodes.{Nodes, changed}
 use Rattle.tags_cell.specs.declared.calls.Call.{Call}
-use Rattle.tags_cell.specs.declared.outs.CallResult.{CallResult}
 use Rattle.tags_cell.specs.declared.requests.Request.TheVariants as requests
 use Rattle.rows_cell.specs.Rows.{map_of}
-use Rattle.cell_core.specs.declared.effects.Effect.TheVariants.{Changes}
+use Rattle.cell_core.specs.declared.effects.Effect.{Effect}
+use Rattle.cell_core.specs.declared.effects.Effect.TheVariants.{Answers, Changes}
 use Rattle.cell_core.specs.State.{MasterState}
 use Rattle.cell_core.specs.Effect.{effect}
 use Rattle.world_cell.specs.declared.steps.Step.{Step}
@@ -22,7 +22,7 @@ use Rattle.world_cell.specs.World.{WorldState, world_step, IsOutside}
 -- the table refuses the step, or want of memory or the store does; nothing changes, and one line says so
 pub record IsRefused (old : WorldState) (step : Step) (new : WorldState) (printed : List Line) : Type 0 where
   pub fault : Fault
-  pub why : (world_step old step ≡ Err fault) ⊎ ((before : ℕ) × (after : ℕ) × IsOutside fault before after)
+  pub why : (world_step old step ≡ Err fault) ⊎ ((cell : List ℕ) × (before : ℕ) × (after : ℕ) × IsOutside fault cell old.rows before after)
   pub same : new ≡ old
   pub line : printed ≡ lines.Refused fault ∷ []
 
@@ -78,6 +78,11 @@ RisesFrom last (number ∷ numbers) = IsAbove last number × RisesFrom (Some num
 abbrev pub Rises : List ℕ → Type 0
 Rises numbers = RisesFrom None numbers
 
+-- the change of the map that an effect is, if it is one
+abbrev pub change_of : Effect → Option Mod
+change_of (Answers answer) = None
+change_of (Changes change next_instance answer) = Some change
+
 -- the master took a call: behind a first part of the steps it was up in that epoch, the next step delivered the call's message and was made, and the others followed
 pub record IsTaken (old : WorldState) (steps : List Step) (printed : List Line) (new : WorldState) (epoch client number : ℕ) (call : Call) : Type 0 where
   pub front : List Step
@@ -118,6 +123,4 @@ pub record IsOfCall (old : WorldState) (steps : List Step) (before : List Line) 
   pub epoch : master.epoch ≡ epoch_at old.rows.epoch before
   pub call : Call
   pub taken : IsTaken old front before here master.epoch client number call
-  pub next_instance : ℕ
-  pub answer : CallResult
-  pub is_effect : effect master client number call ≡ Changes change next_instance answer
+  pub is_effect : change_of (effect master client number call) ≡ Some change

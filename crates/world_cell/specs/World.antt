@@ -1,5 +1,5 @@
 -- A world: the rows, the master while one is up, the clients, and all messages; and what each step does.
-use Rattle.std.specs.Prelude.{◌≡◌, ℕ, ◌+◌, ◌-◌, ◌^◌, List, [], ◌∷◌, ◌++◌, map, Option, Some, None, Result, Ok, Err, if◌then◌else◌, is_some}
+use Rattle.std.specs.Prelude.{false, ◌≡◌, ℕ, ◌+◌, ◌-◌, ◌^◌, List, [], ◌∷◌, ◌++◌, map, Option, Some, None, Result, Ok, Err, if◌then◌else◌, is_some}
 use Rattle.std.specs.Option.{option_map_or}
 use Rattle.std.specs.Map.{lookup, set_value}
 use Rattle.std.specs.BTreeMap.{is_at, insert_entry}
@@ -10,6 +10,7 @@ use Rattle.node_core.specs.declared.lines.Line.{Line}
 use Rattle.node_core.specs.declared.lines.Line.TheVariants as lines
 use Rattle.rows_cell.specs.declared.tables.Rows.{Rows}
 use Rattle.rows_cell.specs.Rows.{changed_rows}
+use Rattle.rows_cell.specs.Sound.{sound}
 use Rattle.tags_cell.specs.declared.requests.Request.{Request}
 use Rattle.tags_cell.specs.declared.outs.Out.{Out}
 use Rattle.tags_cell.specs.Messages.{out_client}
@@ -41,9 +42,10 @@ pub record WorldState : Type 0 where
   pub messages : List SentMessage
   pub lease : ℕ
 
--- a world and its store: the rows that a crash may leave, and how often the store refused
+-- a world and its store: the name of its cell, the rows that a crash may leave, and how often the store refused
 pub record WorldView : Type 0 where
   pub world : WorldState
+  pub cell : List ℕ
   pub may_leave : List Rows
   pub refusals : ℕ
 
@@ -62,6 +64,9 @@ no_rows = record { cell = []; secret = []; epoch = 0; next_instance = 0; nodes =
 
 abbrev pub rows_of : Option Rows → Option Rows → Rows
 rows_of master records = store_of no_rows master records
+
+abbrev pub cell_of : Option (List ℕ) → Option (List ℕ) → List ℕ
+cell_of master records = store_of [] master records
 
 abbrev pub leave_of : Option (List Rows) → Option (List Rows) → List Rows
 leave_of master records = store_of [] master records
@@ -186,10 +191,10 @@ world_step w steps.Sweep = without_quiet (world_sweep w w.master)
 
 -- ---- what the table doesn't decide
 
--- want of memory and the store may refuse a step that would change the rows, by the count of the store's refusals before and after
-abbrev pub IsOutside : Fault → ℕ → ℕ → Type 0
-IsOutside faults.NoMemory before after = after ≡ before
-IsOutside faults.Exhausted before after = (before ≡ 2 ^ 63 - 1) × (after ≡ before)
-IsOutside faults.StoreRefused before after = after ≡ before + 1
-IsOutside faults.StoreDamaged before after = after ≡ before
-IsOutside _ before after = ⊥
+-- want of memory and the store may refuse a step that would change the rows, by the store's cell and rows, and the count of its refusals before and after
+abbrev pub IsOutside : Fault → List ℕ → Rows → ℕ → ℕ → Type 0
+IsOutside faults.NoMemory cell rows before after = after ≡ before
+IsOutside faults.Exhausted cell rows before after = (before ≡ 2 ^ 63 - 1) × (after ≡ before)
+IsOutside faults.StoreRefused cell rows before after = after ≡ before + 1
+IsOutside faults.StoreDamaged cell rows before after = (sound cell rows ≡ false) × (after ≡ before)
+IsOutside _ cell rows before after = ⊥

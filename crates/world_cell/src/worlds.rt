@@ -42,7 +42,7 @@ pub struct World<R: Records> {
 impl<R: Records> Model for World<R> {
     ghost use Rattle.std.specs.Prelude.{◌≡◌, ◌≤◌, not, is_some};
     ghost use Rattle.std.specs.Option.{option_map};
-    ghost use Rattle.world_cell.specs.World.{WorldView, rows_of, leave_of, refusals_of};
+    ghost use Rattle.world_cell.specs.World.{WorldView, rows_of, cell_of, leave_of, refusals_of};
 
     ghost Value = { WorldView };
 
@@ -55,6 +55,7 @@ impl<R: Records> Model for World<R> {
         messages = w.messages.items;
         lease = w.lease;
       };
+      cell = cell_of (option_map (λ c. c.cell) w.master) (option_map R.cell w.records);
       may_leave = leave_of (option_map (λ c. c.may_leave) w.master) (option_map R.may_leave w.records);
       refusals = refusals_of (option_map (λ c. c.refusals) w.master) (option_map R.refusals w.records);
     } };
@@ -65,7 +66,7 @@ impl<R: Records> Model for World<R> {
 impl<R: Records + Drop> World<R> {
     /// No master is up, no client has joined, nothing was sent. Takes no memory yet.
     pub fn new(alloc: Global, records: R, settings: &Settings) -> World<R>
-        ensures { result ≡ record { world = new_world (R.rows records) settings.now.lease; may_leave = R.may_leave records; refusals = R.refusals records } }
+        ensures { result ≡ record { world = new_world (R.rows records) settings.now.lease; cell = R.cell records; may_leave = R.may_leave records; refusals = R.refusals records } }
     {
         World {
             alloc,
@@ -87,8 +88,9 @@ impl<R: Records + Drop> World<R> {
     #[tactic(auto, unfolding(crate::specs::World::world_step))]
     pub fn step(&mut self, step: &Step) -> Result<Items<Line>, Fault>
         ensures ok { IfOk result (λ lines. world_step self.old.world step.now ≡ Ok (self.new.world, lines)) }
-        ensures fault { IfErr result (λ e. (world_step self.old.world step.now ≡ Err e) ⊎ IsOutside e self.old.refusals self.new.refusals) }
+        ensures fault { IfErr result (λ e. (world_step self.old.world step.now ≡ Err e) ⊎ IsOutside e self.old.cell self.old.world.rows self.old.refusals self.new.refusals) }
         ensures err { OnErr result (self.new.world ≡ self.old.world) }
+        ensures cell { self.new.cell ≡ self.old.cell }
     {
         match step {
             Step::Up(now) => self.up(*now),
@@ -105,8 +107,9 @@ impl<R: Records + Drop> World<R> {
     #[tactic(auto, using(crate::proofs::OneMessage::sweep_few))]
     pub fn sweep(&mut self) -> Result<Turn, Fault>
         ensures ok { IfOk result (λ turn. world_sweep self.old.world self.old.world.master ≡ Ok (self.new.world, turn)) }
-        ensures fault { IfErr result (λ e. (world_sweep self.old.world self.old.world.master ≡ Err e) ⊎ IsOutside e self.old.refusals self.new.refusals) }
+        ensures fault { IfErr result (λ e. (world_sweep self.old.world self.old.world.master ≡ Err e) ⊎ IsOutside e self.old.cell self.old.world.rows self.old.refusals self.new.refusals) }
         ensures err { OnErr result (self.new.world ≡ self.old.world) }
+        ensures cell { self.new.cell ≡ self.old.cell }
     {
         match &mut self.master {
             None => Err(Fault::MasterDown),
@@ -142,6 +145,7 @@ impl<R: Records + Drop> World<R> {
         ensures rows { R.rows result ≡ self.world.rows }
         ensures leave { R.may_leave result ≡ self.may_leave }
         ensures refusals { R.refusals result ≡ self.refusals }
+        ensures cell { R.cell result ≡ self.cell }
     {
         let World {
             alloc: _,
@@ -164,8 +168,9 @@ impl<R: Records + Drop> World<R> {
 
     fn up(&mut self, now: u64) -> Result<Items<Line>, Fault>
         ensures ok { IfOk result (λ lines. world_up self.old.world now self.old.world.master ≡ Ok (self.new.world, lines)) }
-        ensures fault { IfErr result (λ e. (world_up self.old.world now self.old.world.master ≡ Err e) ⊎ IsOutside e self.old.refusals self.new.refusals) }
+        ensures fault { IfErr result (λ e. (world_up self.old.world now self.old.world.master ≡ Err e) ⊎ IsOutside e self.old.cell self.old.world.rows self.old.refusals self.new.refusals) }
         ensures err { OnErr result (self.new.world ≡ self.old.world) }
+        ensures cell { self.new.cell ≡ self.old.cell }
     {
         let mut lines = Items::new(self.alloc);
         lines.push(Line::Down)?;
@@ -188,8 +193,9 @@ impl<R: Records + Drop> World<R> {
 
     fn join(&mut self, number: ClientNumber, principal: &Principal) -> Result<Items<Line>, Fault>
         ensures ok { IfOk result (λ lines. world_join self.old.world number principal.now ≡ Ok (self.new.world, lines)) }
-        ensures fault { IfErr result (λ e. (world_join self.old.world number principal.now ≡ Err e) ⊎ IsOutside e self.old.refusals self.new.refusals) }
+        ensures fault { IfErr result (λ e. (world_join self.old.world number principal.now ≡ Err e) ⊎ IsOutside e self.old.cell self.old.world.rows self.old.refusals self.new.refusals) }
         ensures err { OnErr result (self.new.world ≡ self.old.world) }
+        ensures cell { self.new.cell ≡ self.old.cell }
     {
         if self.clients.is_taken(number) {
             return Err(Fault::Exists);
@@ -200,8 +206,9 @@ impl<R: Records + Drop> World<R> {
 
     fn ask(&mut self, number: u64, ask: &Ask) -> Result<Items<Line>, Fault>
         ensures ok { IfOk result (λ lines. world_ask self.old.world number ask.now ≡ Ok (self.new.world, lines)) }
-        ensures fault { IfErr result (λ e. (world_ask self.old.world number ask.now ≡ Err e) ⊎ IsOutside e self.old.refusals self.new.refusals) }
+        ensures fault { IfErr result (λ e. (world_ask self.old.world number ask.now ≡ Err e) ⊎ IsOutside e self.old.cell self.old.world.rows self.old.refusals self.new.refusals) }
         ensures err { OnErr result (self.new.world ≡ self.old.world) }
+        ensures cell { self.new.cell ≡ self.old.cell }
     {
         let mut lines = room(self.alloc)?;
         self.messages.reserve(1)?;
@@ -222,8 +229,9 @@ impl<R: Records + Drop> World<R> {
 
     fn beat(&mut self, number: u64) -> Result<Items<Line>, Fault>
         ensures ok { IfOk result (λ lines. world_beat self.old.world number ≡ Ok (self.new.world, lines)) }
-        ensures fault { IfErr result (λ e. (world_beat self.old.world number ≡ Err e) ⊎ IsOutside e self.old.refusals self.new.refusals) }
+        ensures fault { IfErr result (λ e. (world_beat self.old.world number ≡ Err e) ⊎ IsOutside e self.old.cell self.old.world.rows self.old.refusals self.new.refusals) }
         ensures err { OnErr result (self.new.world ≡ self.old.world) }
+        ensures cell { self.new.cell ≡ self.old.cell }
     {
         self.messages.reserve(1)?;
         match self.clients.beat(number) {
@@ -241,8 +249,9 @@ impl<R: Records + Drop> World<R> {
     #[tactic(auto, using(crate::proofs::OneMessage::take_few))]
     fn take(&mut self, number: u64) -> Result<Items<Line>, Fault>
         ensures ok { IfOk result (λ lines. world_take self.old.world number self.old.world.master ≡ Ok (self.new.world, lines)) }
-        ensures fault { IfErr result (λ e. (world_take self.old.world number self.old.world.master ≡ Err e) ⊎ IsOutside e self.old.refusals self.new.refusals) }
+        ensures fault { IfErr result (λ e. (world_take self.old.world number self.old.world.master ≡ Err e) ⊎ IsOutside e self.old.cell self.old.world.rows self.old.refusals self.new.refusals) }
         ensures err { OnErr result (self.new.world ≡ self.old.world) }
+        ensures cell { self.new.cell ≡ self.old.cell }
     {
         match &mut self.master {
             None => Err(Fault::MasterDown),
@@ -261,8 +270,9 @@ impl<R: Records + Drop> World<R> {
 
     fn give(&mut self, number: u64) -> Result<Items<Line>, Fault>
         ensures ok { IfOk result (λ lines. world_give self.old.world number ≡ Ok (self.new.world, lines)) }
-        ensures fault { IfErr result (λ e. (world_give self.old.world number ≡ Err e) ⊎ IsOutside e self.old.refusals self.new.refusals) }
+        ensures fault { IfErr result (λ e. (world_give self.old.world number ≡ Err e) ⊎ IsOutside e self.old.cell self.old.world.rows self.old.refusals self.new.refusals) }
         ensures err { OnErr result (self.new.world ≡ self.old.world) }
+        ensures cell { self.new.cell ≡ self.old.cell }
     {
         let Some(out) = mail::out_at(self.messages.as_slice(), number) else {
             return Err(Fault::NoSuchMessage);
