@@ -1,21 +1,13 @@
 //! Texts on both sides of each limit.
+use crate::run_of;
 use names_cell::{AclList, Component, Name, NameFault, Principal};
 use std::alloc::{AllocError, Global};
 use std::test::Fail;
 
-// A text of one byte, many times.
-fn run_of(alloc: Global, byte: char, length: usize) -> Result<String, AllocError> {
-    let mut text = String::new(alloc);
-    for _ in 0..length {
-        text.push(byte)?;
-    }
-    Ok(text)
-}
-
 // `/ls/c`, then components of 63 bytes with their slashes, then one of the bytes that are left.
 fn name_of_length(alloc: Global, length: usize) -> Result<String, AllocError> {
     let mut text = String::from_str(alloc, "/ls/c")?;
-    let part = run_of(alloc, 'a', 63)?;
+    let part = run_of(alloc, "a", 63)?;
     for _ in 0..7 {
         text.push_str("/")?;
         text.push_str(part.as_str())?;
@@ -74,7 +66,7 @@ fn names_at_their_longest(rt: HostRuntime) -> Result<(), Fail> {
 #[test]
 fn components_at_their_longest(rt: HostRuntime) -> Result<(), Fail> {
     for (length, want) in [(0, false), (1, true), (64, true), (65, false)] {
-        let text = run_of(rt.alloc(), 'z', length)?;
+        let text = run_of(rt.alloc(), "z", length)?;
         assert_eq!(rt;
             Component::parse(rt.alloc(), text.as_str()).is_ok(),
             want,
@@ -128,7 +120,7 @@ fn root_of_a_cell(rt: HostRuntime) -> Result<(), Fail> {
 
 // A line of that many bytes, and a good one behind it.
 fn two_lines(alloc: Global, length: usize) -> Result<String, AllocError> {
-    let mut text = run_of(alloc, 'a', length)?;
+    let mut text = run_of(alloc, "a", length)?;
     text.push_str("\nbob\n")?;
     Ok(text)
 }
