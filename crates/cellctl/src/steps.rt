@@ -1,5 +1,5 @@
 //! The steps of a script, each of them a line.
-ghost use Rattle.std.specs.Prelude.{◌≡◌, IfOk, IfErr};
+ghost use Rattle.std.specs.Prelude.{◌≡◌, IfOk, IfErr, decimal};
 ghost use Rattle.cellctl.specs.Steps.{IsWordFlaw, RefusesWords, flaw_of};
 
 use crate::words::{content, mode, number};
@@ -171,7 +171,8 @@ fn set(alloc: Global, handle: &str, bytes: &str, generation: Option<u64>) -> Res
 }
 
 fn number_of(word: &str) -> Result<u64, Flaw>
-    ensures { IfErr result IsWordFlaw }
+    ensures flaw { IfErr result IsWordFlaw }
+    ensures number { IfOk result (λ n. decimal n ≡ word.now) }
 {
     number(word).ok_or(Flaw::Bad)
 }

@@ -39,12 +39,22 @@ impl fmt::Display for Stop {
 }
 
 impl From<AllocError> for Stop {
+    ghost use Rattle.std.specs.Prelude.{◌≡◌};
+    ghost use Rattle.cellctl.specs.declared.stops.Stop.TheVariants.{NoMemory};
+
+    ghost from_gives = { λ _ e. e ≡ NoMemory };
+
     fn from(_e: AllocError) -> Stop {
         Stop::NoMemory
     }
 }
 
 impl From<io::Error> for Stop {
+    ghost use Rattle.std.specs.Prelude.{◌≡◌};
+    ghost use Rattle.cellctl.specs.declared.stops.Stop.TheVariants.{Unwritten};
+
+    ghost from_gives = { λ error e. e ≡ Unwritten error };
+
     fn from(error: io::Error) -> Stop {
         Stop::Unwritten(error)
     }
