@@ -13,4 +13,3 @@ pub use components::Component;
 pub use faults::NameFault;
 pub use paths::Name;
 pub use principals::Principal;
-

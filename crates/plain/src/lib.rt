@@ -12,4 +12,3 @@ pub use contents::Bytes;
 pub use lists::Items;
 pub use secrets::Secret;
 pub use tables::Table;
-

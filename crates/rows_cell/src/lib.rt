@@ -12,4 +12,3 @@ pub use lists::ListRecords;
 pub use records::{Records, StoreFault};
 pub use settings::{Settings, SettingsFault};
 pub use tables::{Edit, LockRow, LockState, Node, Rows, Session};
-

@@ -14,4 +14,3 @@ pub use modes::Mode;
 pub use numbers::MessageNumber;
 pub use outs::{CallResult, Out, Refused, Reply, Started};
 pub use requests::{CallMessage, Request, Start};
-
