@@ -1,5 +1,5 @@
 -- What a master does with a message.
-use Rattle.std.specs.Prelude.{ℕ, Bool, true, false, ◌&&◌, ◌==◌, ◌^◌, nat_lt, nat_le, max, List, [], ◌∷◌, ◌++◌, length, Option, Some, None, Result, Ok, Err, if◌then◌else◌, is_none}
+use Rattle.std.specs.Prelude.{ℕ, Bool, true, false, not, ◌&&◌, ◌==◌, ◌^◌, nat_lt, nat_le, max, List, [], ◌∷◌, ◌++◌, length, Option, Some, None, Result, Ok, Err, if◌then◌else◌, is_none}
 use Rattle.std.specs.Option.{option_map_or}
 use Rattle.std.specs.Map.{lookup}
 use Rattle.std.specs.BTreeMap.{is_at, insert_entry}
@@ -12,11 +12,20 @@ use Rattle.node_core.specs.declared.lines.Line.TheVariants as lines
 use Rattle.node_core.specs.declared.views.View.{View}
 use Rattle.node_core.specs.declared.kinds.Kind.{Kind}
 use Rattle.node_core.specs.declared.kinds.Kind.TheVariants as kinds
-use Rattle.node_core.specs.Nodes.{get_node}
+use Rattle.node_core.specs.declared.kinds.Right.{Right}
+use Rattle.node_core.specs.declared.kinds.Right.TheVariants as rights
+use Rattle.node_core.specs.declared.stats.Stat.{Stat}
+use Rattle.node_core.specs.Nodes.{get_node, children}
+use Rattle.node_core.specs.Access.{permitted}
 use Rattle.rows_cell.specs.declared.tables.Session.{Session}
-use Rattle.tags_cell.specs.declared.calls.Handle.{Handle}
+use Rattle.tags_cell.specs.Modes.{Rights, has_right}
+use Rattle.tags_cell.specs.Handles.{is_ordinal, handle_bytes, read_handle}
+use Rattle.tags_cell.specs.declared.masks.Events.{Events}
+use Rattle.tags_cell.specs.declared.handles.Handle.{Handle}
 use Rattle.tags_cell.specs.declared.calls.Open.{Open}
 use Rattle.tags_cell.specs.declared.calls.Create.{Create}
+use Rattle.tags_cell.specs.declared.calls.NewNode.{NewNode}
+use Rattle.tags_cell.specs.declared.calls.NewNode.TheVariants as made
 use Rattle.tags_cell.specs.declared.calls.Call.{Call}
 use Rattle.tags_cell.specs.declared.calls.Call.TheVariants as calls
 use Rattle.tags_cell.specs.declared.requests.Start.{Start}
@@ -30,6 +39,12 @@ use Rattle.cell_core.specs.declared.pending.Taken.{Taken}
 use Rattle.cell_core.specs.declared.pending.Kept.{Kept}
 use Rattle.cell_core.specs.declared.pending.Pending.{Pending}
 use Rattle.cell_core.specs.declared.pending.Work.TheVariants as works
+use Rattle.cell_core.specs.declared.handles.HandleState.{HandleState}
+use Rattle.cell_core.specs.declared.handles.HandleState.TheVariants as states
+use Rattle.cell_core.specs.declared.handles.HandleKey.{HandleKey}
+use Rattle.cell_core.specs.declared.handles.Note.{Note}
+use Rattle.cell_core.specs.declared.admissions.Admission.{Admission}
+use Rattle.cell_core.specs.Keys.{handle_order}
 use Rattle.cell_core.specs.State.{MasterState}
 
 -- ---- what the master knows of a client
@@ -99,63 +114,185 @@ start_step s start =
     else (queued s (record { client = start.client; number = start.number; work = works.Starts start.principal }), nothing))
     else (s, refusal s start.client start.number faults.NoSession)
 
--- ---- the tests of a call
+-- ---- rights
 
-abbrev pub is_of_cell : MasterState → List ℕ → Bool
-is_of_cell s name = bytes_eq (cell_of name) s.name
+-- the client's principal is permitted the right to a node with this view
+abbrev pub may : MasterState → ℕ → View → Right → Bool
+may s client view right = option_map_or (λ session. permitted s.nodes session.principal view right) (session_of s client) false
 
--- what an Open of a present node gives
-abbrev pub opened : MasterState → ℕ → ℕ → Open → View → CallResult
-opened s client number opening view =
-    results.Opened (record { epoch = s.epoch; client = client; number = number; instance = view.instance; mode = opening.mode; name = opening.name })
+abbrev pub lacks : MasterState → ℕ → Rights → View → Right → Bool
+lacks s client mode view right = has_right mode right && not (may s client view right)
 
--- an Open that makes nothing
-abbrev pub plain_open : MasterState → ℕ → ℕ → Open → CallResult
-plain_open s client number opening = option_map_or (λ view. opened s client number opening view) (get_node s.nodes opening.name) (results.Refused faults.NotFound)
+-- the first right of the mode that isn't permitted
+abbrev pub missing_right : MasterState → ℕ → Rights → View → Option Right
+missing_right s client mode view =
+    if lacks s client mode view rights.Read then Some rights.Read
+    else if lacks s client mode view rights.Write then Some rights.Write
+    else if lacks s client mode view rights.Change then Some rights.Change
+    else None
 
-abbrev pub content_fault : List ℕ → Option CallResult
-content_fault content = if nat_lt 262144 (length content) then Some (results.Refused faults.TooLarge) else None
+-- ---- handles
 
-abbrev pub create_answer : MasterState → ℕ → ℕ → Open → Option Create → Option CallResult
-create_answer s client number opening None = Some (plain_open s client number opening)
-create_answer s client number opening (Some create) = content_fault create.content
+abbrev pub handle_state_of : MasterState → HandleKey → Option HandleState
+handle_state_of s key = lookup (is_at (handle_order key)) s.handles
 
-abbrev pub open_answer : MasterState → ℕ → ℕ → Open → Option CallResult
-open_answer s client number opening =
-    if is_of_cell s opening.name then create_answer s client number opening opening.create else Some (results.Refused faults.OtherCell)
+abbrev pub key_of : Handle → HandleKey
+key_of handle = record { client = handle.client; number = handle.number }
 
--- the client's own handle, of this epoch or an earlier one
-abbrev pub is_own : MasterState → ℕ → Handle → Bool
-is_own s client handle = handle.client == client && nat_le handle.epoch s.epoch
+-- what the master notes of a handle, if anything
+abbrev pub with_note : MasterState → Option Note → MasterState
+with_note s None = s
+with_note s (Some note) = record s { handles = insert_entry handle_order s.handles note.key note.state }
+
+-- one of this epoch has to be open; one of an earlier epoch may be new to this master, but not closed
+abbrev pub is_usable : MasterState → Handle → Option HandleState → Bool
+is_usable s handle (Some states.Open) = nat_le handle.epoch s.epoch
+is_usable s handle (Some states.Closed) = false
+is_usable s handle None = nat_lt handle.epoch s.epoch
+
+-- the handle that a client shows, where its bytes are right, it is the client's own, and it is usable
+abbrev pub own_handle : MasterState → ℕ → Handle → Option Handle
+own_handle s client handle =
+    if handle.client == client && is_usable s handle (handle_state_of s (key_of handle)) then Some handle else None
+
+abbrev pub shown_handle : MasterState → ℕ → List ℕ → Option Handle
+shown_handle s client bytes = option_map_or (λ handle. own_handle s client handle) (read_handle s.secret bytes) None
 
 -- the node of a handle, where its instance is there
 abbrev pub node_of_handle : MasterState → Handle → Option View
 node_of_handle s handle =
     option_map_or (λ view. if view.instance == handle.instance then Some view else None) (get_node s.nodes handle.name) None
 
--- the view of the node, or why there is none
-abbrev pub read_answer : MasterState → ℕ → Handle → CallResult
-read_answer s client handle =
-    if is_own s client handle
-    then option_map_or (λ view. results.Viewed view) (node_of_handle s handle) (results.Refused faults.StaleInstance)
-    else results.Refused faults.BadHandle
+-- ---- Opens
+
+abbrev pub is_of_cell : MasterState → List ℕ → Bool
+is_of_cell s name = bytes_eq (cell_of name) s.name
+
+-- its client is told of nothing
+abbrev pub no_events : Events
+no_events = record { contents = false; children = false; lock = false; conflict = false }
+
+-- a handle of a node; its numbers have to be ones that a handle can carry
+abbrev pub new_handle : MasterState → ℕ → ℕ → Open → View → Result Handle Fault
+new_handle s client number opening view =
+    if is_ordinal s.epoch && is_ordinal view.instance
+    then Ok (record {
+      epoch = s.epoch;
+      client = client;
+      number = number;
+      instance = view.instance;
+      mode = opening.mode;
+      life = view.life;
+      events = no_events;
+      delay = 0;
+      name = opening.name;
+    })
+    else Err faults.Exhausted
+
+-- an Open of a present node: the rights of the mode are looked up on the node itself
+abbrev pub open_present : MasterState → ℕ → ℕ → Open → View → Result Handle Fault
+open_present s client number opening view =
+    option_map_or (λ right. Err (faults.Denied right)) (missing_right s client opening.mode view) (new_handle s client number opening view)
+
+-- an Open that makes nothing
+abbrev pub plain_open : MasterState → ℕ → ℕ → Open → Result Handle Fault
+plain_open s client number opening = option_map_or (λ view. open_present s client number opening view) (get_node s.nodes opening.name) (Err faults.NotFound)
+
+abbrev pub opened_answer : MasterState → Result Handle Fault → CallResult
+opened_answer s (Ok handle) = results.Opened (handle_bytes s.secret handle)
+opened_answer s (Err fault) = results.Refused fault
+
+-- a new handle is open
+abbrev pub opened_note : Result Handle Fault → Option Note
+opened_note (Ok handle) = Some (record { key = key_of handle; state = states.Open })
+opened_note (Err fault) = None
+
+-- ---- what is answered at once
+
+abbrev pub content_fault : List ℕ → Option CallResult
+content_fault content = if nat_lt 262144 (length content) then Some (results.Refused faults.TooLarge) else None
+
+abbrev pub node_fault : NewNode → Option CallResult
+node_fault (made.File content) = content_fault content
+node_fault made.Directory = None
 
 -- only a file is written
 abbrev pub write_fault : Kind → List ℕ → Option CallResult
 write_fault kinds.Directory content = Some (results.Refused (faults.WrongKind kinds.Directory))
 write_fault kinds.File content = content_fault content
 
-abbrev pub set_answer : MasterState → ℕ → Handle → List ℕ → Option CallResult
-set_answer s client handle content =
-    if is_own s client handle
-    then option_map_or (λ view. write_fault view.kind content) (node_of_handle s handle) (Some (results.Refused faults.StaleInstance))
-    else Some (results.Refused faults.BadHandle)
+-- only a directory is listed
+abbrev pub list_answer : MasterState → List ℕ → Kind → CallResult
+list_answer s name kinds.Directory = results.Names (children s.nodes name)
+list_answer s name kinds.File = results.Refused (faults.WrongKind kinds.File)
 
--- what is answered at once; none where the call is one that waits for its turn
-abbrev pub answer_of : MasterState → ℕ → ℕ → Call → Option CallResult
-answer_of s client number (calls.Open opening) = open_answer s client number opening
-answer_of s client number (calls.Read handle) = Some (read_answer s client handle)
-answer_of s client number (calls.Set handle content generation) = set_answer s client handle content
+abbrev pub stat_of : MasterState → View → Stat
+stat_of s view = record {
+  kind = view.kind;
+  instance = view.instance;
+  content_generation = view.content_generation;
+  acl_generation = view.acl_generation;
+  lock_generation = option_map_or (λ generation. generation) (lookup (is_at (nat_cmp view.instance)) s.lock_generations) 0;
+  read = view.read;
+  write = view.write;
+  change = view.change;
+  life = view.life;
+  length = length view.content;
+}
+
+-- the handle has to be opened for the right
+abbrev pub needing : Handle → Right → Option CallResult → Option CallResult
+needing handle right answer = if has_right handle.mode right then answer else Some (results.Refused (faults.Denied right))
+
+-- what a call on a present node is answered at once; none where it waits for its turn
+abbrev pub answer_on_node : MasterState → Handle → Call → View → Option CallResult
+answer_on_node s handle (calls.Read bytes) view = needing handle rights.Read (Some (results.Viewed view))
+answer_on_node s handle (calls.Stat bytes) view = Some (results.Stated (stat_of s view))
+answer_on_node s handle (calls.List bytes) view = needing handle rights.Read (Some (list_answer s handle.name view.kind))
+answer_on_node s handle (calls.Set bytes content generation) view = needing handle rights.Write (write_fault view.kind content)
+answer_on_node s handle (calls.SetAcl bytes acls generation) view = needing handle rights.Change None
+answer_on_node s handle (calls.Delete bytes) view = needing handle rights.Write None
+answer_on_node s handle _ view = None
+
+-- a Close waits for its turn also where the node is gone
+abbrev pub answer_on : MasterState → Handle → Call → Option CallResult
+answer_on s handle (calls.Close bytes) = None
+answer_on s handle call =
+    option_map_or (λ view. answer_on_node s handle call view) (node_of_handle s handle) (Some (results.Refused faults.StaleInstance))
+
+-- ---- the tests of a new call
+
+abbrev pub admission_of_open : MasterState → ℕ → ℕ → Open → Option Create → Admission
+admission_of_open s client number opening (Some create) = record { note = None; answer = node_fault create.node }
+admission_of_open s client number opening None = record {
+  note = opened_note (plain_open s client number opening);
+  answer = Some (opened_answer s (plain_open s client number opening));
+}
+
+abbrev pub open_admission : MasterState → ℕ → ℕ → Open → Admission
+open_admission s client number opening =
+    if is_of_cell s opening.name then admission_of_open s client number opening opening.create
+    else record { note = None; answer = Some (results.Refused faults.OtherCell) }
+
+-- a handle that is shown is open from then on, also where the call is refused
+abbrev pub handle_admission : MasterState → Call → Option Handle → Admission
+handle_admission s call None = record { note = None; answer = Some (results.Refused faults.BadHandle) }
+handle_admission s call (Some handle) = record { note = Some (record { key = key_of handle; state = states.Open }); answer = answer_on s handle call }
+
+-- the bytes that a call on a node shows
+abbrev pub bytes_of : Call → List ℕ
+bytes_of (calls.Open opening) = []
+bytes_of (calls.Close bytes) = bytes
+bytes_of (calls.Read bytes) = bytes
+bytes_of (calls.Stat bytes) = bytes
+bytes_of (calls.List bytes) = bytes
+bytes_of (calls.Set bytes content generation) = bytes
+bytes_of (calls.SetAcl bytes acls generation) = bytes
+bytes_of (calls.Delete bytes) = bytes
+
+abbrev pub admission_of : MasterState → ℕ → ℕ → Call → Admission
+admission_of s client number (calls.Open opening) = open_admission s client number opening
+admission_of s client number call = handle_admission s call (shown_handle s client (bytes_of call))
 
 abbrev pub full_answer : MasterState → Option CallResult
 full_answer s = if is_full s then Some (results.Refused faults.Busy) else None
@@ -176,7 +313,8 @@ admit_step s client number call (Some result) = replied s client number result
 admit_step s client number call None = admit_unless s client number call (full_answer s)
 
 abbrev pub new_call : MasterState → ℕ → ℕ → Call → MasterState × Taken
-new_call s client number call = admit_step s client number call (answer_of s client number call)
+new_call s client number call =
+    admit_step (with_note s (admission_of s client number call).note) client number call (admission_of s client number call).answer
 
 -- by the last call of the client: it comes again, an older one comes, one comes while it waits, or a new one comes
 abbrev pub kept_step : MasterState → ℕ → ℕ → Call → Option Kept → MasterState × Taken

@@ -13,7 +13,7 @@ use Rattle.rows_cell.specs.declared.tables.Edit.{Edit}
 use Rattle.rows_cell.specs.declared.tables.Edit.TheVariants.{NextInstance, PutNode, RemoveNode, PutSession}
 use Rattle.tags_cell.specs.declared.outs.Out.TheVariants as outs
 use Rattle.cell_core.specs.declared.effects.Effect.{Effect}
-use Rattle.cell_core.specs.declared.effects.Effect.TheVariants.{Answers, Changes}
+use Rattle.cell_core.specs.declared.effects.Change.{Change}
 use Rattle.cell_core.specs.declared.pending.Taken.{Taken}
 use Rattle.cell_core.specs.declared.pending.Pending.{Pending}
 use Rattle.cell_core.specs.declared.pending.Work.{Work}
@@ -23,7 +23,7 @@ use Rattle.cell_core.specs.declared.plans.Deed.TheVariants as deeds
 use Rattle.cell_core.specs.declared.plans.Plan.{Plan}
 use Rattle.cell_core.specs.declared.sweeps.Swept.{Swept}
 use Rattle.cell_core.specs.State.{MasterState}
-use Rattle.cell_core.specs.Step.{may_start, is_live, turned_away, reply, recorded}
+use Rattle.cell_core.specs.Step.{may_start, is_live, turned_away, reply, recorded, with_note}
 use Rattle.cell_core.specs.Effect.{effect}
 
 -- a moment earlier than the last one counts as that
@@ -51,15 +51,16 @@ plan_start s client number principal =
     if may_start s client principal then plan_session s client number principal
     else record { deed = deeds.Nothing; taken = turned_away s client number faults.NoSession }
 
+-- the line of a change of the map, if there is one
+abbrev pub applied_lines : ℕ → ℕ → Option Change → List Line
+applied_lines client number None = []
+applied_lines client number (Some change) = lines.Applied client number change.change ∷ []
+
 -- the result of a call is kept and sent, and a change of the map is committed and printed
 abbrev pub plan_effect : MasterState → ℕ → ℕ → Effect → Plan
-plan_effect s client number (Answers answer) = record {
-  deed = deeds.Answers client (record { number = number; result = Some answer });
-  taken = reply s client number answer;
-}
-plan_effect s client number (Changes change next_instance answer) = record {
-  deed = deeds.Changes client (record { number = number; result = Some answer }) change next_instance;
-  taken = record { lines = lines.Applied client number change ∷ []; outs = (reply s client number answer).outs };
+plan_effect s client number effected = record {
+  deed = deeds.Answers client (record { number = number; result = Some effected.answer }) effected.note effected.change;
+  taken = record { lines = applied_lines client number effected.change; outs = (reply s client number effected.answer).outs };
 }
 
 abbrev pub plan_work : MasterState → ℕ → ℕ → Work → Plan
@@ -75,11 +76,14 @@ abbrev pub edit_of : Mod → Edit
 edit_of (Put name view) = PutNode name view
 edit_of (Gone name) = RemoveNode name
 
+abbrev pub change_edits : Option Change → List Edit
+change_edits None = []
+change_edits (Some change) = edit_of change.change ∷ NextInstance change.next_instance ∷ []
+
 abbrev pub edits_of : Deed → List Edit
 edits_of deeds.Nothing = []
 edits_of (deeds.Starts client session) = PutSession client session ∷ []
-edits_of (deeds.Answers client kept) = []
-edits_of (deeds.Changes client kept change next_instance) = edit_of change ∷ NextInstance next_instance ∷ []
+edits_of (deeds.Answers client kept _ change) = change_edits change
 
 -- what the change whose turn it is commits
 abbrev pub queue_edits : MasterState → List Pending → List Edit
@@ -92,12 +96,15 @@ sweep_edits s now = queue_edits (noted s now) s.queue
 
 -- ---- the step
 
+-- the map after a change of it, and the next instance
+abbrev pub with_change : MasterState → Option Change → MasterState
+with_change s None = s
+with_change s (Some change) = record s { nodes = changed s.nodes change.change; next_instance = change.next_instance }
+
 abbrev pub done : MasterState → Deed → MasterState
 done s deeds.Nothing = s
 done s (deeds.Starts client session) = record s { sessions = insert_entry nat_cmp s.sessions client session }
-done s (deeds.Answers client kept) = recorded s client kept
-done s (deeds.Changes client kept change next_instance) =
-    record s { kept = insert_entry nat_cmp s.kept client kept; nodes = changed s.nodes change; next_instance = next_instance }
+done s (deeds.Answers client kept note change) = with_change (with_note (recorded s client kept) note) change
 
 -- the first change leaves the queue, and what it does stands
 abbrev pub carried : MasterState → Plan → MasterState × Swept

@@ -1,145 +1,126 @@
 //! What a master answers to a call at once.
-ghost use Rattle.std.specs.Prelude.{◌≡◌, IfOk};
-ghost use Rattle.std.specs.Option.{option_copied};
-ghost use Rattle.cell_core.specs.Step.{answer_of, open_answer, create_answer, plain_open, opened, content_fault, is_own, is_of_cell, node_of_handle, read_answer, set_answer, write_fault};
+ghost use Rattle.std.specs.Prelude.{◌≡◌, Some, None, IfOk};
+ghost use Rattle.cell_core.specs.Step.{answer_on, answer_on_node, needing, list_answer, stat_of, content_fault, node_fault, write_fault};
 
 use crate::cells::Cell;
 use names_cell::Name;
-use node_core::{CONTENT_LIMIT, Fault, Kind, View};
+use node_core::{CONTENT_LIMIT, Fault, Kind, Right, Stat, View};
 use plain::Bytes;
 use std::alloc::AllocError;
-use tags_cell::{Call, CallResult, ClientNumber, Create, Handle, MessageNumber, Open};
+use tags_cell::{Call, CallResult, Handle, NewNode};
 
 impl Cell {
     // What is answered at once, or None where the call waits for its turn.
-    pub(crate) fn answer(
+    pub(crate) fn answer_on(
         &self,
-        client: ClientNumber,
-        number: MessageNumber,
+        handle: &Handle,
         call: &Call,
     ) -> Result<Option<CallResult>, AllocError>
-        ensures { IfOk result (λ answer. answer ≡ answer_of self.now client number call.now) }
+        ensures { IfOk result (λ answer. answer ≡ answer_on self.now handle.now call.now) }
     {
         match call {
-            Call::Open(opening) => self.open_answer(client, number, opening),
-            Call::Read(handle) => Ok(Some(self.read_answer(client, handle)?)),
-            Call::Set {
-                handle,
-                content,
-                ..
-            } => Ok(self.set_answer(client, handle, content)),
+            Call::Close(_) => Ok(None),
+            _ => match self.node_of(handle) {
+                None => Ok(Some(CallResult::Refused(Fault::StaleInstance))),
+                Some(view) => self.answer_on_node(handle, call, view),
+            },
         }
     }
 
-    fn open_answer(
+    fn answer_on_node(
         &self,
-        client: ClientNumber,
-        number: MessageNumber,
-        opening: &Open,
-    ) -> Result<Option<CallResult>, AllocError>
-        ensures { IfOk result (λ answer. answer ≡ open_answer self.now client number opening.now) }
-    {
-        if !self.is_of_cell(&opening.name) {
-            return Ok(Some(CallResult::Refused(Fault::OtherCell)));
-        }
-        match &opening.create {
-            None => Ok(Some(self.plain_open(client, number, opening)?)),
-            Some(create) => Ok(content_fault(&create.content)),
-        }
-    }
-
-    // An Open that makes nothing.
-    pub(crate) fn plain_open(
-        &self,
-        client: ClientNumber,
-        number: MessageNumber,
-        opening: &Open,
-    ) -> Result<CallResult, AllocError>
-        ensures { IfOk result (λ answer. answer ≡ plain_open self.now client number opening.now) }
-    {
-        match self.map.get(&opening.name) {
-            None => Ok(CallResult::Refused(Fault::NotFound)),
-            Some(view) => self.opened(client, number, opening, view),
-        }
-    }
-
-    // What an Open of a present node gives.
-    pub(crate) fn opened(
-        &self,
-        client: ClientNumber,
-        number: MessageNumber,
-        opening: &Open,
+        handle: &Handle,
+        call: &Call,
         view: &View,
-    ) -> Result<CallResult, AllocError>
-        ensures { IfOk result (λ answer. answer ≡ opened self.now client number opening.now view.now) }
+    ) -> Result<Option<CallResult>, AllocError>
+        ensures { IfOk result (λ answer. answer ≡ answer_on_node self.now handle.now call.now view.now) }
     {
-        Ok(CallResult::Opened(Handle {
-            epoch: self.epoch,
-            client,
-            number,
+        match call {
+            Call::Read(_) => Ok(Some(read_answer(handle, view)?)),
+            Call::Stat(_) => Ok(Some(CallResult::Stated(self.stat_of(view)?))),
+            Call::List(_) => Ok(Some(self.names_answer(handle, view)?)),
+            Call::Set { content, .. } => Ok(set_answer(handle, view.kind, content)),
+            Call::SetAcl { .. } => Ok(denied_without(handle, Right::Change)),
+            Call::Delete(_) => Ok(denied_without(handle, Right::Write)),
+            Call::Open(_) | Call::Close(_) => Ok(None),
+        }
+    }
+
+    fn names_answer(&self, handle: &Handle, view: &View) -> Result<CallResult, AllocError>
+        ensures { IfOk result (λ answer. Some answer ≡ needing handle.now Right.Read (Some (list_answer self.now handle.now.name view.now.kind))) }
+    {
+        if !handle.mode.has(Right::Read) {
+            return Ok(denied(Right::Read));
+        }
+        self.list_answer(&handle.name, view.kind)
+    }
+
+    // Only a directory is listed.
+    fn list_answer(&self, name: &Name, kind: Kind) -> Result<CallResult, AllocError>
+        ensures { IfOk result (λ answer. answer ≡ list_answer self.now name.now kind) }
+    {
+        match kind {
+            Kind::Directory => Ok(CallResult::Names(self.map.children(name)?)),
+            Kind::File => Ok(CallResult::Refused(Fault::WrongKind(Kind::File))),
+        }
+    }
+
+    fn stat_of(&self, view: &View) -> Result<Stat, AllocError>
+        ensures { IfOk result (λ stat. stat ≡ stat_of self.now view.now) }
+    {
+        let lock_generation = match self.lock_generations.get(&view.instance) {
+            Some(generation) => *generation,
+            None => 0,
+        };
+        Ok(Stat {
+            kind: view.kind,
             instance: view.instance,
-            mode: opening.mode,
-            name: opening.name.clone()?,
-        }))
+            content_generation: view.content_generation,
+            acl_generation: view.acl_generation,
+            lock_generation,
+            read: view.read.clone()?,
+            write: view.write.clone()?,
+            change: view.change.clone()?,
+            life: view.life,
+            length: view.content.len() as u64,
+        })
     }
+}
 
-    pub(crate) fn read_answer(
-        &self,
-        client: ClientNumber,
-        handle: &Handle,
-    ) -> Result<CallResult, AllocError>
-        ensures { IfOk result (λ answer. answer ≡ read_answer self.now client handle.now) }
-    {
-        if !self.is_own(client, handle) {
-            return Ok(CallResult::Refused(Fault::BadHandle));
-        }
-        match self.node_of(handle) {
-            None => Ok(CallResult::Refused(Fault::StaleInstance)),
-            Some(view) => Ok(CallResult::Viewed(view.clone()?)),
-        }
-    }
+fn denied(right: Right) -> CallResult
+    ensures { result ≡ CallResult.Refused (Fault.Denied right) }
+{
+    CallResult::Refused(Fault::Denied(right))
+}
 
-    // Why a write is refused at once.
-    fn set_answer(
-        &self,
-        client: ClientNumber,
-        handle: &Handle,
-        content: &Bytes,
-    ) -> Option<CallResult>
-        ensures { result ≡ set_answer self.now client handle.now content.now }
-    {
-        if !self.is_own(client, handle) {
-            return Some(CallResult::Refused(Fault::BadHandle));
-        }
-        match self.node_of(handle) {
-            None => Some(CallResult::Refused(Fault::StaleInstance)),
-            Some(view) => write_fault(view.kind, content),
-        }
+// Why a call that needs the right, and then waits, is refused at once.
+fn denied_without(handle: &Handle, right: Right) -> Option<CallResult>
+    ensures { result ≡ needing handle.now right None }
+{
+    if handle.mode.has(right) {
+        None
+    } else {
+        Some(denied(right))
     }
+}
 
-    // The node of a handle, where its instance is there.
-    pub(crate) fn node_of(&self, handle: &Handle) -> Option<&View>
-        ensures { option_copied result ≡ node_of_handle self.now handle.now }
-    {
-        let view = self.map.get(&handle.name)?;
-        if view.instance == handle.instance {
-            Some(view)
-        } else {
-            None
-        }
+fn read_answer(handle: &Handle, view: &View) -> Result<CallResult, AllocError>
+    ensures { IfOk result (λ answer. Some answer ≡ needing handle.now Right.Read (Some (CallResult.Viewed view.now))) }
+{
+    if !handle.mode.has(Right::Read) {
+        return Ok(denied(Right::Read));
     }
+    Ok(CallResult::Viewed(view.clone()?))
+}
 
-    fn is_own(&self, client: ClientNumber, handle: &Handle) -> bool
-        ensures { result ≡ is_own self.now client handle.now }
-    {
-        handle.client == client && handle.epoch <= self.epoch
+// Why a write is refused at once.
+fn set_answer(handle: &Handle, kind: Kind, content: &Bytes) -> Option<CallResult>
+    ensures { result ≡ needing handle.now Right.Write (write_fault kind content.now) }
+{
+    if !handle.mode.has(Right::Write) {
+        return Some(denied(Right::Write));
     }
-
-    fn is_of_cell(&self, name: &Name) -> bool
-        ensures { result ≡ is_of_cell self.now name.now }
-    {
-        name.in_cell(self.name.as_str())
-    }
+    write_fault(kind, content)
 }
 
 // Only a file is written.
@@ -149,6 +130,16 @@ fn write_fault(kind: Kind, content: &Bytes) -> Option<CallResult>
     match kind {
         Kind::Directory => Some(CallResult::Refused(Fault::WrongKind(Kind::Directory))),
         Kind::File => content_fault(content),
+    }
+}
+
+// Why a new node isn't made.
+pub(crate) fn node_fault(node: &NewNode) -> Option<CallResult>
+    ensures { result ≡ node_fault node.now }
+{
+    match node {
+        NewNode::File(content) => content_fault(content),
+        NewNode::Directory => None,
     }
 }
 

@@ -1,17 +1,25 @@
 //! The master in memory, and what it does with a message.
 #![tactic(auto)]
 
+mod admissions;
 mod answers;
 mod cells;
+mod creates;
 mod effects;
+mod handles;
+mod opens;
 mod pending;
 mod plans;
+mod rights;
 mod sends;
+mod shown;
 mod sweeps;
 mod takes;
+mod writes;
 
 pub use cells::{Cell, MOMENT_LIMIT, PENDING_LIMIT};
-pub use effects::Effect;
+pub use effects::{Change, Effect};
+pub use handles::{HandleKey, HandleState, Note};
 pub use pending::{Kept, Pending, Taken, Work};
 pub use plans::{Deed, Plan};
 pub use sweeps::Swept;

@@ -3,10 +3,11 @@ ghost use Rattle.std.specs.Prelude.{◌≡◌, IfOk};
 ghost use Rattle.cell_core.specs.Sweep.{started_out, plan_session, plan_start, plan_effect, plan_of};
 
 use crate::cells::Cell;
-use crate::effects::Effect;
+use crate::effects::{Change, Effect};
+use crate::handles::Note;
 use crate::pending::{Kept, Pending, Taken, Work};
 use names_cell::Principal;
-use node_core::{Fault, Line, Mod};
+use node_core::{Fault, Line};
 use rows_cell::Session;
 use std::alloc::AllocError;
 use tags_cell::{ClientNumber, MessageNumber, Out, Started};
@@ -18,10 +19,8 @@ pub enum Deed {
     Nothing,
     /// The session of this client number is committed.
     Starts(u64, Session),
-    /// The result of a call is kept.
-    Answers(ClientNumber, Kept),
-    /// The result of a call is kept, a change of the map is committed, and with it the instance of the next node.
-    Changes(ClientNumber, Kept, Mod, u64),
+    /// The result of a call is kept, what is noted of a handle too, and a change of the map is committed.
+    Answers(ClientNumber, Kept, Option<Note>, Option<Change>),
 }
 
 /// What is done for the change whose turn it is. It is made before anything changes.
@@ -114,37 +113,25 @@ impl Cell {
     ) -> Result<Plan, AllocError>
         ensures { IfOk result (λ plan. plan ≡ plan_effect self.now client number effect) }
     {
-        match effect {
-            Effect::Answers(answer) => {
-                let taken = self.reply_of(client, number, &answer)?;
-                let kept = Kept {
-                    number,
-                    result: Some(answer),
-                };
-                Ok(Plan {
-                    deed: Deed::Answers(client, kept),
-                    taken,
-                })
-            }
-            Effect::Changes {
-                change,
-                next_instance,
-                answer,
-            } => {
-                let mut taken = self.reply_of(client, number, &answer)?;
-                let shown = change.clone()?;
-                taken
-                    .lines
-                    .push(Line::Applied(client.get(), number.get(), shown))?;
-                let kept = Kept {
-                    number,
-                    result: Some(answer),
-                };
-                Ok(Plan {
-                    deed: Deed::Changes(client, kept, change, next_instance),
-                    taken,
-                })
-            }
+        let Effect {
+            note,
+            change,
+            answer,
+        } = effect;
+        let mut taken = self.reply_of(client, number, &answer)?;
+        if let Some(applied) = &change {
+            let shown = applied.change.clone()?;
+            taken
+                .lines
+                .push(Line::Applied(client.get(), number.get(), shown))?;
         }
+        let kept = Kept {
+            number,
+            result: Some(answer),
+        };
+        Ok(Plan {
+            deed: Deed::Answers(client, kept, note, change),
+            taken,
+        })
     }
 }

@@ -5,10 +5,13 @@ ghost use Rattle.rows_cell.specs.Sound.{sound};
 ghost use Rattle.rows_cell.specs.declared.tables.Edit.TheVariants.{PutSession, NextInstance};
 ghost use Rattle.node_core.specs.Nodes.{changed};
 ghost use Rattle.cell_core.specs.Store.{IsCommitted, IsRefused};
-ghost use Rattle.cell_core.specs.Sweep.{sweep_step, sweep_by, sweep_edits, queue_edits, edits_of, edit_of, carried, done};
+ghost use Rattle.cell_core.specs.Sweep.{sweep_step, sweep_by, sweep_edits, queue_edits, edits_of, edit_of, change_edits, with_change, carried, done};
+ghost use Rattle.cell_core.specs.Step.{with_note};
 ghost use Rattle.cell_core.specs.declared.plans.Deed.TheVariants as deeds;
 
 use crate::cells::{Cell, MOMENT_LIMIT};
+use crate::effects::Change;
+use crate::handles::Note;
 use crate::pending::{Kept, Taken};
 use crate::plans::{Deed, Plan};
 use node_core::{Fault, Line, Mod};
@@ -109,13 +112,9 @@ impl Cell {
         match deed {
             Deed::Nothing => Ok(()),
             Deed::Starts(client, session) => self.put_session(client, session, records),
-            Deed::Answers(client, kept) => {
-                self.kept.put(client, kept)?;
-                Ok(())
-            }
-            Deed::Changes(client, kept, change, next_instance) => {
+            Deed::Answers(client, kept, note, change) => {
                 let former = self.kept.put(client, kept)?;
-                match self.change_map(change, next_instance, records) {
+                match self.note_and_change(note, change, records) {
                     Ok(()) => Ok(()),
                     Err(fault) => {
                         self.kept.restore(&client, former);
@@ -123,6 +122,47 @@ impl Cell {
                     }
                 }
             }
+        }
+    }
+
+    // What is noted of a handle is taken back where the change is refused.
+    fn note_and_change<R: Records>(
+        &mut self,
+        note: Option<Note>,
+        change: Option<Change>,
+        records: &mut R,
+    ) -> Result<(), Fault>
+        requires sound { sound (R.cell records.old) (changed_rows (R.rows records.old) (change_edits change)) ≡ true }
+        ensures ok { OnOk result (self.new ≡ with_change (with_note self.old note) change) }
+        ensures committed { OnOk result (IsCommitted (change_edits change) (R.rows records.old) (R.rows records.new) (R.may_leave records.old) (R.may_leave records.new) (R.refusals records.old) (R.refusals records.new)) }
+        ensures err { OnErr result (self.new ≡ self.old) }
+        ensures fault { IfErr result (λ e. IsRefused e (change_edits change) (R.rows records.old) (R.rows records.new) (R.may_leave records.old) (R.may_leave records.new) (R.refusals records.old) (R.refusals records.new)) }
+        ensures cell { R.cell records.new ≡ R.cell records.old }
+    {
+        let Some(note) = note else {
+            return self.change(change, records);
+        };
+        let former = self.handles.put(note.key, note.state)?;
+        match self.change(change, records) {
+            Ok(()) => Ok(()),
+            Err(fault) => {
+                self.handles.restore(&note.key, former);
+                Err(fault)
+            }
+        }
+    }
+
+    fn change<R: Records>(&mut self, change: Option<Change>, records: &mut R) -> Result<(), Fault>
+        requires sound { sound (R.cell records.old) (changed_rows (R.rows records.old) (change_edits change)) ≡ true }
+        ensures ok { OnOk result (self.new ≡ with_change self.old change) }
+        ensures committed { OnOk result (IsCommitted (change_edits change) (R.rows records.old) (R.rows records.new) (R.may_leave records.old) (R.may_leave records.new) (R.refusals records.old) (R.refusals records.new)) }
+        ensures err { OnErr result (self.new ≡ self.old) }
+        ensures fault { IfErr result (λ e. IsRefused e (change_edits change) (R.rows records.old) (R.rows records.new) (R.may_leave records.old) (R.may_leave records.new) (R.refusals records.old) (R.refusals records.new)) }
+        ensures cell { R.cell records.new ≡ R.cell records.old }
+    {
+        match change {
+            None => Ok(()),
+            Some(next) => self.change_map(next.change, next.next_instance, records),
         }
     }
 

@@ -1,7 +1,8 @@
 //! What a master does with a message.
 ghost use Rattle.std.specs.Prelude.{◌≡◌, ◌≢◌, Ok, Err, IfOk, IfErr, OnErr};
-ghost use Rattle.cell_core.specs.Step.{take_step, take_at, start_step, call_step, kept_step, kept_of, new_call, waits, replied};
+ghost use Rattle.cell_core.specs.Step.{take_step, take_at, start_step, call_step, kept_step, kept_of, new_call, admit_step, waits, replied};
 
+use crate::admissions::Admission;
 use crate::cells::{Cell, MOMENT_LIMIT};
 use crate::pending::{Kept, Pending, Taken, Work};
 use node_core::Fault;
@@ -103,7 +104,7 @@ impl Cell {
         }
     }
 
-    // A call that is neither repeated nor too early.
+    // A call that is neither repeated nor too early. What is noted of its handle is taken back where memory is refused.
     fn new_call(
         &mut self,
         client: ClientNumber,
@@ -113,7 +114,32 @@ impl Cell {
         ensures ok { IfOk result (λ taken. new_call self.old client number call.now ≡ (self.new, taken)) }
         ensures err { OnErr result (self.new ≡ self.old) }
     {
-        match self.answer(client, number, call)? {
+        let Admission { note, answer } = self.admission(client, number, call)?;
+        let Some(note) = note else {
+            return self.admit(client, number, call, answer);
+        };
+        let former = self.handles.put(note.key, note.state)?;
+        match self.admit(client, number, call, answer) {
+            Ok(taken) => Ok(taken),
+            Err(error) => {
+                self.handles.restore(&note.key, former);
+                Err(error)
+            }
+        }
+    }
+
+    // A call that is answered at once, or waits where there is room.
+    fn admit(
+        &mut self,
+        client: ClientNumber,
+        number: MessageNumber,
+        call: &Call,
+        answer: Option<CallResult>,
+    ) -> Result<Taken, AllocError>
+        ensures ok { IfOk result (λ taken. admit_step self.old client number call.now answer ≡ (self.new, taken)) }
+        ensures err { OnErr result (self.new ≡ self.old) }
+    {
+        match answer {
             Some(result) => self.reply(client, number, result),
             None => {
                 if self.is_full() {

@@ -9,6 +9,8 @@ use std::alloc::{AllocError, Global};
 #[cfg(test)]
 mod containers;
 #[cfg(test)]
+mod handles;
+#[cfg(test)]
 mod leases;
 #[cfg(test)]
 mod lines;

@@ -1,5 +1,5 @@
 //! Masters and a client by themselves.
-use client_core::{Ask, Client};
+use client_core::{Ask, Client, NodeCall};
 use names_cell::Principal;
 use node_core::Fault;
 use over_core::Cell;
@@ -55,7 +55,7 @@ fn start_number(client: &mut Client) -> Option<u64> {
 
 // Why it may not read its first handle.
 fn refusal_of_a_read(client: &mut Client) -> Option<Fault> {
-    match client.ask(0, &Ask::Read(1)) {
+    match client.ask(0, &Ask::Node(1, NodeCall::Read)) {
         Ok(_) => None,
         Err(fault) => Some(fault),
     }

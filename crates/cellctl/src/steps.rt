@@ -3,11 +3,12 @@ ghost use Rattle.std.specs.Prelude.{◌≡◌, IfOk, IfErr, decimal};
 ghost use Rattle.cellctl.specs.Steps.{IsWordFlaw, RefusesWords, flaw_of};
 
 use crate::words::{content, mode, number};
-use client_core::Ask;
-use names_cell::{Name, NameFault, Principal};
+use client_core::{Ask, NodeCall};
+use names_cell::{Component, Name, NameFault, Principal};
 use node_core::Fault;
+use plain::Bytes;
 use std::alloc::{AllocError, Global};
-use tags_cell::{ClientNumber, Create, Disposition, Open};
+use tags_cell::{AclNames, ClientNumber, Create, Disposition, NewNode, Open};
 use world_cell::Step;
 
 /// What a line of a script asks for.
@@ -54,7 +55,7 @@ impl From<NameFault> for Flaw {
 }
 
 /// The most words that a step has.
-const WORD_LIMIT: usize = 9;
+const WORD_LIMIT: usize = 13;
 
 /// Reads a line, without the LF behind it. Every word is tested for its form before any is refused.
 pub(crate) fn read_step(alloc: Global, line: &str) -> Result<Parsed, AllocError>
@@ -116,58 +117,114 @@ fn ask(alloc: Global, call: &[&str]) -> Result<Ask, Flaw>
     ensures { IfErr result IsWordFlaw }
 {
     match call {
-        ["open", name, mode] => open(alloc, name, mode, None),
-        [
-            "open",
-            name,
-            mode,
-            disposition,
-            "file",
-            "permanent",
-            content,
-        ] => {
-            let create = create(alloc, disposition, content)?;
-            open(alloc, name, mode, Some(create))
-        }
-        ["read", handle] => Ok(Ask::Read(number_of(handle)?)),
-        ["set", handle, content] => set(alloc, handle, content, None),
-        ["set", handle, content, generation] => {
-            let generation = number_of(generation)?;
-            set(alloc, handle, content, Some(generation))
+        ["open", name, mode, create @ ..] => open(alloc, name, mode, create),
+        ["close", handle] => Ok(Ask::Close(number_of(handle)?)),
+        ["poison", handle] => Ok(Ask::Poison(number_of(handle)?)),
+        [call, handle, words @ ..] => {
+            let handle = number_of(handle)?;
+            Ok(Ask::Node(handle, node_call(alloc, call, words)?))
         }
         _ => Err(Flaw::Bad),
     }
 }
 
-fn open(alloc: Global, name: &str, letters: &str, create: Option<Create>) -> Result<Ask, Flaw>
+fn open(alloc: Global, name: &str, letters: &str, create: &[&str]) -> Result<Ask, Flaw>
     ensures { IfErr result IsWordFlaw }
 {
     let mode = mode(letters).ok_or(Flaw::Bad)?;
+    let create = create_of(alloc, create)?;
     let name = Name::parse(alloc, name)?;
     Ok(Ask::Open(Open { name, mode, create }))
 }
 
-fn create(alloc: Global, disposition: &str, bytes: &str) -> Result<Create, Flaw>
+// What an Open makes: a disposition, a node and its ACL names. Without words it makes nothing.
+fn create_of(alloc: Global, words: &[&str]) -> Result<Option<Create>, Flaw>
     ensures { IfErr result IsWordFlaw }
 {
-    let disposition = match disposition {
-        "may" => Disposition::May,
-        "must" => Disposition::Must,
+    let (disposition, node, acls) = match words {
+        [] => return Ok(None),
+        [disposition, "file", "permanent", content, acls @ ..] => {
+            let content = content_of(alloc, content)?;
+            (disposition, NewNode::File(content), acls)
+        }
+        [disposition, "dir", "permanent", acls @ ..] => (disposition, NewNode::Directory, acls),
         _ => return Err(Flaw::Bad),
     };
-    let content = content(alloc, bytes)?.ok_or(Flaw::Bad)?;
-    Ok(Create {
-        disposition,
-        content,
+    Ok(Some(Create {
+        disposition: disposition_of(disposition)?,
+        node,
+        acls: new_acls(alloc, acls)?,
+    }))
+}
+
+fn disposition_of(word: &str) -> Result<Disposition, Flaw>
+    ensures { IfErr result IsWordFlaw }
+{
+    match word {
+        "may" => Ok(Disposition::May),
+        "must" => Ok(Disposition::Must),
+        _ => Err(Flaw::Bad),
+    }
+}
+
+// The ACL names of a new node. Without words it takes those of its parent.
+fn new_acls(alloc: Global, words: &[&str]) -> Result<Option<AclNames>, Flaw>
+    ensures { IfErr result IsWordFlaw }
+{
+    match words {
+        [] => Ok(None),
+        ["acl", read, write, change] => Ok(Some(acl_names(alloc, read, write, change)?)),
+        _ => Err(Flaw::Bad),
+    }
+}
+
+fn acl_names(alloc: Global, read: &str, write: &str, change: &str) -> Result<AclNames, Flaw>
+    ensures { IfErr result IsWordFlaw }
+{
+    Ok(AclNames {
+        read: Component::parse(alloc, read)?,
+        write: Component::parse(alloc, write)?,
+        change: Component::parse(alloc, change)?,
     })
 }
 
-fn set(alloc: Global, handle: &str, bytes: &str, generation: Option<u64>) -> Result<Ask, Flaw>
+// A call on a node, and the words behind the handle.
+fn node_call(alloc: Global, call: &str, words: &[&str]) -> Result<NodeCall, Flaw>
     ensures { IfErr result IsWordFlaw }
 {
-    let handle = number_of(handle)?;
-    let content = content(alloc, bytes)?.ok_or(Flaw::Bad)?;
-    Ok(Ask::Set(handle, content, generation))
+    match (call, words) {
+        ("read", []) => Ok(NodeCall::Read),
+        ("stat", []) => Ok(NodeCall::Stat),
+        ("list", []) => Ok(NodeCall::List),
+        ("delete", []) => Ok(NodeCall::Delete),
+        ("set", [content, generation @ ..]) => {
+            let generation = generation_of(generation)?;
+            Ok(NodeCall::Set(content_of(alloc, content)?, generation))
+        }
+        ("acl", [read, write, change, generation @ ..]) => {
+            let generation = generation_of(generation)?;
+            let acls = acl_names(alloc, read, write, change)?;
+            Ok(NodeCall::SetAcl(acls, generation))
+        }
+        _ => Err(Flaw::Bad),
+    }
+}
+
+// The generation that has to be present, where one is given.
+fn generation_of(words: &[&str]) -> Result<Option<u64>, Flaw>
+    ensures { IfErr result IsWordFlaw }
+{
+    match words {
+        [] => Ok(None),
+        [generation] => Ok(Some(number_of(generation)?)),
+        _ => Err(Flaw::Bad),
+    }
+}
+
+fn content_of(alloc: Global, word: &str) -> Result<Bytes, Flaw>
+    ensures { IfErr result IsWordFlaw }
+{
+    content(alloc, word)?.ok_or(Flaw::Bad)
 }
 
 fn number_of(word: &str) -> Result<u64, Flaw>

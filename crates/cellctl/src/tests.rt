@@ -74,6 +74,13 @@ fn then_prints(rt: &impl Abort, alloc: Global, steps: &str, lines: &str) -> Resu
     prints(rt, alloc, steps.as_str(), lines.as_str())
 }
 
+// The same behind one client that has a session.
+fn client_prints(rt: &impl Abort, alloc: Global, steps: &str, lines: &str) -> Result<(), Fail> {
+    let steps = format!(in alloc; "up 0; join 1 ann; beat 1; settle; {steps}")?;
+    let lines = format!(in alloc; "up 1; started 1; {lines}")?;
+    prints(rt, alloc, steps.as_str(), lines.as_str())
+}
+
 const BEFORE: &str =
     "up 0; join 1 ann; join 2 bob; beat 1; beat 2; settle; ask 1 open /ls/c/f rw must file permanent 61; settle; ask 2 open /ls/c/f rw; settle";
 
@@ -150,6 +157,53 @@ fn refused_calls(rt: HostRuntime) -> Result<(), Fail> {
         rt.alloc(),
         "ask 1 open /ls/c/f r must file permanent -; settle; ask 1 open /ls/c/x/y r must file permanent -; settle; ask 1 open /ls/c/f/y r may file permanent -; settle; ask 1 open /ls/c/g r; settle; ask 1 open /ls/d r; settle; ask 1 read 9; ask 1 set 1 62 9; settle",
         "done 1 2 refused 7 Exists; done 1 3 refused 6 NotFound; done 1 4 refused 8 WrongKind file; done 1 5 refused 6 NotFound; done 1 6 refused 3 OtherCell; refused 17 BadHandle; done 1 7 refused 11 WrongGeneration 1",
+    )
+}
+
+#[test]
+fn acl_checked_at_open(rt: HostRuntime) -> Result<(), Fail> {
+    client_prints(
+        &rt,
+        rt.alloc(),
+        "join 2 bob; beat 2; settle; ask 1 open /ls/c/acl/foo r must file permanent 626f620a; settle; ask 1 open /ls/c/h r must file permanent 61 acl base foo base; settle; ask 1 open /ls/c/h w; settle; ask 2 open /ls/c/h w; settle; ask 2 set 1 62; settle",
+        "started 2; applied 1 1 put /ls/c/acl/foo file 4 1 1 base base base permanent 4 626f620a; done 1 1 opened 1; applied 1 2 put /ls/c/h file 5 1 1 base foo base permanent 1 61; done 1 2 opened 2; done 1 3 refused 10 Denied write; done 2 1 opened 1; applied 2 2 put /ls/c/h file 5 2 1 base foo base permanent 1 62; done 2 2 ok",
+    )
+}
+
+#[test]
+fn directories(rt: HostRuntime) -> Result<(), Fail> {
+    client_prints(
+        &rt,
+        rt.alloc(),
+        "ask 1 open /ls/c/d rw must dir permanent; settle; ask 1 open /ls/c/d/a rw must file permanent -; settle; ask 1 delete 1; settle; ask 1 delete 2; settle; ask 1 delete 1; settle; ask 1 read 2; settle; ask 1 open /ls/c r; settle; ask 1 list 3; settle",
+        "applied 1 1 put /ls/c/d dir 4 0 1 base base base permanent; done 1 1 opened 1; applied 1 2 put /ls/c/d/a file 5 1 1 base base base permanent 0 -; done 1 2 opened 2; done 1 3 refused 9 NotEmpty; applied 1 4 gone /ls/c/d/a; done 1 4 ok; applied 1 5 gone /ls/c/d; done 1 5 ok; done 1 6 refused 14 StaleInstance; done 1 7 opened 3; done 1 8 names acl",
+    )
+}
+
+// And a Poison while a call on its handle is outstanding: the call's reply prints nothing.
+#[test]
+fn acl_generation_and_poison(rt: HostRuntime) -> Result<(), Fail> {
+    client_prints(
+        &rt,
+        rt.alloc(),
+        "ask 1 open /ls/c/h rc must file permanent 61; settle; ask 1 acl 1 base foo base 1; settle; ask 1 acl 1 base base base 1; settle; ask 1 stat 1; settle; ask 1 poison 1; ask 1 stat 1; ask 1 close 1; settle; ask 1 stat 1",
+        "applied 1 1 put /ls/c/h file 4 1 1 base base base permanent 1 61; done 1 1 opened 1; applied 1 2 put /ls/c/h file 4 1 2 base foo base permanent 1 61; done 1 2 ok; done 1 3 refused 11 WrongGeneration 2; done 1 4 stat file 4 1 2 0 base foo base permanent 1; done 1 0 poisoned; refused 32 Poisoned; done 1 5 closed; refused 17 BadHandle",
+    )?;
+    then_prints(
+        &rt,
+        rt.alloc(),
+        "ask 1 read 1; ask 1 poison 1; settle",
+        "done 1 2 refused 32 Poisoned; done 1 0 poisoned",
+    )
+}
+
+#[test]
+fn denied_and_other_cell(rt: HostRuntime) -> Result<(), Fail> {
+    client_prints(
+        &rt,
+        rt.alloc(),
+        "join 3 eve; beat 3; settle; ask 3 open /ls/c r; settle; ask 3 open /ls/d/x r; settle",
+        "started 3; done 3 1 refused 10 Denied read; done 3 2 refused 3 OtherCell",
     )
 }
 
@@ -248,6 +302,23 @@ const STEPS: &[(&str, &str)] = &[
     ("ask 1 set 1 0a", "step"),
     ("ask 1 set 1 - 0", "step"),
     ("ask 1 set 1 fill:300000:ff 18446744073709551615", "step"),
+    ("ask 1 open /ls/c/d w may dir permanent", "step"),
+    ("ask 1 open /ls/c/d w must dir permanent acl a b c", "step"),
+    (
+        "ask 1 open /ls/c/f w must file permanent 61 acl a b c",
+        "step",
+    ),
+    (
+        "ask 1 open /ls/c/f w may file permanent - acl base a-1 0.x",
+        "step",
+    ),
+    ("ask 1 close 1", "step"),
+    ("ask 1 poison 1", "step"),
+    ("ask 1 stat 1", "step"),
+    ("ask 1 list 1", "step"),
+    ("ask 1 acl 1 a b c", "step"),
+    ("ask 1 acl 1 a b c 18446744073709551615", "step"),
+    ("ask 1 delete 18446744073709551615", "step"),
 ];
 
 #[test]
@@ -262,6 +333,18 @@ const REFUSALS: &[(&str, &str)] = &[
     ("ask 1 open /ls/c/ r", "BadName"),
     ("ask 1 open /ls r", "BadName"),
     ("ask 1 open /ls/c/F w must file permanent 61", "BadName"),
+    (
+        "ask 1 open /ls/c/f w must file permanent 61 acl A b c",
+        "BadName",
+    ),
+    (
+        "ask 1 open /ls/c/f w may dir permanent acl a b/c d",
+        "BadName",
+    ),
+    ("ask 1 open x w may dir permanent acl a b .", "BadName"),
+    ("ask 1 acl 1 A b c", "BadName"),
+    ("ask 1 acl 1 a B c", "BadName"),
+    ("ask 1 acl 1 a b C 1", "BadName"),
 ];
 
 #[test]
@@ -321,8 +404,24 @@ const BAD_CALLS: &[(&str, &str)] = &[
     ("ask 1 read", "bad"),
     ("ask 1 read x", "bad"),
     ("ask 1 read 1 1", "bad"),
-    ("ask 1 close 1", "bad"),
-    ("ask 1 stat 1", "bad"),
+    ("ask 1 close", "bad"),
+    ("ask 1 close x", "bad"),
+    ("ask 1 close 1 1", "bad"),
+    ("ask 1 poison", "bad"),
+    ("ask 1 poison 01", "bad"),
+    ("ask 1 poison 1 1", "bad"),
+    ("ask 1 stat", "bad"),
+    ("ask 1 stat 1 1", "bad"),
+    ("ask 1 list", "bad"),
+    ("ask 1 list 1 1", "bad"),
+    ("ask 1 delete", "bad"),
+    ("ask 1 delete 1 1", "bad"),
+    ("ask 1 drop 1", "bad"),
+    ("ask 1 acl 1", "bad"),
+    ("ask 1 acl 1 a b", "bad"),
+    ("ask 1 acl x A b c", "bad"),
+    ("ask 1 acl 1 A b c x", "bad"),
+    ("ask 1 acl 1 a b c 1 1", "bad"),
     ("ask 1 set 1", "bad"),
     ("ask 1 set x 61", "bad"),
     ("ask 1 set 1 61 x", "bad"),
@@ -333,14 +432,29 @@ const BAD_CALLS: &[(&str, &str)] = &[
     ("ask 1 open x wr", "bad"),
     ("ask 1 open /ls/c r may", "bad"),
     ("ask 1 open /ls/c r may file permanent", "bad"),
-    ("ask 1 open /ls/c r may dir permanent", "bad"),
+    ("ask 1 open /ls/c r dir permanent", "bad"),
+    ("ask 1 open /ls/c r can dir permanent", "bad"),
+    ("ask 1 open /ls/c r may dir ephemeral", "bad"),
     ("ask 1 open /ls/c r may dir permanent 61", "bad"),
     ("ask 1 open /ls/c r may file ephemeral 61", "bad"),
     ("ask 1 open /ls/c r can file permanent 61", "bad"),
     ("ask 1 open /ls/c r must file permanent 6", "bad"),
     ("ask 1 open x r must file permanent 6", "bad"),
     ("ask 1 open /ls/c r must file permanent 61 61", "bad"),
-    ("ask 1 open /ls/c r must file permanent 61 acl a b c", "bad"),
+    ("ask 1 open /ls/c r acl a b c", "bad"),
+    ("ask 1 open /ls/c r must file permanent acl a b c", "bad"),
+    ("ask 1 open /ls/c r must file permanent 61 acl a b", "bad"),
+    (
+        "ask 1 open /ls/c r must file permanent 61 acl a b c d",
+        "bad",
+    ),
+    (
+        "ask 1 open /ls/c r must file permanent 61 acls a b c",
+        "bad",
+    ),
+    ("ask 1 open x r must file permanent 6 acl A b c", "bad"),
+    ("ask 1 open /ls/c r must dir permanent acl", "bad"),
+    ("ask 1 open /ls/c r must dir permanent 61 acl a b c", "bad"),
     ("ask 1 open /ls/c r delay 1", "bad"),
 ];
 

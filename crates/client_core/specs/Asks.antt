@@ -1,12 +1,10 @@
 -- A client is asked for a call.
 use Rattle.std.specs.Prelude.{ℕ, ◌+◌, ◌^◌, nat_lt, List, Option, Some, None, Result, Ok, Err, if◌then◌else◌, is_some}
-use Rattle.std.specs.Option.{option_map}
 use Rattle.std.specs.Map.{lookup}
 use Rattle.std.specs.BTreeMap.{is_at}
 use Rattle.std.specs.Ordering.{nat_cmp}
 use Rattle.node_core.specs.declared.refusals.Fault.{Fault}
 use Rattle.node_core.specs.declared.refusals.Fault.TheVariants as faults
-use Rattle.tags_cell.specs.declared.calls.Handle.{Handle}
 use Rattle.tags_cell.specs.declared.calls.Call.{Call}
 use Rattle.tags_cell.specs.declared.calls.Call.TheVariants as calls
 use Rattle.tags_cell.specs.declared.requests.Request.{Request}
@@ -15,9 +13,17 @@ use Rattle.client_core.specs.declared.sessions.Session.{Session}
 use Rattle.client_core.specs.declared.sessions.Session.TheVariants as sessions
 use Rattle.client_core.specs.declared.asks.Ask.{Ask}
 use Rattle.client_core.specs.declared.asks.Ask.TheVariants as asks
+use Rattle.client_core.specs.declared.asks.NodeCall.{NodeCall}
+use Rattle.client_core.specs.declared.asks.NodeCall.TheVariants as node_calls
 use Rattle.client_core.specs.declared.asks.Asked.{Asked}
 use Rattle.client_core.specs.declared.asks.Asked.TheVariants.{Sent}
+use Rattle.client_core.specs.declared.handles.ClientHandle.{ClientHandle}
+use Rattle.client_core.specs.declared.targets.Target.{Target}
+use Rattle.client_core.specs.declared.targets.Target.TheVariants as targets
+use Rattle.client_core.specs.declared.plans.Plan.{Plan}
+use Rattle.client_core.specs.declared.plans.Plan.TheVariants as plans
 use Rattle.client_core.specs.State.{ClientState, moment, at_moment}
+use Rattle.client_core.specs.Poisons.{poison_step}
 
 -- the epoch in which a call may be sent, or why none may
 abbrev pub session_epoch : Session → Result ℕ Fault
@@ -26,46 +32,84 @@ session_epoch (sessions.Live epoch) = Ok epoch
 session_epoch sessions.Lost = Err faults.SessionExpired
 session_epoch sessions.TurnedAway = Err faults.NoSession
 
+-- ---- handles
+
 -- the handle that the client has under a number
-abbrev pub handle_of : List (ℕ × Handle) → ℕ → Option Handle
+abbrev pub handle_of : List (ℕ × ClientHandle) → ℕ → Option ClientHandle
 handle_of handles number = lookup (is_at (nat_cmp number)) handles
 
--- the call that is asked for, where its handle is open
-abbrev pub call_of : List (ℕ × Handle) → Ask → Option Call
-call_of handles (asks.Open open_call) = Some (calls.Open open_call)
-call_of handles (asks.Read number) = option_map calls.Read (handle_of handles number)
-call_of handles (asks.Set number content generation) = option_map (λ handle. calls.Set handle content generation) (handle_of handles number)
+-- an open handle may be closed
+abbrev pub open_bytes : Option ClientHandle → Result (List ℕ) Fault
+open_bytes None = Err faults.BadHandle
+open_bytes (Some handle) = Ok handle.bytes
+
+-- for all else it may not be poisoned
+abbrev pub usable_bytes : Option ClientHandle → Result (List ℕ) Fault
+usable_bytes None = Err faults.BadHandle
+usable_bytes (Some handle) = if handle.poisoned then Err faults.Poisoned else Ok handle.bytes
+
+-- the call on a handle's node, with the bytes that the master gave for the handle
+abbrev pub call_on : List ℕ → NodeCall → Call
+call_on bytes node_calls.Read = calls.Read bytes
+call_on bytes node_calls.Stat = calls.Stat bytes
+call_on bytes node_calls.List = calls.List bytes
+call_on bytes (node_calls.Set content generation) = calls.Set bytes content generation
+call_on bytes (node_calls.SetAcl acls generation) = calls.SetAcl bytes acls generation
+call_on bytes node_calls.Delete = calls.Delete bytes
+
+-- ---- what may be done now, or the first reason why it may not
 
 -- one call at a time
-abbrev pub free_call : ClientState → ℕ → Option Call → Result (ℕ × Call) Fault
-free_call s epoch None = Err faults.BadHandle
-free_call s epoch (Some call) = if is_some s.outstanding then Err faults.CallOutstanding else Ok (epoch, call)
+abbrev pub send_plan : ClientState → ℕ → Call → Target → Result Plan Fault
+send_plan s epoch call target = if is_some s.outstanding then Err faults.CallOutstanding else Ok (plans.Send epoch call target)
 
-abbrev pub session_call : ClientState → Ask → Result ℕ Fault → Result (ℕ × Call) Fault
-session_call s ask (Err fault) = Err fault
-session_call s ask (Ok epoch) = free_call s epoch (call_of s.handles ask)
+abbrev pub close_plan : ClientState → ℕ → ℕ → Result (List ℕ) Fault → Result Plan Fault
+close_plan s epoch number (Err fault) = Err fault
+close_plan s epoch number (Ok bytes) = send_plan s epoch (calls.Close bytes) (targets.Closing number)
 
--- the call that may be sent now and its epoch, or the first reason why none may
-abbrev pub call_to_send : ClientState → Ask → Result (ℕ × Call) Fault
-call_to_send s ask = session_call s ask (session_epoch s.session)
+-- a Poison waits for no call
+abbrev pub poison_plan : ℕ → Result (List ℕ) Fault → Result Plan Fault
+poison_plan number (Err fault) = Err fault
+poison_plan number (Ok bytes) = Ok (plans.Poison number bytes)
+
+abbrev pub node_plan : ClientState → ℕ → ℕ → NodeCall → Result (List ℕ) Fault → Result Plan Fault
+node_plan s epoch number call (Err fault) = Err fault
+node_plan s epoch number call (Ok bytes) = send_plan s epoch (call_on bytes call) (targets.Handle number)
+
+abbrev pub session_plan : ClientState → Ask → ℕ → Result Plan Fault
+session_plan s (asks.Open opening) epoch = send_plan s epoch (calls.Open opening) targets.NewHandle
+session_plan s (asks.Close number) epoch = close_plan s epoch number (open_bytes (handle_of s.handles number))
+session_plan s (asks.Poison number) epoch = poison_plan number (usable_bytes (handle_of s.handles number))
+session_plan s (asks.Node number call) epoch = node_plan s epoch number call (usable_bytes (handle_of s.handles number))
+
+abbrev pub plan_in : ClientState → Ask → Result ℕ Fault → Result Plan Fault
+plan_in s ask (Err fault) = Err fault
+plan_in s ask (Ok epoch) = session_plan s ask epoch
+
+-- first the session, then the handle, then the outstanding call
+abbrev pub plan_of : ClientState → Ask → Result Plan Fault
+plan_of s ask = plan_in s ask (session_epoch s.session)
+
+-- ---- one step
 
 abbrev pub message_of : ClientState → ℕ → Call → Request
 message_of s epoch call = requests.Call (record { client = s.number; epoch = epoch; number = s.calls + 1; call = call })
 
 -- the call is sent under the next number, and is outstanding; behind the last number nothing changes
-abbrev pub send_step : ClientState → ℕ → ℕ → Call → ClientState × Result Asked Fault
-send_step s noted epoch call =
+abbrev pub send_step : ClientState → ℕ → ℕ → Call → Target → ClientState × Result Asked Fault
+send_step s noted epoch call target =
     if nat_lt (s.calls + 1) (2 ^ 63)
-    then (record s { clock = noted; calls = s.calls + 1; outstanding = Some (message_of s epoch call) }, Ok (Sent (message_of s epoch call)))
+    then (record s { clock = noted; calls = s.calls + 1; outstanding = Some (record { request = message_of s epoch call; target = target }) }, Ok (Sent (message_of s epoch call)))
     else (s, Err faults.Exhausted)
 
--- a refused call notes the time alone
-abbrev pub ask_by : ClientState → ℕ → Result (ℕ × Call) Fault → ClientState × Result Asked Fault
-ask_by s noted (Ok call) = send_step s noted call.0 call.1
+-- what is refused notes the time alone
+abbrev pub ask_by : ClientState → ℕ → Result Plan Fault → ClientState × Result Asked Fault
+ask_by s noted (Ok (plans.Send epoch call target)) = send_step s noted epoch call target
+ask_by s noted (Ok (plans.Poison number bytes)) = poison_step s noted number bytes
 ask_by s noted (Err fault) = (at_moment s noted, Err fault)
 
 abbrev pub ask_at : ClientState → Ask → Result ℕ Fault → ClientState × Result Asked Fault
-ask_at s ask (Ok noted) = ask_by s noted (call_to_send s ask)
+ask_at s ask (Ok noted) = ask_by s noted (plan_of s ask)
 ask_at s ask (Err fault) = (s, Err fault)
 
 unfoldable pub ask_step : ClientState → ℕ → Ask → ClientState × Result Asked Fault

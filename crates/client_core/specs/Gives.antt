@@ -1,6 +1,7 @@
 -- A client is given a message of a master.
 use Rattle.std.specs.Prelude.{ℕ, ◌+◌, ◌==◌, ◌&&◌, nat_le, Bool, true, false, List, [], ◌∷◌, Option, Some, None, Result, Ok, Err, if◌then◌else◌}
-use Rattle.std.specs.BTreeMap.{insert_entry}
+use Rattle.std.specs.Map.{remove_entry}
+use Rattle.std.specs.BTreeMap.{is_at, insert_entry}
 use Rattle.std.specs.Ordering.{nat_cmp}
 use Rattle.node_core.specs.declared.refusals.Fault.{Fault}
 use Rattle.node_core.specs.declared.refusals.Fault.TheVariants as faults
@@ -8,8 +9,6 @@ use Rattle.node_core.specs.declared.answers.Answer.{Answer}
 use Rattle.node_core.specs.declared.answers.Answer.TheVariants as answers
 use Rattle.node_core.specs.declared.lines.Line.{Line}
 use Rattle.node_core.specs.declared.lines.Line.TheVariants as lines
-use Rattle.tags_cell.specs.declared.calls.Handle.{Handle}
-use Rattle.tags_cell.specs.declared.requests.Request.{Request}
 use Rattle.tags_cell.specs.declared.outs.Out.{Out}
 use Rattle.tags_cell.specs.declared.outs.Out.TheVariants as outs
 use Rattle.tags_cell.specs.declared.outs.Started.{Started}
@@ -20,6 +19,10 @@ use Rattle.tags_cell.specs.declared.outs.CallResult.TheVariants as results
 use Rattle.tags_cell.specs.Messages.{request_number, out_client}
 use Rattle.client_core.specs.declared.sessions.Session.{Session}
 use Rattle.client_core.specs.declared.sessions.Session.TheVariants as sessions
+use Rattle.client_core.specs.declared.handles.ClientHandle.{ClientHandle}
+use Rattle.client_core.specs.declared.targets.Target.{Target}
+use Rattle.client_core.specs.declared.targets.Target.TheVariants as targets
+use Rattle.client_core.specs.declared.targets.Outstanding.{Outstanding}
 use Rattle.client_core.specs.State.{ClientState, moment, at_moment}
 
 abbrev pub is_unstarted : Session → Bool
@@ -43,31 +46,44 @@ start_taken s message =
 
 -- ---- Reply
 
-abbrev pub is_for : ℕ → Option Request → Bool
-is_for number None = false
-is_for number (Some message) = number == request_number message
+abbrev pub target_for : ℕ → Option Outstanding → Option Target
+target_for number None = None
+target_for number (Some call) = if number == request_number call.request then Some call.target else None
 
--- it is of the client's epoch, and for the outstanding call
-abbrev pub is_awaited : ClientState → Reply → Bool
-is_awaited s message = is_live_in s.session message.epoch && is_for message.number s.outstanding
+-- what it is for, where it is of the client's epoch and for the outstanding call
+abbrev pub awaited : ClientState → Reply → Option Target
+awaited s message = if is_live_in s.session message.epoch then target_for message.number s.outstanding else None
 
 -- how the call ended, as it is told; a new handle has the next of the client's numbers
 abbrev pub answer_of : ClientState → CallResult → Answer
-answer_of s (results.Opened handle) = answers.Opened (s.opened + 1)
+answer_of s (results.Opened bytes) = answers.Opened (s.opened + 1)
+answer_of s results.Closed = answers.Closed
 answer_of s (results.Viewed view) = answers.Viewed view
+answer_of s (results.Stated stat) = answers.Stated stat
+answer_of s (results.Names names) = answers.Names names
 answer_of s results.Done = answers.Okay
 answer_of s (results.Refused fault) = answers.Refused fault
 
--- the call has ended; a new handle is kept
-abbrev pub ended : ClientState → CallResult → ClientState
-ended s (results.Opened handle) = record s { outstanding = None; handles = insert_entry nat_cmp s.handles (s.opened + 1) handle; opened = s.opened + 1 }
-ended s (results.Viewed view) = record s { outstanding = None }
-ended s results.Done = record s { outstanding = None }
-ended s (results.Refused fault) = record s { outstanding = None }
+-- the handles behind a Close that was done
+abbrev pub closed : List (ℕ × ClientHandle) → Target → List (ℕ × ClientHandle)
+closed handles (targets.Closing number) = remove_entry (is_at (nat_cmp number)) handles
+closed handles _ = handles
+
+-- the call has ended; a new handle is kept, a closed one is not
+abbrev pub ended : ClientState → Target → CallResult → ClientState
+ended s target (results.Opened bytes) =
+    record s { outstanding = None; handles = insert_entry nat_cmp s.handles (s.opened + 1) (record { bytes = bytes; poisoned = false }); opened = s.opened + 1 }
+ended s target results.Closed = record s { outstanding = None; handles = closed s.handles target }
+ended s target _ = record s { outstanding = None }
+
+-- a reply that is dropped ends its call too, and prints nothing
+abbrev pub reply_for : ClientState → Reply → Option Target → ClientState × List Line
+reply_for s message None = (s, [])
+reply_for s message (Some targets.Dropped) = (record s { outstanding = None }, [])
+reply_for s message (Some target) = (ended s target message.result, lines.Done s.number message.number (answer_of s message.result) ∷ [])
 
 abbrev pub reply_step : ClientState → Reply → ClientState × List Line
-reply_step s message =
-    if is_awaited s message then (ended s message.result, lines.Done s.number message.number (answer_of s message.result) ∷ []) else (s, [])
+reply_step s message = reply_for s message (awaited s message)
 
 -- ---- Refused
 

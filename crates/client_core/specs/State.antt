@@ -2,8 +2,8 @@
 use Rattle.std.specs.Prelude.{◌≡◌, ◌≢◌, ℕ, ◌+◌, ◌<◌, ◌≤◌, ◌^◌, nat_lt, max, List, [], Option, Some, None, Result, Ok, Err, if◌then◌else◌}
 use Rattle.node_core.specs.declared.refusals.Fault.{Fault}
 use Rattle.node_core.specs.declared.refusals.Fault.TheVariants as faults
-use Rattle.tags_cell.specs.declared.calls.Handle.{Handle}
-use Rattle.tags_cell.specs.declared.requests.Request.{Request}
+use Rattle.client_core.specs.declared.handles.ClientHandle.{ClientHandle}
+use Rattle.client_core.specs.declared.targets.Outstanding.{Outstanding}
 use Rattle.client_core.specs.declared.sessions.Session.{Session}
 use Rattle.client_core.specs.declared.sessions.Session.TheVariants as sessions
 
@@ -17,10 +17,10 @@ pub record ClientState : Type 0 where
   pub session : Session
   -- the number of its newest call, 0 before the first
   pub calls : ℕ
-  -- the message of the call that has no reply yet
-  pub outstanding : Option Request
-  -- its handles by its own numbers for them
-  pub handles : List (ℕ × Handle)
+  -- the call that has no reply yet
+  pub outstanding : Option Outstanding
+  -- its open handles by its own numbers for them
+  pub handles : List (ℕ × ClientHandle)
   -- the newest of these numbers, 0 before the first
   pub opened : ℕ
 
@@ -29,12 +29,12 @@ abbrev pub new_client : ℕ → List ℕ → ClientState
 new_client number principal =
     record { number = number; principal = principal; clock = 0; starts = 0; session = sessions.Unstarted; calls = 0; outstanding = None; handles = []; opened = 0 }
 
-abbrev pub count_of : Option Request → ℕ
+abbrev pub count_of : Option Outstanding → ℕ
 count_of None = 0
-count_of (Some message) = 1
+count_of (Some call) = 1
 
 -- messages are numbered up to 2^63-1; each handle came of a call of its own that has ended
-pub record IsWithin (starts calls opened : ℕ) (outstanding : Option Request) : Type 0 where
+pub record IsWithin (starts calls opened : ℕ) (outstanding : Option Outstanding) : Type 0 where
   pub last_start : starts < 2 ^ 63
   pub last_call : calls < 2 ^ 63
   pub ended_calls : opened + count_of outstanding ≤ calls

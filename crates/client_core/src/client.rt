@@ -1,22 +1,24 @@
 //! A client.
 ghost use Rattle.std.specs.Prelude.{◌≡◌, ◌≢◌, ◌==◌, ◌&&◌, ◌∷◌, [], ◌^◌, ◌<◌, nat_lt, Option, Some, None, Ok, Err, IsSome, OnOk, OnErr, IfOk, IfErr};
-ghost use Rattle.std.specs.Option.{option_copied};
-ghost use Rattle.plain.specs.Results.{Gives};
+ghost use Rattle.std.specs.Option.{option_copied, option_map};
 ghost use Rattle.client_core.specs.State.{new_client, moment, Does};
-ghost use Rattle.client_core.specs.Asks.{ask_step, call_to_send, call_of, handle_of, send_step};
+ghost use Rattle.client_core.specs.Asks.{ask_step, send_step};
 ghost use Rattle.client_core.specs.Beats.{beat_step, start_step};
-ghost use Rattle.client_core.specs.Gives.{give_step, taken_own, taken, start_taken, is_awaited, is_for, is_live_in, answer_of, ended, reply_step, refused_step};
+ghost use Rattle.client_core.specs.Gives.{give_step, taken_own, taken, start_taken, awaited, answer_of, ended, reply_step, refused_step};
 
 use crate::asks::{Ask, Asked};
+use crate::handles::ClientHandle;
+use crate::plans::Plan;
 use crate::sessions::Session;
+use crate::targets::{Outstanding, Target};
 use names_cell::Principal;
 use node_core::{Answer, Fault, Line};
 use plain::{Items, Table};
 use std::alloc::{AllocError, Global};
 use std::marker::Model;
 use tags_cell::{
-    Call, CallMessage, CallResult, ClientNumber, Handle, MessageNumber, Out, Refused, Reply,
-    Request, Start, Started,
+    Call, CallMessage, CallResult, ClientNumber, MessageNumber, Out, Refused, Reply, Request,
+    Start, Started,
 };
 
 /// Every moment is below this many milliseconds: 2^53.
@@ -29,19 +31,19 @@ const MOMENT_LIMIT: u64 = 0x20_0000_0000_0000;
 /// earlier than the last one counts as that, and one of 2^53 or more is refused as Exhausted and changes nothing. Where
 /// memory runs out nothing changes either, not even the noted time.
 ///
-/// What isn't there yet: a lease and what ends with it, a cache, Beats, events, and a change of the master's epoch.
+/// What isn't there yet: a lease and what ends with it, a cache, Beats, events, locks, and a change of the master's epoch.
 #[derive(Drop)]
 pub struct Client {
-    alloc: Global,
-    number: ClientNumber,
-    principal: Principal,
-    clock: u64,
-    starts: u64,
-    session: Session,
-    calls: u64,
-    outstanding: Option<Request>,
-    handles: Table<u64, Handle>,
-    opened: u64,
+    pub(crate) alloc: Global,
+    pub(crate) number: ClientNumber,
+    pub(crate) principal: Principal,
+    pub(crate) clock: u64,
+    pub(crate) starts: u64,
+    pub(crate) session: Session,
+    pub(crate) calls: u64,
+    pub(crate) outstanding: Option<Outstanding>,
+    pub(crate) handles: Table<u64, ClientHandle>,
+    pub(crate) opened: u64,
 }
 
 impl Model for Client {
@@ -85,15 +87,21 @@ impl Client {
     }
 
     /// Asks for a call. Refused, in this order: without a session as NoSession, and where it was lost as SessionExpired;
-    /// for a handle number that isn't open as BadHandle; while a call is outstanding as CallOutstanding; behind the last
-    /// call number, 2^63-1, as Exhausted. The last of these changes nothing, and the others note the time alone.
+    /// for a handle number that isn't open as BadHandle; for a poisoned handle, but for a Close, as Poisoned; while a
+    /// call is outstanding as CallOutstanding; behind the last call number, 2^63-1, as Exhausted. The last of these
+    /// changes nothing, and the others note the time alone.
+    ///
+    /// A Poison sends nothing, and waits for no call: the client answers it, as call 0. An outstanding call on the
+    /// handle that isn't a Close is then told as refused, and its reply is dropped when it comes. Until then it stays
+    /// outstanding.
     #[tactic(auto, unfolding(crate::specs::Asks::ask_step))]
     pub fn ask(&mut self, now: u64, asked: &Ask) -> Result<Asked, Fault>
         ensures { Does self.old self.new result (ask_step self.old now asked.now) }
     {
         let moment = self.moment(now)?;
-        match self.call_to_send(asked) {
-            Ok((epoch, call)) => self.send(moment, epoch, call),
+        match self.plan(asked) {
+            Ok(Plan::Send(epoch, call, target)) => self.send(moment, epoch, call, target),
+            Ok(Plan::Poison(number, bytes)) => self.poison(moment, number, bytes),
             Err(Fault::NoMemory) => Err(Fault::NoMemory),
             Err(fault) => {
                 self.clock = moment;
@@ -122,10 +130,11 @@ impl Client {
     /// Gives the client a message of a master, and answers the lines that are printed.
     ///
     /// A Started gives it the session that its newest Start asked for. A Reply ends the outstanding call, if it is for
-    /// that call and of the client's epoch; a handle gets the client's next number for it, and none is given out twice.
-    /// A refusal as NoSession, unless it is of an earlier epoch, ends the session. Every other message changes nothing
-    /// but the noted time: a repeated one, one of another epoch, another refusal, and one for another client, which
-    /// can't come where messages are delivered to those that they name.
+    /// that call and of the client's epoch; a handle gets the client's next number for it, none is given out twice, and
+    /// the number of a closed handle is open no more. Where the call's handle was poisoned since, its Reply prints
+    /// nothing. A refusal as NoSession, unless it is of an earlier epoch, ends the session. Every other message changes
+    /// nothing but the noted time: a repeated one, one of another epoch, another refusal, and one for another client,
+    /// which can't come where messages are delivered to those that they name.
     #[tactic(auto, unfolding(crate::specs::Gives::give_step))]
     pub fn give(&mut self, now: u64, out: &Out) -> Result<Items<Line>, Fault>
         ensures { Does self.old self.new result (give_step self.old now out.now) }
@@ -143,9 +152,12 @@ impl Client {
 
     /// The outstanding call's message, as it was sent, to be sent again; None where no call is outstanding.
     pub fn again(&self) -> Option<&Request>
-        ensures { option_copied result ≡ self.now.outstanding }
+        ensures { option_copied result ≡ option_map (λ call. call.request) self.now.outstanding }
     {
-        self.outstanding.as_ref()
+        match &self.outstanding {
+            Some(call) => Some(&call.request),
+            None => None,
+        }
     }
 
     // The moment that is noted.
@@ -159,44 +171,9 @@ impl Client {
         }
     }
 
-    // The call that may be sent now, and its epoch.
-    fn call_to_send(&self, asked: &Ask) -> Result<(u64, Call), Fault>
-        ensures { Gives Fault.NoMemory result (call_to_send self.now asked.now) }
-    {
-        let epoch = self.session.epoch()?;
-        let Some(call) = self.call_of(asked)? else {
-            return Err(Fault::BadHandle);
-        };
-        if self.outstanding.is_some() {
-            return Err(Fault::CallOutstanding);
-        }
-        Ok((epoch, call))
-    }
-
-    // What is asked for, with the master's handle in the place of the client's number for it.
-    fn call_of(&self, asked: &Ask) -> Result<Option<Call>, AllocError>
-        ensures { IfOk result (λ call. call ≡ call_of self.now.handles asked.now) }
-    {
-        match asked {
-            Ask::Open(open) => Ok(Some(Call::Open(open.clone()?))),
-            Ask::Read(number) => match self.handles.get(number) {
-                Some(handle) => Ok(Some(Call::Read(handle.clone()?))),
-                None => Ok(None),
-            },
-            Ask::Set(number, content, generation) => match self.handles.get(number) {
-                Some(handle) => Ok(Some(Call::Set {
-                    handle: handle.clone()?,
-                    content: content.clone()?,
-                    generation: *generation,
-                })),
-                None => Ok(None),
-            },
-        }
-    }
-
     // Numbers the call, and keeps its message.
-    fn send(&mut self, moment: u64, epoch: u64, call: Call) -> Result<Asked, Fault>
-        ensures { Does self.old self.new result (send_step self.old moment epoch call) }
+    fn send(&mut self, moment: u64, epoch: u64, call: Call, target: Target) -> Result<Asked, Fault>
+        ensures { Does self.old self.new result (send_step self.old moment epoch call target) }
     {
         let Some(number) = MessageNumber::new(self.calls + 1) else {
             return Err(Fault::Exhausted);
@@ -208,7 +185,10 @@ impl Client {
             number,
             call,
         });
-        let kept = request.clone()?;
+        let kept = Outstanding {
+            request: request.clone()?,
+            target,
+        };
         self.clock = moment;
         self.calls += 1;
         self.outstanding = Some(kept);
@@ -264,25 +244,29 @@ impl Client {
         ensures err { OnErr result (self.new ≡ self.old) }
     {
         let mut lines = Items::new(self.alloc);
-        if self.is_awaited(reply) {
-            let client = self.number.get();
-            let answer = self.answer_of(&reply.result)?;
-            lines.push(Line::Done(client, reply.number.get(), answer))?;
-            self.end_call(&reply.result)?;
+        match self.awaited(reply) {
+            None => {}
+            Some(Target::Dropped) => self.outstanding = None,
+            Some(target) => {
+                let client = self.number.get();
+                let answer = self.answer_of(&reply.result)?;
+                lines.push(Line::Done(client, reply.number.get(), answer))?;
+                self.end_call(target, &reply.result)?;
+            }
         }
         Ok(lines)
     }
 
-    // Whether it is of the client's epoch and for the outstanding call.
-    fn is_awaited(&self, reply: &Reply) -> bool
-        ensures { result ≡ is_awaited self.now reply.now }
+    // What it is for, where it is of the client's epoch and for the outstanding call.
+    fn awaited(&self, reply: &Reply) -> Option<Target>
+        ensures { result ≡ awaited self.now reply.now }
     {
         if self.session != Session::Live(reply.epoch) {
-            return false;
+            return None;
         }
         match &self.outstanding {
-            Some(request) => reply.number == request.number(),
-            None => false,
+            Some(call) if reply.number == call.request.number() => Some(call.target),
+            Some(_) | None => None,
         }
     }
 
@@ -292,22 +276,35 @@ impl Client {
     {
         Ok(match outcome {
             CallResult::Opened(_) => Answer::Opened(self.opened + 1),
+            CallResult::Closed => Answer::Closed,
             CallResult::Viewed(view) => Answer::Viewed(view.clone()?),
+            CallResult::Stated(stat) => Answer::Stated(stat.clone()?),
+            CallResult::Names(names) => Answer::Names(names.clone()?),
             CallResult::Done => Answer::Okay,
             CallResult::Refused(fault) => Answer::Refused(*fault),
         })
     }
 
-    // Ends the outstanding call, and keeps a new handle under the next number.
-    fn end_call(&mut self, outcome: &CallResult) -> Result<(), AllocError>
+    // Ends the outstanding call, keeps a new handle under the next number, and lets a closed one go.
+    fn end_call(&mut self, target: Target, outcome: &CallResult) -> Result<(), AllocError>
         requires { IsSome self.old.outstanding }
-        ensures ok { OnOk result (self.new ≡ ended self.old outcome.now) }
+        ensures ok { OnOk result (self.new ≡ ended self.old target outcome.now) }
         ensures err { OnErr result (self.new ≡ self.old) }
     {
-        if let CallResult::Opened(handle) = outcome {
-            let opened = self.opened + 1;
-            self.handles.put(opened, handle.clone()?)?;
-            self.opened = opened;
+        match (outcome, target) {
+            (CallResult::Opened(bytes), _) => {
+                let opened = self.opened + 1;
+                let handle = ClientHandle {
+                    bytes: bytes.clone()?,
+                    poisoned: false,
+                };
+                self.handles.put(opened, handle)?;
+                self.opened = opened;
+            }
+            (CallResult::Closed, Target::Closing(number)) => {
+                self.handles.remove(&number);
+            }
+            _ => {}
         }
         self.outstanding = None;
         Ok(())

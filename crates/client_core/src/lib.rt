@@ -3,10 +3,17 @@
 
 mod asks;
 mod client;
+mod handles;
 mod laws;
+mod plans;
+mod poisons;
 mod sessions;
+mod targets;
 
-pub use asks::{Ask, Asked};
+pub use asks::{Ask, Asked, NodeCall};
 pub use client::Client;
+pub use handles::ClientHandle;
 pub use laws::{handle_numbers_rise, handle_numbers_stay, repeated_reply_is_dropped};
+pub use plans::Plan;
 pub use sessions::Session;
+pub use targets::{Outstanding, Target};

@@ -1,39 +1,49 @@
--- What a change that waits puts, when its turn comes, fits the rows.
-use Rattle.std.proofs.Common.{◌≡◌, ℕ, ◌+◌, ◌≤◌, List, Bool, true, false, cond, Option, Some, None, refl, sym, ◌∙◌, ap, subst, arith}
-use Rattle.std.specs.Prelude.{◌&&◌, ◌==◌, nat_lt, nat_le}
+-- What a change that waits puts or takes away, when its turn comes, fits the rows.
+use Rattle.std.proofs.Common.{◌≡◌, ℕ, ◌+◌, ◌≤◌, List, [], length, Bool, true, false, cond, Option, Some, None, Result, Ok, Err, refl, sym, ◌∙◌, ap, subst, arith}
+use Rattle.std.specs.Prelude.{◌&&◌, ◌||◌, ◌==◌, nat_lt, nat_le, is_none}
 use Rattle.std.specs.Option.{option_map, option_map_or}
 use Rattle.std.specs.Str.{bytes_eq}
 use Rattle.std.proofs.lemmas.Bool.{and_parts, eq-eqb}
 use Rattle.std.proofs.lemmas.Bool.Decides.{nat_tests}
 use Rattle.std.proofs.lemmas.Slice.Eq.{bytes_eq-Decides}
 use Rattle.names_cell.specs.Text.{parent_of, cell_of}
+use Rattle.node_core.specs.declared.refusals.Fault.{Fault}
 use Rattle.node_core.specs.declared.refusals.Fault.TheVariants as faults
 use Rattle.node_core.specs.declared.views.View.{View}
 use Rattle.node_core.specs.declared.views.Mod.{Mod}
 use Rattle.node_core.specs.declared.views.Mod.TheVariants.{Put, Gone}
 use Rattle.node_core.specs.declared.kinds.Kind.{Kind}
 use Rattle.node_core.specs.declared.kinds.Kind.TheVariants.{File, Directory}
-use Rattle.node_core.specs.Nodes.{Nodes, get_node}
+use Rattle.node_core.specs.declared.kinds.Right.{Right}
+use Rattle.node_core.specs.declared.kinds.Right.TheVariants as rights
+use Rattle.node_core.specs.Nodes.{Nodes, get_node, has_children}
 use Rattle.rows_cell.specs.declared.tables.Node.{Node}
 use Rattle.rows_cell.specs.declared.tables.Rows.{Rows}
-use Rattle.rows_cell.specs.Rows.{stored_node}
-use Rattle.rows_cell.specs.Sound.{sound, is_number, is_directory, numbers_fit, content_fits, parent_fits}
+use Rattle.rows_cell.specs.Rows.{stored_node, map_of}
+use Rattle.rows_cell.specs.Sound.{sound, is_number, is_directory, is_directory_at, numbers_fit, content_fits, parent_fits}
 use Rattle.rows_cell.proofs.RowViews.{views_get}
 use Rattle.rows_cell.proofs.SoundChanges.{PutFits, found_fits, sound_numbers}
-use Rattle.tags_cell.specs.declared.calls.Handle.{Handle}
+use Rattle.rows_cell.proofs.SoundRemovals.{GoneFits}
+use Rattle.tags_cell.specs.Modes.{has_right}
+use Rattle.tags_cell.specs.Handles.{read_handle}
+use Rattle.tags_cell.specs.declared.handles.Handle.{Handle}
+use Rattle.tags_cell.specs.declared.calls.AclNames.{AclNames}
+use Rattle.tags_cell.specs.declared.calls.NewNode.{NewNode}
+use Rattle.tags_cell.specs.declared.calls.NewNode.TheVariants as made
 use Rattle.tags_cell.specs.declared.calls.Open.{Open}
 use Rattle.tags_cell.specs.declared.calls.Create.{Create}
 use Rattle.tags_cell.specs.declared.calls.Disposition.{Disposition}
 use Rattle.tags_cell.specs.declared.calls.Disposition.TheVariants.{May, Must}
 use Rattle.tags_cell.specs.declared.calls.Call.{Call}
 use Rattle.tags_cell.specs.declared.calls.Call.TheVariants as calls
+use Rattle.tags_cell.specs.declared.outs.CallResult.{CallResult}
 use Rattle.tags_cell.specs.declared.outs.CallResult.TheVariants as results
+use Rattle.cell_core.specs.declared.effects.Change.{Change}
 use Rattle.cell_core.specs.declared.effects.Effect.{Effect}
-use Rattle.cell_core.specs.declared.effects.Effect.TheVariants.{Answers, Changes}
 use Rattle.cell_core.specs.State.{MasterState}
-use Rattle.cell_core.specs.Step.{is_of_cell, opened}
-use Rattle.cell_core.specs.Effect.{refused, is_last, new_file, create_in, create_under, create_new, create_over, open_effect, generation_fits, with_content, set_on, effect}
-use Rattle.over_core.specs.Kept.{IsKept, is_file, file_at, content_within, call_fits}
+use Rattle.cell_core.specs.Step.{may, missing_right, is_of_cell, node_of_handle, new_handle, content_fault, node_fault, write_fault, needing, answer_on_node, bytes_of}
+use Rattle.cell_core.specs.Effect.{answered, refused, changes_to, is_last, new_view, acls_of, create_made, create_numbered, create_permitted, create_in, create_under, create_new, create_over, create_effect, open_effect, generation_fits, with_content, with_acls, put_at, delete_at, change_at, effect_on, handle_effect, effect}
+use Rattle.over_core.specs.Kept.{IsKept}
 
 -- ---- the node that stands at a name
 
@@ -51,7 +61,9 @@ record NodeParts (cell : List ℕ) (rows : Rows) (name : List ℕ) (view : View)
   parent : parent_fits rows.nodes name ≡ true
   first : nat_le 1 view.instance ≡ true
   given : nat_lt view.instance rows.next_instance ≡ true
+  written : is_number view.content_generation ≡ true
   acl : is_number view.acl_generation ≡ true
+  content : content_fits view.kind view ≡ true
 
 four_parts : (a b c d : Bool) → (a && b && c && d) ≡ true → (a ≡ true) × (b ≡ true) × (c ≡ true) × (d ≡ true)
 four_parts true true true true h = (refl, refl, refl, refl)
@@ -65,18 +77,20 @@ parts_of_node : (cell : List ℕ) (rows : Rows) (name : List ℕ) (node : Node) 
 parts_of_node cell rows name node h found =
     let t = four_parts (bytes_eq (cell_of name) cell) (parent_fits rows.nodes name) (numbers_fit rows.next_instance node) (content_fits node.view.kind node.view) (found_fits cell rows name node h found) in
     let n = five_parts (nat_le 1 node.view.instance) (nat_lt node.view.instance rows.next_instance) (is_number node.view.content_generation) (is_number node.view.acl_generation) (is_number node.lock_generation) t.2 in
-    record { named = t.0; parent = t.1; first = n.0; given = n.1; acl = n.3 }
+    record { named = t.0; parent = t.1; first = n.0; given = n.1; written = n.2; acl = n.3; content = t.3 }
 
--- ---- what an effect puts
+-- ---- what an effect puts or takes away
 
--- a put of a file that fits
 abbrev pub ModFits : Rows → Mod → ℕ → Type 0
-ModFits rows (Put name view) next = PutFits rows name view next × (is_file view.kind ≡ true)
-ModFits rows (Gone name) next = ⊥
+ModFits rows (Put name view) next = PutFits rows name view next
+ModFits rows (Gone name) next = GoneFits rows name next
+
+abbrev pub ChangeFits : Rows → Option Change → Type 0
+ChangeFits rows None = Unit {0}
+ChangeFits rows (Some change) = ModFits rows change.change change.next_instance
 
 abbrev pub EffectFits : Rows → Effect → Type 0
-EffectFits rows (Answers answer) = Unit {0}
-EffectFits rows (Changes change next answer) = ModFits rows change next
+EffectFits rows effected = ChangeFits rows effected.change
 
 else_fits : (rows : Rows) (b : Bool) (x y : Effect) → EffectFits rows x → (b ≡ false → EffectFits rows y) → EffectFits rows (cond b x y)
 else_fits rows true x y a k = a
@@ -85,6 +99,11 @@ else_fits rows false x y a k = k refl
 then_fits : (rows : Rows) (b : Bool) (x y : Effect) → (b ≡ true → EffectFits rows x) → EffectFits rows y → EffectFits rows (cond b x y)
 then_fits rows true x y k a = k refl
 then_fits rows false x y k a = a
+
+-- where something refuses
+unless_fits : {X : Type 0} (rows : Rows) (o : Option X) (f : X → Effect) (y : Effect) → ((x : X) → EffectFits rows (f x)) → (o ≡ None → EffectFits rows y) → EffectFits rows (option_map_or f o y)
+unless_fits rows None f y a k = k refl
+unless_fits rows (Some x) f y a k = a x
 
 rises : (n m : ℕ) → m ≡ n → n ≤ m + 1
 rises n m same = omega arith
@@ -111,13 +130,38 @@ no_directory : (o : Option Node) → o ≡ None → option_map_or (λ (node : No
 no_directory None h k = cc
 no_directory (Some w) h k = cc
 
-file_content : (kind : Kind) (view : View) → is_file kind ≡ true → content_within view.content ≡ true → content_fits kind view ≡ true
-file_content File view file short = short
-file_content Directory view file short = cc
+within : (content : List ℕ) → content_fault content ≡ None → nat_le (length content) 262144 ≡ true
+within content h = grind (arith, nat_tests)
 
-file_no_directory : (kind : Kind) → is_directory kind ≡ true → is_file kind ≡ true → ⊥
-file_no_directory File d f = cc
-file_no_directory Directory d f = cc
+-- what a new node holds fits
+new_content : (node : NewNode) (above : View) (instance : ℕ) (acls : AclNames) → node_fault node ≡ None → content_fits (new_view above instance node acls).kind (new_view above instance node acls) ≡ true
+new_content (made.File content) above instance acls h = within content h
+new_content made.Directory above instance acls h = refl
+
+new_number : (node : NewNode) (above : View) (instance : ℕ) (acls : AclNames) → is_number (new_view above instance node acls).content_generation ≡ true
+new_number (made.File content) above instance acls = refl
+new_number made.Directory above instance acls = refl
+
+-- another content of a file fits
+written_content : (kind : Kind) (view : View) (content : List ℕ) → write_fault kind content ≡ None → content_fits kind (with_content view content) ≡ true
+written_content File view content h = within content h
+written_content Directory view content h = cc
+
+acl_content : (kind : Kind) (view : View) (acls : AclNames) → content_fits kind view ≡ true → content_fits kind (with_acls view acls) ≡ true
+acl_content File view acls h = h
+acl_content Directory view acls h = h
+
+needed : (handle : Handle) (right : Right) (answer : Option CallResult) → needing handle right answer ≡ None → answer ≡ None
+needed handle right answer h =
+    (elim (has_right handle.mode right) as (λ b. cond b answer (Some (results.Refused (faults.Denied right))) ≡ None → answer ≡ None) [ true ↦ (λ e. e) | false ↦ (λ e. cc) ]) h
+
+node_present : (b : Bool) (view found : View) → cond b (Some view) None ≡ Some found → view ≡ found
+node_present true view found h = cc
+node_present false view found h = cc
+
+neither : (a b : Bool) → (a || b) ≡ false → (a ≡ false) × (b ≡ false)
+neither false false h = (refl, refl)
+neither _ _ h = cc
 
 module _ (cell : List ℕ) (rows : Rows) (s : MasterState) (k : IsKept cell rows s) where
   stored : (name : List ℕ) (o : Option View) → get_node s.nodes name ≡ o → option_map (λ (node : Node). node.view) (stored_node rows.nodes name) ≡ o
@@ -132,9 +176,10 @@ module _ (cell : List ℕ) (rows : Rows) (s : MasterState) (k : IsKept cell rows
       let same : rows.cell ≡ cell = (bytes_eq-Decides rows.cell cell).0 named in
       rw same h
 
-  -- a new file under a directory
-  file_fits : (name content parent : List ℕ) (w : Node) → is_of_cell s name ≡ true → content_within content ≡ true → stored_node rows.nodes name ≡ None → parent_of name ≡ Some parent → stored_node rows.nodes parent ≡ Some w → w.view.kind ≡ Directory → is_last s.next_instance ≡ false → PutFits rows name (new_file w.view s.next_instance content) (s.next_instance + 1)
-  file_fits name content parent w named short absent p found kind room =
+  -- ---- a new node under a directory
+
+  node_put_fits : (name parent : List ℕ) (node : NewNode) (acls : AclNames) (w : Node) → is_of_cell s name ≡ true → node_fault node ≡ None → stored_node rows.nodes name ≡ None → parent_of name ≡ Some parent → stored_node rows.nodes parent ≡ Some w → w.view.kind ≡ Directory → is_last s.next_instance ≡ false → PutFits rows name (new_view w.view s.next_instance node acls) (s.next_instance + 1)
+  node_put_fits name parent node acls w named short absent p found kind room =
       let parts = parts_of_node cell rows parent w k.sound_rows found in
       record {
         least = rises rows.next_instance s.next_instance k.next_instance;
@@ -143,93 +188,160 @@ module _ (cell : List ℕ) (rows : Rows) (s : MasterState) (k : IsKept cell rows
         parent = rw (p, found) (directory_kind w.view.kind kind);
         first = above_first w.view.instance rows.next_instance s.next_instance k.next_instance parts.given;
         given = just_given s.next_instance;
-        content_number = refl;
+        content_number = new_number node w.view s.next_instance acls;
         acl_number = refl;
-        content = short;
+        content = new_content node w.view s.next_instance acls short;
         kind = λ d. absurd (no_directory (stored_node rows.nodes name) absent d);
         own = rw absent (not_given rows.next_instance s.next_instance k.next_instance);
       }
 
-  in_fits : (client number : ℕ) (opening : Open) (content parent : List ℕ) (w : Node) (kind : Kind) → is_of_cell s opening.name ≡ true → content_within content ≡ true → stored_node rows.nodes opening.name ≡ None → parent_of opening.name ≡ Some parent → stored_node rows.nodes parent ≡ Some w → w.view.kind ≡ kind → EffectFits rows (create_in s client number opening content w.view kind)
-  in_fits client number opening content parent w File named short absent p found kind = tt
-  in_fits client number opening content parent w Directory named short absent p found kind =
-      else_fits rows (is_last s.next_instance) (refused faults.Exhausted) (Changes (Put opening.name (new_file w.view s.next_instance content)) (s.next_instance + 1) (opened s client number opening (new_file w.view s.next_instance content))) tt
-      (λ room. (file_fits opening.name content parent w named short absent p found kind room, refl))
+  made_fits : (opening : Open) (view : View) (r : Result Handle Fault) → PutFits rows opening.name view (s.next_instance + 1) → EffectFits rows (create_made s opening view r)
+  made_fits opening view (Err fault) h = tt
+  made_fits opening view (Ok handle) h = h
 
-  under_fits : (client number : ℕ) (opening : Open) (content parent : List ℕ) (o : Option View) → is_of_cell s opening.name ≡ true → content_within content ≡ true → stored_node rows.nodes opening.name ≡ None → parent_of opening.name ≡ Some parent → get_node s.nodes parent ≡ o → EffectFits rows (create_under s client number opening content o)
-  under_fits client number opening content parent None named short absent p found = tt
-  under_fits client number opening content parent (Some above) named short absent p found =
+  permitted_fits : (client number : ℕ) (opening : Open) (view : View) → (is_last s.next_instance ≡ false → PutFits rows opening.name view (s.next_instance + 1)) → EffectFits rows (create_permitted s client number opening view)
+  permitted_fits client number opening view h =
+      unless_fits rows (missing_right s client opening.mode view) (λ right. refused (faults.Denied right)) (create_numbered s client number opening view) (λ right. tt)
+      (λ none. else_fits rows (is_last s.next_instance) (refused faults.Exhausted) (create_made s opening view (new_handle s client number opening view)) tt
+      (λ room. made_fits opening view (new_handle s client number opening view) (h room)))
+
+  in_fits : (client number : ℕ) (opening : Open) (create : Create) (parent : List ℕ) (w : Node) (kind : Kind) → is_of_cell s opening.name ≡ true → node_fault create.node ≡ None → stored_node rows.nodes opening.name ≡ None → parent_of opening.name ≡ Some parent → stored_node rows.nodes parent ≡ Some w → w.view.kind ≡ kind → EffectFits rows (create_in s client number opening create w.view kind)
+  in_fits client number opening create parent w File named short absent p found kind = tt
+  in_fits client number opening create parent w Directory named short absent p found kind =
+      let view : View = new_view w.view s.next_instance create.node (acls_of w.view create.acls) in
+      then_fits rows (may s client w.view rights.Write) (create_permitted s client number opening view) (refused (faults.Denied rights.Write))
+      (λ allowed. permitted_fits client number opening view (λ room. node_put_fits opening.name parent create.node (acls_of w.view create.acls) w named short absent p found kind room)) tt
+
+  under_fits : (client number : ℕ) (opening : Open) (create : Create) (parent : List ℕ) (o : Option View) → is_of_cell s opening.name ≡ true → node_fault create.node ≡ None → stored_node rows.nodes opening.name ≡ None → parent_of opening.name ≡ Some parent → get_node s.nodes parent ≡ o → EffectFits rows (create_under s client number opening create o)
+  under_fits client number opening create parent None named short absent p found = tt
+  under_fits client number opening create parent (Some above) named short absent p found =
       let t = some_node (stored_node rows.nodes parent) above (stored parent (Some above) found) in
-      let P : View → Type 0 = λ view. EffectFits rows (create_in s client number opening content view view.kind) in
-      subst P t.2 (in_fits client number opening content parent t.0 t.0.view.kind named short absent p t.1 refl)
+      let P : View → Type 0 = λ view. EffectFits rows (create_in s client number opening create view view.kind) in
+      subst P t.2 (in_fits client number opening create parent t.0 t.0.view.kind named short absent p t.1 refl)
 
-  new_fits : (client number : ℕ) (opening : Open) (content : List ℕ) (o : Option (List ℕ)) → is_of_cell s opening.name ≡ true → content_within content ≡ true → stored_node rows.nodes opening.name ≡ None → parent_of opening.name ≡ o → EffectFits rows (option_map_or (λ parent. create_under s client number opening content (get_node s.nodes parent)) o (refused faults.NotFound))
-  new_fits client number opening content None named short absent p = tt
-  new_fits client number opening content (Some parent) named short absent p =
-      under_fits client number opening content parent (get_node s.nodes parent) named short absent p refl
+  new_fits : (client number : ℕ) (opening : Open) (create : Create) (o : Option (List ℕ)) → is_of_cell s opening.name ≡ true → node_fault create.node ≡ None → stored_node rows.nodes opening.name ≡ None → parent_of opening.name ≡ o → EffectFits rows (option_map_or (λ parent. create_under s client number opening create (get_node s.nodes parent)) o (refused faults.NotFound))
+  new_fits client number opening create None named short absent p = tt
+  new_fits client number opening create (Some parent) named short absent p =
+      under_fits client number opening create parent (get_node s.nodes parent) named short absent p refl
 
   over_fits : (client number : ℕ) (opening : Open) (disposition : Disposition) (view : View) → EffectFits rows (create_over s client number opening disposition view)
   over_fits client number opening Must view = tt
   over_fits client number opening May view = tt
 
-  create_fits : (client number : ℕ) (opening : Open) (create : Create) (o : Option View) → is_of_cell s opening.name ≡ true → content_within create.content ≡ true → get_node s.nodes opening.name ≡ o → EffectFits rows (option_map_or (λ view. create_over s client number opening create.disposition view) o (create_new s client number opening create.content))
+  create_fits : (client number : ℕ) (opening : Open) (create : Create) (o : Option View) → is_of_cell s opening.name ≡ true → node_fault create.node ≡ None → get_node s.nodes opening.name ≡ o → EffectFits rows (option_map_or (λ view. create_over s client number opening create.disposition view) o (create_new s client number opening create))
   create_fits client number opening create None named short found =
       let absent = no_node (stored_node rows.nodes opening.name) (stored opening.name None found) in
-      new_fits client number opening create.content (parent_of opening.name) named short absent refl
+      new_fits client number opening create (parent_of opening.name) named short absent refl
   create_fits client number opening create (Some view) named short found = over_fits client number opening create.disposition view
 
-  open_fits : (client number : ℕ) (opening : Open) (o : Option Create) → option_map_or (λ (create : Create). is_of_cell s opening.name && content_within create.content) o true ≡ true → EffectFits rows (open_effect s client number opening o)
-  open_fits client number opening None h = tt
-  open_fits client number opening (Some create) h =
-      let t = and_parts (is_of_cell s opening.name) (content_within create.content) h in
-      create_fits client number opening create (get_node s.nodes opening.name) t.0 t.1 refl
+  open_fits : (client number : ℕ) (opening : Open) (o : Option Create) → EffectFits rows (open_effect s client number opening o)
+  open_fits client number opening None = tt
+  open_fits client number opening (Some create) =
+      then_fits rows (is_of_cell s opening.name) (option_map_or (λ answer. answered answer) (node_fault create.node) (create_effect s client number opening create)) (refused faults.OtherCell)
+      (λ named. unless_fits rows (node_fault create.node) (λ answer. answered answer) (create_effect s client number opening create) (λ answer. tt)
+      (λ short. create_fits client number opening create (get_node s.nodes opening.name) named short refl)) tt
 
-  -- another content of a file
-  more_fits : (name content : List ℕ) (w : Node) → stored_node rows.nodes name ≡ Some w → is_file w.view.kind ≡ true → content_within content ≡ true → is_last w.view.content_generation ≡ false → PutFits rows name (with_content w.view content) s.next_instance
-  more_fits name content w found file short room =
+  -- ---- a node that stands
+
+  again_fits : (name : List ℕ) (w : Node) (view : View) → stored_node rows.nodes name ≡ Some w → view.instance ≡ w.view.instance → view.kind ≡ w.view.kind → is_number view.content_generation ≡ true → is_number view.acl_generation ≡ true → content_fits view.kind view ≡ true → PutFits rows name view s.next_instance
+  again_fits name w view found instance kind written acl content =
       let parts = parts_of_node cell rows name w k.sound_rows found in
       let next = k.next_instance in
+      let same : (w.view.instance == view.instance) ≡ true = eq-eqb w.view.instance view.instance (sym instance) in
       record {
         least = not_less rows.next_instance s.next_instance k.next_instance;
         most = rw next (sound_numbers cell rows k.sound_rows).2;
         cell = of_cell_named name parts.named;
         parent = parts.parent;
-        first = parts.first;
-        given = rw next parts.given;
-        content_number = next_number w.view.content_generation room;
-        acl_number = parts.acl;
-        content = file_content w.view.kind (with_content w.view content) file short;
-        kind = λ d. absurd (file_no_directory w.view.kind (rw found at d) file);
-        own = rw found (eq-eqb w.view.instance w.view.instance refl);
+        first = rw instance parts.first;
+        given = rw (next, instance) parts.given;
+        content_number = written;
+        acl_number = acl;
+        content = content;
+        kind = λ d. let there : is_directory w.view.kind ≡ true = rw found at d in rw kind there;
+        own = rw found same;
       }
 
-  on_fits : (handle : Handle) (content : List ℕ) (generation : Option ℕ) (w : Node) → stored_node rows.nodes handle.name ≡ Some w → is_file w.view.kind ≡ true → content_within content ≡ true → EffectFits rows (set_on s handle content generation w.view)
-  on_fits handle content generation w found file short =
-      let written : Effect = Changes (Put handle.name (with_content w.view content)) s.next_instance results.Done in
-      then_fits rows (generation_fits generation w.view.content_generation) (cond (is_last w.view.content_generation) (refused faults.Exhausted) written) (refused (faults.WrongGeneration w.view.content_generation))
-      (λ wanted. else_fits rows (is_last w.view.content_generation) (refused faults.Exhausted) written tt
-      (λ room. (more_fits handle.name content w found file short room, file))) tt
+  put_fits : (handle : Handle) (present : ℕ) (wanted : Option ℕ) (view : View) → (is_last present ≡ false → PutFits rows handle.name view s.next_instance) → EffectFits rows (put_at s handle present wanted view)
+  put_fits handle present wanted view h =
+      let written : Effect = changes_to (Put handle.name view) s.next_instance results.Done in
+      then_fits rows (generation_fits wanted present) (cond (is_last present) (refused faults.Exhausted) written) (refused (faults.WrongGeneration present))
+      (λ fits. else_fits rows (is_last present) (refused faults.Exhausted) written tt h) tt
 
-  view_fits : (handle : Handle) (content : List ℕ) (generation : Option ℕ) (view : View) → get_node s.nodes handle.name ≡ Some view → is_file view.kind ≡ true → content_within content ≡ true → EffectFits rows (set_on s handle content generation view)
-  view_fits handle content generation view found file short =
+  set_fits : (handle : Handle) (content : List ℕ) (generation : Option ℕ) (w : Node) → stored_node rows.nodes handle.name ≡ Some w → write_fault w.view.kind content ≡ None → EffectFits rows (put_at s handle w.view.content_generation generation (with_content w.view content))
+  set_fits handle content generation w found h =
+      let parts = parts_of_node cell rows handle.name w k.sound_rows found in
+      put_fits handle w.view.content_generation generation (with_content w.view content)
+      (λ room. again_fits handle.name w (with_content w.view content) found refl refl (next_number w.view.content_generation room) parts.acl (written_content w.view.kind w.view content h))
+
+  acl_fits : (handle : Handle) (acls : AclNames) (generation : Option ℕ) (w : Node) → stored_node rows.nodes handle.name ≡ Some w → EffectFits rows (put_at s handle w.view.acl_generation generation (with_acls w.view acls))
+  acl_fits handle acls generation w found =
+      let parts = parts_of_node cell rows handle.name w k.sound_rows found in
+      put_fits handle w.view.acl_generation generation (with_acls w.view acls)
+      (λ room. again_fits handle.name w (with_acls w.view acls) found refl refl parts.written (next_number w.view.acl_generation room) (acl_content w.view.kind w.view acls parts.content))
+
+  delete_fits : (handle : Handle) → EffectFits rows (delete_at s handle)
+  delete_fits handle =
+      else_fits rows (has_children s.nodes handle.name || is_none (parent_of handle.name)) (refused faults.NotEmpty) (changes_to (Gone handle.name) s.next_instance results.Done) tt
+      (λ free.
+      let t = neither (has_children s.nodes handle.name) (is_none (parent_of handle.name)) free in
+      let next = k.next_instance in
+      let P : Nodes → Type 0 = λ n. has_children n handle.name ≡ false in
+      record {
+        least = not_less rows.next_instance s.next_instance k.next_instance;
+        most = rw next (sound_numbers cell rows k.sound_rows).2;
+        no_children = subst P k.nodes t.0;
+        no_root = t.1;
+      })
+
+  change_fits : (handle : Handle) (call : Call) (w : Node) → stored_node rows.nodes handle.name ≡ Some w → answer_on_node s handle call w.view ≡ None → EffectFits rows (change_at s handle call w.view)
+  change_fits handle (calls.Set bytes content generation) w found h =
+      set_fits handle content generation w found (needed handle rights.Write (write_fault w.view.kind content) h)
+  change_fits handle (calls.SetAcl bytes acls generation) w found h = acl_fits handle acls generation w found
+  change_fits handle (calls.Delete bytes) w found h = delete_fits handle
+  change_fits handle (calls.Open opening) w found h = tt
+  change_fits handle (calls.Close bytes) w found h = tt
+  change_fits handle (calls.Read bytes) w found h = tt
+  change_fits handle (calls.Stat bytes) w found h = tt
+  change_fits handle (calls.List bytes) w found h = tt
+
+  -- what would be answered at once is answered, and else the change is made
+  view_fits : (handle : Handle) (call : Call) (view : View) → get_node s.nodes handle.name ≡ Some view → EffectFits rows (option_map_or (λ answer. answered answer) (answer_on_node s handle call view) (change_at s handle call view))
+  view_fits handle call view found =
       let t = some_node (stored_node rows.nodes handle.name) view (stored handle.name (Some view) found) in
-      let P : View → Type 0 = λ v. EffectFits rows (set_on s handle content generation v) in
-      let Q : View → Type 0 = λ v. is_file v.kind ≡ true in
-      subst P t.2 (on_fits handle content generation t.0 t.1 (subst Q (sym t.2) file) short)
+      let P : View → Type 0 = λ v. EffectFits rows (option_map_or (λ answer. answered answer) (answer_on_node s handle call v) (change_at s handle call v)) in
+      subst P t.2
+      (unless_fits rows (answer_on_node s handle call t.0.view) (λ answer. answered answer) (change_at s handle call t.0.view) (λ answer. tt) (λ none. change_fits handle call t.0 t.1 none))
 
-  handle_fits : (handle : Handle) (content : List ℕ) (generation : Option ℕ) (view : View) (b : Bool) → get_node s.nodes handle.name ≡ Some view → option_map_or (λ (v : View). is_file v.kind) (cond b (Some view) None) true ≡ true → content_within content ≡ true → EffectFits rows (option_map_or (λ v. set_on s handle content generation v) (cond b (Some view) None) (refused faults.StaleInstance))
-  handle_fits handle content generation view true found file short = view_fits handle content generation view found file short
-  handle_fits handle content generation view false found file short = tt
+  present_fits : (handle : Handle) (call : Call) (o p : Option View) → get_node s.nodes handle.name ≡ p → option_map_or (λ (view : View). cond (view.instance == handle.instance) (Some view) None) p None ≡ o → EffectFits rows (option_map_or (λ answer. answered answer) (option_map_or (λ view. answer_on_node s handle call view) o (Some (results.Refused faults.StaleInstance))) (option_map_or (λ view. change_at s handle call view) o (refused faults.StaleInstance)))
+  present_fits handle call None p found is = tt
+  present_fits handle call (Some view) None found is = cc
+  present_fits handle call (Some view) (Some there) found is =
+      let same : there ≡ view = node_present (there.instance == handle.instance) there view is in
+      view_fits handle call view (found ∙ ap (λ v. Some v) same)
 
-  set_fits : (handle : Handle) (content : List ℕ) (generation : Option ℕ) (o : Option View) → get_node s.nodes handle.name ≡ o → option_map_or (λ (v : View). is_file v.kind) (option_map_or (λ (view : View). cond (view.instance == handle.instance) (Some view) None) o None) true ≡ true → content_within content ≡ true → EffectFits rows (option_map_or (λ v. set_on s handle content generation v) (option_map_or (λ (view : View). cond (view.instance == handle.instance) (Some view) None) o None) (refused faults.StaleInstance))
-  set_fits handle content generation None found file short = tt
-  set_fits handle content generation (Some view) found file short = handle_fits handle content generation view (view.instance == handle.instance) found file short
+  call_fits : (handle : Handle) (call : Call) → EffectFits rows (effect_on s handle call)
+  call_fits handle (calls.Close bytes) = tt
+  call_fits handle (calls.Open opening) = present_fits handle (calls.Open opening) (node_of_handle s handle) (get_node s.nodes handle.name) refl refl
+  call_fits handle (calls.Read bytes) = present_fits handle (calls.Read bytes) (node_of_handle s handle) (get_node s.nodes handle.name) refl refl
+  call_fits handle (calls.Stat bytes) = present_fits handle (calls.Stat bytes) (node_of_handle s handle) (get_node s.nodes handle.name) refl refl
+  call_fits handle (calls.List bytes) = present_fits handle (calls.List bytes) (node_of_handle s handle) (get_node s.nodes handle.name) refl refl
+  call_fits handle (calls.Set bytes content generation) = present_fits handle (calls.Set bytes content generation) (node_of_handle s handle) (get_node s.nodes handle.name) refl refl
+  call_fits handle (calls.SetAcl bytes acls generation) = present_fits handle (calls.SetAcl bytes acls generation) (node_of_handle s handle) (get_node s.nodes handle.name) refl refl
+  call_fits handle (calls.Delete bytes) = present_fits handle (calls.Delete bytes) (node_of_handle s handle) (get_node s.nodes handle.name) refl refl
 
-  -- what a call that fits puts, fits
-  pub effect_fits : (client number : ℕ) (call : Call) → call_fits s call ≡ true → EffectFits rows (effect s client number call)
+  handle_fits : (call : Call) (o : Option Handle) → EffectFits rows (handle_effect s call o)
+  handle_fits call None = tt
+  handle_fits call (Some handle) = call_fits handle call
+
+  -- what a call does fits
+  pub effect_fits : (client number : ℕ) (call : Call) → EffectFits rows (effect s client number call)
   unfolding effect
-  effect_fits client number (calls.Open opening) h = open_fits client number opening opening.create h
-  effect_fits client number (calls.Read handle) h = tt
-  effect_fits client number (calls.Set handle content generation) h =
-      let t = and_parts (content_within content) (file_at s handle) h in
-      set_fits handle content generation (get_node s.nodes handle.name) refl t.1 t.0
+  effect_fits client number (calls.Open opening) = open_fits client number opening opening.create
+  effect_fits client number (calls.Close bytes) = handle_fits (calls.Close bytes) (read_handle s.secret bytes)
+  effect_fits client number (calls.Read bytes) = handle_fits (calls.Read bytes) (read_handle s.secret bytes)
+  effect_fits client number (calls.Stat bytes) = handle_fits (calls.Stat bytes) (read_handle s.secret bytes)
+  effect_fits client number (calls.List bytes) = handle_fits (calls.List bytes) (read_handle s.secret bytes)
+  effect_fits client number (calls.Set bytes content generation) = handle_fits (calls.Set bytes content generation) (read_handle s.secret bytes)
+  effect_fits client number (calls.SetAcl bytes acls generation) = handle_fits (calls.SetAcl bytes acls generation) (read_handle s.secret bytes)
+  effect_fits client number (calls.Delete bytes) = handle_fits (calls.Delete bytes) (read_handle s.secret bytes)

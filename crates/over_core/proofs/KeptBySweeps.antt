@@ -3,30 +3,26 @@ use Rattle.std.proofs.Common.{◌≡◌, ℕ, List, [], ◌∷◌, Bool, true, f
 use Rattle.std.specs.Prelude.{◌⊎◌, ◌==◌, ◌^◌, nat_le, max, drop, IfOk, IfErr, OnOk, OnErr}
 use Rattle.std.specs.Option.{option_map_or}
 use Rattle.std.specs.List.Sorted.{IsStrictlySortedBy}
-use Rattle.std.specs.Map.{keys_of}
+use Rattle.std.specs.Map.{keys_of, remove_entry}
 use Rattle.std.specs.BTreeMap.{is_at, insert_entry}
 use Rattle.std.specs.Ordering.{nat_cmp}
 use Rattle.std.specs.Cmp.Lexicographic.{slice_cmp}
 use Rattle.std.proofs.lemmas.Bool.{and_parts}
-use Rattle.std.proofs.lemmas.Map.Lookups.{exact_bytes}
 use Rattle.node_core.specs.declared.refusals.Fault.{Fault}
 use Rattle.node_core.specs.declared.refusals.Fault.TheVariants as faults
 use Rattle.node_core.specs.declared.views.View.{View}
 use Rattle.node_core.specs.declared.views.Mod.{Mod}
 use Rattle.node_core.specs.declared.views.Mod.TheVariants.{Put, Gone}
 use Rattle.node_core.specs.Nodes.{Nodes, HasNamesInOrder, get_node}
-use Rattle.plain.proofs.Entries.{lookup_put}
 use Rattle.rows_cell.specs.declared.tables.Session.{Session}
 use Rattle.rows_cell.specs.declared.tables.Rows.{Rows}
-use Rattle.rows_cell.specs.declared.tables.Edit.TheVariants.{PutSession}
+use Rattle.rows_cell.specs.declared.tables.Edit.TheVariants.{PutSession, NextInstance}
 use Rattle.rows_cell.specs.Rows.{changed_rows}
 use Rattle.rows_cell.specs.Sound.{sound, is_number}
-use Rattle.rows_cell.proofs.OpeningRows.{bytes_same}
-use Rattle.rows_cell.proofs.RowViews.{views_put, rows_in_order}
+use Rattle.rows_cell.proofs.RowViews.{views_put, views_gone, rows_in_order}
 use Rattle.rows_cell.proofs.SoundChanges.{put_sound, session_sound}
-use Rattle.tags_cell.specs.declared.calls.Handle.{Handle}
-use Rattle.cell_core.specs.declared.effects.Effect.{Effect}
-use Rattle.cell_core.specs.declared.effects.Effect.TheVariants.{Answers, Changes}
+use Rattle.rows_cell.proofs.SoundRemovals.{gone_sound}
+use Rattle.cell_core.specs.declared.effects.Change.{Change}
 use Rattle.cell_core.specs.declared.pending.Pending.{Pending}
 use Rattle.cell_core.specs.declared.pending.Work.{Work}
 use Rattle.cell_core.specs.declared.pending.Work.TheVariants as works
@@ -35,13 +31,13 @@ use Rattle.cell_core.specs.declared.plans.Deed.TheVariants as deeds
 use Rattle.cell_core.specs.declared.plans.Plan.{Plan}
 use Rattle.cell_core.specs.declared.sweeps.Swept.{Swept}
 use Rattle.cell_core.specs.State.{MasterState}
-use Rattle.cell_core.specs.Step.{may_start, is_live, turned_away}
+use Rattle.cell_core.specs.Step.{may_start, is_live, turned_away, recorded, with_note}
 use Rattle.cell_core.specs.Effect.{effect}
 use Rattle.cell_core.specs.Store.{IsCommitted, IsRefused}
-use Rattle.cell_core.specs.Sweep.{noted, plan_session, plan_start, plan_effect, plan_work, plan_of, edits_of, queue_edits, sweep_edits, done, sweep_by, sweep_step}
-use Rattle.over_core.specs.Kept.{IsKept, is_file, file_at, work_fits, pending_fits, queue_fits}
-use Rattle.over_core.proofs.KeptByTakes.{stays, queue_stays, clock_kept}
-use Rattle.over_core.proofs.FitsByEffects.{ModFits, EffectFits, effect_fits}
+use Rattle.cell_core.specs.Sweep.{noted, plan_session, plan_start, plan_effect, plan_work, plan_of, edit_of, change_edits, edits_of, queue_edits, sweep_edits, with_change, done, sweep_by, sweep_step}
+use Rattle.over_core.specs.Kept.{IsKept, queue_fits}
+use Rattle.over_core.proofs.KeptByTakes.{stays, note_kept, clock_kept}
+use Rattle.over_core.proofs.FitsByEffects.{ModFits, ChangeFits, effect_fits}
 
 -- ---- what is planned
 
@@ -49,8 +45,7 @@ use Rattle.over_core.proofs.FitsByEffects.{ModFits, EffectFits, effect_fits}
 abbrev DeedFits : Rows → Deed → Type 0
 DeedFits rows deeds.Nothing = Unit {0}
 DeedFits rows (deeds.Starts client session) = (is_number client ≡ true) × (session ≡ record { principal = session.principal; live = true })
-DeedFits rows (deeds.Answers client kept) = Unit {0}
-DeedFits rows (deeds.Changes client kept change next) = ModFits rows change next
+DeedFits rows (deeds.Answers client kept note change) = ChangeFits rows change
 
 either_fits : (rows : Rows) (b : Bool) (x y : Plan) → DeedFits rows x.deed → DeedFits rows y.deed → DeedFits rows (cond b x y).deed
 either_fits rows true x y h k = h
@@ -65,100 +60,103 @@ start_fits rows s client number principal in_range =
     either_fits rows (may_start s client principal) (plan_session s client number principal) (record { deed = deeds.Nothing; taken = turned_away s client number faults.NoSession })
     (session_fits rows s client number principal in_range) tt
 
-result_fits : (rows : Rows) (s : MasterState) (client number : ℕ) (made : Effect) → EffectFits rows made → DeedFits rows (plan_effect s client number made).deed
-result_fits rows s client number (Answers answer) h = tt
-result_fits rows s client number (Changes change next answer) h = h
-
-planned_fits : (cell : List ℕ) (rows : Rows) (s : MasterState) (client number : ℕ) (work : Work) → IsKept cell rows s → is_number client ≡ true → work_fits s work ≡ true → DeedFits rows (plan_work s client number work).deed
-planned_fits cell rows s client number (works.Starts principal) k in_range h = start_fits rows s client number principal in_range
-planned_fits cell rows s client number (works.Calls call) k in_range h =
-    result_fits rows s client number (effect s client number call) (effect_fits cell rows s k client number call h)
-
-plan_fits : (cell : List ℕ) (rows : Rows) (s : MasterState) (pending : Pending) → IsKept cell rows s → pending_fits s pending ≡ true → DeedFits rows (plan_of s pending).deed
-plan_fits cell rows s pending k h =
-    let t = and_parts (is_number pending.client) (work_fits s pending.work) h in
-    planned_fits cell rows s pending.client pending.number pending.work k t.0 t.1
+planned_fits : (cell : List ℕ) (rows : Rows) (s : MasterState) (client number : ℕ) (work : Work) → IsKept cell rows s → is_number client ≡ true → DeedFits rows (plan_work s client number work).deed
+planned_fits cell rows s client number (works.Starts principal) k in_range = start_fits rows s client number principal in_range
+planned_fits cell rows s client number (works.Calls call) k in_range = effect_fits cell rows s k client number call
 
 -- ---- what is committed
 
-change_sound : (cell : List ℕ) (rows : Rows) (client : ℕ) (kept : _) (change : Mod) (next : ℕ) → sound cell rows ≡ true → IsStrictlySortedBy (slice_cmp nat_cmp) (keys_of rows.nodes) → ModFits rows change next → sound cell (changed_rows rows (edits_of (deeds.Changes client kept change next))) ≡ true
-change_sound cell rows client kept (Put name view) next h order fits = put_sound cell rows name view next h order fits.0
-change_sound cell rows client kept (Gone name) next h order fits = absurd fits
+change_sound : (cell : List ℕ) (rows : Rows) (change : Mod) (next : ℕ) → sound cell rows ≡ true → IsStrictlySortedBy (slice_cmp nat_cmp) (keys_of rows.nodes) → ModFits rows change next → sound cell (changed_rows rows (edit_of change ∷ NextInstance next ∷ [])) ≡ true
+change_sound cell rows (Put name view) next h order fits = put_sound cell rows name view next h order fits
+change_sound cell rows (Gone name) next h order fits = gone_sound cell rows name next h fits
+
+answer_sound : (cell : List ℕ) (rows : Rows) (change : Option Change) → sound cell rows ≡ true → IsStrictlySortedBy (slice_cmp nat_cmp) (keys_of rows.nodes) → ChangeFits rows change → sound cell (changed_rows rows (change_edits change)) ≡ true
+answer_sound cell rows None h order fits = h
+answer_sound cell rows (Some change) h order fits = change_sound cell rows change.change change.next_instance h order fits
 
 deed_sound : (cell : List ℕ) (rows : Rows) (deed : Deed) → sound cell rows ≡ true → IsStrictlySortedBy (slice_cmp nat_cmp) (keys_of rows.nodes) → DeedFits rows deed → sound cell (changed_rows rows (edits_of deed)) ≡ true
 deed_sound cell rows deeds.Nothing h order fits = h
 deed_sound cell rows (deeds.Starts client session) h order fits =
     let P : Session → Type 0 = λ x. sound cell (changed_rows rows (PutSession client x ∷ [])) ≡ true in
     subst P (sym fits.1) (session_sound cell rows client session.principal h fits.0)
-deed_sound cell rows (deeds.Answers client kept) h order fits = h
-deed_sound cell rows (deeds.Changes client kept change next) h order fits = change_sound cell rows client kept change next h order fits
+deed_sound cell rows (deeds.Answers client kept note change) h order fits = answer_sound cell rows change h order fits
 
 -- ---- what the master is then
 
-file_of : (view : View) (b : Bool) → is_file view.kind ≡ true → option_map_or (λ (v : View). is_file v.kind) (cond b (Some view) None) true ≡ true
-file_of view true h = h
-file_of view false h = refl
-
--- a handle whose node was a file, where a file is put
-file_stays : (s new : MasterState) (name : List ℕ) (view : View) (handle : Handle) → new.nodes ≡ insert_entry (slice_cmp nat_cmp) s.nodes name view → is_file view.kind ≡ true → file_at s handle ≡ true → file_at new handle ≡ true
-file_stays s new name view handle put file h =
-    let test : Option View → Bool = λ o. option_map_or (λ (v : View). is_file v.kind) (option_map_or (λ (x : View). cond (x.instance == handle.instance) (Some x) None) o None) true in
-    let there : test (cond (is_at (slice_cmp nat_cmp handle.name) name) (Some view) (get_node s.nodes handle.name)) ≡ true =
-    elim (is_at (slice_cmp nat_cmp handle.name) name) as (λ b. test (cond b (Some view) (get_node s.nodes handle.name)) ≡ true) [
-      | true ↦ file_of view (view.instance == handle.instance) file
-      | false ↦ h
-    ] in
-    let found : get_node new.nodes handle.name ≡ cond (is_at (slice_cmp nat_cmp handle.name) name) (Some view) (get_node s.nodes handle.name) =
-    ap (λ (n : Nodes). get_node n handle.name) put ∙ lookup_put (slice_cmp nat_cmp) exact_bytes bytes_same s.nodes name view handle.name in
-    let P : Option View → Type 0 = λ o. test o ≡ true in
-    subst P (sym found) there
-
-module _ (cell : List ℕ) (rows : Rows) (s : MasterState) (k : IsKept cell rows s) where
-  change_kept : (client : ℕ) (kept : _) (change : Mod) (next : ℕ) (rest : List Pending) → sound cell (changed_rows rows (edits_of (deeds.Changes client kept change next))) ≡ true → ModFits rows change next → queue_fits s rest ≡ true → IsKept cell (changed_rows rows (edits_of (deeds.Changes client kept change next))) (record (done s (deeds.Changes client kept change next)) { queue = rest })
-  change_kept client kept (Put name view) next rest h fits waits = record {
+module _ (cell : List ℕ) (rows : Rows) where
+  changed_kept : (s : MasterState) (change : Mod) (next : ℕ) → IsKept cell rows s → sound cell (changed_rows rows (edit_of change ∷ NextInstance next ∷ [])) ≡ true → IsKept cell (changed_rows rows (edit_of change ∷ NextInstance next ∷ [])) (with_change s (Some (record { change = change; next_instance = next })))
+  changed_kept s (Put name view) next k h = record {
     name = k.name;
+    secret = k.secret;
     epoch = k.epoch;
     next_instance = refl;
     nodes = ap (λ (n : Nodes). insert_entry (slice_cmp nat_cmp) n name view) k.nodes ∙ sym (views_put rows.nodes name view);
     sessions = k.sessions;
     sound_rows = h;
-    queue = queue_stays s (record (done s (deeds.Changes client kept (Put name view) next)) { queue = rest }) rest refl (λ handle f. file_stays s (record (done s (deeds.Changes client kept (Put name view) next)) { queue = rest }) name view handle refl fits.1 f) waits;
+    queue = k.queue;
   }
-  change_kept client kept (Gone name) next rest h fits waits = absurd fits
-
-  deed_kept : (deed : Deed) (rest : List Pending) → sound cell (changed_rows rows (edits_of deed)) ≡ true → DeedFits rows deed → queue_fits s rest ≡ true → IsKept cell (changed_rows rows (edits_of deed)) (record (done s deed) { queue = rest })
-  deed_kept deeds.Nothing rest h fits waits = stays cell rows s (record s { queue = rest }) k refl refl refl refl refl waits
-  deed_kept (deeds.Starts client session) rest h fits waits = record {
+  changed_kept s (Gone name) next k h = record {
     name = k.name;
+    secret = k.secret;
+    epoch = k.epoch;
+    next_instance = refl;
+    nodes = ap (λ (n : Nodes). remove_entry (is_at (slice_cmp nat_cmp name)) n) k.nodes ∙ sym (views_gone rows.nodes name);
+    sessions = k.sessions;
+    sound_rows = h;
+    queue = k.queue;
+  }
+
+  answer_kept : (s : MasterState) (change : Option Change) → IsKept cell rows s → sound cell (changed_rows rows (change_edits change)) ≡ true → IsKept cell (changed_rows rows (change_edits change)) (with_change s change)
+  answer_kept s None k h = k
+  answer_kept s (Some change) k h = changed_kept s change.change change.next_instance k h
+
+  deed_kept : (s : MasterState) (deed : Deed) → IsKept cell rows s → sound cell (changed_rows rows (edits_of deed)) ≡ true → IsKept cell (changed_rows rows (edits_of deed)) (done s deed)
+  deed_kept s deeds.Nothing k h = k
+  deed_kept s (deeds.Starts client session) k h = record {
+    name = k.name;
+    secret = k.secret;
     epoch = k.epoch;
     next_instance = k.next_instance;
     nodes = k.nodes;
     sessions = ap (λ (x : List (ℕ × Session)). insert_entry nat_cmp x client session) k.sessions;
     sound_rows = h;
-    queue = queue_stays s (record (done s (deeds.Starts client session)) { queue = rest }) rest refl (λ handle f. f) waits;
+    queue = k.queue;
   }
-  deed_kept (deeds.Answers client kept) rest h fits waits =
-      stays cell rows s (record (done s (deeds.Answers client kept)) { queue = rest }) k refl refl refl refl refl waits
-  deed_kept (deeds.Changes client kept change next) rest h fits waits = change_kept client kept change next rest h fits waits
+  deed_kept s (deeds.Answers client kept note change) k h =
+      answer_kept (with_note (recorded s client kept) note) change (note_kept cell rows (recorded s client kept) note (stays cell rows s (recorded s client kept) k refl refl refl refl refl refl k.queue)) h
 
+-- the first change leaves the queue
+left_kept : (cell : List ℕ) (rows : Rows) (s : MasterState) (rest : List Pending) → IsKept cell rows s → queue_fits rest ≡ true → IsKept cell rows (record s { queue = rest })
+left_kept cell rows s rest k h = record {
+  name = k.name;
+  secret = k.secret;
+  epoch = k.epoch;
+  next_instance = k.next_instance;
+  nodes = k.nodes;
+  sessions = k.sessions;
+  sound_rows = k.sound_rows;
+  queue = h;
+}
+
+module _ (cell : List ℕ) (rows : Rows) (s : MasterState) (k : IsKept cell rows s) where
   ordered : HasNamesInOrder s.nodes → IsStrictlySortedBy (slice_cmp nat_cmp) (keys_of rows.nodes)
   ordered h = let P : Nodes → Type 0 = HasNamesInOrder in rows_in_order rows (subst P k.nodes h)
 
-  queue_sound : (queue : List Pending) → HasNamesInOrder s.nodes → queue_fits s queue ≡ true → sound cell (changed_rows rows (queue_edits s queue)) ≡ true
+  queue_sound : (queue : List Pending) → HasNamesInOrder s.nodes → queue_fits queue ≡ true → sound cell (changed_rows rows (queue_edits s queue)) ≡ true
   queue_sound [] order h = k.sound_rows
   queue_sound (pending ∷ rest) order h =
-      let t = and_parts (pending_fits s pending) (queue_fits s rest) h in
-      deed_sound cell rows (plan_of s pending).deed k.sound_rows (ordered order) (plan_fits cell rows s pending k t.0)
+      let t = and_parts (is_number pending.client) (queue_fits rest) h in
+      deed_sound cell rows (plan_of s pending).deed k.sound_rows (ordered order) (planned_fits cell rows s pending.client pending.number pending.work k t.0)
 
   by_kept : (queue : List Pending) → HasNamesInOrder s.nodes → s.queue ≡ queue → IsKept cell (changed_rows rows (queue_edits s queue)) (sweep_by s queue).0
   by_kept [] order same = k
   by_kept (pending ∷ rest) order same =
-      let P : List Pending → Type 0 = λ q. queue_fits s q ≡ true in
+      let P : List Pending → Type 0 = λ q. queue_fits q ≡ true in
       let whole = subst P same k.queue in
-      let t = and_parts (pending_fits s pending) (queue_fits s rest) whole in
+      let t = and_parts (is_number pending.client) (queue_fits rest) whole in
       let deed : Deed = (plan_of s pending).deed in
-      let left : queue_fits s (drop 1 s.queue) ≡ true = rw same t.1 in
-      deed_kept deed (drop 1 s.queue) (queue_sound (pending ∷ rest) order whole) (plan_fits cell rows s pending k t.0) left
+      let left : queue_fits (drop 1 s.queue) ≡ true = rw same t.1 in
+      left_kept cell (changed_rows rows (edits_of deed)) (done s deed) (drop 1 s.queue) (deed_kept cell rows s deed k (queue_sound (pending ∷ rest) order whole)) left
 
 pub sweep_sound : (cell : List ℕ) (rows : Rows) (s : MasterState) (now : ℕ) → IsKept cell rows s → HasNamesInOrder s.nodes → sound cell (changed_rows rows (sweep_edits s now)) ≡ true
 sweep_sound cell rows s now k order =

@@ -13,7 +13,6 @@ use Rattle.node_core.specs.declared.kinds.Kind.TheVariants.{File, Directory}
 use Rattle.rows_cell.specs.declared.tables.Rows.{Rows}
 use Rattle.rows_cell.specs.Sound.{is_number}
 use Rattle.rows_cell.proofs.PutEntries.{all_more}
-use Rattle.tags_cell.specs.declared.calls.Handle.{Handle}
 use Rattle.tags_cell.specs.declared.calls.Open.{Open}
 use Rattle.tags_cell.specs.declared.calls.Create.{Create}
 use Rattle.tags_cell.specs.declared.calls.Call.{Call}
@@ -31,80 +30,22 @@ use Rattle.cell_core.specs.declared.pending.Pending.{Pending}
 use Rattle.cell_core.specs.declared.pending.Work.{Work}
 use Rattle.cell_core.specs.declared.pending.Work.TheVariants as works
 use Rattle.cell_core.specs.State.{MasterState}
-use Rattle.cell_core.specs.Step.{is_of_cell, node_of_handle, content_fault, create_answer, open_answer, write_fault, set_answer, is_own, answer_of, full_answer, is_full, may_start, is_live, turned_away, refusal, repeated, nothing, queued, recorded, start_step, waits, admit_unless, admit_step, new_call, kept_of, kept_step, call_step, take_at, take_step}
-use Rattle.over_core.specs.Kept.{IsKept, is_file, file_at, content_within, call_fits, work_fits, pending_fits, queue_fits}
-
--- ---- what waits still fits in another state
-
-call_stays : (s new : MasterState) (call : Call) → new.name ≡ s.name → ((handle : Handle) → file_at s handle ≡ true → file_at new handle ≡ true) → call_fits s call ≡ true → call_fits new call ≡ true
-call_stays s new (calls.Open opening) name file h = rw name h
-call_stays s new (calls.Read handle) name file h = refl
-call_stays s new (calls.Set handle content generation) name file h =
-    let t = and_parts (content_within content) (file_at s handle) h in
-    and_from (content_within content) (file_at new handle) t.0 (file handle t.1)
-
-work_stays : (s new : MasterState) (work : Work) → new.name ≡ s.name → ((handle : Handle) → file_at s handle ≡ true → file_at new handle ≡ true) → work_fits s work ≡ true → work_fits new work ≡ true
-work_stays s new (works.Starts principal) name file h = refl
-work_stays s new (works.Calls call) name file h = call_stays s new call name file h
-
-pending_stays : (s new : MasterState) (pending : Pending) → new.name ≡ s.name → ((handle : Handle) → file_at s handle ≡ true → file_at new handle ≡ true) → pending_fits s pending ≡ true → pending_fits new pending ≡ true
-pending_stays s new pending name file h =
-    let t = and_parts (is_number pending.client) (work_fits s pending.work) h in
-    and_from (is_number pending.client) (work_fits new pending.work) t.0 (work_stays s new pending.work name file t.1)
-
--- where the cell has its name still, and each file is one
-pub queue_stays : (s new : MasterState) (queue : List Pending) → new.name ≡ s.name → ((handle : Handle) → file_at s handle ≡ true → file_at new handle ≡ true) → queue_fits s queue ≡ true → queue_fits new queue ≡ true
-queue_stays s new queue name file h =
-    all_more (pending_fits s) (pending_fits new) queue (λ pending. pending_stays s new pending name file) h
+use Rattle.cell_core.specs.declared.handles.Note.{Note}
+use Rattle.cell_core.specs.Step.{full_answer, is_full, may_start, is_live, turned_away, refusal, repeated, nothing, queued, recorded, start_step, waits, with_note, admission_of, admit_unless, admit_step, new_call, kept_of, kept_step, call_step, take_at, take_step}
+use Rattle.over_core.specs.Kept.{IsKept, queue_fits}
 
 -- where what the rows hold is untouched
-pub stays : (cell : List ℕ) (rows : Rows) (s new : MasterState) → IsKept cell rows s → new.name ≡ s.name → new.epoch ≡ s.epoch → new.next_instance ≡ s.next_instance → new.nodes ≡ s.nodes → new.sessions ≡ s.sessions → queue_fits s new.queue ≡ true → IsKept cell rows new
-stays cell rows s new k name epoch next nodes sessions fits = record {
+pub stays : (cell : List ℕ) (rows : Rows) (s new : MasterState) → IsKept cell rows s → new.name ≡ s.name → new.secret ≡ s.secret → new.epoch ≡ s.epoch → new.next_instance ≡ s.next_instance → new.nodes ≡ s.nodes → new.sessions ≡ s.sessions → queue_fits new.queue ≡ true → IsKept cell rows new
+stays cell rows s new k name secret epoch next nodes sessions fits = record {
   name = name ∙ k.name;
+  secret = secret ∙ k.secret;
   epoch = epoch ∙ k.epoch;
   next_instance = next ∙ k.next_instance;
   nodes = nodes ∙ k.nodes;
   sessions = sessions ∙ k.sessions;
   sound_rows = k.sound_rows;
-  queue = queue_stays s new new.queue name (λ handle h. rw nodes h) fits;
+  queue = fits;
 }
-
--- ---- a call that waits fits
-
-within : (content : List ℕ) → content_fault content ≡ None → content_within content ≡ true
-within content h = grind (arith, nat_tests)
-
-created_fits : (s : MasterState) (client number : ℕ) (opening : Open) (o : Option Create) → is_of_cell s opening.name ≡ true → create_answer s client number opening o ≡ None → option_map_or (λ (create : Create). is_of_cell s opening.name && content_within create.content) o true ≡ true
-created_fits s client number opening None named h = refl
-created_fits s client number opening (Some create) named h =
-    and_from (is_of_cell s opening.name) (content_within create.content) named (within create.content h)
-
-open_fits : (s : MasterState) (client number : ℕ) (opening : Open) → open_answer s client number opening ≡ None → call_fits s (calls.Open opening) ≡ true
-open_fits s client number opening h =
-    (elim (is_of_cell s opening.name) as (λ b. is_of_cell s opening.name ≡ b → cond b (create_answer s client number opening opening.create) (Some (results.Refused faults.OtherCell)) ≡ None → call_fits s (calls.Open opening) ≡ true) [
-      | true ↦ (λ named k. created_fits s client number opening opening.create named k)
-      | false ↦ (λ named k. cc)
-    ]) refl h
-
-written_fits : (kind : Kind) (content : List ℕ) → write_fault kind content ≡ None → (content_within content && is_file kind) ≡ true
-written_fits Directory content h = cc
-written_fits File content h = and_from (content_within content) true (within content h) refl
-
-node_fits : (content : List ℕ) (o : Option View) → option_map_or (λ (view : View). write_fault view.kind content) o (Some (results.Refused faults.StaleInstance)) ≡ None → (content_within content && option_map_or (λ (view : View). is_file view.kind) o true) ≡ true
-node_fits content None h = cc
-node_fits content (Some view) h = written_fits view.kind content h
-
-set_fits : (s : MasterState) (client : ℕ) (handle : Handle) (content : List ℕ) (generation : Option ℕ) → set_answer s client handle content ≡ None → call_fits s (calls.Set handle content generation) ≡ true
-set_fits s client handle content generation h =
-    (elim (is_own s client handle) as (λ b. cond b (option_map_or (λ (view : View). write_fault view.kind content) (node_of_handle s handle) (Some (results.Refused faults.StaleInstance))) (Some (results.Refused faults.BadHandle)) ≡ None → call_fits s (calls.Set handle content generation) ≡ true) [
-      | true ↦ (λ k. node_fits content (node_of_handle s handle) k)
-      | false ↦ (λ k. cc)
-    ]) h
-
-waiting_fits : (s : MasterState) (client number : ℕ) (call : Call) → answer_of s client number call ≡ None → call_fits s call ≡ true
-waiting_fits s client number (calls.Open opening) h = open_fits s client number opening h
-waiting_fits s client number (calls.Read handle) h = refl
-waiting_fits s client number (calls.Set handle content generation) h = set_fits s client handle content generation h
 
 -- ---- the steps
 
@@ -118,27 +59,29 @@ module _ (cell : List ℕ) (rows : Rows) where
   either_kept false x y h k = k
 
   recorded_kept : (s : MasterState) (client : ℕ) (kept : Kept) → IsKept cell rows s → IsKept cell rows (recorded s client kept)
-  recorded_kept s client kept k = stays cell rows s (recorded s client kept) k refl refl refl refl refl k.queue
+  recorded_kept s client kept k = stays cell rows s (recorded s client kept) k refl refl refl refl refl refl k.queue
 
-  waits_kept : (s : MasterState) (client number : ℕ) (call : Call) → IsKept cell rows s → is_number client ≡ true → call_fits s call ≡ true → IsKept cell rows (waits s client number call).0
-  waits_kept s client number call k in_range fits =
+  pub note_kept : (s : MasterState) (note : Option Note) → IsKept cell rows s → IsKept cell rows (with_note s note)
+  note_kept s None k = k
+  note_kept s (Some note) k = stays cell rows s (with_note s (Some note)) k refl refl refl refl refl refl k.queue
+
+  waits_kept : (s : MasterState) (client number : ℕ) (call : Call) → IsKept cell rows s → is_number client ≡ true → IsKept cell rows (waits s client number call).0
+  waits_kept s client number call k in_range =
       let pending : Pending = record { client = client; number = number; work = works.Calls call } in
-      stays cell rows s (waits s client number call).0 k refl refl refl refl refl
-      (all_push (pending_fits s) s.queue pending k.queue (and_from (is_number client) (call_fits s call) in_range fits))
+      stays cell rows s (waits s client number call).0 k refl refl refl refl refl refl (all_push (λ (p : Pending). is_number p.client) s.queue pending k.queue in_range)
 
-  unless_kept : (s : MasterState) (client number : ℕ) (call : Call) (o : Option CallResult) → IsKept cell rows s → is_number client ≡ true → call_fits s call ≡ true → IsKept cell rows (admit_unless s client number call o).0
-  unless_kept s client number call None k in_range fits = waits_kept s client number call k in_range fits
-  unless_kept s client number call (Some result) k in_range fits =
-      recorded_kept s client (record { number = number; result = Some result }) k
+  unless_kept : (s : MasterState) (client number : ℕ) (call : Call) (o : Option CallResult) → IsKept cell rows s → is_number client ≡ true → IsKept cell rows (admit_unless s client number call o).0
+  unless_kept s client number call None k in_range = waits_kept s client number call k in_range
+  unless_kept s client number call (Some result) k in_range = recorded_kept s client (record { number = number; result = Some result }) k
 
-  admit_kept : (s : MasterState) (client number : ℕ) (call : Call) (o : Option CallResult) → IsKept cell rows s → is_number client ≡ true → answer_of s client number call ≡ o → IsKept cell rows (admit_step s client number call o).0
-  admit_kept s client number call None k in_range h =
-      unless_kept s client number call (full_answer s) k in_range (waiting_fits s client number call h)
-  admit_kept s client number call (Some result) k in_range h =
-      recorded_kept s client (record { number = number; result = Some result }) k
+  admit_kept : (s : MasterState) (client number : ℕ) (call : Call) (o : Option CallResult) → IsKept cell rows s → is_number client ≡ true → IsKept cell rows (admit_step s client number call o).0
+  admit_kept s client number call None k in_range = unless_kept s client number call (full_answer s) k in_range
+  admit_kept s client number call (Some result) k in_range = recorded_kept s client (record { number = number; result = Some result }) k
 
   new_kept : (s : MasterState) (client number : ℕ) (call : Call) → IsKept cell rows s → is_number client ≡ true → IsKept cell rows (new_call s client number call).0
-  new_kept s client number call k in_range = admit_kept s client number call (answer_of s client number call) k in_range refl
+  new_kept s client number call k in_range =
+      let admission = admission_of s client number call in
+      admit_kept (with_note s admission.note) client number call admission.answer (note_kept s admission.note k) in_range
 
   last_kept : (s : MasterState) (client number : ℕ) (call : Call) (o : Option Kept) → IsKept cell rows s → is_number client ≡ true → IsKept cell rows (kept_step s client number call o).0
   last_kept s client number call None k in_range = new_kept s client number call k in_range
@@ -164,15 +107,14 @@ module _ (cell : List ℕ) (rows : Rows) where
       let there : MasterState × Taken = (queued s pending, nothing) in
       either_kept (may_start s start.client start.principal) (cond (is_full s) full there) (s, refusal s start.client start.number faults.NoSession)
       (either_kept (is_full s) full there k
-      (stays cell rows s (queued s pending) k refl refl refl refl refl
-      (all_push (pending_fits s) s.queue pending k.queue (and_from (is_number start.client) true in_range refl)))) k
+      (stays cell rows s (queued s pending) k refl refl refl refl refl refl (all_push (λ (p : Pending). is_number p.client) s.queue pending k.queue in_range))) k
 
   at_kept : (s : MasterState) (request : Request) → IsKept cell rows s → is_number (request_client request) ≡ true → IsKept cell rows (take_at s request).0
   at_kept s (requests.Start start) k in_range = start_kept s start k in_range
   at_kept s (requests.Call message) k in_range = call_kept s message k in_range
 
   pub clock_kept : (s : MasterState) (clock : ℕ) → IsKept cell rows s → IsKept cell rows (record s { clock = clock })
-  clock_kept s clock k = stays cell rows s (record s { clock = clock }) k refl refl refl refl refl k.queue
+  clock_kept s clock k = stays cell rows s (record s { clock = clock }) k refl refl refl refl refl refl k.queue
 
   pub take_kept : (s new : MasterState) (now : ℕ) (request : Request) (taken : Taken) → IsKept cell rows s → is_number (request_client request) ≡ true → take_step s now request ≡ Ok (new, taken) → IsKept cell rows new
   unfolding take_step

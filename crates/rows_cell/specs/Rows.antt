@@ -1,5 +1,5 @@
 -- The rows, what edits make of them, and the map that they hold.
-use Rattle.std.specs.Prelude.{ℕ, not, ◌==◌, List, [], ◌∷◌, Option, Some, None, map, filter}
+use Rattle.std.specs.Prelude.{ℕ, Bool, true, false, not, ◌==◌, List, [], ◌∷◌, Option, Some, None, map, filter}
 use Rattle.std.specs.Option.{option_map_or}
 use Rattle.std.specs.Map.{lookup, remove_entry, set_value}
 use Rattle.std.specs.BTreeMap.{is_at, insert_entry}
@@ -63,3 +63,11 @@ edited rows (RemoveLock key) = record rows { locks = remove_entry (is_at (lock_o
 abbrev pub changed_rows : Rows → List Edit → Rows
 changed_rows rows [] = rows
 changed_rows rows (edit ∷ edits) = changed_rows (edited rows edit) edits
+
+-- whether an edit takes memory: one that takes something away doesn't, nor does one that sets a number of the cell
+abbrev pub takes_memory : Edit → Bool
+takes_memory (Epoch epoch) = false
+takes_memory (NextInstance next) = false
+takes_memory (RemoveNode name) = false
+takes_memory (RemoveLock key) = false
+takes_memory _ = true

@@ -47,8 +47,7 @@ impl Records for ListRecords {
     }
 
     fn commit(&mut self, change: &Items<Edit>) -> Result<(), StoreFault> {
-        let rows = self.rows.after(change.as_slice())?;
-        self.rows = rows;
+        self.rows.change(change.as_slice())?;
         Ok(())
     }
 }

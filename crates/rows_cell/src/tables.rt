@@ -1,10 +1,11 @@
 //! The rows, and the edits of them.
-ghost use Rattle.std.specs.Prelude.{◌≡◌, ◌==◌, not, filter, IfOk, OnOk};
+ghost use Rattle.std.specs.Prelude.{◌≡◌, ◌==◌, false, not, filter, IfOk, OnOk, OnErr};
+ghost use Rattle.std.specs.List.{list_any};
 ghost use Rattle.std.specs.Map.{remove_entry};
 ghost use Rattle.std.specs.BTreeMap.{is_at};
 ghost use Rattle.std.specs.Cmp.Lexicographic.{slice_cmp};
 ghost use Rattle.std.specs.Ordering.{nat_cmp};
-ghost use Rattle.rows_cell.specs.Rows.{edited, changed_rows, map_of, stored_node, put_view, at_generation, without_locks_of};
+ghost use Rattle.rows_cell.specs.Rows.{edited, changed_rows, takes_memory, map_of, stored_node, put_view, at_generation, without_locks_of};
 
 use crate::keys::LockKey;
 use names_cell::{Component, Name, Principal};
@@ -129,28 +130,80 @@ pub enum Edit {
     RemoveLock(LockKey),
 }
 
+impl Edit {
+    // Whether it may be refused for want of memory.
+    fn takes_memory(&self) -> bool
+        ensures { result ≡ takes_memory self.now }
+    {
+        matches!(
+            self,
+            Edit::PutNode(..) | Edit::LockGeneration(..) | Edit::PutSession(..) | Edit::PutLock(..)
+        )
+    }
+}
+
 impl Rows {
-    /// Does one edit. Where memory is refused the rows may have any form.
+    /// Does a change, or leaves the rows where memory is refused. It costs what its edits cost where none but the first
+    /// takes memory; any other change costs what copying all rows costs.
+    pub(crate) fn change(&mut self, change: &[Edit]) -> Result<(), AllocError>
+        ensures ok { OnOk result (self.new ≡ changed_rows self.old change.now) }
+        ensures err { OnErr result (self.new ≡ self.old) }
+    {
+        let Some((first, others)) = change.split_first() else {
+            return Ok(());
+        };
+        if others.iter().any(Edit::takes_memory) {
+            *self = self.after(change)?;
+            return Ok(());
+        }
+        self.edit(first)?;
+        self.set_all(others);
+        Ok(())
+    }
+
+    // Does one edit, or leaves the rows.
     fn edit(&mut self, edit: &Edit) -> Result<(), AllocError>
         ensures ok { OnOk result (self.new ≡ edited self.old edit.now) }
+        ensures err { OnErr result (self.new ≡ self.old) }
     {
         match edit {
-            Edit::Epoch(epoch) => self.epoch = *epoch,
-            Edit::NextInstance(next) => self.next_instance = *next,
             Edit::PutNode(name, view) => self.put_node(name, view)?,
             Edit::LockGeneration(name, generation) => self.set_generation(name, *generation)?,
-            Edit::RemoveNode(name) => self.remove_node(name),
             Edit::PutSession(client, session) => {
                 self.sessions.put(*client, session.clone()?)?;
             }
             Edit::PutLock(key, row) => {
                 self.locks.put(*key, *row)?;
             }
+            _ => self.set(edit),
+        }
+        Ok(())
+    }
+
+    // Does an edit that takes no memory.
+    fn set(&mut self, edit: &Edit)
+        requires { takes_memory edit.now ≡ false }
+        ensures { self.new ≡ edited self.old edit.now }
+    {
+        match edit {
+            Edit::Epoch(epoch) => self.epoch = *epoch,
+            Edit::NextInstance(next) => self.next_instance = *next,
+            Edit::RemoveNode(name) => self.remove_node(name),
             Edit::RemoveLock(key) => {
                 self.locks.remove(key);
             }
+            _ => unreachable!(),
         }
-        Ok(())
+    }
+
+    // Does edits that take no memory, in order.
+    fn set_all(&mut self, edits: &[Edit])
+        requires { list_any takes_memory edits.now ≡ false }
+        ensures { self.new ≡ changed_rows self.old edits.now }
+    {
+        for edit in edits {
+            self.set(edit);
+        }
     }
 
     /// The map of names to nodes that the rows hold.
@@ -168,6 +221,7 @@ impl Rows {
 
     fn put_node(&mut self, name: &Name, view: &View) -> Result<(), AllocError>
         ensures ok { OnOk result (self.new ≡ record self.old { nodes = put_view self.old.nodes name.now view.now }) }
+        ensures err { OnErr result (self.new ≡ self.old) }
     {
         let lock_generation = match self.nodes.get(name) {
             Some(node) => node.lock_generation,
@@ -183,6 +237,7 @@ impl Rows {
 
     fn set_generation(&mut self, name: &Name, generation: u64) -> Result<(), AllocError>
         ensures ok { OnOk result (self.new ≡ record self.old { nodes = at_generation self.old.nodes name.now (stored_node self.old.nodes name.now) generation }) }
+        ensures err { OnErr result (self.new ≡ self.old) }
     {
         let Some(node) = self.nodes.get(name) else {
             return Ok(());
@@ -203,8 +258,8 @@ impl Rows {
         }
     }
 
-    /// The rows after a change, which are a copy: it costs what copying all rows costs.
-    pub(crate) fn after(&self, change: &[Edit]) -> Result<Rows, AllocError>
+    // The rows after a change, which are a copy: it costs what copying all rows costs.
+    fn after(&self, change: &[Edit]) -> Result<Rows, AllocError>
         ensures { IfOk result (λ rows. rows ≡ changed_rows self.now change.now) }
     {
         let mut rows = self.clone()?;

@@ -3,14 +3,30 @@
 
 mod calls;
 mod clients;
+mod delays;
+mod digits;
+mod handle_bytes;
+mod handle_faults;
+mod handles;
+mod laws;
+mod masks;
 mod modes;
 mod numbers;
+mod ordinals;
 mod outs;
+mod places;
 mod requests;
 
-pub use calls::{Call, Create, Disposition, Handle, Open};
+pub use calls::{AclNames, Call, Create, Disposition, NewNode, Open};
 pub use clients::ClientNumber;
+pub use delays::LockDelay;
+pub use handle_bytes::HandleBytes;
+pub use handle_faults::HandleFault;
+pub use handles::Handle;
+pub use laws::{bytes_tell_handles, read_was_written, written_is_read};
+pub use masks::Events;
 pub use modes::Mode;
 pub use numbers::MessageNumber;
+pub use ordinals::Ordinal;
 pub use outs::{CallResult, Out, Refused, Reply, Started};
 pub use requests::{CallMessage, Request, Start};

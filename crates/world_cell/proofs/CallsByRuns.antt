@@ -10,8 +10,6 @@ use Rattle.tags_cell.specs.declared.calls.Call.{Call}
 use Rattle.tags_cell.specs.declared.calls.Call.TheVariants as calls
 use Rattle.tags_cell.specs.declared.requests.CallMessage.{CallMessage}
 use Rattle.tags_cell.specs.declared.requests.Request.TheVariants as requests
-use Rattle.tags_cell.specs.declared.outs.CallResult.{CallResult}
-use Rattle.cell_core.specs.declared.effects.Effect.TheVariants.{Changes}
 use Rattle.cell_core.specs.declared.pending.Pending.{Pending}
 use Rattle.cell_core.specs.declared.pending.Work.{Work}
 use Rattle.cell_core.specs.declared.pending.Work.TheVariants as works
@@ -73,9 +71,7 @@ record IsHere (g : Ground) (s : MasterState) (before : List Line) (client number
   first : before ≡ []
   call : Call
   was : WasTaken g client number call
-  next_instance : ℕ
-  answer : CallResult
-  is_effect : effect s client number call ≡ Changes change next_instance answer
+  is_effect : change_of (effect s client number call) ≡ Some change
 
 call_taken : (g : Ground) (client number : ℕ) (work : Work) (call : Call) → work ≡ works.Calls call → IsCalled g client number work → WasTaken g client number call
 call_taken g client number work call e h = rw e at h
@@ -89,8 +85,6 @@ sweep_here g s (p ∷ ps) before rest client number change q m e =
       first = turn.first;
       call = turn.call;
       was = call_taken g client number p.work turn.call turn.is_call called;
-      next_instance = turn.next_instance;
-      answer = turn.answer;
       is_effect = turn.is_effect;
     }
 
@@ -101,8 +95,13 @@ in_epoch g epoch client number call e h = rw e h
 noted_effect : (s : MasterState) (now client number : ℕ) (call : Call) → effect (noted s now) client number call ≡ effect s client number call
 unfolding effect
 noted_effect s now client number (calls.Open opening) = refl
-noted_effect s now client number (calls.Read handle) = refl
-noted_effect s now client number (calls.Set handle content generation) = refl
+noted_effect s now client number (calls.Close bytes) = refl
+noted_effect s now client number (calls.Read bytes) = refl
+noted_effect s now client number (calls.Stat bytes) = refl
+noted_effect s now client number (calls.List bytes) = refl
+noted_effect s now client number (calls.Set bytes content generation) = refl
+noted_effect s now client number (calls.SetAcl bytes acls generation) = refl
+noted_effect s now client number (calls.Delete bytes) = refl
 
 -- ---- a step
 
@@ -208,7 +207,7 @@ of_sweep g step next printed before told later client number change steps rest n
       epoch = was.epoch;
       call = here.call;
       taken = in_epoch g t.master.epoch client number here.call was.epoch here.was;
-      is_effect = ap change_of (sym (noted_effect t.master g.here.clock client number here.call) ∙ here.is_effect);
+      is_effect = ap change_of (sym (noted_effect t.master g.here.clock client number here.call)) ∙ here.is_effect;
     })
 
 made_here : (g : Ground) (step : Step) (next : WorldState) (printed before told later : List Line) (client number : ℕ) (change : Mod) (steps : List Step) (rest : List Line) (new : WorldState) → Stands g → Made g.here step next printed → Run next steps later new → printed ≡ before ++ lines.Applied client number change ∷ told → rest ≡ told ++ later → IsOfCall g.old (g.past ++ step ∷ steps) (g.told ++ before) client number change rest new

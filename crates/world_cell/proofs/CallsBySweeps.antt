@@ -1,14 +1,15 @@
 -- What a sweep makes of the master, and that a change it tells of is the effect of the call whose turn it is.
-use Rattle.std.proofs.Common.{◌≡◌, ℕ, List, [], ◌∷◌, ◌++◌, Bool, true, false, cond, refl, sym, ◌∙◌, inl, inr}
+use Rattle.std.proofs.Common.{◌≡◌, ℕ, List, [], ◌∷◌, ◌++◌, Bool, true, false, cond, Option, Some, None, refl, sym, ◌∙◌, inl, inr}
 use Rattle.std.specs.Prelude.{◌⊎◌}
+use Rattle.std.specs.Option.{option_map}
 use Rattle.node_core.specs.declared.refusals.Fault.TheVariants as faults
 use Rattle.node_core.specs.declared.lines.Line.{Line}
 use Rattle.node_core.specs.declared.lines.Line.TheVariants as lines
 use Rattle.node_core.specs.declared.views.Mod.{Mod}
 use Rattle.tags_cell.specs.declared.calls.Call.{Call}
 use Rattle.tags_cell.specs.declared.outs.CallResult.{CallResult}
-use Rattle.cell_core.specs.declared.effects.Effect.{Effect}
-use Rattle.cell_core.specs.declared.effects.Effect.TheVariants.{Answers, Changes}
+use Rattle.cell_core.specs.declared.effects.Change.{Change}
+use Rattle.cell_core.specs.declared.handles.Note.{Note}
 use Rattle.cell_core.specs.declared.pending.Pending.{Pending}
 use Rattle.cell_core.specs.declared.pending.Work.{Work}
 use Rattle.cell_core.specs.declared.pending.Work.TheVariants as works
@@ -18,7 +19,7 @@ use Rattle.cell_core.specs.State.{MasterState}
 use Rattle.cell_core.specs.Step.{is_live, may_start, turned_away}
 use Rattle.cell_core.specs.Effect.{effect}
 use Rattle.cell_core.specs.Sweep.{started_out, plan_session, plan_start, plan_effect, plan_work, done}
-use Rattle.world_cell.specs.Runs.{map_at, epoch_at}
+use Rattle.world_cell.specs.Runs.{map_at, epoch_at, change_of}
 use Rattle.world_cell.proofs.StepKinds.{IsSilent}
 use Rattle.world_cell.proofs.RowsByRuns.{silent_map, silent_epoch}
 
@@ -63,9 +64,7 @@ pub record IsOfTurn (s : MasterState) (p : Pending) (before : List Line) (client
   pub same_number : p.number ≡ number
   pub call : Call
   pub is_call : p.work ≡ works.Calls call
-  pub next_instance : ℕ
-  pub answer : CallResult
-  pub is_effect : effect s client number call ≡ Changes change next_instance answer
+  pub is_effect : change_of (effect s client number call) ≡ Some change
 
 -- the master has the map that the lines tell, and its epoch
 pub record IsPlanned (s : MasterState) (p : Pending) (plan : Plan) : Type 0 where
@@ -82,22 +81,31 @@ silent_planned s p plan silent nodes epoch = record {
   tells = λ before rest client number change e. absurd (silent_split plan.taken.lines before rest client number change silent e);
 }
 
-of_turn : (s : MasterState) (p : Pending) (call : Call) (change told : Mod) (next : ℕ) (answer : CallResult) (before rest : List Line) (client number : ℕ) → p.work ≡ works.Calls call → effect s p.client p.number call ≡ Changes change next answer → lines.Applied p.client p.number change ∷ [] ≡ before ++ lines.Applied client number told ∷ rest → IsOfTurn s p before client number told
-of_turn s p call change told next answer before rest client number is_call is_effect e =
+of_turn : (s : MasterState) (p : Pending) (call : Call) (change told : Mod) (before rest : List Line) (client number : ℕ) → p.work ≡ works.Calls call → change_of (effect s p.client p.number call) ≡ Some change → lines.Applied p.client p.number change ∷ [] ≡ before ++ lines.Applied client number told ∷ rest → IsOfTurn s p before client number told
+of_turn s p call change told before rest client number is_call is_effect e =
     let t = one_split (lines.Applied p.client p.number change) before rest (lines.Applied client number told) e in
     let line : lines.Applied p.client p.number change ≡ lines.Applied client number told = t.1 in
     let c : p.client ≡ client = cc in
     let n : p.number ≡ number = cc in
     let m : change ≡ told = cc in
-    record { first = t.0; same_client = c; same_number = n; call = call; is_call = is_call; next_instance = next; answer = answer; is_effect = rw (← c, ← n, ← m) is_effect }
+    record { first = t.0; same_client = c; same_number = n; call = call; is_call = is_call; is_effect = rw (← c, ← n, ← m) is_effect }
 
-effect_planned : (s : MasterState) (p : Pending) (call : Call) (effected : Effect) → p.work ≡ works.Calls call → effect s p.client p.number call ≡ effected → IsPlanned s p (plan_effect s p.client p.number effected)
-effect_planned s p call (Answers answer) is_call is_effect = silent_planned s p (plan_effect s p.client p.number (Answers answer)) tt refl refl
-effect_planned s p call (Changes change next answer) is_call is_effect = record {
+effect_planned : (s : MasterState) (p : Pending) (call : Call) (note : Option Note) (change : Option Change) (answer : CallResult) → p.work ≡ works.Calls call → change_of (effect s p.client p.number call) ≡ option_map (λ (c : Change). c.change) change → IsPlanned s p (plan_effect s p.client p.number (record { note = note; change = change; answer = answer }))
+effect_planned s p call None None answer is_call is_effect =
+    silent_planned s p (plan_effect s p.client p.number (record { note = None; change = None; answer = answer })) tt refl refl
+effect_planned s p call (Some note) None answer is_call is_effect =
+    silent_planned s p (plan_effect s p.client p.number (record { note = Some note; change = None; answer = answer })) tt refl refl
+effect_planned s p call None (Some change) answer is_call is_effect = record {
   nodes = refl;
   epoch = refl;
   same_epoch = λ e. refl;
-  tells = λ before rest client number told e. of_turn s p call change told next answer before rest client number is_call is_effect e;
+  tells = λ before rest client number told e. of_turn s p call change.change told before rest client number is_call is_effect e;
+}
+effect_planned s p call (Some note) (Some change) answer is_call is_effect = record {
+  nodes = refl;
+  epoch = refl;
+  same_epoch = λ e. refl;
+  tells = λ before rest client number told e. of_turn s p call change.change told before rest client number is_call is_effect e;
 }
 
 either : (s : MasterState) (p : Pending) (b : Bool) (x y : Plan) → IsPlanned s p x → IsPlanned s p y → IsPlanned s p (cond b x y)
@@ -117,4 +125,5 @@ start_planned s p principal =
 
 pub work_planned : (s : MasterState) (p : Pending) (work : Work) → p.work ≡ work → IsPlanned s p (plan_work s p.client p.number work)
 work_planned s p (works.Starts principal) is_work = start_planned s p principal
-work_planned s p (works.Calls call) is_work = effect_planned s p call (effect s p.client p.number call) is_work refl
+work_planned s p (works.Calls call) is_work =
+    let made = effect s p.client p.number call in effect_planned s p call made.note made.change made.answer is_work refl

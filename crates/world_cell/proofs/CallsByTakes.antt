@@ -18,8 +18,9 @@ use Rattle.cell_core.specs.declared.pending.Kept.{Kept}
 use Rattle.cell_core.specs.declared.pending.Pending.{Pending}
 use Rattle.cell_core.specs.declared.pending.Work.{Work}
 use Rattle.cell_core.specs.declared.pending.Work.TheVariants as works
+use Rattle.cell_core.specs.declared.handles.Note.{Note}
 use Rattle.cell_core.specs.State.{MasterState}
-use Rattle.cell_core.specs.Step.{kept_of, is_live, may_start, is_full, queued, answer_of, full_answer, admit_unless, admit_step, new_call, kept_step, call_step, start_step, take_at, nothing, turned_away, refusal, repeated}
+use Rattle.cell_core.specs.Step.{kept_of, is_live, may_start, is_full, queued, with_note, admission_of, full_answer, admit_unless, admit_step, new_call, kept_step, call_step, start_step, take_at, nothing, turned_away, refusal, repeated}
 use Rattle.world_cell.specs.declared.steps.Step.{Step}
 use Rattle.world_cell.specs.declared.steps.Step.TheVariants.{Take}
 use Rattle.world_cell.specs.World.{WorldState}
@@ -117,8 +118,14 @@ admit_stands : (g : Ground) (s : MasterState) (client number : ℕ) (call : Call
 admit_stands g s client number call (Some result) h k = record { nodes = h.nodes; epoch = h.epoch; queue = h.queue }
 admit_stands g s client number call None h k = unless_stands g s client number call (full_answer s) h k
 
+note_stands : (g : Ground) (s : MasterState) (note : Option Note) → IsMaster g s → IsMaster g (with_note s note)
+note_stands g s None h = h
+note_stands g s (Some note) h = record { nodes = h.nodes; epoch = h.epoch; queue = h.queue }
+
 new_stands : (g : Ground) (s : MasterState) (client number : ℕ) (call : Call) → IsMaster g s → WasTaken g client number call → IsMaster g (new_call s client number call).0
-new_stands g s client number call h k = admit_stands g s client number call (answer_of s client number call) h k
+new_stands g s client number call h k =
+    let admission = admission_of s client number call in
+    admit_stands g (with_note s admission.note) client number call admission.answer (note_stands g s admission.note h) k
 
 either : (g : Ground) (b : Bool) (x y : MasterState × Taken) → (b ≡ true → IsMaster g x.0) → IsMaster g y.0 → IsMaster g (cond b x y).0
 either g true x y h k = h refl

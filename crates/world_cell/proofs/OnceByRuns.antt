@@ -1,5 +1,5 @@
 -- Why each call is applied at most once.
-use Rattle.std.proofs.Common.{◌≡◌, ℕ, List, [], ◌∷◌, ◌++◌, Bool, true, false, cond, Option, Some, None, refl, ap, ◌∙◌, arith, eqb}
+use Rattle.std.proofs.Common.{◌≡◌, ℕ, List, [], ◌∷◌, ◌++◌, Bool, true, false, cond, Option, Some, None, drop, refl, ap, ◌∙◌, arith, eqb}
 use Rattle.std.specs.Prelude.{◌==◌}
 use Rattle.std.proofs.lemmas.Bool.Decides.{nat_tests}
 use Rattle.node_core.specs.declared.refusals.Fault.TheVariants as faults
@@ -8,7 +8,8 @@ use Rattle.node_core.specs.declared.lines.Line.TheVariants as lines
 use Rattle.tags_cell.specs.declared.calls.Call.{Call}
 use Rattle.tags_cell.specs.declared.outs.CallResult.{CallResult}
 use Rattle.cell_core.specs.declared.effects.Effect.{Effect}
-use Rattle.cell_core.specs.declared.effects.Effect.TheVariants.{Answers, Changes}
+use Rattle.cell_core.specs.declared.effects.Change.{Change}
+use Rattle.cell_core.specs.declared.handles.Note.{Note}
 use Rattle.cell_core.specs.declared.pending.Kept.{Kept}
 use Rattle.cell_core.specs.declared.pending.Pending.{Pending}
 use Rattle.cell_core.specs.declared.pending.Work.{Work}
@@ -16,9 +17,9 @@ use Rattle.cell_core.specs.declared.pending.Work.TheVariants as works
 use Rattle.cell_core.specs.declared.plans.Deed.TheVariants as deeds
 use Rattle.cell_core.specs.declared.plans.Plan.{Plan}
 use Rattle.cell_core.specs.State.{MasterState}
-use Rattle.cell_core.specs.Step.{kept_of, recorded, is_live, may_start, turned_away}
+use Rattle.cell_core.specs.Step.{kept_of, recorded, with_note, is_live, may_start, turned_away}
 use Rattle.cell_core.specs.Effect.{effect}
-use Rattle.cell_core.specs.Sweep.{noted, started_out, plan_session, plan_start, plan_effect, plan_work, carried, sweep_by}
+use Rattle.cell_core.specs.Sweep.{applied_lines, with_change, noted, started_out, plan_session, plan_start, plan_effect, plan_work, carried, sweep_by}
 use Rattle.world_cell.specs.declared.steps.Step.{Step}
 use Rattle.world_cell.specs.World.{WorldState}
 use Rattle.world_cell.specs.Runs.{Run, applied, put_number, IsAbove, RisesFrom, Rises}
@@ -74,12 +75,20 @@ changes_on client s whose number call rest result last h =
       | false ↦ (λ e k. (tt, rw (kept_other s client whose (has number result) e) k))
     ]) refl h
 
-call_on : (client : ℕ) (s : MasterState) (whose number : ℕ) (call : Call) (rest : List Pending) (done : Effect) (last : Option ℕ) → s.queue ≡ call_of whose number call ∷ rest → Once client s last → GoesOn client last (plan_effect s whose number done).taken.lines (carried s (plan_effect s whose number done)).0
-call_on client s whose number call rest (Answers result) last q h =
+effect_on : (client : ℕ) (s : MasterState) (whose number : ℕ) (call : Call) (rest : List Pending) (note : Option Note) (change : Option Change) (result : CallResult) (last : Option ℕ) → s.queue ≡ call_of whose number call ∷ rest → Once client s last → GoesOn client last (applied_lines whose number change) (record (with_change (with_note (recorded s whose (has number result)) note) change) { queue = drop 1 s.queue })
+effect_on client s whose number call rest None None result last q h =
     record { rises = tt; once = rw q (answers_on client s whose number call rest result last (wait_at client s (call_of whose number call) rest last q h)) }
-call_on client s whose number call rest (Changes change next result) last q h =
+effect_on client s whose number call rest (Some note) None result last q h =
+    record { rises = tt; once = rw q (answers_on client s whose number call rest result last (wait_at client s (call_of whose number call) rest last q h)) }
+effect_on client s whose number call rest None (Some change) result last q h =
     let t = changes_on client s whose number call rest result last (wait_at client s (call_of whose number call) rest last q h) in
     record { rises = t.0; once = rw q t.1 }
+effect_on client s whose number call rest (Some note) (Some change) result last q h =
+    let t = changes_on client s whose number call rest result last (wait_at client s (call_of whose number call) rest last q h) in
+    record { rises = t.0; once = rw q t.1 }
+
+call_on : (client : ℕ) (s : MasterState) (whose number : ℕ) (call : Call) (rest : List Pending) (done : Effect) (last : Option ℕ) → s.queue ≡ call_of whose number call ∷ rest → Once client s last → GoesOn client last (plan_effect s whose number done).taken.lines (carried s (plan_effect s whose number done)).0
+call_on client s whose number call rest done last q h = effect_on client s whose number call rest done.note done.change done.answer last q h
 
 either : (client : ℕ) (s : MasterState) (last : Option ℕ) (b : Bool) (x y : Plan) → GoesOn client last x.taken.lines (carried s x).0 → GoesOn client last y.taken.lines (carried s y).0 → GoesOn client last (cond b x y).taken.lines (carried s (cond b x y)).0
 either client s last true x y h k = h

@@ -18,8 +18,9 @@ use Rattle.cell_core.specs.declared.pending.Kept.{Kept}
 use Rattle.cell_core.specs.declared.pending.Pending.{Pending}
 use Rattle.cell_core.specs.declared.pending.Work.{Work}
 use Rattle.cell_core.specs.declared.pending.Work.TheVariants as works
+use Rattle.cell_core.specs.declared.handles.Note.{Note}
 use Rattle.cell_core.specs.State.{MasterState}
-use Rattle.cell_core.specs.Step.{kept_of, is_live, may_start, is_full, recorded, queued, replied, waits, answer_of, full_answer, admit_unless, admit_step, new_call, kept_step, call_step, start_step, take_at, nothing, turned_away, refusal, repeated}
+use Rattle.cell_core.specs.Step.{kept_of, is_live, may_start, is_full, recorded, queued, replied, waits, with_note, admission_of, full_answer, admit_unless, admit_step, new_call, kept_step, call_step, start_step, take_at, nothing, turned_away, refusal, repeated}
 use Rattle.node_core.specs.declared.refusals.Fault.TheVariants as faults
 use Rattle.world_cell.specs.Runs.{IsAbove}
 
@@ -140,9 +141,17 @@ may_admit : (client : ℕ) (s : MasterState) (whose number : ℕ) (o : Option Ke
 may_admit client s whose number o found may e =
     let same : client ≡ whose = grind (arith, nat_tests) in rw (same, found) may
 
+-- a handle that is noted first changes nothing of it
+noted_once : (client : ℕ) (s : MasterState) (whose number : ℕ) (call : Call) (note : Option Note) (answer : Option CallResult) (o : Option Kept) (last : Option ℕ) → kept_of s whose ≡ o → Once client s last → MayAdmit number o → Once client (admit_step (with_note s note) whose number call answer).0 last
+noted_once client s whose number call None answer o last found h may =
+    admit_once client s whose number call answer last h (may_admit client s whose number o found may)
+noted_once client s whose number call (Some note) answer o last found h may =
+    admit_once client (with_note s (Some note)) whose number call answer last h (may_admit client (with_note s (Some note)) whose number o found may)
+
 new_once : (client : ℕ) (s : MasterState) (whose number : ℕ) (call : Call) (o : Option Kept) (last : Option ℕ) → kept_of s whose ≡ o → Once client s last → MayAdmit number o → Once client (new_call s whose number call).0 last
 new_once client s whose number call o last found h may =
-    admit_once client s whose number call (answer_of s whose number call) last h (may_admit client s whose number o found may)
+    let admission = admission_of s whose number call in
+    noted_once client s whose number call admission.note admission.answer o last found h may
 
 -- ---- a message
 

@@ -9,7 +9,6 @@ use Rattle.tags_cell.specs.declared.requests.Request.TheVariants as requests
 use Rattle.tags_cell.specs.declared.requests.Start.{Start}
 use Rattle.tags_cell.specs.declared.requests.CallMessage.{CallMessage}
 use Rattle.cell_core.specs.declared.effects.Effect.{Effect}
-use Rattle.cell_core.specs.declared.effects.Effect.TheVariants.{Answers, Changes}
 use Rattle.cell_core.specs.declared.pending.Taken.{Taken}
 use Rattle.cell_core.specs.declared.pending.Kept.{Kept}
 use Rattle.cell_core.specs.declared.pending.Pending.{Pending}
@@ -17,7 +16,7 @@ use Rattle.cell_core.specs.declared.pending.Work.{Work}
 use Rattle.cell_core.specs.declared.pending.Work.TheVariants as works
 use Rattle.cell_core.specs.declared.sweeps.Swept.{Swept}
 use Rattle.cell_core.specs.State.{MasterState}
-use Rattle.cell_core.specs.Step.{take_step, take_at, start_step, call_step, kept_step, kept_of, new_call, is_live, refusal, repeated_result}
+use Rattle.cell_core.specs.Step.{take_step, take_at, start_step, call_step, kept_step, kept_of, full_answer, with_note, admission_of, admit_unless, admit_step, new_call, is_live, refusal, repeated_result}
 use Rattle.cell_core.specs.Effect.{effect}
 use Rattle.cell_core.specs.Sweep.{sweep_step, sweep_by, noted, plan_work, plan_start, plan_effect}
 
@@ -27,8 +26,18 @@ Few taken = length taken.outs ≤ 1
 start_few : (s : MasterState) (start : Start) → Few (start_step s start).1
 start_few s start = search rules
 
+unless_few : (s : MasterState) (client number : ℕ) (call : Call) (o : Option CallResult) → Few (admit_unless s client number call o).1
+unless_few s client number call (Some result) = search rules
+unless_few s client number call None = search rules
+
+admit_few : (s : MasterState) (client number : ℕ) (call : Call) (o : Option CallResult) → Few (admit_step s client number call o).1
+admit_few s client number call (Some result) = search rules
+admit_few s client number call None = unless_few s client number call (full_answer s)
+
 new_few : (s : MasterState) (client number : ℕ) (call : Call) → Few (new_call s client number call).1
-new_few s client number call = search rules
+new_few s client number call =
+    let admission = admission_of s client number call in
+    admit_few (with_note s admission.note) client number call admission.answer
 
 repeated_few : (s : MasterState) (client number : ℕ) (result : Option CallResult) → Few (repeated_result s client number result)
 repeated_few s client number None = search rules
@@ -68,8 +77,7 @@ plan_start_few : (s : MasterState) (client number : ℕ) (principal : List ℕ) 
 plan_start_few s client number principal = search rules
 
 plan_effect_few : (s : MasterState) (client number : ℕ) (effect : Effect) → Few (plan_effect s client number effect).taken
-plan_effect_few s client number (Answers answer) = search rules
-plan_effect_few s client number (Changes change next answer) = search rules
+plan_effect_few s client number effected = search rules
 
 plan_few : (s : MasterState) (client number : ℕ) (work : Work) → Few (plan_work s client number work).taken
 plan_few s client number (works.Starts principal) = plan_start_few s client number principal

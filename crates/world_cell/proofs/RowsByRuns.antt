@@ -1,15 +1,17 @@
 -- What the printed lines tell of the rows.
-use Rattle.std.proofs.Common.{◌≡◌, ℕ, List, [], ◌∷◌, ◌++◌, Bool, true, false, cond, refl, sym, ap, ◌∙◌}
+use Rattle.std.proofs.Common.{◌≡◌, ℕ, List, [], ◌∷◌, ◌++◌, Bool, true, false, cond, Option, Some, None, refl, sym, ap, ◌∙◌}
 use Rattle.node_core.specs.declared.refusals.Fault.TheVariants as faults
 use Rattle.node_core.specs.declared.lines.Line.{Line}
 use Rattle.node_core.specs.declared.lines.Line.TheVariants as lines
+use Rattle.node_core.specs.declared.views.Mod.{Mod}
 use Rattle.node_core.specs.declared.views.Mod.TheVariants.{Put, Gone}
 use Rattle.node_core.specs.Nodes.{Nodes}
 use Rattle.rows_cell.specs.declared.tables.Rows.{Rows}
+use Rattle.rows_cell.specs.declared.tables.Edit.TheVariants.{NextInstance}
 use Rattle.rows_cell.specs.Rows.{changed_rows, map_of}
 use Rattle.rows_cell.proofs.RowViews.{views_put, views_gone}
 use Rattle.cell_core.specs.declared.effects.Effect.{Effect}
-use Rattle.cell_core.specs.declared.effects.Effect.TheVariants.{Answers, Changes}
+use Rattle.cell_core.specs.declared.effects.Change.{Change}
 use Rattle.cell_core.specs.declared.pending.Pending.{Pending}
 use Rattle.cell_core.specs.declared.pending.Work.{Work}
 use Rattle.cell_core.specs.declared.pending.Work.TheVariants as works
@@ -18,7 +20,7 @@ use Rattle.cell_core.specs.declared.plans.Plan.{Plan}
 use Rattle.cell_core.specs.State.{MasterState}
 use Rattle.cell_core.specs.Step.{is_live, may_start, turned_away}
 use Rattle.cell_core.specs.Effect.{effect}
-use Rattle.cell_core.specs.Sweep.{noted, started_out, plan_session, plan_start, plan_effect, plan_work, edits_of, queue_edits, sweep_by}
+use Rattle.cell_core.specs.Sweep.{noted, started_out, plan_session, plan_start, plan_effect, plan_work, applied_lines, edit_of, change_edits, edits_of, queue_edits, sweep_by}
 use Rattle.world_cell.specs.declared.steps.Step.{Step}
 use Rattle.world_cell.specs.World.{WorldState}
 use Rattle.world_cell.specs.Runs.{Does, Run, map_by, map_at, epoch_by, epoch_at}
@@ -64,10 +66,16 @@ either : (rows : Rows) (b : Bool) (x y : Plan) → PlanTells rows x → PlanTell
 either rows true x y h k = h
 either rows false x y h k = k
 
-effect_tells : (rows : Rows) (s : MasterState) (client number : ℕ) (done : Effect) → PlanTells rows (plan_effect s client number done)
-effect_tells rows s client number (Answers answer) = record { is_map = refl; is_epoch = refl }
-effect_tells rows s client number (Changes (Put name view) next answer) = record { is_map = views_put rows.nodes name view; is_epoch = refl }
-effect_tells rows s client number (Changes (Gone name) next answer) = record { is_map = views_gone rows.nodes name; is_epoch = refl }
+mod_tells : (rows : Rows) (client number : ℕ) (change : Mod) (next : ℕ) → Tells rows (changed_rows rows (edit_of change ∷ NextInstance next ∷ [])) (lines.Applied client number change ∷ [])
+mod_tells rows client number (Put name view) next = record { is_map = views_put rows.nodes name view; is_epoch = refl }
+mod_tells rows client number (Gone name) next = record { is_map = views_gone rows.nodes name; is_epoch = refl }
+
+change_tells : (rows : Rows) (client number : ℕ) (change : Option Change) → Tells rows (changed_rows rows (change_edits change)) (applied_lines client number change)
+change_tells rows client number None = record { is_map = refl; is_epoch = refl }
+change_tells rows client number (Some change) = mod_tells rows client number change.change change.next_instance
+
+effect_tells : (rows : Rows) (s : MasterState) (client number : ℕ) (effected : Effect) → PlanTells rows (plan_effect s client number effected)
+effect_tells rows s client number effected = change_tells rows client number effected.change
 
 start_tells : (rows : Rows) (s : MasterState) (client number : ℕ) (principal : List ℕ) → PlanTells rows (plan_start s client number principal)
 start_tells rows s client number principal =

@@ -1,6 +1,6 @@
 -- What a step of a world comes to: a master comes up, takes a message, or sweeps, or nothing of the master changes.
 use Rattle.std.proofs.Common.{◌≡◌, ℕ, ◌+◌, ◌-◌, List, [], ◌∷◌, ◌++◌, Bool, true, false, cond, Result, Ok, Err, Option, Some, None, refl, ap, ◌∙◌, rules, inl, inr}
-use Rattle.std.specs.Prelude.{◌^◌, ◌||◌, nat_le, map, is_some}
+use Rattle.std.specs.Prelude.{◌^◌, ◌||◌, nat_le, nat_lt, map, is_some}
 use Rattle.std.specs.Option.{option_map_or}
 use Rattle.std.specs.BTreeMap.{insert_entry}
 use Rattle.std.specs.Ordering.{nat_cmp}
@@ -8,10 +8,12 @@ use Rattle.node_core.specs.declared.refusals.Fault.{Fault}
 use Rattle.node_core.specs.declared.refusals.Fault.TheVariants as faults
 use Rattle.node_core.specs.declared.lines.Line.{Line}
 use Rattle.node_core.specs.declared.lines.Line.TheVariants as lines
+use Rattle.node_core.specs.declared.answers.Answer.TheVariants as answers
 use Rattle.rows_cell.specs.Rows.{changed_rows}
 use Rattle.tags_cell.specs.declared.requests.Request.{Request}
 use Rattle.tags_cell.specs.declared.outs.Out.{Out}
-use Rattle.tags_cell.specs.Messages.{out_client}
+use Rattle.tags_cell.specs.declared.calls.Call.{Call}
+use Rattle.tags_cell.specs.Messages.{out_client, request_number}
 use Rattle.cell_core.specs.declared.pending.Taken.{Taken}
 use Rattle.cell_core.specs.declared.sweeps.Swept.{Swept}
 use Rattle.cell_core.specs.State.{MasterState, master_of}
@@ -20,9 +22,14 @@ use Rattle.cell_core.specs.Sweep.{sweep_step, sweep_by, sweep_edits, noted}
 use Rattle.over_core.specs.Up.{up_edits}
 use Rattle.client_core.specs.declared.asks.Ask.{Ask}
 use Rattle.client_core.specs.declared.asks.Asked.{Asked}
-use Rattle.client_core.specs.declared.asks.Asked.TheVariants.{Sent}
+use Rattle.client_core.specs.declared.asks.Asked.TheVariants.{Sent, Answered}
+use Rattle.client_core.specs.declared.targets.Target.{Target}
+use Rattle.client_core.specs.declared.targets.Outstanding.{Outstanding}
+use Rattle.client_core.specs.declared.plans.Plan.{Plan}
+use Rattle.client_core.specs.declared.plans.Plan.TheVariants as plans
+use Rattle.client_core.specs.Poisons.{is_on, refused_lines, poison_lines}
 use Rattle.client_core.specs.State.{ClientState, new_client, moment, at_moment}
-use Rattle.client_core.specs.Asks.{ask_step}
+use Rattle.client_core.specs.Asks.{message_of, plan_of, send_step, ask_by, ask_at, ask_step}
 use Rattle.client_core.specs.Beats.{beat_step}
 use Rattle.client_core.specs.Gives.{give_step, give_at, taken_own}
 use Rattle.world_cell.specs.declared.steps.Step.{Step}
@@ -121,17 +128,49 @@ refused_made w fault new printed h =
     let p = ok_pair (w, lines.Refused fault ∷ []) new printed h in
     rw (← p.0, ← p.1) (record { rows = refl; master = refl; silent = (tt, tt) })
 
-asked_made : (w : WorldState) (r : Result Asked Fault) (new : WorldState) (printed : List Line) → asked_by w r ≡ Ok (new, printed) → IsQuiet w new printed
-asked_made w (Ok (Sent request)) new printed h =
-    let p = ok_pair (sends w request, []) new printed h in
-    rw (← p.0, ← p.1) (record { rows = refl; master = refl; silent = tt })
-asked_made w (Err fault) new printed h = refused_made w fault new printed h
+append_silent : (xs ys : List Line) → IsSilent xs → IsSilent ys → IsSilent (xs ++ ys)
+append_silent [] ys h k = k
+append_silent (x ∷ xs) ys h k = (h.0, append_silent xs ys h.1 k)
+
+refused_silent : (s : ClientState) (number : ℕ) (o : Option Outstanding) → IsSilent (refused_lines s number o)
+refused_silent s number None = tt
+refused_silent s number (Some call) =
+    elim (is_on number call.target) as (λ b. IsSilent (cond b (lines.Done s.number (request_number call.request) (answers.Refused faults.Poisoned) ∷ []) [])) [ true ↦ (tt, tt) | false ↦ tt ]
+
+sent_silent : (s : ClientState) (noted epoch : ℕ) (call : Call) (target : Target) (told : List Line) → (send_step s noted epoch call target).1 ≡ Ok (Answered told) → IsSilent told
+sent_silent s noted epoch call target told h =
+    let sent : ClientState × Result Asked Fault = (record s { clock = noted; calls = s.calls + 1; outstanding = Some (record { request = message_of s epoch call; target = target }) }, Ok (Sent (message_of s epoch call))) in
+    let full : ClientState × Result Asked Fault = (s, Err faults.Exhausted) in
+    let either : Bool → ClientState × Result Asked Fault = λ b. cond b sent full in
+    (elim (nat_lt (s.calls + 1) (2 ^ 63)) as (λ b. (either b).1 ≡ Ok (Answered told) → IsSilent told) [ true ↦ (λ e. cc) | false ↦ (λ e. cc) ]) h
+
+planned_silent : (s : ClientState) (noted : ℕ) (r : Result Plan Fault) (told : List Line) → (ask_by s noted r).1 ≡ Ok (Answered told) → IsSilent told
+planned_silent s noted (Ok (plans.Send epoch call target)) told h = sent_silent s noted epoch call target told h
+planned_silent s noted (Ok (plans.Poison number bytes)) told h =
+    let e : poison_lines s number ≡ told = cc in
+    rw (← e) (append_silent (refused_lines s number s.outstanding) (lines.Done s.number 0 answers.Poisoned ∷ []) (refused_silent s number s.outstanding) (tt, tt))
+planned_silent s noted (Err fault) told h = cc
+
+asked_at_silent : (s : ClientState) (ask : Ask) (m : Result ℕ Fault) (told : List Line) → (ask_at s ask m).1 ≡ Ok (Answered told) → IsSilent told
+asked_at_silent s ask (Ok noted) told h = planned_silent s noted (plan_of s ask) told h
+asked_at_silent s ask (Err fault) told h = cc
+
+ask_silent : (s : ClientState) (now : ℕ) (ask : Ask) (told : List Line) → (ask_step s now ask).1 ≡ Ok (Answered told) → IsSilent told
+unfolding ask_step
+ask_silent s now ask told h = asked_at_silent s ask (moment s.clock now) told h
+
+asked_made : (w : WorldState) (r : Result Asked Fault) (new : WorldState) (printed : List Line) → ((told : List Line) → r ≡ Ok (Answered told) → IsSilent told) → asked_by w r ≡ Ok (new, printed) → IsQuiet w new printed
+asked_made w (Ok (Sent request)) new printed silent h =
+    let p = ok_pair (sends w request, []) new printed h in rw (← p.0, ← p.1) (record { rows = refl; master = refl; silent = tt })
+asked_made w (Ok (Answered told)) new printed silent h =
+    let p = ok_pair (w, told) new printed h in rw (← p.0, ← p.1) (record { rows = refl; master = refl; silent = silent told refl })
+asked_made w (Err fault) new printed silent h = refused_made w fault new printed h
 
 ask_made : (w : WorldState) (number : ℕ) (ask : Ask) (o : Option ClientState) (new : WorldState) (printed : List Line) → option_map_or (λ client. asked w number (ask_step client 0 ask)) o (Err faults.NoSession) ≡ Ok (new, printed) → IsQuiet w new printed
 ask_made w number ask None new printed h = cc
 ask_made w number ask (Some client) new printed h =
     let step = ask_step client 0 ask in
-    quiet_as w (with_client w number step.0) new printed refl refl refl (asked_made (with_client w number step.0) step.1 new printed h)
+    quiet_as w (with_client w number step.0) new printed refl refl refl (asked_made (with_client w number step.0) step.1 new printed (λ told e. ask_silent client 0 ask told e) h)
 
 beaten_made : (w : WorldState) (r : Result (Option Request) Fault) (new : WorldState) (printed : List Line) → beaten_by w r ≡ Ok (new, printed) → IsQuiet w new printed
 beaten_made w (Ok (Some request)) new printed h =

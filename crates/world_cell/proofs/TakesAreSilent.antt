@@ -11,7 +11,7 @@ use Rattle.tags_cell.specs.declared.outs.CallResult.{CallResult}
 use Rattle.cell_core.specs.declared.pending.Taken.{Taken}
 use Rattle.cell_core.specs.declared.pending.Kept.{Kept}
 use Rattle.cell_core.specs.State.{MasterState}
-use Rattle.cell_core.specs.Step.{kept_of, is_live, repeated, refusal, answer_of, full_answer, admit_unless, admit_step, new_call, kept_step, call_step, start_step, take_at}
+use Rattle.cell_core.specs.Step.{kept_of, is_live, repeated, refusal, admission_of, with_note, full_answer, admit_unless, admit_step, new_call, kept_step, call_step, start_step, take_at}
 use Rattle.world_cell.proofs.StepKinds.{IsSilent}
 
 start_silent : (s : MasterState) (start : Start) → IsSilent (start_step s start).1.lines
@@ -26,7 +26,9 @@ admit_silent s client number call (Some result) = tt
 admit_silent s client number call None = unless_silent s client number call (full_answer s)
 
 new_silent : (s : MasterState) (client number : ℕ) (call : Call) → IsSilent (new_call s client number call).1.lines
-new_silent s client number call = admit_silent s client number call (answer_of s client number call)
+new_silent s client number call =
+    let admission = admission_of s client number call in
+    admit_silent (with_note s admission.note) client number call admission.answer
 
 either : (b : Bool) (x y : MasterState × Taken) → IsSilent x.1.lines → IsSilent y.1.lines → IsSilent (cond b x y).1.lines
 either true x y h k = h

@@ -1,5 +1,6 @@
 -- Whole runs of a world.
 use Rattle.std.specs.Prelude.{◌≡◌, ◌⊎◌, ℕ, ◌<◌, ◌==◌, List, [], ◌∷◌, ◌++◌, Option, Some, None, Ok, Err, if◌then◌else◌}
+use Rattle.std.specs.Option.{option_map}
 use Rattle.node_core.specs.declared.refusals.Fault.{Fault}
 use Rattle.node_core.specs.declared.lines.Line.{Line}
 use Rattle.node_core.specs.declared.lines.Line.TheVariants as lines
@@ -9,7 +10,6 @@ use Rattle.tags_cell.specs.declared.calls.Call.{Call}
 use Rattle.tags_cell.specs.declared.requests.Request.TheVariants as requests
 use Rattle.rows_cell.specs.Rows.{map_of}
 use Rattle.cell_core.specs.declared.effects.Effect.{Effect}
-use Rattle.cell_core.specs.declared.effects.Effect.TheVariants.{Answers, Changes}
 use Rattle.cell_core.specs.State.{MasterState}
 use Rattle.cell_core.specs.Effect.{effect}
 use Rattle.world_cell.specs.declared.steps.Step.{Step}
@@ -80,8 +80,7 @@ Rises numbers = RisesFrom None numbers
 
 -- the change of the map that an effect is, if it is one
 abbrev pub change_of : Effect → Option Mod
-change_of (Answers answer) = None
-change_of (Changes change next_instance answer) = Some change
+change_of effected = option_map (λ change. change.change) effected.change
 
 -- the master took a call: behind a first part of the steps it was up in that epoch, the next step delivered the call's message and was made, and the others followed
 pub record IsTaken (old : WorldState) (steps : List Step) (printed : List Line) (new : WorldState) (epoch client number : ℕ) (call : Call) : Type 0 where

@@ -22,7 +22,7 @@ use Rattle.cell_core.specs.Sweep.{sweep_step, sweep_edits}
 use Rattle.over_core.specs.Up.{up_step, up_edits}
 use Rattle.client_core.specs.declared.asks.Ask.{Ask}
 use Rattle.client_core.specs.declared.asks.Asked.{Asked}
-use Rattle.client_core.specs.declared.asks.Asked.TheVariants.{Sent}
+use Rattle.client_core.specs.declared.asks.Asked.TheVariants.{Sent, Answered}
 use Rattle.client_core.specs.State.{ClientState, new_client}
 use Rattle.client_core.specs.Asks.{ask_step}
 use Rattle.client_core.specs.Beats.{beat_step}
@@ -114,6 +114,7 @@ own_refusal w fault = Ok (w, lines.Refused fault ∷ [])
 
 abbrev pub asked_by : WorldState → Result Asked Fault → Outcome
 asked_by w (Ok (Sent request)) = Ok (sends w request, [])
+asked_by w (Ok (Answered told)) = Ok (w, told)
 asked_by w (Err fault) = own_refusal w fault
 
 abbrev pub asked : WorldState → ℕ → ClientState × Result Asked Fault → Outcome

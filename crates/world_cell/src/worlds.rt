@@ -218,6 +218,7 @@ impl<R: Records + Drop> World<R> {
                 mail::send(&mut self.messages, request);
                 Ok(Items::new(self.alloc))
             }
+            Some(Ok(Asked::Answered(told))) => Ok(told),
             Some(Err(Fault::NoMemory)) => Err(Fault::NoMemory),
             Some(Err(Fault::Exhausted)) => Err(Fault::Exhausted),
             Some(Err(fault)) => {

@@ -1,0 +1,106 @@
+//! The tests of a new call.
+ghost use Rattle.std.specs.Prelude.{◌≡◌, Some, None, IfOk};
+ghost use Rattle.cell_core.specs.Step.{admission_of, admission_of_open, open_admission, handle_admission, is_of_cell};
+
+use crate::answers::node_fault;
+use crate::cells::Cell;
+use crate::handles::{HandleKey, HandleState, Note};
+use crate::opens::opened_note;
+use crate::shown::bytes_of;
+use names_cell::Name;
+use node_core::Fault;
+use std::alloc::AllocError;
+use tags_cell::{Call, CallResult, ClientNumber, Handle, MessageNumber, Open};
+
+/// What the tests of a new call give. It is made before anything changes.
+#[derive(Debug, Drop)]
+pub(crate) struct Admission {
+    /// What is noted of a handle first.
+    pub note: Option<Note>,
+    /// What is answered at once; None where the call waits for its turn.
+    pub answer: Option<CallResult>,
+}
+
+impl Admission {
+    fn refused(fault: Fault) -> Admission
+        ensures { result ≡ record { note = None; answer = Some (CallResult.Refused fault) } }
+    {
+        Admission {
+            note: None,
+            answer: Some(CallResult::Refused(fault)),
+        }
+    }
+}
+
+impl Cell {
+    pub(crate) fn admission(
+        &self,
+        client: ClientNumber,
+        number: MessageNumber,
+        call: &Call,
+    ) -> Result<Admission, AllocError>
+        ensures { IfOk result (λ admission. admission ≡ admission_of self.now client number call.now) }
+    {
+        match call {
+            Call::Open(opening) => self.open_admission(client, number, opening),
+            _ => match self.shown_handle(client, bytes_of(call))? {
+                None => Ok(Admission::refused(Fault::BadHandle)),
+                Some(handle) => self.handle_admission(&handle, call),
+            },
+        }
+    }
+
+    // A handle that is shown is open from then on, also where the call is refused.
+    fn handle_admission(&self, handle: &Handle, call: &Call) -> Result<Admission, AllocError>
+        ensures { IfOk result (λ admission. admission ≡ handle_admission self.now call.now (Some handle.now)) }
+    {
+        Ok(Admission {
+            note: Some(Note {
+                key: HandleKey::of(handle),
+                state: HandleState::Open,
+            }),
+            answer: self.answer_on(handle, call)?,
+        })
+    }
+
+    fn open_admission(
+        &self,
+        client: ClientNumber,
+        number: MessageNumber,
+        opening: &Open,
+    ) -> Result<Admission, AllocError>
+        ensures { IfOk result (λ admission. admission ≡ open_admission self.now client number opening.now) }
+    {
+        if !self.is_of_cell(&opening.name) {
+            return Ok(Admission::refused(Fault::OtherCell));
+        }
+        match &opening.create {
+            None => self.plain_admission(client, number, opening),
+            Some(create) => Ok(Admission {
+                note: None,
+                answer: node_fault(&create.node),
+            }),
+        }
+    }
+
+    fn plain_admission(
+        &self,
+        client: ClientNumber,
+        number: MessageNumber,
+        opening: &Open,
+    ) -> Result<Admission, AllocError>
+        ensures { IfOk result (λ admission. admission ≡ admission_of_open self.now client number opening.now None) }
+    {
+        let opened = self.plain_open(client, number, opening)?;
+        Ok(Admission {
+            note: opened_note(&opened),
+            answer: Some(self.opened_answer(&opened)?),
+        })
+    }
+
+    pub(crate) fn is_of_cell(&self, name: &Name) -> bool
+        ensures { result ≡ is_of_cell self.now name.now }
+    {
+        name.in_cell(self.name.as_str())
+    }
+}

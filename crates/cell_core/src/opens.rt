@@ -1,0 +1,107 @@
+//! What an Open of a present node gives.
+ghost use Rattle.std.specs.Prelude.{◌≡◌, IfOk};
+ghost use Rattle.cell_core.specs.Step.{new_handle, open_present, plain_open, opened_answer, opened_note};
+
+use crate::cells::Cell;
+use crate::handles::{HandleKey, HandleState, Note};
+use node_core::{Fault, View};
+use std::alloc::AllocError;
+use tags_cell::{
+    CallResult, ClientNumber, Events, Handle, LockDelay, MessageNumber, Open, Ordinal,
+};
+
+// Its client is told of nothing.
+const NO_EVENTS: Events = Events {
+    contents: false,
+    children: false,
+    lock: false,
+    conflict: false,
+};
+
+impl Cell {
+    // A handle of a node; its numbers have to be ones that a handle can carry.
+    pub(crate) fn new_handle(
+        &self,
+        client: ClientNumber,
+        number: MessageNumber,
+        opening: &Open,
+        view: &View,
+    ) -> Result<Result<Handle, Fault>, AllocError>
+        ensures { IfOk result (λ opened. opened ≡ new_handle self.now client number opening.now view.now) }
+    {
+        let (Some(epoch), Some(instance), Some(delay)) = (
+            Ordinal::new(self.epoch),
+            Ordinal::new(view.instance),
+            LockDelay::new(0),
+        ) else {
+            return Ok(Err(Fault::Exhausted));
+        };
+        Ok(Ok(Handle {
+            epoch,
+            client: Ordinal::from(client),
+            number: Ordinal::from(number),
+            instance,
+            mode: opening.mode,
+            life: view.life,
+            events: NO_EVENTS,
+            delay,
+            name: opening.name.clone()?,
+        }))
+    }
+
+    // An Open of a present node: the rights of the mode are looked up on the node itself.
+    pub(crate) fn open_present(
+        &self,
+        client: ClientNumber,
+        number: MessageNumber,
+        opening: &Open,
+        view: &View,
+    ) -> Result<Result<Handle, Fault>, AllocError>
+        ensures { IfOk result (λ opened. opened ≡ open_present self.now client number opening.now view.now) }
+    {
+        match self.missing_right(client, opening.mode, view)? {
+            Some(right) => Ok(Err(Fault::Denied(right))),
+            None => self.new_handle(client, number, opening, view),
+        }
+    }
+
+    // An Open that makes nothing.
+    pub(crate) fn plain_open(
+        &self,
+        client: ClientNumber,
+        number: MessageNumber,
+        opening: &Open,
+    ) -> Result<Result<Handle, Fault>, AllocError>
+        ensures { IfOk result (λ opened. opened ≡ plain_open self.now client number opening.now) }
+    {
+        match self.map.get(&opening.name) {
+            None => Ok(Err(Fault::NotFound)),
+            Some(view) => self.open_present(client, number, opening, view),
+        }
+    }
+
+    pub(crate) fn opened_answer(
+        &self,
+        opened: &Result<Handle, Fault>,
+    ) -> Result<CallResult, AllocError>
+        ensures { IfOk result (λ answer. answer ≡ opened_answer self.now opened.now) }
+    {
+        match opened {
+            Ok(handle) => Ok(CallResult::Opened(handle.write(self.alloc, &self.secret)?)),
+            Err(fault) => Ok(CallResult::Refused(*fault)),
+        }
+    }
+}
+
+// A new handle is open.
+pub(crate) fn opened_note(opened: &Result<Handle, Fault>) -> Option<Note>
+    ensures { result ≡ opened_note opened.now }
+{
+    match opened {
+        Ok(handle) => Some(Note {
+            key: HandleKey::of(handle),
+            state: HandleState::Open,
+        }),
+        Err(_) => None,
+    }
+}

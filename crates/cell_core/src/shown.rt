@@ -1,0 +1,87 @@
+//! The handles that clients show.
+ghost use Rattle.std.specs.Prelude.{◌≡◌, IfOk};
+ghost use Rattle.std.specs.Option.{option_copied};
+ghost use Rattle.tags_cell.specs.Handles.{read_handle};
+ghost use Rattle.cell_core.specs.Step.{bytes_of, handle_state_of, key_of, is_usable, own_handle, shown_handle, node_of_handle};
+
+use crate::cells::Cell;
+use crate::handles::{HandleKey, HandleState};
+use node_core::View;
+use std::alloc::AllocError;
+use tags_cell::{Call, ClientNumber, Handle, HandleFault};
+
+// The bytes that a call on a node shows; none for an Open.
+pub(crate) fn bytes_of(call: &Call) -> &[u8]
+    ensures { result.now ≡ bytes_of call.now }
+{
+    match call {
+        Call::Open(_) => &[],
+        Call::Close(handle) => handle.as_slice(),
+        Call::Read(handle) => handle.as_slice(),
+        Call::Stat(handle) => handle.as_slice(),
+        Call::List(handle) => handle.as_slice(),
+        Call::Set { handle, .. } => handle.as_slice(),
+        Call::SetAcl { handle, .. } => handle.as_slice(),
+        Call::Delete(handle) => handle.as_slice(),
+    }
+}
+
+impl Cell {
+    // The handle whose bytes these are, whoever shows them.
+    pub(crate) fn handle_in(&self, bytes: &[u8]) -> Result<Option<Handle>, AllocError>
+        ensures { IfOk result (λ handle. handle ≡ read_handle self.now.secret bytes.now) }
+    {
+        match Handle::read(self.alloc, bytes, &self.secret) {
+            Ok(handle) => Ok(Some(handle)),
+            Err(HandleFault::BadHandle) => Ok(None),
+            Err(HandleFault::NoMemory) => Err(AllocError),
+        }
+    }
+
+    // The handle that a client shows, where it is the client's own and of use.
+    pub(crate) fn shown_handle(
+        &self,
+        client: ClientNumber,
+        bytes: &[u8],
+    ) -> Result<Option<Handle>, AllocError>
+        ensures { IfOk result (λ handle. handle ≡ shown_handle self.now client bytes.now) }
+    {
+        match self.handle_in(bytes)? {
+            None => Ok(None),
+            Some(handle) => Ok(self.own_handle(client, handle)),
+        }
+    }
+
+    fn own_handle(&self, client: ClientNumber, handle: Handle) -> Option<Handle>
+        ensures { result ≡ own_handle self.now client handle }
+    {
+        if handle.client.get() == client.get() && self.is_usable(&handle) {
+            Some(handle)
+        } else {
+            None
+        }
+    }
+
+    fn is_usable(&self, handle: &Handle) -> bool
+        ensures { result ≡ is_usable self.now handle.now (handle_state_of self.now (key_of handle.now)) }
+    {
+        let epoch = handle.epoch.get();
+        match self.handles.get(&HandleKey::of(handle)) {
+            Some(HandleState::Open) => epoch <= self.epoch,
+            Some(HandleState::Closed) => false,
+            None => epoch < self.epoch,
+        }
+    }
+
+    // The node of a handle, where its instance is there.
+    pub(crate) fn node_of(&self, handle: &Handle) -> Option<&View>
+        ensures { option_copied result ≡ node_of_handle self.now handle.now }
+    {
+        let view = self.map.get(&handle.name)?;
+        if view.instance == handle.instance.get() {
+            Some(view)
+        } else {
+            None
+        }
+    }
+}

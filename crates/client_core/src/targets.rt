@@ -1,0 +1,38 @@
+//! The call that has no reply yet.
+ghost use Rattle.std.specs.Prelude.{◌≡◌};
+ghost use Rattle.client_core.specs.Poisons.{is_on};
+
+use tags_cell::Request;
+
+/// What the reply to a call is for. Handles go by the client's own numbers for them.
+#[derive(Clone, Copy, Debug, PartialEq, Eq)]
+pub enum Target {
+    /// An Open.
+    NewHandle,
+    /// A Close of this handle.
+    Closing(u64),
+    /// Another call on this handle.
+    Handle(u64),
+    /// A call on a handle that was poisoned since: its reply is dropped.
+    Dropped,
+}
+
+impl Target {
+    // Whether a Poison of this handle drops the reply.
+    pub(crate) fn is_on(self, number: u64) -> bool
+        ensures { result ≡ is_on number self }
+    {
+        match self {
+            Target::Handle(other) => other == number,
+            Target::NewHandle | Target::Closing(_) | Target::Dropped => false,
+        }
+    }
+}
+
+/// A call that has no reply yet.
+#[derive(Debug, Drop)]
+pub struct Outstanding {
+    /// The call's message, as it was sent.
+    pub request: Request,
+    pub target: Target,
+}
