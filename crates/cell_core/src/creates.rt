@@ -1,10 +1,13 @@
 //! What an Open that may make a node does when its turn comes.
-ghost use Rattle.std.specs.Prelude.{◌≡◌, ◌<◌, ◌-◌, ◌^◌, Ok, IfOk};
+ghost use Rattle.std.specs.Prelude.{◌≡◌, ◌<◌, ◌+◌, ◌-◌, ◌^◌, None, Ok, IfOk};
+ghost use Rattle.node_core.specs.declared.views.Mod.TheVariants.{Put};
 ghost use Rattle.cell_core.specs.Effect.{create_effect, create_over, create_new, create_in, create_permitted, create_numbered, create_made, new_view, kind_of, first_generation, content_of, acls_of};
+ghost use Rattle.cell_core.specs.Step.{may};
 
 use crate::cells::Cell;
 use crate::effects::{Change, Effect};
 use crate::opens::opened_note;
+use names_cell::Name;
 use node_core::{Fault, Kind, Life, Mod, NUMBER_LIMIT, Right, View};
 use plain::Bytes;
 use std::alloc::{AllocError, Global};
@@ -66,6 +69,13 @@ impl Cell {
         }
     }
 
+    // A node is added by clients that may write the directory above.
+    fn may_add(&self, client: ClientNumber, above: &View) -> Result<bool, AllocError>
+        ensures { IfOk result (λ allowed. allowed ≡ may self.now client above.now Right.Write) }
+    {
+        self.may(client, above, Right::Write)
+    }
+
     // Write on the directory above comes first.
     fn create_in(
         &self,
@@ -80,7 +90,7 @@ impl Cell {
         match above.kind {
             Kind::File => Ok(Effect::refused(Fault::WrongKind(Kind::File))),
             Kind::Directory => {
-                if !self.may(client, above, Right::Write)? {
+                if !self.may_add(client, above)? {
                     return Ok(Effect::refused(Fault::Denied(Right::Write)));
                 }
                 let view = self.new_view(above, create)?;
@@ -128,15 +138,26 @@ impl Cell {
         requires { self.now.next_instance < 2 ^ 63 - 1 }
         ensures { IfOk result (λ done. done ≡ create_made self.now opening.now view (Ok handle)) }
     {
+        let name = opening.name.clone()?;
+        let change = self.made_change(name, view);
         let opened = Ok(handle);
+        let answer = self.opened_answer(&opened)?;
         Ok(Effect {
             note: opened_note(&opened),
-            answer: self.opened_answer(&opened)?,
-            change: Some(Change {
-                change: Mod::Put(opening.name.clone()?, view),
-                next_instance: self.next_instance + 1,
-            }),
+            answer,
+            change: Some(change),
         })
+    }
+
+    // The new node's instance is given but once.
+    fn made_change(&self, name: Name, view: View) -> Change
+        requires { self.now.next_instance < 2 ^ 63 - 1 }
+        ensures { result ≡ record { change = Put name view; next_instance = self.now.next_instance + 1 } }
+    {
+        Change {
+            change: Mod::Put(name, view),
+            next_instance: self.next_instance + 1,
+        }
     }
 
     // A new permanent node under a directory.
@@ -168,12 +189,18 @@ fn acls_of(above: &View, acls: &Option<AclNames>) -> Result<AclNames, AllocError
 {
     match acls {
         Some(acls) => acls.clone(),
-        None => Ok(AclNames {
-            read: above.read.clone()?,
-            write: above.write.clone()?,
-            change: above.change.clone()?,
-        }),
+        None => parent_acls(above),
     }
+}
+
+fn parent_acls(above: &View) -> Result<AclNames, AllocError>
+    ensures { IfOk result (λ names. names ≡ acls_of above.now None) }
+{
+    Ok(AclNames {
+        read: above.read.clone()?,
+        write: above.write.clone()?,
+        change: above.change.clone()?,
+    })
 }
 
 fn kind_of(node: &NewNode) -> Kind

@@ -1,5 +1,5 @@
 //! What a master keeps of calls, and what a step of it answers.
-ghost use Rattle.std.specs.Prelude.{◌≡◌};
+ghost use Rattle.std.specs.Prelude.{◌≡◌, Some};
 
 use names_cell::Principal;
 use node_core::Line;
@@ -62,6 +62,17 @@ pub struct Kept {
     pub number: MessageNumber,
     /// None while the call waits.
     pub result: Option<CallResult>,
+}
+
+impl Kept {
+    pub(crate) fn answered(number: MessageNumber, answer: CallResult) -> Kept
+        ensures { result ≡ record { number = number; result = Some answer } }
+    {
+        Kept {
+            number,
+            result: Some(answer),
+        }
+    }
 }
 
 impl Clone for Kept {

@@ -1,13 +1,16 @@
 //! What is planned for the change whose turn it is.
-ghost use Rattle.std.specs.Prelude.{◌≡◌, IfOk};
-ghost use Rattle.cell_core.specs.Sweep.{started_out, plan_session, plan_start, plan_effect, plan_of};
+ghost use Rattle.std.specs.Prelude.{◌≡◌, [], ◌∷◌, Some, IfOk};
+ghost use Rattle.node_core.specs.declared.lines.Line.TheVariants as lines;
+ghost use Rattle.cell_core.specs.declared.plans.Deed.TheVariants.{Nothing, Answers};
+ghost use Rattle.cell_core.specs.Step.{reply};
+ghost use Rattle.cell_core.specs.Sweep.{started_out, applied_lines, plan_session, plan_start, plan_effect, plan_of};
 
 use crate::cells::Cell;
 use crate::effects::{Change, Effect};
 use crate::handles::Note;
 use crate::pending::{Kept, Pending, Taken, Work};
 use names_cell::Principal;
-use node_core::{Fault, Line};
+use node_core::{Fault, Line, Mod};
 use rows_cell::Session;
 use std::alloc::AllocError;
 use tags_cell::{ClientNumber, MessageNumber, Out, Started};
@@ -29,6 +32,17 @@ pub struct Plan {
     pub deed: Deed,
     /// What is printed and sent once the deed is done.
     pub taken: Taken,
+}
+
+impl Plan {
+    fn nothing(taken: Taken) -> Plan
+        ensures { result ≡ record { deed = Nothing; taken = taken } }
+    {
+        Plan {
+            deed: Deed::Nothing,
+            taken,
+        }
+    }
 }
 
 impl Cell {
@@ -58,10 +72,8 @@ impl Cell {
         if self.may_start(client, principal) {
             return self.plan_session(client, number, principal);
         }
-        Ok(Plan {
-            deed: Deed::Nothing,
-            taken: self.turned_away(client, number, Fault::NoSession)?,
-        })
+        let taken = self.turned_away(client, number, Fault::NoSession)?;
+        Ok(Plan::nothing(taken))
     }
 
     fn plan_session(
@@ -72,14 +84,11 @@ impl Cell {
     ) -> Result<Plan, AllocError>
         ensures { IfOk result (λ plan. plan ≡ plan_session self.now client number principal.now) }
     {
-        let mut taken = self.started_out(client, number)?;
         if self.is_live(client) {
-            return Ok(Plan {
-                deed: Deed::Nothing,
-                taken,
-            });
+            let taken = self.started_out(client, number)?;
+            return Ok(Plan::nothing(taken));
         }
-        taken.lines.push(Line::Started(client.get()))?;
+        let taken = self.started(client, number)?;
         let session = Session {
             principal: principal.clone()?,
             live: true,
@@ -90,19 +99,27 @@ impl Cell {
         })
     }
 
+    // The client's new session is printed too.
+    fn started(&self, client: ClientNumber, number: MessageNumber) -> Result<Taken, AllocError>
+        ensures lines { IfOk result (λ taken. taken.lines ≡ lines.Started client ∷ []) }
+        ensures outs { IfOk result (λ taken. taken.outs ≡ (started_out self.now client number).outs) }
+    {
+        let mut taken = self.started_out(client, number)?;
+        taken.lines.push(Line::Started(client.get()))?;
+        Ok(taken)
+    }
+
     fn started_out(&self, client: ClientNumber, number: MessageNumber) -> Result<Taken, AllocError>
         ensures { IfOk result (λ taken. taken ≡ started_out self.now client number) }
     {
         let epoch = self.epoch;
         let span = self.lease;
-        let mut taken = self.nothing();
-        taken.outs.push(Out::Started(Started {
+        self.sent(Out::Started(Started {
             client,
             epoch,
             number,
             span,
-        }))?;
-        Ok(taken)
+        }))
     }
 
     fn plan_effect(
@@ -113,25 +130,52 @@ impl Cell {
     ) -> Result<Plan, AllocError>
         ensures { IfOk result (λ plan. plan ≡ plan_effect self.now client number effect) }
     {
-        let Effect {
-            note,
-            change,
-            answer,
-        } = effect;
-        let mut taken = self.reply_of(client, number, &answer)?;
-        if let Some(applied) = &change {
-            let shown = applied.change.clone()?;
-            taken
-                .lines
-                .push(Line::Applied(client.get(), number.get(), shown))?;
+        let taken = self.effect_taken(client, number, &effect)?;
+        Ok(plan_answer(client, number, effect, taken))
+    }
+
+    // What is printed and sent for a call.
+    fn effect_taken(
+        &self,
+        client: ClientNumber,
+        number: MessageNumber,
+        effect: &Effect,
+    ) -> Result<Taken, AllocError>
+        ensures lines { IfOk result (λ taken. taken.lines ≡ applied_lines client number effect.now.change) }
+        ensures outs { IfOk result (λ taken. taken.outs ≡ (reply self.now client number effect.now.answer).outs) }
+    {
+        let mut taken = self.reply_of(client, number, &effect.answer)?;
+        if let Some(applied) = &effect.change {
+            let line = applied_line(client, number, &applied.change)?;
+            taken.lines.push(line)?;
         }
-        let kept = Kept {
-            number,
-            result: Some(answer),
-        };
-        Ok(Plan {
-            deed: Deed::Answers(client, kept, note, change),
-            taken,
-        })
+        Ok(taken)
+    }
+}
+
+fn applied_line(
+    client: ClientNumber,
+    number: MessageNumber,
+    change: &Mod,
+) -> Result<Line, AllocError>
+    ensures { IfOk result (λ line. line ≡ lines.Applied client number change.now) }
+{
+    let shown = change.clone()?;
+    Ok(Line::Applied(client.get(), number.get(), shown))
+}
+
+// A call's result is kept, beside what is printed and sent.
+fn plan_answer(client: ClientNumber, number: MessageNumber, effect: Effect, taken: Taken) -> Plan
+    ensures { result ≡ record { deed = Answers client (record { number = number; result = Some effect.answer }) effect.note effect.change; taken = taken } }
+{
+    let Effect {
+        note,
+        change,
+        answer,
+    } = effect;
+    let kept = Kept::answered(number, answer);
+    Plan {
+        deed: Deed::Answers(client, kept, note, change),
+        taken,
     }
 }

@@ -1,5 +1,5 @@
 //! What a master sends, and the tests of who may call.
-ghost use Rattle.std.specs.Prelude.{◌≡◌, [], IfOk};
+ghost use Rattle.std.specs.Prelude.{◌≡◌, [], ◌∷◌, IfOk};
 ghost use Rattle.cell_core.specs.Step.{refusal, turned_away, reply, repeated, may_start, is_live, is_full};
 
 use crate::cells::{Cell, PENDING_LIMIT};
@@ -35,14 +35,12 @@ impl Cell {
         ensures { IfOk result (λ taken. taken ≡ turned_away self.now client number fault) }
     {
         let epoch = self.epoch;
-        let mut taken = self.nothing();
-        taken.outs.push(Out::Refused(Refused {
+        self.sent(Out::Refused(Refused {
             client,
             epoch,
             number,
             fault,
-        }))?;
-        Ok(taken)
+        }))
     }
 
     // The reply to a call.
@@ -55,14 +53,12 @@ impl Cell {
         ensures { IfOk result (λ taken. taken ≡ reply self.now client number answer.now) }
     {
         let epoch = self.epoch;
-        let mut taken = self.nothing();
-        taken.outs.push(Out::Reply(Reply {
+        self.sent(Out::Reply(Reply {
             client,
             epoch,
             number,
             result: answer.clone()?,
-        }))?;
-        Ok(taken)
+        }))
     }
 
     // The result of the last call again, or nothing while it waits.
@@ -73,6 +69,15 @@ impl Cell {
             Some(answer) => self.reply_of(client, kept.number, answer),
             None => Ok(self.nothing()),
         }
+    }
+
+    // One message, and no line.
+    pub(crate) fn sent(&self, out: Out) -> Result<Taken, AllocError>
+        ensures { IfOk result (λ taken. taken ≡ record { lines = []; outs = out ∷ [] }) }
+    {
+        let mut taken = self.nothing();
+        taken.outs.push(out)?;
+        Ok(taken)
     }
 
     pub(crate) fn nothing(&self) -> Taken

@@ -65,8 +65,15 @@ impl Cell {
     fn is_usable(&self, handle: &Handle) -> bool
         ensures { result ≡ is_usable self.now handle.now (handle_state_of self.now (key_of handle.now)) }
     {
+        self.is_usable_as(handle, self.handles.get(&HandleKey::of(handle)))
+    }
+
+    // By what is noted of it, if anything.
+    fn is_usable_as(&self, handle: &Handle, state: Option<&HandleState>) -> bool
+        ensures { result ≡ is_usable self.now handle.now (option_copied state.entry) }
+    {
         let epoch = handle.epoch.get();
-        match self.handles.get(&HandleKey::of(handle)) {
+        match state {
             Some(HandleState::Open) => epoch <= self.epoch,
             Some(HandleState::Closed) => false,
             None => epoch < self.epoch,

@@ -1,9 +1,10 @@
 //! What a master does by itself.
-ghost use Rattle.std.specs.Prelude.{◌≡◌, ◌≤◌, ◌⊎◌, [], ◌∷◌, length, true, Ok, Err, IfOk, IfErr, OnOk, OnErr};
+ghost use Rattle.std.specs.Prelude.{◌≡◌, ◌≤◌, ◌⊎◌, [], ◌∷◌, length, drop, true, false, Ok, Err, IfOk, IfErr, OnOk, OnErr};
 ghost use Rattle.rows_cell.specs.Rows.{changed_rows};
 ghost use Rattle.rows_cell.specs.Sound.{sound};
-ghost use Rattle.rows_cell.specs.declared.tables.Edit.TheVariants.{PutSession, NextInstance};
+ghost use Rattle.rows_cell.specs.declared.tables.Edit.TheVariants.{PutSession, PutNode, NextInstance};
 ghost use Rattle.node_core.specs.Nodes.{changed};
+ghost use Rattle.node_core.specs.declared.views.Mod.TheVariants.{Put};
 ghost use Rattle.cell_core.specs.Store.{IsCommitted, IsRefused};
 ghost use Rattle.cell_core.specs.Sweep.{sweep_step, sweep_by, sweep_edits, queue_edits, edits_of, edit_of, change_edits, with_change, carried, done};
 ghost use Rattle.cell_core.specs.Step.{with_note};
@@ -14,7 +15,8 @@ use crate::effects::Change;
 use crate::handles::Note;
 use crate::pending::{Kept, Taken};
 use crate::plans::{Deed, Plan};
-use node_core::{Fault, Line, Mod};
+use names_cell::Name;
+use node_core::{Fault, Line, Mod, View};
 use plain::Items;
 use rows_cell::{Edit, Records, Session};
 use std::alloc::{AllocError, Global};
@@ -26,6 +28,19 @@ pub struct Swept {
     pub lines: Items<Line>,
     pub outs: Items<Out>,
     pub quiet: bool,
+}
+
+impl Swept {
+    fn of(taken: Taken) -> Swept
+        ensures { result ≡ record { lines = taken.lines; outs = taken.outs; quiet = false } }
+    {
+        let Taken { lines, outs } = taken;
+        Swept {
+            lines,
+            outs,
+            quiet: false,
+        }
+    }
 }
 
 impl Cell {
@@ -91,13 +106,16 @@ impl Cell {
     {
         let Plan { deed, taken } = plan;
         self.do_deed(deed, records)?;
-        let _ = self.queue.remove(0);
-        let Taken { lines, outs } = taken;
-        Ok(Swept {
-            lines,
-            outs,
-            quiet: false,
-        })
+        self.drop_first();
+        Ok(Swept::of(taken))
+    }
+
+    // The first change leaves the queue.
+    fn drop_first(&mut self)
+        requires { 1 ≤ length self.old.queue }
+        ensures { self.new ≡ record self.old { queue = drop 1 self.old.queue } }
+    {
+        drop(self.queue.remove(0));
     }
 
     // What needs memory comes first, then the store, then what can't fail.
@@ -113,14 +131,36 @@ impl Cell {
             Deed::Nothing => Ok(()),
             Deed::Starts(client, session) => self.put_session(client, session, records),
             Deed::Answers(client, kept, note, change) => {
-                let former = self.kept.put(client, kept)?;
-                match self.note_and_change(note, change, records) {
-                    Ok(()) => Ok(()),
-                    Err(fault) => {
-                        self.kept.restore(&client, former);
-                        Err(fault)
-                    }
-                }
+                self.put_answer(client, kept, note, change, records)
+            }
+        }
+    }
+
+    // What is kept of a call is taken back where the change is refused.
+    fn put_answer<R: Records>(
+        &mut self,
+        client: ClientNumber,
+        kept: Kept,
+        note: Option<Note>,
+        change: Option<Change>,
+        records: &mut R,
+    ) -> Result<(), Fault>
+        requires sound { sound (R.cell records.old) (changed_rows (R.rows records.old) (change_edits change)) ≡ true }
+        ensures ok { OnOk result (self.new ≡ done self.old (deeds.Answers client kept note change)) }
+        ensures committed { OnOk result (IsCommitted (change_edits change) (R.rows records.old) (R.rows records.new) (R.may_leave records.old) (R.may_leave records.new) (R.refusals records.old) (R.refusals records.new)) }
+        ensures err { OnErr result (self.new ≡ self.old) }
+        ensures fault { IfErr result (λ e. IsRefused e (change_edits change) (R.rows records.old) (R.rows records.new) (R.may_leave records.old) (R.may_leave records.new) (R.refusals records.old) (R.refusals records.new)) }
+        ensures cell { R.cell records.new ≡ R.cell records.old }
+    {
+        let former = self.kept.put(client, kept)?;
+        match self.note_and_change(note, change, records) {
+            Ok(()) => {
+                drop(former);
+                Ok(())
+            }
+            Err(fault) => {
+                self.kept.restore(&client, former);
+                Err(fault)
             }
         }
     }
@@ -179,11 +219,13 @@ impl Cell {
         ensures fault { IfErr result (λ e. IsRefused e (PutSession client session ∷ []) (R.rows records.old) (R.rows records.new) (R.may_leave records.old) (R.may_leave records.new) (R.refusals records.old) (R.refusals records.new)) }
         ensures cell { R.cell records.new ≡ R.cell records.old }
     {
-        let mut edits = Items::new(self.alloc);
-        edits.push(Edit::PutSession(client, session.clone()?))?;
+        let edits = edits_of_session(self.alloc, client, &session)?;
         let former = self.sessions.put(client, session)?;
         match commit(&edits, records) {
-            Ok(()) => Ok(()),
+            Ok(()) => {
+                drop(former);
+                Ok(())
+            }
             Err(fault) => {
                 self.sessions.restore(&client, former);
                 Err(fault)
@@ -205,25 +247,75 @@ impl Cell {
         ensures cell { R.cell records.new ≡ R.cell records.old }
     {
         let edits = edits_of_change(self.alloc, &change, next_instance)?;
-        match change {
-            Mod::Put(name, view) => {
-                let former = self.map.set(name.clone()?, view)?;
-                match commit(&edits, records) {
-                    Ok(()) => {}
-                    Err(fault) => {
-                        self.map.restore(&name, former);
-                        return Err(fault);
-                    }
-                }
-            }
-            Mod::Gone(name) => {
-                commit(&edits, records)?;
-                self.map.unset(&name);
-            }
-        }
+        self.change_node(change, &edits, records)?;
         self.next_instance = next_instance;
         Ok(())
     }
+
+    fn change_node<R: Records>(
+        &mut self,
+        change: Mod,
+        edits: &Items<Edit>,
+        records: &mut R,
+    ) -> Result<(), Fault>
+        requires sound { sound (R.cell records.old) (changed_rows (R.rows records.old) edits.now) ≡ true }
+        requires some { 1 ≤ length edits.now }
+        ensures ok { OnOk result (self.new ≡ record self.old { nodes = changed self.old.nodes change }) }
+        ensures committed { OnOk result (IsCommitted edits.now (R.rows records.old) (R.rows records.new) (R.may_leave records.old) (R.may_leave records.new) (R.refusals records.old) (R.refusals records.new)) }
+        ensures err { OnErr result (self.new ≡ self.old) }
+        ensures fault { IfErr result (λ e. IsRefused e edits.now (R.rows records.old) (R.rows records.new) (R.may_leave records.old) (R.may_leave records.new) (R.refusals records.old) (R.refusals records.new)) }
+        ensures cell { R.cell records.new ≡ R.cell records.old }
+    {
+        match change {
+            Mod::Put(name, view) => self.put_node(name, view, edits, records),
+            Mod::Gone(name) => {
+                commit(edits, records)?;
+                drop(self.map.unset(&name));
+                Ok(())
+            }
+        }
+    }
+
+    // A node that was put is taken back where the commit is refused.
+    fn put_node<R: Records>(
+        &mut self,
+        name: Name,
+        view: View,
+        edits: &Items<Edit>,
+        records: &mut R,
+    ) -> Result<(), Fault>
+        requires sound { sound (R.cell records.old) (changed_rows (R.rows records.old) edits.now) ≡ true }
+        requires some { 1 ≤ length edits.now }
+        ensures ok { OnOk result (self.new ≡ record self.old { nodes = changed self.old.nodes (Put name view) }) }
+        ensures committed { OnOk result (IsCommitted edits.now (R.rows records.old) (R.rows records.new) (R.may_leave records.old) (R.may_leave records.new) (R.refusals records.old) (R.refusals records.new)) }
+        ensures err { OnErr result (self.new ≡ self.old) }
+        ensures fault { IfErr result (λ e. IsRefused e edits.now (R.rows records.old) (R.rows records.new) (R.may_leave records.old) (R.may_leave records.new) (R.refusals records.old) (R.refusals records.new)) }
+        ensures cell { R.cell records.new ≡ R.cell records.old }
+    {
+        let former = self.map.set(name.clone()?, view)?;
+        match commit(edits, records) {
+            Ok(()) => {
+                drop(former);
+                Ok(())
+            }
+            Err(fault) => {
+                self.map.restore(&name, former);
+                Err(fault)
+            }
+        }
+    }
+}
+
+fn edits_of_session(
+    alloc: Global,
+    client: u64,
+    session: &Session,
+) -> Result<Items<Edit>, AllocError>
+    ensures { IfOk result (λ edits. edits ≡ PutSession client session.now ∷ []) }
+{
+    let mut edits = Items::new(alloc);
+    edits.push(Edit::PutSession(client, session.clone()?))?;
+    Ok(edits)
 }
 
 // What is committed for a change of the map.
@@ -235,12 +327,25 @@ fn edits_of_change(
     ensures { IfOk result (λ edits. edits ≡ edit_of change.now ∷ NextInstance next_instance ∷ []) }
 {
     let mut edits = Items::new(alloc);
-    edits.push(match change {
-        Mod::Put(name, view) => Edit::PutNode(name.clone()?, view.clone()?),
-        Mod::Gone(name) => Edit::RemoveNode(name.clone()?),
-    })?;
+    edits.push(edit_of(change)?)?;
     edits.push(Edit::NextInstance(next_instance))?;
     Ok(edits)
+}
+
+fn edit_of(change: &Mod) -> Result<Edit, AllocError>
+    ensures { IfOk result (λ edit. edit ≡ edit_of change.now) }
+{
+    match change {
+        Mod::Put(name, view) => put_edit(name, view),
+        Mod::Gone(name) => Ok(Edit::RemoveNode(name.clone()?)),
+    }
+}
+
+fn put_edit(name: &Name, view: &View) -> Result<Edit, AllocError>
+    ensures { IfOk result (λ edit. edit ≡ PutNode name.now view.now) }
+{
+    let name = name.clone()?;
+    Ok(Edit::PutNode(name, view.clone()?))
 }
 
 // Commits edits, of which there are some.

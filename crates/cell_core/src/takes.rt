@@ -1,9 +1,11 @@
 //! What a master does with a message.
-ghost use Rattle.std.specs.Prelude.{◌≡◌, ◌≢◌, Ok, Err, IfOk, IfErr, OnErr};
-ghost use Rattle.cell_core.specs.Step.{take_step, take_at, start_step, call_step, kept_step, kept_of, new_call, admit_step, waits, replied};
+ghost use Rattle.std.specs.Prelude.{◌≡◌, ◌≢◌, ◌-◌, length, take, Some, Ok, Err, IfOk, IfErr, OnOk, OnErr};
+ghost use Rattle.cell_core.specs.Step.{take_step, take_at, start_step, call_step, kept_step, kept_of, new_call, with_note, admit_step, waits, queued, recorded, replied};
+ghost use Rattle.cell_core.specs.declared.pending.Work.TheVariants.{Calls};
 
 use crate::admissions::Admission;
 use crate::cells::{Cell, MOMENT_LIMIT};
+use crate::handles::Note;
 use crate::pending::{Kept, Pending, Taken, Work};
 use node_core::Fault;
 use std::alloc::AllocError;
@@ -52,14 +54,9 @@ impl Cell {
         if self.is_full() {
             return self.turned_away(start.client, start.number, Fault::Busy);
         }
-        let taken = self.nothing();
         let work = Work::Starts(start.principal.clone()?);
-        self.queue.push(Pending {
-            client: start.client,
-            number: start.number,
-            work,
-        })?;
-        Ok(taken)
+        self.queue_work(start.client, start.number, work)?;
+        Ok(self.nothing())
     }
 
     fn call(&mut self, message: &CallMessage) -> Result<Taken, AllocError>
@@ -104,7 +101,7 @@ impl Cell {
         }
     }
 
-    // A call that is neither repeated nor too early. What is noted of its handle is taken back where memory is refused.
+    // A call that is neither repeated nor too early.
     fn new_call(
         &mut self,
         client: ClientNumber,
@@ -115,9 +112,24 @@ impl Cell {
         ensures err { OnErr result (self.new ≡ self.old) }
     {
         let Admission { note, answer } = self.admission(client, number, call)?;
-        let Some(note) = note else {
-            return self.admit(client, number, call, answer);
-        };
+        match note {
+            None => self.admit(client, number, call, answer),
+            Some(note) => self.admit_noted(note, client, number, call, answer),
+        }
+    }
+
+    // What is noted of the call's handle is taken back where memory is refused.
+    fn admit_noted(
+        &mut self,
+        note: Note,
+        client: ClientNumber,
+        number: MessageNumber,
+        call: &Call,
+        answer: Option<CallResult>,
+    ) -> Result<Taken, AllocError>
+        ensures ok { IfOk result (λ taken. admit_step (with_note self.old (Some note)) client number call.now answer ≡ (self.new, taken)) }
+        ensures err { OnErr result (self.new ≡ self.old) }
+    {
         let former = self.handles.put(note.key, note.state)?;
         match self.admit(client, number, call, answer) {
             Ok(taken) => Ok(taken),
@@ -151,7 +163,7 @@ impl Cell {
         }
     }
 
-    // Queues a call, whose result isn't known yet.
+    // Queues a call, and keeps that it waits.
     fn wait(
         &mut self,
         client: ClientNumber,
@@ -161,24 +173,63 @@ impl Cell {
         ensures ok { IfOk result (λ taken. waits self.old client number call.now ≡ (self.new, taken)) }
         ensures err { OnErr result (self.new ≡ self.old) }
     {
-        let taken = self.nothing();
-        let work = Work::Calls(call.clone()?);
+        self.queue_call(client, number, call)?;
+        let kept = Kept {
+            number,
+            result: None,
+        };
+        match self.keep(client, kept) {
+            Ok(()) => Ok(self.nothing()),
+            Err(error) => {
+                self.drop_last();
+                Err(error)
+            }
+        }
+    }
+
+    // The last change leaves the queue.
+    fn drop_last(&mut self)
+        ensures { self.new ≡ record self.old { queue = take (length self.old.queue - 1) self.old.queue } }
+    {
+        drop(self.queue.pop());
+    }
+
+    fn queue_work(
+        &mut self,
+        client: ClientNumber,
+        number: MessageNumber,
+        work: Work,
+    ) -> Result<(), AllocError>
+        ensures ok { OnOk result (self.new ≡ queued self.old (record { client = client; number = number; work = work })) }
+        ensures err { OnErr result (self.new ≡ self.old) }
+    {
         self.queue.push(Pending {
             client,
             number,
             work,
         })?;
-        let kept = Kept {
-            number,
-            result: None,
-        };
-        match self.kept.put(client, kept) {
-            Ok(_) => Ok(taken),
-            Err(error) => {
-                self.queue.pop();
-                Err(error)
-            }
-        }
+        Ok(())
+    }
+
+    fn queue_call(
+        &mut self,
+        client: ClientNumber,
+        number: MessageNumber,
+        call: &Call,
+    ) -> Result<(), AllocError>
+        ensures ok { OnOk result (self.new ≡ queued self.old (record { client = client; number = number; work = Calls call.now })) }
+        ensures err { OnErr result (self.new ≡ self.old) }
+    {
+        let work = Work::Calls(call.clone()?);
+        self.queue_work(client, number, work)
+    }
+
+    fn keep(&mut self, client: ClientNumber, kept: Kept) -> Result<(), AllocError>
+        ensures ok { OnOk result (self.new ≡ recorded self.old client kept) }
+        ensures err { OnErr result (self.new ≡ self.old) }
+    {
+        drop(self.kept.put(client, kept)?);
+        Ok(())
     }
 
     // Records a result, and sends it.
@@ -192,11 +243,7 @@ impl Cell {
         ensures err { OnErr result (self.new ≡ self.old) }
     {
         let taken = self.reply_of(client, number, &answer)?;
-        let kept = Kept {
-            number,
-            result: Some(answer),
-        };
-        self.kept.put(client, kept)?;
+        self.keep(client, Kept::answered(number, answer))?;
         Ok(taken)
     }
 }
