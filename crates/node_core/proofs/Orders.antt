@@ -6,7 +6,7 @@ use Rattle.std.specs.Cmp.{IsTotalOrder}
 use Rattle.std.specs.Cmp.Lexicographic.{slice_cmp, nat_list_cmp_total}
 use Rattle.std.specs.List.{AllByRecursion}
 use Rattle.std.specs.List.Sorted.{IsStrictlySortedBy}
-use Rattle.std.specs.Map.{keys_of, remove_entry, set_value}
+use Rattle.std.specs.Map.{keys_of, remove_entry}
 use Rattle.std.proofs.lemmas.Map.{keys-set_value}
 use Rattle.plain.specs.Tables.{with_former}
 use Rattle.std.specs.BTreeMap.{is_at, insert_entry}

@@ -4,7 +4,7 @@ ghost use Rattle.node_core.specs.Texts.{answer_text};
 
 use crate::refusals::Fault;
 use crate::stats::Stat;
-use crate::texts::{HexBytes, Listed};
+use crate::texts::{HexBytes, Listed, write_number};
 use crate::views::View;
 use names_cell::Component;
 use plain::{Bytes, Items, Same};
@@ -58,9 +58,9 @@ impl fmt::Display for Answer {
 
     fn fmt<W: fmt::Write>(&self, f: &mut fmt::Formatter<W>) -> fmt::Result {
         match self {
-            Answer::Opened(handle) => write!(f, "opened {handle}"),
-            Answer::Closed => write!(f, "closed"),
-            Answer::Poisoned => write!(f, "poisoned"),
+            Answer::Opened(handle) => write_number(f, "opened ", *handle),
+            Answer::Closed => f.write_str("closed"),
+            Answer::Poisoned => f.write_str("poisoned"),
             Answer::Viewed(view) => write!(f, "view {view}"),
             Answer::Stated(stat) => write!(f, "stat {stat}"),
             Answer::Names(names) => {
@@ -71,7 +71,7 @@ impl fmt::Display for Answer {
                 let hex = HexBytes(bytes.as_slice());
                 write!(f, "sequencer {hex}")
             }
-            Answer::Okay => write!(f, "ok"),
+            Answer::Okay => f.write_str("ok"),
             Answer::Refused(fault) => write!(f, "refused {fault}"),
         }
     }

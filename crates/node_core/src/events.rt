@@ -2,6 +2,7 @@
 ghost use Rattle.std.specs.Prelude.{◌≡◌, Some};
 ghost use Rattle.node_core.specs.Texts.{event_text};
 
+use crate::texts::write_number;
 use names_cell::Name;
 use plain::Same;
 use std::alloc::AllocError;
@@ -62,7 +63,7 @@ impl fmt::Display for Event {
 
     fn fmt<W: fmt::Write>(&self, f: &mut fmt::Formatter<W>) -> fmt::Result {
         match self {
-            Event::FailOver => write!(f, "failover"),
+            Event::FailOver => f.write_str("failover"),
             Event::Contents(handle, instance, generation) => write!(
                 f,
                 "contents {handle} {instance} {generation}"
@@ -70,10 +71,10 @@ impl fmt::Display for Event {
             Event::ChildAdded(handle, name) => write!(f, "child-added {handle} {name}"),
             Event::ChildRemoved(handle, name) => write!(f, "child-removed {handle} {name}"),
             Event::ChildModified(handle, name) => write!(f, "child-modified {handle} {name}"),
-            Event::Invalid(handle) => write!(f, "invalid {handle}"),
-            Event::Locked(handle) => write!(f, "locked {handle}"),
-            Event::Conflict(handle) => write!(f, "conflict {handle}"),
-            Event::Lost => write!(f, "lost"),
+            Event::Invalid(handle) => write_number(f, "invalid ", *handle),
+            Event::Locked(handle) => write_number(f, "locked ", *handle),
+            Event::Conflict(handle) => write_number(f, "conflict ", *handle),
+            Event::Lost => f.write_str("lost"),
         }
     }
 }

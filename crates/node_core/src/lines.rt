@@ -6,6 +6,7 @@ use crate::answers::Answer;
 use crate::events::Event;
 use crate::kinds::LockMode;
 use crate::refusals::Fault;
+use crate::texts::{write_number, write_numbers};
 use crate::views::{Mod, View};
 use names_cell::Name;
 use plain::Same;
@@ -104,29 +105,29 @@ impl fmt::Display for Line {
 
     fn fmt<W: fmt::Write>(&self, f: &mut fmt::Formatter<W>) -> fmt::Result {
         match self {
-            Line::Up(epoch) => write!(f, "up {epoch}"),
-            Line::Down => write!(f, "down"),
-            Line::Recovered => write!(f, "recovered"),
-            Line::Started(client) => write!(f, "started {client}"),
-            Line::Ended(client) => write!(f, "ended {client}"),
+            Line::Up(epoch) => write_number(f, "up ", *epoch),
+            Line::Down => f.write_str("down"),
+            Line::Recovered => f.write_str("recovered"),
+            Line::Started(client) => write_number(f, "started ", *client),
+            Line::Ended(client) => write_number(f, "ended ", *client),
             Line::Applied(client, call, change) => write!(f, "applied {client} {call} {change}"),
             Line::Granted(right, client, name) => write!(f, "granted {right} {client} {name}"),
-            Line::Acked(right) => write!(f, "acked {right}"),
-            Line::Expired(right) => write!(f, "expired {right}"),
+            Line::Acked(right) => write_number(f, "acked ", *right),
+            Line::Expired(right) => write_number(f, "expired ", *right),
             Line::Locked(client, instance, mode, generation) => write!(
                 f,
                 "locked {client} {instance} {mode} {generation}"
             ),
-            Line::Freed(client, instance) => write!(f, "freed {client} {instance}"),
-            Line::Lapsed(client, instance) => write!(f, "lapsed {client} {instance}"),
-            Line::Reopened(instance) => write!(f, "reopened {instance}"),
+            Line::Freed(client, instance) => write_numbers(f, "freed ", *client, *instance),
+            Line::Lapsed(client, instance) => write_numbers(f, "lapsed ", *client, *instance),
+            Line::Reopened(instance) => write_number(f, "reopened ", *instance),
             Line::Served(client, name, None) => write!(f, "served {client} {name} absent"),
             Line::Served(client, name, Some(view)) => write!(f, "served {client} {name} {view}"),
             Line::Done(client, call, answer) => write!(f, "done {client} {call} {answer}"),
             Line::Told(client, event) => write!(f, "event {client} {event}"),
-            Line::Jeopardy(client) => write!(f, "jeopardy {client}"),
-            Line::Safe(client) => write!(f, "safe {client}"),
-            Line::Lost(client) => write!(f, "lost {client}"),
+            Line::Jeopardy(client) => write_number(f, "jeopardy ", *client),
+            Line::Safe(client) => write_number(f, "safe ", *client),
+            Line::Lost(client) => write_number(f, "lost ", *client),
             Line::Refused(fault) => write!(f, "refused {fault}"),
         }
     }

@@ -1,9 +1,11 @@
 //! Refusals, as they are printed.
 ghost use Rattle.std.specs.Prelude.{◌≡◌, Some};
-ghost use Rattle.node_core.specs.Refusals.{fault_number, fault_name, fault_text, node_fault, name_fault};
+ghost use Rattle.std.specs.Fmt.{DisplaysOnOk};
+ghost use Rattle.node_core.specs.Refusals.{fault_number, fault_name, fault_text, argument_text, node_fault, name_fault};
 
 use crate::faults::NodeFault;
 use crate::kinds::{Kind, LockMode, Right};
+use crate::texts::write_number;
 use names_cell::NameFault;
 use plain::Same;
 use std::alloc::{AllocError, AllocFailed};
@@ -205,6 +207,24 @@ impl Fault {
             Fault::ReceiptApart(_) => "ReceiptApart",
         }
     }
+
+    // The argument behind a space, where there is one.
+    fn write_argument<W: fmt::Write>(&self, f: &mut fmt::Formatter<W>) -> fmt::Result
+        ensures { DisplaysOnOk W.write_str_gives f.old result (Some (argument_text self.now)) f.new }
+    {
+        match self {
+            Fault::WrongKind(present) => write!(f, " {present}"),
+            Fault::Denied(missing) => write!(f, " {missing}"),
+            Fault::WrongGeneration(present) => write_number(f, " ", *present),
+            Fault::BadAck(issued) => write_number(f, " ", *issued),
+            Fault::Held(mode) => write!(f, " {mode}"),
+            Fault::Delayed(left) => write_number(f, " ", *left),
+            Fault::OldEpoch(present) => write_number(f, " ", *present),
+            Fault::PassMissing(pass) => write_number(f, " ", *pass),
+            Fault::ReceiptApart(place) => write_number(f, " ", *place),
+            _ => Ok(()),
+        }
+    }
 }
 
 impl fmt::Display for Fault {
@@ -214,18 +234,7 @@ impl fmt::Display for Fault {
         let number = self.number();
         let name = self.name();
         write!(f, "{number} {name}")?;
-        match self {
-            Fault::WrongKind(present) => write!(f, " {present}"),
-            Fault::Denied(missing) => write!(f, " {missing}"),
-            Fault::WrongGeneration(present) => write!(f, " {present}"),
-            Fault::BadAck(issued) => write!(f, " {issued}"),
-            Fault::Held(mode) => write!(f, " {mode}"),
-            Fault::Delayed(left) => write!(f, " {left}"),
-            Fault::OldEpoch(present) => write!(f, " {present}"),
-            Fault::PassMissing(pass) => write!(f, " {pass}"),
-            Fault::ReceiptApart(place) => write!(f, " {place}"),
-            _ => Ok(()),
-        }
+        self.write_argument(f)
     }
 }
 

@@ -1,5 +1,6 @@
 //! Parts of the printed texts.
-ghost use Rattle.std.specs.Prelude.{◌≡◌, Some};
+ghost use Rattle.std.specs.Prelude.{◌≡◌, ◌++◌, Some, codes, decimal};
+ghost use Rattle.std.specs.Fmt.{DisplaysOnOk};
 ghost use Rattle.std.specs.List.{flat_map};
 ghost use Rattle.node_core.specs.Texts.{hex_text, hex_pair, header_text, acls_text, names_text};
 
@@ -150,4 +151,27 @@ impl fmt::Display for Listed<'_> {
         }
         Ok(())
     }
+}
+
+/// A word, and a number behind it.
+pub(crate) fn write_number<W: fmt::Write>(
+    f: &mut fmt::Formatter<W>,
+    word: &str,
+    number: u64,
+) -> fmt::Result
+    ensures { DisplaysOnOk W.write_str_gives f.old result (Some (word.now ++ decimal number)) f.new }
+{
+    write!(f, "{word}{number}")
+}
+
+/// A word, and two numbers behind it.
+pub(crate) fn write_numbers<W: fmt::Write>(
+    f: &mut fmt::Formatter<W>,
+    word: &str,
+    first: u64,
+    second: u64,
+) -> fmt::Result
+    ensures { DisplaysOnOk W.write_str_gives f.old result (Some (word.now ++ (decimal first ++ (codes " " ++ decimal second)))) f.new }
+{
+    write!(f, "{word}{first} {second}")
 }

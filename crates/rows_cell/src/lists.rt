@@ -1,5 +1,8 @@
 //! Rows in memory.
-ghost use Rattle.std.specs.Prelude.{◌≡◌, ◌++◌, true, IfOk, codes};
+ghost use Rattle.std.specs.Prelude.{◌≡◌, ◌++◌, true, IfOk, OnOk, codes};
+ghost use Rattle.std.specs.BTreeMap.{insert_entry};
+ghost use Rattle.std.specs.Cmp.Lexicographic.{slice_cmp};
+ghost use Rattle.std.specs.Ordering.{nat_cmp};
 ghost use Rattle.names_cell.specs.Text.{root_of};
 ghost use Rattle.rows_cell.specs.Opening.{opening, opening_node};
 ghost use Rattle.rows_cell.specs.Sound.{sound};
@@ -76,16 +79,29 @@ fn opening_nodes(
     ensures { IfOk result (λ nodes. nodes ≡ (opening settings.now).nodes) }
 {
     let (root, directory, file) = opening_names(alloc, settings.cell(), base)?;
-    let content = settings.base().clone()?;
-    let nothing = Bytes::copy_of(alloc, &[])?;
     let mut nodes = Table::new(alloc);
-    nodes.put(
-        root,
-        opening_node(Kind::Directory, 1, base, nothing.clone()?)?,
-    )?;
-    nodes.put(directory, opening_node(Kind::Directory, 2, base, nothing)?)?;
-    nodes.put(file, opening_node(Kind::File, 3, base, content)?)?;
+    let nothing = Bytes::copy_of(alloc, &[])?;
+    put_opening(&mut nodes, root, Kind::Directory, 1, base, nothing)?;
+    let nothing = Bytes::copy_of(alloc, &[])?;
+    put_opening(&mut nodes, directory, Kind::Directory, 2, base, nothing)?;
+    let content = settings.base().clone()?;
+    put_opening(&mut nodes, file, Kind::File, 3, base, content)?;
     Ok(nodes)
+}
+
+// Puts a new node under one ACL.
+fn put_opening(
+    nodes: &mut Table<Name, Node>,
+    name: Name,
+    kind: Kind,
+    instance: u64,
+    acl: &Component,
+    content: Bytes,
+) -> Result<(), AllocError>
+    ensures { OnOk result (nodes.new ≡ insert_entry (slice_cmp nat_cmp) nodes.old name (opening_node kind instance acl.now content)) }
+{
+    nodes.put(name, opening_node(kind, instance, acl, content)?)?;
+    Ok(())
 }
 
 // The root, the directory of the ACLs, and the file of the ACL `base`.

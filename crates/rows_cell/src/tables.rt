@@ -1,6 +1,7 @@
 //! The rows, and the edits of them.
 ghost use Rattle.std.specs.Prelude.{◌≡◌, ◌==◌, false, not, filter, IfOk, OnOk, OnErr};
 ghost use Rattle.std.specs.List.{list_any};
+ghost use Rattle.std.specs.Option.{option_map_or};
 ghost use Rattle.std.specs.Map.{remove_entry};
 ghost use Rattle.std.specs.BTreeMap.{is_at};
 ghost use Rattle.std.specs.Cmp.Lexicographic.{slice_cmp};
@@ -223,15 +224,13 @@ impl Rows {
         ensures ok { OnOk result (self.new ≡ record self.old { nodes = put_view self.old.nodes name.now view.now }) }
         ensures err { OnErr result (self.new ≡ self.old) }
     {
-        let lock_generation = match self.nodes.get(name) {
-            Some(node) => node.lock_generation,
-            None => 0,
-        };
+        let lock_generation = generation_at(&self.nodes, name);
+        let name = name.clone()?;
         let node = Node {
             view: view.clone()?,
             lock_generation,
         };
-        self.nodes.put(name.clone()?, node)?;
+        self.nodes.put(name, node)?;
         Ok(())
     }
 
@@ -267,6 +266,16 @@ impl Rows {
             rows.edit(edit)?;
         }
         Ok(rows)
+    }
+}
+
+// The generation of the lock of the node at a name; 0 where none is there.
+fn generation_at(nodes: &Table<Name, Node>, name: &Name) -> u64
+    ensures { result ≡ option_map_or (λ node. node.lock_generation) (stored_node nodes.now name.now) 0 }
+{
+    match nodes.get(name) {
+        Some(node) => node.lock_generation,
+        None => 0,
     }
 }
 
