@@ -1,10 +1,10 @@
 //! A client.
-ghost use Rattle.std.specs.Prelude.{◌≡◌, ◌≢◌, ◌==◌, ◌&&◌, ◌∷◌, [], ◌^◌, ◌<◌, nat_lt, Option, Some, None, Ok, Err, IsSome, OnOk, OnErr, IfOk, IfErr};
+ghost use Rattle.std.specs.Prelude.{◌≡◌, ◌≢◌, ◌+◌, ◌==◌, ◌&&◌, ◌∷◌, [], ◌^◌, ◌<◌, nat_lt, Option, Some, None, Ok, Err, IsSome, OnOk, OnErr, IfOk, IfErr};
 ghost use Rattle.std.specs.Option.{option_copied, option_map};
 ghost use Rattle.client_core.specs.State.{new_client, moment, Does};
 ghost use Rattle.client_core.specs.Asks.{ask_step, send_step};
 ghost use Rattle.client_core.specs.Beats.{beat_step, start_step};
-ghost use Rattle.client_core.specs.Gives.{give_step, taken_own, taken, start_taken, awaited, answer_of, ended, reply_step, refused_step};
+ghost use Rattle.client_core.specs.Gives.{give_step, taken_own, taken, start_taken, awaited, answer_of, ended, reply_for, reply_step, refused_step};
 
 use crate::asks::{Ask, Asked};
 use crate::handles::ClientHandle;
@@ -16,9 +16,10 @@ use node_core::{Answer, Fault, Line};
 use plain::{Items, Table};
 use std::alloc::{AllocError, Global};
 use std::marker::Model;
+use std::mem;
 use tags_cell::{
-    Call, CallMessage, CallResult, ClientNumber, MessageNumber, Out, Refused, Reply, Request,
-    Start, Started,
+    Call, CallMessage, CallResult, ClientNumber, HandleBytes, MessageNumber, Out, Refused, Reply,
+    Request, Start, Started,
 };
 
 /// Every moment is below this many milliseconds: 2^53.
@@ -176,6 +177,7 @@ impl Client {
         ensures { Does self.old self.new result (send_step self.old moment epoch call target) }
     {
         let Some(number) = MessageNumber::new(self.calls + 1) else {
+            drop(call);
             return Err(Fault::Exhausted);
         };
         let client = self.number;
@@ -185,14 +187,28 @@ impl Client {
             number,
             call,
         });
-        let kept = Outstanding {
-            request: request.clone()?,
-            target,
-        };
+        match request.clone() {
+            Ok(kept) => {
+                self.keep(moment, kept, target);
+                Ok(Asked::Sent(request))
+            }
+            Err(_) => {
+                drop(request);
+                Err(Fault::NoMemory)
+            }
+        }
+    }
+
+    // Keeps the message of the next call, which is outstanding now.
+    fn keep(&mut self, moment: u64, request: Request, target: Target)
+        requires { self.old.calls + 1 < 2 ^ 63 }
+        ensures { self.new ≡ record self.old { clock = moment; calls = self.old.calls + 1; outstanding = Some (record { request = request; target = target }) } }
+    {
+        let kept = Some(Outstanding { request, target });
+        let former = mem::replace(&mut self.outstanding, kept);
         self.clock = moment;
         self.calls += 1;
-        self.outstanding = Some(kept);
-        Ok(Asked::Sent(request))
+        drop(former);
     }
 
     // Asks for a session under the next number.
@@ -243,23 +259,49 @@ impl Client {
         ensures ok { IfOk result (λ lines. reply_step self.old reply.now ≡ (self.new, lines)) }
         ensures err { OnErr result (self.new ≡ self.old) }
     {
-        let mut lines = Items::new(self.alloc);
-        match self.awaited(reply) {
-            None => {}
-            Some(Target::Dropped) => self.outstanding = None,
+        let target = self.awaited(reply);
+        self.reply_for(reply, target)
+    }
+
+    // Ends the call that the reply is for, if it is for one.
+    fn reply_for(
+        &mut self,
+        reply: &Reply,
+        target: Option<Target>,
+    ) -> Result<Items<Line>, AllocError>
+        requires { IsSome target → IsSome self.old.outstanding }
+        ensures ok { IfOk result (λ lines. reply_for self.old reply.now target ≡ (self.new, lines)) }
+        ensures err { OnErr result (self.new ≡ self.old) }
+    {
+        match target {
+            None => Ok(Items::new(self.alloc)),
+            Some(Target::Dropped) => {
+                self.end();
+                Ok(Items::new(self.alloc))
+            }
             Some(target) => {
-                let client = self.number.get();
-                let answer = self.answer_of(&reply.result)?;
-                lines.push(Line::Done(client, reply.number.get(), answer))?;
+                let lines = self.done_line(reply)?;
                 self.end_call(target, &reply.result)?;
+                Ok(lines)
             }
         }
-        Ok(lines)
+    }
+
+    // The line that tells how a call ended.
+    fn done_line(&self, reply: &Reply) -> Result<Items<Line>, AllocError>
+        ensures { IfOk result (λ lines. lines ≡ Line.Done self.now.number reply.now.number (answer_of self.now reply.now.result) ∷ []) }
+    {
+        let answer = self.answer_of(&reply.result)?;
+        one_line(
+            self.alloc,
+            Line::Done(self.number.get(), reply.number.get(), answer),
+        )
     }
 
     // What it is for, where it is of the client's epoch and for the outstanding call.
     fn awaited(&self, reply: &Reply) -> Option<Target>
-        ensures { result ≡ awaited self.now reply.now }
+        ensures value { result ≡ awaited self.now reply.now }
+        ensures some { IsSome result → IsSome self.now.outstanding }
     {
         if self.session != Session::Live(reply.epoch) {
             return None;
@@ -285,29 +327,46 @@ impl Client {
         })
     }
 
-    // Ends the outstanding call, keeps a new handle under the next number, and lets a closed one go.
+    // Ends the outstanding call, keeps a new handle, and lets a closed one go.
     fn end_call(&mut self, target: Target, outcome: &CallResult) -> Result<(), AllocError>
         requires { IsSome self.old.outstanding }
         ensures ok { OnOk result (self.new ≡ ended self.old target outcome.now) }
         ensures err { OnErr result (self.new ≡ self.old) }
     {
         match (outcome, target) {
-            (CallResult::Opened(bytes), _) => {
-                let opened = self.opened + 1;
-                let handle = ClientHandle {
-                    bytes: bytes.clone()?,
-                    poisoned: false,
-                };
-                self.handles.put(opened, handle)?;
-                self.opened = opened;
-            }
+            (CallResult::Opened(bytes), _) => return self.end_open(bytes),
             (CallResult::Closed, Target::Closing(number)) => {
                 self.handles.remove(&number);
             }
             _ => {}
         }
-        self.outstanding = None;
+        self.end();
         Ok(())
+    }
+
+    // Ends the outstanding Open, and keeps the new handle under the next number.
+    fn end_open(&mut self, bytes: &HandleBytes) -> Result<(), AllocError>
+        requires { IsSome self.old.outstanding }
+        ensures ok { OnOk result (self.new ≡ ended self.old Target.NewHandle (CallResult.Opened bytes.now)) }
+        ensures err { OnErr result (self.new ≡ self.old) }
+    {
+        let opened = self.opened + 1;
+        let handle = ClientHandle {
+            bytes: bytes.clone()?,
+            poisoned: false,
+        };
+        self.handles.put(opened, handle)?;
+        let former = self.outstanding.take();
+        self.opened = opened;
+        drop(former);
+        Ok(())
+    }
+
+    // No call is outstanding from here on.
+    fn end(&mut self)
+        ensures { self.new ≡ record self.old { outstanding = None } }
+    {
+        drop(self.outstanding.take());
     }
 
     fn take_refused(&mut self, refused: &Refused) -> Result<Items<Line>, AllocError>
@@ -322,4 +381,13 @@ impl Client {
         self.session = session;
         Ok(lines)
     }
+}
+
+// A line by itself.
+fn one_line(alloc: Global, line: Line) -> Result<Items<Line>, AllocError>
+    ensures { IfOk result (λ lines. lines ≡ line ∷ []) }
+{
+    let mut lines = Items::new(alloc);
+    lines.push(line)?;
+    Ok(lines)
 }

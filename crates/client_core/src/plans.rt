@@ -47,6 +47,7 @@ impl Client {
         ensures { result ≡ send_plan self.now epoch call target }
     {
         if self.outstanding.is_some() {
+            drop(call);
             return Err(Fault::CallOutstanding);
         }
         Ok(Plan::Send(epoch, call, target))

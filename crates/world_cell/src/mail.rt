@@ -73,7 +73,7 @@ fn push(sent: &mut Vec<Sent>, message: Message)
     ensures capacity { vec_capacity sent.old ≤ vec_capacity sent.new }
     ensures len { vec_len sent.new ≡ vec_len sent.old + 1 }
 {
-    let _ = sent.push(Sent {
+    sent.push_reserved(Sent {
         message,
         delivered: false,
     });

@@ -62,7 +62,7 @@ impl Seats {
         ensures err { OnErr result (self.new ≡ self.old) }
     {
         let client = Client::new(self.alloc, number, principal.clone()?);
-        self.clients.insert(number.get(), client)?;
+        drop(self.clients.insert(number.get(), client)?);
         Ok(())
     }
 

@@ -179,12 +179,12 @@ impl<R: Records + Drop> World<R> {
             Some(records) => match Cell::up(self.alloc, records, self.lease, now) {
                 Ok(cell) => {
                     lines.set(0, Line::Up(cell.epoch()));
-                    self.master = Some(cell);
+                    drop(self.master.replace(cell));
                     self.clock = now;
                     Ok(lines)
                 }
                 Err((fault, records)) => {
-                    self.records = Some(records);
+                    drop(self.records.replace(records));
                     Err(fault)
                 }
             },
