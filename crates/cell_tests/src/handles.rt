@@ -2,6 +2,7 @@
 use node_core::{Life, Right};
 use plain::Secret;
 use std::alloc::Global;
+use std::process::Abort;
 use std::test::Fail;
 use tags_cell::{Events, Handle, HandleFault};
 
@@ -34,14 +35,16 @@ fn is_refused(alloc: Global, bytes: &[u8]) -> bool {
     )
 }
 
-#[test]
-fn known_bytes_are_read_and_written_again(rt: HostRuntime) -> Result<(), Fail> {
-    let bytes = bytes_with(5, DIGITS);
-    let handle = Handle::read(rt.alloc(), bytes.as_slice(), &secret())?;
+fn has_its_numbers(rt: &impl Abort, handle: &Handle) {
     assert_eq!(rt; handle.epoch.get(), 0x0102_0304_0506_0708);
     assert_eq!(rt; handle.client.get(), 0x09_0a0b_0c0d_0e0f);
     assert_eq!(rt; handle.number.get(), 0x1112_1314_1516_1718);
     assert_eq!(rt; handle.instance.get(), 0x2122_2324_2526_2728);
+    assert_eq!(rt; handle.delay.get(), 1000);
+    assert_eq!(rt; handle.name.as_str(), "/ls/c/f");
+}
+
+fn has_its_rights(rt: &impl Abort, handle: &Handle) {
     assert_eq!(rt; handle.mode.has(Right::Write), false);
     assert_eq!(rt; handle.mode.has(Right::Change), true);
     assert!(rt; handle.life == Life::Ephemeral);
@@ -54,8 +57,14 @@ fn known_bytes_are_read_and_written_again(rt: HostRuntime) -> Result<(), Fail> {
                 conflict: true
             }
     );
-    assert_eq!(rt; handle.delay.get(), 1000);
-    assert_eq!(rt; handle.name.as_str(), "/ls/c/f");
+}
+
+#[test]
+fn known_bytes_are_read_and_written_again(rt: HostRuntime) -> Result<(), Fail> {
+    let bytes = bytes_with(5, DIGITS);
+    let handle = Handle::read(rt.alloc(), bytes.as_slice(), &secret())?;
+    has_its_numbers(&rt, &handle);
+    has_its_rights(&rt, &handle);
     let written = handle.write(rt.alloc(), &secret())?;
     assert!(rt; written.as_slice() == bytes.as_slice());
     Ok(())

@@ -1,8 +1,9 @@
 //! The rows of a new store, and each public call once on its happy path.
 use names_cell::{Component, Principal};
 use plain::Secret;
-use rows_cell::{ListRecords, Records, Settings, SettingsFault};
+use rows_cell::{ListRecords, Records, Rows, Settings, SettingsFault};
 use std::alloc::Global;
+use std::process::Abort;
 use std::test::Fail;
 
 #[test]
@@ -43,24 +44,34 @@ fn too_many_principals(rt: HostRuntime) -> Result<(), Fail> {
     Ok(())
 }
 
-// The records of a new store of the standard settings.
-fn new_records(alloc: Global) -> Result<ListRecords, SettingsFault> {
+// The rows of a new store of the standard settings.
+fn new_rows(alloc: Global) -> Result<Rows, Fail> {
     let settings = Settings::standard(alloc)?;
-    Ok(ListRecords::new(alloc, &settings)?)
+    let mut records = ListRecords::new(alloc, &settings)?;
+    Ok(records.load()?)
+}
+
+// Each name with its node, as it is printed.
+fn nodes_of(alloc: Global, rows: &Rows) -> Result<String, Fail> {
+    let mut shown = String::new(alloc);
+    for (name, node) in rows.nodes.as_map() {
+        let view = &node.view;
+        shown.push_str(format!(in alloc; "{name} {view};")?.as_str())?;
+    }
+    Ok(shown)
+}
+
+fn are_new(rt: &impl Abort, rows: &Rows) {
+    assert_eq!(rt; rows.epoch, 0);
+    assert_eq!(rt; rows.next_instance, 4);
+    assert_eq!(rt; rows.cell.as_str(), "c");
 }
 
 #[test]
 fn rows_of_a_new_store(rt: HostRuntime) -> Result<(), Fail> {
-    let mut records = new_records(rt.alloc())?;
-    let rows = records.load()?;
-    assert_eq!(rt; rows.epoch, 0);
-    assert_eq!(rt; rows.next_instance, 4);
-    assert_eq!(rt; rows.cell.as_str(), "c");
-    let mut shown = String::new(rt.alloc());
-    for (name, node) in rows.nodes.as_map() {
-        let view = &node.view;
-        shown.push_str(format!(in rt.alloc(); "{name} {view};")?.as_str())?;
-    }
+    let rows = new_rows(rt.alloc())?;
+    are_new(&rt, &rows);
+    let shown = nodes_of(rt.alloc(), &rows)?;
     assert_eq!(rt;
         shown.as_str(),
         "/ls/c dir 1 0 1 base base base permanent;/ls/c/acl dir 2 0 1 base base base permanent;/ls/c/acl/base file 3 1 1 base base base permanent 8 616e6e0a626f620a;"

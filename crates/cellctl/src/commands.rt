@@ -1,9 +1,10 @@
 //! The command line.
-use crate::scripts::script;
+
 use anyhow::{Context, Result, bail};
 use clap::Command;
 use clap::error::ErrorKind;
 use rows_cell::{ListRecords, Settings};
+use script_cell::script;
 use std::alloc::{AllocError, Global};
 use std::{env, io};
 

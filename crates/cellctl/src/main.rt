@@ -2,15 +2,6 @@
 #![tactic(auto)]
 
 mod commands;
-mod lines;
-#[cfg(test)]
-mod part_tests;
-mod scripts;
-mod steps;
-mod stops;
-#[cfg(test)]
-mod tests;
-mod words;
 
 use std::process::ExitCode;
 

@@ -1,7 +1,7 @@
 use Rattle.std.proofs.Common.{◌<◌, ◌^◌, length, [], ◌∷◌, rules, arith, sym, ap, ◌∙◌}
 use Rattle.std.proofs.lemmas.Fmt.{decimal_injective}
-use Rattle.cellctl.proofs.Contents.{filled_parts, one_byte, length_of_one}
-use Rattle.cellctl.proofs.words.filled.Goals as goal
+use Rattle.script_cell.proofs.Contents.{filled_parts, one_byte, length_of_one}
+use Rattle.script_cell.proofs.words.filled.Goals as goal
 
 pub returns-in_default : goal.returns-in_default
 returns-in_default c = λ bytes h w.

@@ -1,7 +1,7 @@
 use Rattle.std.proofs.Common.{rules, sym, ◌∙◌}
-use Rattle.cellctl.proofs.Contents.{decoded, undecoded, none_found, written_anew}
-use Rattle.cellctl.proofs.Decimals.{other_text}
-use Rattle.cellctl.proofs.words.written.Goals as goal
+use Rattle.script_cell.proofs.Contents.{decoded, undecoded, none_found, written_anew}
+use Rattle.script_cell.proofs.Decimals.{other_text}
+use Rattle.script_cell.proofs.words.written.Goals as goal
 
 pub returns-in_default : goal.returns-in_default
 returns-in_default c = λ bytes h w. undecoded c.args.word.now bytes c.in-Err.fault h w c.in-Err.ensures.err c.in_default.not-OutOfMemory

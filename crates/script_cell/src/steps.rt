@@ -1,6 +1,6 @@
 //! The steps of a script, each of them a line.
 ghost use Rattle.std.specs.Prelude.{◌≡◌, IfOk, IfErr, decimal};
-ghost use Rattle.cellctl.specs.Steps.{IsWordFlaw, RefusesWords, flaw_of};
+ghost use Rattle.script_cell.specs.Steps.{IsWordFlaw, RefusesWords, flaw_of};
 
 use crate::words::{content, mode, number};
 use client_core::{Ask, NodeCall};
@@ -8,12 +8,13 @@ use names_cell::{Component, Name, NameFault, Principal};
 use node_core::Fault;
 use plain::Bytes;
 use std::alloc::{AllocError, Global};
+use std::str;
 use tags_cell::{AclNames, ClientNumber, Create, Disposition, NewNode, Open};
 use world_cell::Step;
 
 /// What a line of a script asks for.
 #[derive(Debug, Drop)]
-pub(crate) enum Parsed {
+pub enum Parsed {
     /// Nothing: the line is blank, or a comment.
     Nothing,
     Step(Step),
@@ -34,7 +35,7 @@ enum Flaw {
 }
 
 impl From<AllocError> for Flaw {
-    ghost use Rattle.cellctl.specs.declared.steps.Flaw.TheVariants.{NoMemory};
+    ghost use Rattle.script_cell.specs.declared.steps.Flaw.TheVariants.{NoMemory};
 
     ghost from_gives = { λ _ e. e ≡ NoMemory };
 
@@ -57,8 +58,19 @@ impl From<NameFault> for Flaw {
 /// The most words that a step has.
 const WORD_LIMIT: usize = 13;
 
+/// Reads a line of bytes, without the LF behind it. What isn't UTF-8 becomes U+FFFD, which no word has: so such a name
+/// or principal isn't one, and any other such word makes the line no step.
+pub fn read_line(alloc: Global, line: &[u8]) -> Result<Parsed, AllocError>
+    ensures { IfOk result RefusesWords }
+{
+    match str::from_utf8(line) {
+        Ok(line) => read_step(alloc, line),
+        Err(_) => read_step(alloc, String::from_utf8_lossy(alloc, line)?.as_str()),
+    }
+}
+
 /// Reads a line, without the LF behind it. Every word is tested for its form before any is refused.
-pub(crate) fn read_step(alloc: Global, line: &str) -> Result<Parsed, AllocError>
+pub fn read_step(alloc: Global, line: &str) -> Result<Parsed, AllocError>
     ensures { IfOk result RefusesWords }
 {
     if line.is_empty() || line.starts_with('#') {

@@ -1,7 +1,7 @@
 //! The words of a step.
 ghost use Rattle.std.specs.Prelude.{◌≡◌, ◌≢◌, ℕ, ◌^◌, ◌<◌, IfSome, IfNone, decimal};
 ghost use Rattle.tags_cell.specs.Modes.{Rights};
-ghost use Rattle.cellctl.specs.Words.{letters_of, HasRight, IsWritten, IsFilled, IsContent, FindsBytes};
+ghost use Rattle.script_cell.specs.Words.{letters_of, HasRight, IsWritten, IsFilled, IsContent, FindsBytes};
 
 use hex::FromHexError;
 use plain::Bytes;
@@ -12,7 +12,7 @@ use tags_cell::Mode;
 const FILL_LIMIT: u64 = 300_000;
 
 /// A number: decimal, without leading zeros, at most 2^64-1.
-pub(crate) fn number(word: &str) -> Option<u64>
+pub fn number(word: &str) -> Option<u64>
     ensures some { IfSome result (λ n. decimal n ≡ word.now) }
     ensures none { IfNone result ((n : ℕ) → n < 2 ^ 64 → decimal n ≢ word.now) }
 {
@@ -27,7 +27,7 @@ pub(crate) fn number(word: &str) -> Option<u64>
 }
 
 /// A mode: some of the letters `rwc` in this order, at least one.
-pub(crate) fn mode(word: &str) -> Option<Mode>
+pub fn mode(word: &str) -> Option<Mode>
     ensures some { IfSome result (λ mode. letters_of mode ≡ word.now) }
     ensures none { IfNone result ((rights : Rights) → HasRight rights → letters_of rights ≢ word.now) }
 {
@@ -45,7 +45,7 @@ pub(crate) fn mode(word: &str) -> Option<Mode>
 
 /// A content: `-` for an empty one, `fill:` with a count, a colon and a byte for so many times this byte, else bytes,
 /// at least one. A byte is two lower case hexadecimal digits.
-pub(crate) fn content(alloc: Global, word: &str) -> Result<Option<Bytes>, AllocError>
+pub fn content(alloc: Global, word: &str) -> Result<Option<Bytes>, AllocError>
     ensures { FindsBytes (IsContent word.now) result }
 {
     if word == "-" {

@@ -1,23 +1,24 @@
 //! Runs a script.
-ghost use Rattle.cellctl.specs.Stops.{IsStatus};
+ghost use Rattle.script_cell.specs.Stops.{IsStatus};
 
 use crate::lines::ScriptLines;
-use crate::steps::{Parsed, read_step};
+use crate::steps::{Parsed, read_line};
 use crate::stops::Stop;
 use node_core::{Fault, Line};
 use plain::Items;
 use rows_cell::{Records, Settings};
 use std::alloc::Global;
-use std::io::{BufWriter, Read, Write};
+use std::io::{self, BufWriter, Read, Write};
 use world_cell::{Step, Turn, World};
 
 /// How many bytes are written at once.
 const WRITE_SIZE: usize = 0x1_0000;
 
 /// Runs a script on a new world over the records: reads its steps, one a line, and writes the lines that they print.
-/// Answers the exit status: 0; 1 at a line that is no step, where the steps before it stand; 4 where memory runs out
-/// outside a step, or the output can't be written. The words of 1 and 4 go to `errors`.
-pub(crate) fn script<R: Records + Drop>(
+/// Answers the exit status: 0; 1 at a line that is no step, where the steps before it stand, and where a line can't be
+/// written; 4 where memory runs out outside a step. The words of it go to `errors`; behind a write that failed there are
+/// none.
+pub fn script<R: Records + Drop>(
     alloc: Global,
     settings: &Settings,
     records: R,
@@ -31,9 +32,17 @@ pub(crate) fn script<R: Records + Drop>(
         Ok(()) => 0,
         Err(stop) => {
             // Where these words can't be written, the status still tells.
-            let _ = writeln!(errors, "{stop}");
+            let _ = write_stop(&mut errors, &stop);
             stop.status()
         }
+    }
+}
+
+fn write_stop(errors: &mut impl Write, stop: &Stop) -> io::Result<()> {
+    match stop {
+        Stop::BadStep(line) => writeln!(errors, "line {line}: bad step"),
+        Stop::NoMemory => writeln!(errors, "out of memory"),
+        Stop::Unwritten => Ok(()),
     }
 }
 
@@ -64,7 +73,7 @@ fn run_lines<R: Records + Drop, I: Read + Drop>(
     let mut delivered = 0;
     for _ in 0..u64::MAX {
         let parsed = match lines.next_line()? {
-            Some(line) => read_step(alloc, line)?,
+            Some(line) => read_line(alloc, line)?,
             None => return Ok(()),
         };
         match parsed {
@@ -109,12 +118,20 @@ fn settle_once<R: Records + Drop>(
     world: &mut World<R>,
     delivered: &mut usize,
 ) -> Result<Turn, Fault> {
-    let Some(step) = world.waiting_behind(*delivered) else {
-        return world.sweep();
-    };
-    let lines = world.step(&step)?;
+    match world.waiting_behind(*delivered) {
+        Some(step) => deliver(world, &step, delivered),
+        None => world.sweep(),
+    }
+}
+
+fn deliver<R: Records + Drop>(
+    world: &mut World<R>,
+    step: &Step,
+    delivered: &mut usize,
+) -> Result<Turn, Fault> {
+    let lines = world.step(step)?;
     if let Step::Take(number) | Step::Give(number) = step {
-        *delivered = number as usize;
+        *delivered = *number as usize;
     }
     Ok(Turn {
         lines,
@@ -125,15 +142,19 @@ fn settle_once<R: Records + Drop>(
 // Writes what a step printed, or its refusal.
 fn write_answer(output: &mut impl Write, answer: Result<Items<Line>, Fault>) -> Result<(), Stop> {
     match answer {
-        Ok(lines) => {
-            for line in lines.as_slice() {
-                writeln!(output, "{line}")?;
-            }
-        }
-        Err(fault) => {
-            let line = Line::Refused(fault);
-            writeln!(output, "{line}")?;
-        }
+        Ok(lines) => write_lines(output, lines.as_slice()),
+        Err(fault) => write_line(output, &Line::Refused(fault)),
     }
+}
+
+fn write_lines(output: &mut impl Write, lines: &[Line]) -> Result<(), Stop> {
+    for line in lines {
+        write_line(output, line)?;
+    }
+    Ok(())
+}
+
+fn write_line(output: &mut impl Write, line: &Line) -> Result<(), Stop> {
+    writeln!(output, "{line}")?;
     Ok(())
 }

@@ -10,8 +10,8 @@ use denote.Ref.{Bor}
 use Rattle.std.proofs.lemmas.Str.Pattern.{IsSplitOnceResult, split_after}
 use Rattle.std.proofs.lemmas.Str.Parse.{not_in_digits}
 use Rattle.std.proofs.lemmas.Fmt.{digits_decimal}
-use Rattle.cellctl.proofs.Decimals.{own}
-use Rattle.cellctl.specs.Words.{IsWritten, IsFilled, IsContent, FindsBytes}
+use Rattle.script_cell.proofs.Decimals.{own}
+use Rattle.script_cell.specs.Words.{IsWritten, IsFilled, IsContent, FindsBytes}
 
 -- bytes that were decoded are those of the text
 pub decoded : (word bytes found : List ℕ) → IsBytes bytes → IsWritten word bytes → decode_of word ≡ Ok found → found ≡ bytes

@@ -1,8 +1,8 @@
 //! The lines of a script.
 use crate::stops::Stop;
 use std::alloc::Global;
+use std::io;
 use std::io::{BufRead, BufReader, ErrorKind, Read};
-use std::{io, str};
 
 /// The most lines of a script.
 const LINE_COUNT_LIMIT: u64 = 1_000_000;
@@ -18,13 +18,13 @@ const READ_SIZE: usize = 0x1_0000;
 
 /// A reader that is read at most so many times more; the next read fails.
 #[derive(Drop)]
-pub(crate) struct Counted<R> {
+pub struct Counted<R> {
     reader: R,
     left: u64,
 }
 
 impl<R> Counted<R> {
-    pub(crate) fn new(reader: R, left: u64) -> Counted<R> {
+    pub fn new(reader: R, left: u64) -> Counted<R> {
         Counted { reader, left }
     }
 }
@@ -61,8 +61,8 @@ impl<R: Read + Drop> ScriptLines<R> {
     }
 
     /// The next line, without its LF; the last one may lack it. None behind the last one. A line that is too long, too
-    /// many, not UTF-8 or can't be read is no step.
-    pub(crate) fn next_line(&mut self) -> Result<Option<&str>, Stop> {
+    /// many or can't be read is no step.
+    pub(crate) fn next_line(&mut self) -> Result<Option<&[u8]>, Stop> {
         self.number = self.number.saturating_add(1);
         if self.fill()? == 0 {
             return Ok(None);
@@ -74,10 +74,7 @@ impl<R: Read + Drop> ScriptLines<R> {
         if self.number > LINE_COUNT_LIMIT || line.len() > LINE_LENGTH_LIMIT {
             return Err(Stop::BadStep(self.number));
         }
-        match str::from_utf8(line) {
-            Ok(line) => Ok(Some(line)),
-            Err(_) => Err(Stop::BadStep(self.number)),
-        }
+        Ok(Some(line))
     }
 
     /// The number of the line that was read last, counted from 1.

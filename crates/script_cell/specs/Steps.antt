@@ -4,10 +4,10 @@ use Rattle.names_cell.specs.declared.faults.NameFault.{NameFault}
 use Rattle.names_cell.specs.declared.faults.NameFault.TheVariants as names
 use Rattle.node_core.specs.declared.refusals.Fault.{Fault}
 use Rattle.node_core.specs.declared.refusals.Fault.TheVariants.{BadName, BadPrincipal, BadAcl}
-use Rattle.cellctl.specs.declared.steps.Parsed.{Parsed}
-use Rattle.cellctl.specs.declared.steps.Parsed.TheVariants as lines
-use Rattle.cellctl.specs.declared.steps.Flaw.{Flaw}
-use Rattle.cellctl.specs.declared.steps.Flaw.TheVariants.{Bad, Refused, NoMemory}
+use Rattle.script_cell.specs.declared.steps.Parsed.{Parsed}
+use Rattle.script_cell.specs.declared.steps.Parsed.TheVariants as lines
+use Rattle.script_cell.specs.declared.steps.Flaw.{Flaw}
+use Rattle.script_cell.specs.declared.steps.Flaw.TheVariants.{Bad, Refused, NoMemory}
 
 -- a word that isn't a name, or isn't a principal
 abbrev pub IsWordFault : Fault → Type 0

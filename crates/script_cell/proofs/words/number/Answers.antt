@@ -1,9 +1,9 @@
 use Rattle.std.proofs.Common.{◌≡◌, ◌≢◌, get_or, codes, lit<, sym, ◌∙◌}
 use Rattle.std.proofs.lemmas.Bool.{true≢false}
 use Rattle.std.proofs.lemmas.Str.Pattern.{starts_char}
-use Rattle.cellctl.proofs.Decimals.{some_number, no_number, no_sign, no_zero, same_text, other_text}
-use Rattle.cellctl.proofs.words.number.Goals as goal
-use Rattle.cellctl.proofs.words.number.Goals.{else-starts_with-2-via-then-starts_with-2+else-ne, else-starts_with-2-via-else-starts_with-2}
+use Rattle.script_cell.proofs.Decimals.{some_number, no_number, no_sign, no_zero, same_text, other_text}
+use Rattle.script_cell.proofs.words.number.Goals as goal
+use Rattle.script_cell.proofs.words.number.Goals.{else-starts_with-2-via-then-starts_with-2+else-ne, else-starts_with-2-via-else-starts_with-2}
 
 pub returns-then-starts_with-clause-none : goal.returns-then-starts_with-clause-none
 returns-then-starts_with-clause-none c =

@@ -1,7 +1,7 @@
 use Rattle.std.proofs.Common.{◌≡◌, ◌++◌, codes, sym, ap, ◌∙◌}
-use Rattle.cellctl.proofs.Contents.{fill_read, bytes_read}
-use Rattle.cellctl.proofs.Decimals.{unlike}
-use Rattle.cellctl.proofs.words.content.Goals as goal
+use Rattle.script_cell.proofs.Contents.{fill_read, bytes_read}
+use Rattle.script_cell.proofs.Decimals.{unlike}
+use Rattle.script_cell.proofs.words.content.Goals as goal
 
 pub returns-in-Some : goal.returns-in-Some
 returns-in-Some c =

@@ -1,0 +1,7 @@
+//! Tests of whole scripts, and of masters and clients by themselves.
+#![tactic(auto)]
+
+#[cfg(test)]
+mod parts;
+#[cfg(test)]
+mod scripts;
