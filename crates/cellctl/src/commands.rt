@@ -1,8 +1,10 @@
 //! The command line.
+ghost use Rattle.std.specs.Prelude.{IfOk};
+ghost use Rattle.cellctl.specs.Exits.{IsExit};
 
 use anyhow::{Context, Result, bail};
 use clap::Command;
-use clap::error::ErrorKind;
+use clap::error::{Error, ErrorKind};
 use rows_cell::{ListRecords, Settings};
 use script_cell::script;
 use std::alloc::{AllocError, Global};
@@ -10,7 +12,9 @@ use std::{env, io};
 
 /// Does what the command line asks for, and answers the exit status: that of the script; 2 for a wrong command line;
 /// 4 where memory runs out before.
-pub(crate) fn run(rt: &HostRuntime) -> u8 {
+pub(crate) fn run(rt: &HostRuntime) -> u8
+    ensures { IsExit result }
+{
     match run_command(rt) {
         Ok(status) => status,
         Err(error) => {
@@ -20,7 +24,9 @@ pub(crate) fn run(rt: &HostRuntime) -> u8 {
     }
 }
 
-fn run_command(rt: &HostRuntime) -> Result<u8> {
+fn run_command(rt: &HostRuntime) -> Result<u8>
+    ensures { IfOk result IsExit }
+{
     let alloc = rt.alloc();
     let words: Vec<String> = env::args(rt)
         .context("reading the command line")?
@@ -34,7 +40,7 @@ fn run_command(rt: &HostRuntime) -> Result<u8> {
                 bail!("out of memory");
             }
             error.print(rt).context("writing to the terminal")?;
-            Ok(error.exit_code() as u8)
+            Ok(exit_of(&error))
         }
     }
 }
@@ -49,8 +55,20 @@ fn cellctl<'a>(alloc: Global) -> Result<Command<'a>, AllocError> {
         .subcommand(run)
 }
 
+// 0 where it was asked for help, else 2.
+fn exit_of(error: &Error) -> u8
+    ensures { IsExit result }
+{
+    match error.exit_code() {
+        0 => 0,
+        _ => 2,
+    }
+}
+
 // A script of standard input, over rows in memory, with the standard settings.
-fn run_script(rt: &HostRuntime) -> Result<u8> {
+fn run_script(rt: &HostRuntime) -> Result<u8>
+    ensures { IfOk result IsExit }
+{
     let alloc = rt.alloc();
     let settings = Settings::standard(alloc).context("making the settings")?;
     let records = ListRecords::new(alloc, &settings).context("making the rows")?;

@@ -1,4 +1,5 @@
 //! Whole scripts, the limits of the reader, and each bad form.
+use crate::comment_of;
 use node_core::Line;
 use plain::Items;
 use rows_cell::{ListRecords, Settings};
@@ -581,23 +582,20 @@ fn not_text(rt: HostRuntime) -> Result<(), Fail> {
     ends(&rt, rt.alloc(), number, 1, "", "line 1: bad step\n")
 }
 
-// A comment of so many bytes, behind a step.
-fn comment_of(alloc: Global, length: usize) -> Result<Vec<u8>, Fail> {
-    let mut text = Vec::new(alloc);
-    text.extend_from_slice(b"up 0\n")?;
-    text.extend_from_slice(vec![in alloc; b'#'; length]?.as_slice())?;
-    text.extend_from_slice(b"\nup 0\n")?;
-    Ok(text)
+// A comment of so many bytes, between two steps.
+fn with_comment(alloc: Global, length: usize) -> Result<String, Fail> {
+    let comment = comment_of(alloc, length)?;
+    Ok(format!(in alloc; "up 0\n{comment}\nup 0\n")?)
 }
 
 #[test]
 fn longest_line(rt: HostRuntime) -> Result<(), Fail> {
-    let fits = comment_of(rt.alloc(), 1_048_576)?;
+    let fits = with_comment(rt.alloc(), 1_048_576)?;
     let lines = "up 1\nrefused 39 MasterUp\n";
-    ends(&rt, rt.alloc(), fits.as_slice(), 0, lines, "")?;
-    let longer = comment_of(rt.alloc(), 1_048_577)?;
+    ends(&rt, rt.alloc(), fits.as_bytes(), 0, lines, "")?;
+    let longer = with_comment(rt.alloc(), 1_048_577)?;
     let words = "line 2: bad step\n";
-    ends(&rt, rt.alloc(), longer.as_slice(), 1, "up 1\n", words)
+    ends(&rt, rt.alloc(), longer.as_bytes(), 1, "up 1\n", words)
 }
 
 #[test]
