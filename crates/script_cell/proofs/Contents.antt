@@ -25,6 +25,9 @@ undecoded word bytes fault h w (inr e) other =
     let both : decode_of word ≡ Ok bytes = ap decode_of w.0 ∙ decode_of-encode_lower bytes h in
     cc
 
+pub are_bytes : (word found bytes : List ℕ) → bytes ≡ found → decode_of word ≡ Ok found → IsBytes bytes
+are_bytes word found bytes same e = subst IsBytes (sym same) (decode_of-ok word found e).3
+
 pub none_found : (found bytes : List ℕ) (count : ℕ) → count ≡ length found → (count == 0) ≡ true → found ≡ bytes → bytes ≡ []
 none_found [] bytes count n e same = sym same
 none_found (b ∷ rest) bytes count n e same =
@@ -65,7 +68,7 @@ module _ {E : Type 0} where
   -- behind `fill:`
   pub fill_read : (word rest : List ℕ) (r : Result (Option (List ℕ)) E) → word ≡ codes "fill:" ++ rest → FindsBytes (IsFilled rest) r → FindsBytes (IsContent word) r
   fill_read word rest (Err e) here h = tt
-  fill_read word rest (Ok (Some bytes)) here h = inr (inl (rest, here, h))
+  fill_read word rest (Ok (Some bytes)) here h = (inr (inl (rest, here, h.0)), h.1)
   fill_read word rest (Ok None) here h = λ bytes b w.
       elim w [
         | inl dash ↦ let both : codes "-" ≡ codes "fill:" ++ rest = sym dash.0 ∙ here in cc
@@ -76,7 +79,7 @@ module _ {E : Type 0} where
   -- without
   pub bytes_read : (word : List ℕ) (r : Result (Option (List ℕ)) E) → word ≢ codes "-" → ((rest : List ℕ) → word ≡ codes "fill:" ++ rest → ⊥) → FindsBytes (IsWritten word) r → FindsBytes (IsContent word) r
   bytes_read word (Err e) dash fill h = tt
-  bytes_read word (Ok (Some bytes)) dash fill h = inr (inr h)
+  bytes_read word (Ok (Some bytes)) dash fill h = (inr (inr h.0), h.1)
   bytes_read word (Ok None) dash fill h = λ bytes b w.
       elim w [
         | inl here ↦ dash here.0

@@ -1,2 +1,5 @@
 mod Contents
 mod Decimals
+mod Lifts
+mod LineWords
+mod Written

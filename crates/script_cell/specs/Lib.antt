@@ -1,3 +1,4 @@
+pub mod Readings
 pub mod Steps
 pub mod Stops
 pub mod Words

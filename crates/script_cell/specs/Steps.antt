@@ -1,29 +1,173 @@
--- What a line that gives no step is refused for.
-use Rattle.std.specs.Prelude.{◌≡◌, ◌⊎◌}
-use Rattle.names_cell.specs.declared.faults.NameFault.{NameFault}
-use Rattle.names_cell.specs.declared.faults.NameFault.TheVariants as names
+-- The lines of a script: the words that write each step.
+use Rattle.std.specs.Prelude.{◌≡◌, ◌⊎◌, ◌&&◌, ◌==◌, ◌<◌, ◌^◌, ℕ, Bool, true, false, List, map, [], ◌∷◌, ◌++◌, codes, decimal, Option, None, Some, if◌then◌else◌}
+use Rattle.std.specs.Borrow.{Bor}
+use Rattle.std.specs.List.{list_any, slice_split}
+use Rattle.hex.specs.Hex.{IsBytes}
+use Rattle.names_cell.specs.Text.{is_component, is_name}
 use Rattle.node_core.specs.declared.refusals.Fault.{Fault}
-use Rattle.node_core.specs.declared.refusals.Fault.TheVariants.{BadName, BadPrincipal, BadAcl}
-use Rattle.script_cell.specs.declared.steps.Parsed.{Parsed}
-use Rattle.script_cell.specs.declared.steps.Parsed.TheVariants as lines
-use Rattle.script_cell.specs.declared.steps.Flaw.{Flaw}
-use Rattle.script_cell.specs.declared.steps.Flaw.TheVariants.{Bad, Refused, NoMemory}
+use Rattle.node_core.specs.declared.refusals.Fault.TheVariants.{BadName, BadPrincipal}
+use Rattle.tags_cell.specs.Numbers.{IsClientNumber}
+use Rattle.tags_cell.specs.declared.calls.AclNames.{AclNames}
+use Rattle.tags_cell.specs.declared.calls.Create.{Create}
+use Rattle.tags_cell.specs.declared.calls.Disposition.{Disposition}
+use Rattle.tags_cell.specs.declared.calls.Disposition.TheVariants.{May, Must}
+use Rattle.tags_cell.specs.declared.calls.NewNode.{NewNode}
+use Rattle.tags_cell.specs.declared.calls.NewNode.TheVariants.{File, Directory}
+use Rattle.tags_cell.specs.declared.calls.Open.{Open}
+use Rattle.client_core.specs.declared.asks.Ask.{Ask}
+use Rattle.client_core.specs.declared.asks.Ask.TheVariants as calls
+use Rattle.client_core.specs.declared.asks.NodeCall.{NodeCall}
+use Rattle.client_core.specs.declared.asks.NodeCall.TheVariants as nodes
+use Rattle.world_cell.specs.declared.steps.Step.{Step}
+use Rattle.world_cell.specs.declared.steps.Step.TheVariants as steps
+use Rattle.script_cell.specs.Words.{letters_of, HasRight, IsContent}
 
--- a word that isn't a name, or isn't a principal
-abbrev pub IsWordFault : Fault → Type 0
-IsWordFault fault = (fault ≡ BadName) ⊎ (fault ≡ BadPrincipal)
+-- a number that a word may write
+abbrev pub IsNumber : ℕ → Type 0
+IsNumber n = n < 2 ^ 64
 
-abbrev pub IsWordFlaw : Flaw → Type 0
-IsWordFlaw Bad = Unit {0}
-IsWordFlaw (Refused fault) = IsWordFault fault
-IsWordFlaw NoMemory = Unit {0}
+-- the content that a word writes
+abbrev pub IsFileContent : List ℕ → List ℕ → Type 0
+IsFileContent word bytes = IsContent word bytes × IsBytes bytes
 
-abbrev pub RefusesWords : Parsed → Type 0
-RefusesWords (lines.Refused fault) = IsWordFault fault
-RefusesWords _ = Unit {0}
+-- the generation that has to be present, where one is given
+abbrev pub WritesGeneration : List (List ℕ) → Option ℕ → Type 0
+WritesGeneration words None = words ≡ []
+WritesGeneration words (Some generation) = (words ≡ decimal generation ∷ []) × IsNumber generation
 
-abbrev pub flaw_of : NameFault → Flaw
-flaw_of names.NoMemory = NoMemory
-flaw_of names.BadName = Refused BadName
-flaw_of names.BadPrincipal = Refused BadPrincipal
-flaw_of names.BadAcl = Refused BadAcl
+-- the words that a slice of texts holds
+abbrev pub texts : List (Bor (List ℕ)) → List (List ℕ)
+texts words = map (λ word. word.now) words
+
+-- any words may stand for names here
+abbrev pub acl_words : AclNames → List (List ℕ)
+acl_words acls = acls.read ∷ (acls.write ∷ (acls.change ∷ []))
+
+-- the ACL names of a new node, which may be left out
+abbrev pub new_acl_words : Option AclNames → List (List ℕ)
+new_acl_words None = []
+new_acl_words (Some acls) = codes "acl" ∷ acl_words acls
+
+abbrev pub disposition_word : Disposition → List ℕ
+disposition_word May = codes "may"
+disposition_word Must = codes "must"
+
+-- the node that an `open` makes: the word of its kind, and the words behind `permanent`
+abbrev pub WritesNode : List ℕ → List (List ℕ) → NewNode → Option AclNames → Type 0
+WritesNode kind rest (File bytes) acls = (kind ≡ codes "file") × ((content : List ℕ) × (rest ≡ content ∷ new_acl_words acls) × IsFileContent content bytes)
+WritesNode kind rest Directory acls = (kind ≡ codes "dir") × (rest ≡ new_acl_words acls)
+
+abbrev pub WritesMade : List ℕ → List ℕ → List (List ℕ) → Create → Type 0
+WritesMade word kind rest create = (disposition_word create.disposition ≡ word) × WritesNode kind rest create.node create.acls
+
+abbrev pub WritesPermanent : List ℕ → List (List ℕ) → Create → Type 0
+WritesPermanent word words create = (kind : List ℕ) × (rest : List (List ℕ)) × (words ≡ kind ∷ (codes "permanent" ∷ rest)) × WritesMade word kind rest create
+
+-- what an `open` makes: nothing, or a permanent node
+abbrev pub WritesCreate : List (List ℕ) → Option Create → Type 0
+WritesCreate words None = words ≡ []
+WritesCreate words (Some create) =
+    (word : List ℕ) × (rest : List (List ℕ)) × (words ≡ word ∷ rest) × WritesPermanent word rest create
+
+abbrev pub WritesOpen : List (List ℕ) → Open → Type 0
+WritesOpen words opening =
+    (create : List (List ℕ)) × (words ≡ opening.name ∷ (letters_of opening.mode ∷ create)) × (HasRight opening.mode × WritesCreate create opening.create)
+
+-- one number
+abbrev pub WritesNumber : List (List ℕ) → ℕ → Type 0
+WritesNumber words n = (words ≡ decimal n ∷ []) × IsNumber n
+
+-- the word of a call on a node, and the words behind its handle
+abbrev pub WritesNodeCall : List ℕ → List (List ℕ) → NodeCall → Type 0
+WritesNodeCall word rest nodes.Read = (word ≡ codes "read") × (rest ≡ [])
+WritesNodeCall word rest nodes.Stat = (word ≡ codes "stat") × (rest ≡ [])
+WritesNodeCall word rest nodes.List = (word ≡ codes "list") × (rest ≡ [])
+WritesNodeCall word rest nodes.Delete = (word ≡ codes "delete") × (rest ≡ [])
+WritesNodeCall word rest (nodes.Set bytes generation) =
+    (word ≡ codes "set") × ((content : List ℕ) × (last : List (List ℕ)) × (rest ≡ content ∷ last) × (IsFileContent content bytes × WritesGeneration last generation))
+WritesNodeCall word rest (nodes.SetAcl acls generation) =
+    (word ≡ codes "acl") × ((last : List (List ℕ)) × (rest ≡ acl_words acls ++ last) × WritesGeneration last generation)
+
+abbrev pub WritesHandleCall : List ℕ → List (List ℕ) → ℕ → NodeCall → Type 0
+WritesHandleCall word words handle call = (rest : List (List ℕ)) × (words ≡ decimal handle ∷ rest) × (IsNumber handle × WritesNodeCall word rest call)
+
+abbrev pub IsHandleCall : List ℕ → List (List ℕ) → Ask → Type 0
+IsHandleCall word words (calls.Node handle call) = WritesHandleCall word words handle call
+IsHandleCall word words _ = ⊥
+
+-- the word of a call, and the words behind it
+abbrev pub WritesCall : List ℕ → List (List ℕ) → Ask → Type 0
+WritesCall word rest (calls.Open opening) = (word ≡ codes "open") × WritesOpen rest opening
+WritesCall word rest (calls.Close handle) = (word ≡ codes "close") × WritesNumber rest handle
+WritesCall word rest (calls.Poison handle) = (word ≡ codes "poison") × WritesNumber rest handle
+WritesCall word rest (calls.Node handle call) = WritesHandleCall word rest handle call
+
+-- a client, the word of a call, and the words behind it
+abbrev pub WritesAsk : List (List ℕ) → ℕ → Ask → Type 0
+WritesAsk words client call = (word : List ℕ) × (rest : List (List ℕ)) × (words ≡ decimal client ∷ (word ∷ rest)) × (IsNumber client × WritesCall word rest call)
+
+-- the word of a step, and the words behind it
+abbrev pub WritesStep : List ℕ → List (List ℕ) → Step → Type 0
+WritesStep word rest (steps.Up moment) = (word ≡ codes "up") × WritesNumber rest moment
+WritesStep word rest (steps.Join client principal) = (word ≡ codes "join") × ((rest ≡ decimal client ∷ (principal ∷ [])) × IsClientNumber client)
+WritesStep word rest (steps.Ask client call) = (word ≡ codes "ask") × WritesAsk rest client call
+WritesStep word rest (steps.Beat client) = (word ≡ codes "beat") × WritesNumber rest client
+WritesStep word rest (steps.Take message) = (word ≡ codes "take") × WritesNumber rest message
+WritesStep word rest (steps.Give message) = (word ≡ codes "give") × WritesNumber rest message
+WritesStep word rest steps.Sweep = (word ≡ codes "sweep") × (rest ≡ [])
+
+abbrev pub WritesWords : List (List ℕ) → Step → Type 0
+WritesWords [] step = ⊥
+WritesWords (word ∷ rest) step = WritesStep word rest step
+
+abbrev pub is_space : ℕ → Bool
+is_space b = b == 32
+
+abbrev pub is_blank : List ℕ → Bool
+is_blank [] = true
+is_blank (b ∷ bs) = false
+
+-- the words stand behind one another with one space between
+abbrev pub WritesLine : List ℕ → Step → Type 0
+WritesLine line step = (list_any is_blank (slice_split is_space line) ≡ false) × WritesWords (slice_split is_space line) step
+
+-- a blank line, or a comment
+abbrev pub IsSkipped : List ℕ → Type 0
+IsSkipped line = (line ≡ []) ⊎ ((rest : List ℕ) × (line ≡ codes "#" ++ rest))
+
+abbrev pub fault_unless : Bool → Fault → Option Fault
+fault_unless right fault = if right then None else Some fault
+
+-- a word that stands for an ACL name and is none
+abbrev pub acls_fault : AclNames → Option Fault
+acls_fault acls = fault_unless (is_component acls.read && is_component acls.write && is_component acls.change) BadName
+
+abbrev pub new_acls_fault : Option AclNames → Option Fault
+new_acls_fault None = None
+new_acls_fault (Some acls) = acls_fault acls
+
+abbrev pub made_fault : Create → Option Fault
+made_fault create = new_acls_fault create.acls
+
+abbrev pub create_fault : Option Create → Option Fault
+create_fault None = None
+create_fault (Some create) = made_fault create
+
+abbrev pub open_fault : Open → Option Fault
+open_fault opening = if is_name opening.name then create_fault opening.create else Some BadName
+
+abbrev pub node_call_fault : NodeCall → Option Fault
+node_call_fault (nodes.SetAcl acls generation) = acls_fault acls
+node_call_fault _ = None
+
+-- a word that stands for a name or an ACL name and is none
+abbrev pub call_fault : Ask → Option Fault
+call_fault (calls.Open opening) = open_fault opening
+call_fault (calls.Node handle call) = node_call_fault call
+call_fault _ = None
+
+-- what a step of the right form is refused for, before every other refusal: a name in it, or its principal, that is none
+abbrev pub step_fault : Step → Option Fault
+step_fault (steps.Join client principal) = fault_unless (is_component principal) BadPrincipal
+step_fault (steps.Ask client call) = call_fault call
+step_fault _ = None

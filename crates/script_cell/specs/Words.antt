@@ -32,4 +32,4 @@ IsContent word bytes =
 
 -- where memory is there: bytes that fit, or none where no bytes fit
 abbrev pub FindsBytes : {E : Type 0} → (List ℕ → Type 0) → Result (Option (List ℕ)) E → Type 0
-FindsBytes Fits result = IfOk result (λ found. MatchOption found ((bytes : List ℕ) → IsBytes bytes → ¬ (Fits bytes)) (λ bytes. Fits bytes))
+FindsBytes Fits result = IfOk result (λ found. MatchOption found ((bytes : List ℕ) → IsBytes bytes → ¬ (Fits bytes)) (λ bytes. Fits bytes × IsBytes bytes))

@@ -1,4 +1,8 @@
 //! The lines of a script.
+ghost use Rattle.std.specs.Prelude.{◌≡◌, ◌+◌, ◌<◌, IsErr};
+ghost use Rattle.std.specs.Io.{ReadsAtMost};
+ghost use Rattle.std.specs.Io.KnownBytes.{ReadConsumes};
+
 use crate::stops::Stop;
 use std::alloc::Global;
 use std::io;
@@ -24,13 +28,25 @@ pub struct Counted<R> {
 }
 
 impl<R> Counted<R> {
-    pub fn new(reader: R, left: u64) -> Counted<R> {
+    /// This reader, and how often it may be read.
+    pub fn new(reader: R, left: u64) -> Counted<R>
+        ensures reader { result.reader ≡ reader }
+        ensures left { result.left ≡ left }
+    {
         Counted { reader, left }
     }
 }
 
 impl<R: Read> Read for Counted<R> {
-    fn read(&mut self, buf: &mut [u8]) -> io::Result<usize> {
+    ghost remaining = { λ counted. R.remaining counted.reader };
+
+    // Each read counts, also one that fails. With none left, the reader isn't read.
+    fn read(&mut self, buf: &mut [u8]) -> io::Result<usize>
+        ensures bound { ReadsAtMost result buf.new }
+        ensures bytes { ReadConsumes (R.remaining self.old.reader) (R.remaining self.new.reader) result buf.new }
+        ensures spent { self.old.left ≡ 0 → (IsErr result × (self.new ≡ self.old)) }
+        ensures left { 0 < self.old.left → self.new.left + 1 ≡ self.old.left }
+    {
         if self.left == 0 {
             return Err(io::Error::other("too many reads"));
         }

@@ -1,6 +1,8 @@
 //! The steps of a script, each of them a line.
-ghost use Rattle.std.specs.Prelude.{◌≡◌, IfOk, IfErr, decimal};
-ghost use Rattle.script_cell.specs.Steps.{IsWordFlaw, RefusesWords, flaw_of};
+ghost use Rattle.std.specs.Prelude.{◌≡◌, ◌∷◌, [], codes, IfOk, decimal, None};
+ghost use Rattle.std.specs.Str.Lossy.{utf8_lossy};
+ghost use Rattle.script_cell.specs.Steps.{WritesLine, WritesStep, WritesCall, WritesOpen, WritesCreate, WritesPermanent, WritesMade, WritesNumber, WritesNodeCall, WritesGeneration, IsHandleCall, IsFileContent, IsNumber, acl_words, new_acl_words, disposition_word, texts, step_fault, call_fault, open_fault, create_fault, made_fault, new_acls_fault, acls_fault, node_call_fault};
+ghost use Rattle.script_cell.specs.Readings.{Reads, IsParsed, flaw_of};
 
 use crate::words::{content, mode, number};
 use client_core::{Ask, NodeCall};
@@ -61,7 +63,7 @@ const WORD_LIMIT: usize = 13;
 /// Reads a line of bytes, without the LF behind it. What isn't UTF-8 becomes U+FFFD, which no word has: so such a name
 /// or principal isn't one, and any other such word makes the line no step.
 pub fn read_line(alloc: Global, line: &[u8]) -> Result<Parsed, AllocError>
-    ensures { IfOk result RefusesWords }
+    ensures { IfOk result (IsParsed (utf8_lossy line.now)) }
 {
     match str::from_utf8(line) {
         Ok(line) => read_step(alloc, line),
@@ -71,7 +73,7 @@ pub fn read_line(alloc: Global, line: &[u8]) -> Result<Parsed, AllocError>
 
 /// Reads a line, without the LF behind it. Every word is tested for its form before any is refused.
 pub fn read_step(alloc: Global, line: &str) -> Result<Parsed, AllocError>
-    ensures { IfOk result RefusesWords }
+    ensures { IfOk result (IsParsed line.now) }
 {
     if line.is_empty() || line.starts_with('#') {
         return Ok(Parsed::Nothing);
@@ -87,90 +89,146 @@ pub fn read_step(alloc: Global, line: &str) -> Result<Parsed, AllocError>
     }
 }
 
-// The words stand behind one another with one space between.
+// The words stand behind one another with one space between. A word more than a step has tells of too many.
 fn step_of_line(alloc: Global, line: &str) -> Result<Step, Flaw>
-    ensures { IfErr result IsWordFlaw }
+    ensures { Reads (WritesLine line.now) step_fault result }
 {
-    let mut words = [""; WORD_LIMIT];
-    let mut count = 0;
-    for word in line.split(' ') {
-        if word.is_empty() || count >= WORD_LIMIT {
-            return Err(Flaw::Bad);
-        }
-        words[count] = word;
-        count += 1;
+    let words: Vec<&str> = line.split(' ').take(WORD_LIMIT + 1).collect(alloc)?;
+    if words.iter().any(|word| word.is_empty()) {
+        return Err(Flaw::Bad);
     }
-    step_of(alloc, &words[..count])
+    match words.as_slice() {
+        [word, rest @ ..] => step_of(alloc, word, rest),
+        [] => Err(Flaw::Bad),
+    }
 }
 
-fn step_of(alloc: Global, words: &[&str]) -> Result<Step, Flaw>
-    ensures { IfErr result IsWordFlaw }
+fn step_of(alloc: Global, word: &str, rest: &[&str]) -> Result<Step, Flaw>
+    ensures { Reads (WritesStep word.now (texts rest.now)) step_fault result }
 {
-    match words {
-        ["up", moment] => Ok(Step::Up(number_of(moment)?)),
-        ["join", client, principal] => join(alloc, client, principal),
-        ["ask", client, call @ ..] => Ok(Step::Ask(number_of(client)?, ask(alloc, call)?)),
-        ["beat", client] => Ok(Step::Beat(number_of(client)?)),
-        ["take", message] => Ok(Step::Take(number_of(message)?)),
-        ["give", message] => Ok(Step::Give(number_of(message)?)),
-        ["sweep"] => Ok(Step::Sweep),
+    match word {
+        "up" => Ok(Step::Up(only_number(rest)?)),
+        "join" => join(alloc, rest),
+        "ask" => asked(alloc, rest),
+        "beat" => Ok(Step::Beat(only_number(rest)?)),
+        "take" => Ok(Step::Take(only_number(rest)?)),
+        "give" => Ok(Step::Give(only_number(rest)?)),
+        "sweep" if rest.is_empty() => Ok(Step::Sweep),
         _ => Err(Flaw::Bad),
     }
 }
 
-fn join(alloc: Global, client: &str, principal: &str) -> Result<Step, Flaw>
-    ensures { IfErr result IsWordFlaw }
+// One number, and no word more.
+fn only_number(words: &[&str]) -> Result<u64, Flaw>
+    ensures { Reads (WritesNumber (texts words.now)) (λ _. None) result }
 {
-    let client = ClientNumber::new(number_of(client)?).ok_or(Flaw::Bad)?;
+    match words {
+        [number] => number_of(number),
+        _ => Err(Flaw::Bad),
+    }
+}
+
+fn join(alloc: Global, words: &[&str]) -> Result<Step, Flaw>
+    ensures { Reads (WritesStep (codes "join") (texts words.now)) step_fault result }
+{
+    let [client, principal] = words else {
+        return Err(Flaw::Bad);
+    };
+    let Some(client) = ClientNumber::new(number_of(client)?) else {
+        return Err(Flaw::Bad);
+    };
     Ok(Step::Join(client, Principal::parse(alloc, principal)?))
 }
 
-fn ask(alloc: Global, call: &[&str]) -> Result<Ask, Flaw>
-    ensures { IfErr result IsWordFlaw }
+fn asked(alloc: Global, words: &[&str]) -> Result<Step, Flaw>
+    ensures { Reads (WritesStep (codes "ask") (texts words.now)) step_fault result }
 {
-    match call {
-        ["open", name, mode, create @ ..] => open(alloc, name, mode, create),
-        ["close", handle] => Ok(Ask::Close(number_of(handle)?)),
-        ["poison", handle] => Ok(Ask::Poison(number_of(handle)?)),
-        [call, handle, words @ ..] => {
-            let handle = number_of(handle)?;
-            Ok(Ask::Node(handle, node_call(alloc, call, words)?))
-        }
+    let [client, word, rest @ ..] = words else {
+        return Err(Flaw::Bad);
+    };
+    let client = number_of(client)?;
+    Ok(Step::Ask(client, call_of(alloc, word, rest)?))
+}
+
+fn call_of(alloc: Global, word: &str, rest: &[&str]) -> Result<Ask, Flaw>
+    ensures { Reads (WritesCall word.now (texts rest.now)) call_fault result }
+{
+    match word {
+        "open" => Ok(Ask::Open(open(alloc, rest)?)),
+        "close" => Ok(Ask::Close(only_number(rest)?)),
+        "poison" => Ok(Ask::Poison(only_number(rest)?)),
+        _ => handle_call(alloc, word, rest),
+    }
+}
+
+fn open(alloc: Global, words: &[&str]) -> Result<Open, Flaw>
+    ensures { Reads (WritesOpen (texts words.now)) open_fault result }
+{
+    let [name, letters, create @ ..] = words else {
+        return Err(Flaw::Bad);
+    };
+    let Some(mode) = mode(letters) else {
+        return Err(Flaw::Bad);
+    };
+    let create = create_of(alloc, create)?;
+    let name = Name::parse(alloc, name)?;
+    Ok(Open { name, mode, create })
+}
+
+// What an Open makes: a disposition, a permanent node and its ACL names. Without words it makes nothing.
+fn create_of(alloc: Global, words: &[&str]) -> Result<Option<Create>, Flaw>
+    ensures { Reads (WritesCreate (texts words.now)) create_fault result }
+{
+    match words {
+        [] => Ok(None),
+        [word, rest @ ..] => Ok(Some(permanent_of(alloc, word, rest)?)),
+    }
+}
+
+fn permanent_of(alloc: Global, word: &str, words: &[&str]) -> Result<Create, Flaw>
+    ensures { Reads (WritesPermanent word.now (texts words.now)) made_fault result }
+{
+    let [kind, permanence, rest @ ..] = words else {
+        return Err(Flaw::Bad);
+    };
+    if *permanence != "permanent" {
+        return Err(Flaw::Bad);
+    }
+    made_of(alloc, word, kind, rest)
+}
+
+fn made_of(alloc: Global, word: &str, kind: &str, rest: &[&str]) -> Result<Create, Flaw>
+    ensures { Reads (WritesMade word.now kind.now (texts rest.now)) made_fault result }
+{
+    let disposition = disposition_of(word)?;
+    match kind {
+        "file" => file_of(alloc, disposition, rest),
+        "dir" => Ok(Create {
+            disposition,
+            node: NewNode::Directory,
+            acls: new_acls(alloc, rest)?,
+        }),
         _ => Err(Flaw::Bad),
     }
 }
 
-fn open(alloc: Global, name: &str, letters: &str, create: &[&str]) -> Result<Ask, Flaw>
-    ensures { IfErr result IsWordFlaw }
+// A file of a content.
+fn file_of(alloc: Global, disposition: Disposition, words: &[&str]) -> Result<Create, Flaw>
+    ensures { Reads (WritesMade (disposition_word disposition) (codes "file") (texts words.now)) made_fault result }
 {
-    let mode = mode(letters).ok_or(Flaw::Bad)?;
-    let create = create_of(alloc, create)?;
-    let name = Name::parse(alloc, name)?;
-    Ok(Ask::Open(Open { name, mode, create }))
-}
-
-// What an Open makes: a disposition, a node and its ACL names. Without words it makes nothing.
-fn create_of(alloc: Global, words: &[&str]) -> Result<Option<Create>, Flaw>
-    ensures { IfErr result IsWordFlaw }
-{
-    let (disposition, node, acls) = match words {
-        [] => return Ok(None),
-        [disposition, "file", "permanent", content, acls @ ..] => {
-            let content = content_of(alloc, content)?;
-            (disposition, NewNode::File(content), acls)
-        }
-        [disposition, "dir", "permanent", acls @ ..] => (disposition, NewNode::Directory, acls),
-        _ => return Err(Flaw::Bad),
+    let [content, acls @ ..] = words else {
+        return Err(Flaw::Bad);
     };
-    Ok(Some(Create {
-        disposition: disposition_of(disposition)?,
-        node,
+    let content = content_of(alloc, content)?;
+    Ok(Create {
+        disposition,
+        node: NewNode::File(content),
         acls: new_acls(alloc, acls)?,
-    }))
+    })
 }
 
 fn disposition_of(word: &str) -> Result<Disposition, Flaw>
-    ensures { IfErr result IsWordFlaw }
+    ensures { Reads (λ disposition. disposition_word disposition ≡ word.now) (λ _. None) result }
 {
     match word {
         "may" => Ok(Disposition::May),
@@ -181,7 +239,7 @@ fn disposition_of(word: &str) -> Result<Disposition, Flaw>
 
 // The ACL names of a new node. Without words it takes those of its parent.
 fn new_acls(alloc: Global, words: &[&str]) -> Result<Option<AclNames>, Flaw>
-    ensures { IfErr result IsWordFlaw }
+    ensures { Reads (λ acls. new_acl_words acls ≡ texts words.now) new_acls_fault result }
 {
     match words {
         [] => Ok(None),
@@ -191,7 +249,7 @@ fn new_acls(alloc: Global, words: &[&str]) -> Result<Option<AclNames>, Flaw>
 }
 
 fn acl_names(alloc: Global, read: &str, write: &str, change: &str) -> Result<AclNames, Flaw>
-    ensures { IfErr result IsWordFlaw }
+    ensures { Reads (λ acls. acl_words acls ≡ read.now ∷ (write.now ∷ (change.now ∷ []))) acls_fault result }
 {
     Ok(AclNames {
         read: Component::parse(alloc, read)?,
@@ -200,9 +258,20 @@ fn acl_names(alloc: Global, read: &str, write: &str, change: &str) -> Result<Acl
     })
 }
 
+// A call on the node of a handle.
+fn handle_call(alloc: Global, word: &str, words: &[&str]) -> Result<Ask, Flaw>
+    ensures { Reads (IsHandleCall word.now (texts words.now)) call_fault result }
+{
+    let [handle, rest @ ..] = words else {
+        return Err(Flaw::Bad);
+    };
+    let handle = number_of(handle)?;
+    Ok(Ask::Node(handle, node_call(alloc, word, rest)?))
+}
+
 // A call on a node, and the words behind the handle.
 fn node_call(alloc: Global, call: &str, words: &[&str]) -> Result<NodeCall, Flaw>
-    ensures { IfErr result IsWordFlaw }
+    ensures { Reads (WritesNodeCall call.now (texts words.now)) node_call_fault result }
 {
     match (call, words) {
         ("read", []) => Ok(NodeCall::Read),
@@ -224,7 +293,7 @@ fn node_call(alloc: Global, call: &str, words: &[&str]) -> Result<NodeCall, Flaw
 
 // The generation that has to be present, where one is given.
 fn generation_of(words: &[&str]) -> Result<Option<u64>, Flaw>
-    ensures { IfErr result IsWordFlaw }
+    ensures { Reads (WritesGeneration (texts words.now)) (λ _. None) result }
 {
     match words {
         [] => Ok(None),
@@ -234,14 +303,16 @@ fn generation_of(words: &[&str]) -> Result<Option<u64>, Flaw>
 }
 
 fn content_of(alloc: Global, word: &str) -> Result<Bytes, Flaw>
-    ensures { IfErr result IsWordFlaw }
+    ensures { Reads (IsFileContent word.now) (λ _. None) result }
 {
-    content(alloc, word)?.ok_or(Flaw::Bad)
+    match content(alloc, word)? {
+        Some(content) => Ok(content),
+        None => Err(Flaw::Bad),
+    }
 }
 
 fn number_of(word: &str) -> Result<u64, Flaw>
-    ensures flaw { IfErr result IsWordFlaw }
-    ensures number { IfOk result (λ n. decimal n ≡ word.now) }
+    ensures { Reads (λ n. (decimal n ≡ word.now) × IsNumber n) (λ _. None) result }
 {
     number(word).ok_or(Flaw::Bad)
 }

@@ -28,7 +28,7 @@ pub fn number(word: &str) -> Option<u64>
 
 /// A mode: some of the letters `rwc` in this order, at least one.
 pub fn mode(word: &str) -> Option<Mode>
-    ensures some { IfSome result (λ mode. letters_of mode ≡ word.now) }
+    ensures some { IfSome result (λ mode. (letters_of mode ≡ word.now) × HasRight mode) }
     ensures none { IfNone result ((rights : Rights) → HasRight rights → letters_of rights ≢ word.now) }
 {
     match word {

@@ -29,4 +29,4 @@ pub returns-then-byte-ne1 : goal.returns-then-byte-ne1
 returns-then-byte-ne1 c = λ bytes h w.
     let parts = rw c.in-Some.is at (filled_parts c.args.word.now bytes w c.split_once.result c.split_once.ensures.cases) in
     let written = rw c.in-Some-2.is at c.in_ok-byte.ensures in
-    c.if-byte-ne1.true (ap length c.as_slice-byte.ensures ∙ length_of_one c.in-Some.byte.now c.in-Some-2.byte w.byte written.0 parts.1)
+    c.if-byte-ne1.true (ap length c.as_slice-byte.ensures ∙ length_of_one c.in-Some.byte.now c.in-Some-2.byte w.byte written.0.0 parts.1)

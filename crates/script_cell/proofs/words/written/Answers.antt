@@ -1,5 +1,5 @@
 use Rattle.std.proofs.Common.{rules, sym, ◌∙◌}
-use Rattle.script_cell.proofs.Contents.{decoded, undecoded, none_found, written_anew}
+use Rattle.script_cell.proofs.Contents.{decoded, undecoded, none_found, written_anew, are_bytes}
 use Rattle.script_cell.proofs.Decimals.{other_text}
 use Rattle.script_cell.proofs.words.written.Goals as goal
 
@@ -16,3 +16,6 @@ returns-then-ne c = λ bytes h w.
     let same = decoded c.args.word.now bytes c.in-Ok.bytes.items h w c.in-Ok.ensures.ok in
     other_text c.as_str.result.now c.args.word.now c.ne.result c.ne.ensures c.if-ne.true
     (written_anew c.args.word.now bytes c.in-Ok.bytes.items c.as_slice.result.now _ c.as_str.result.now w same c.as_slice.ensures.value c.in_ok-text.ensures c.as_str.ensures.value)
+
+pub returns : goal.returns
+returns c = ((search rules, search rules), are_bytes c.args.word.now c.in-Ok.bytes.items c.in_ok-from_vec.field-0 (search rules) c.in-Ok.ensures.ok)
