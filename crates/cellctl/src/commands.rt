@@ -8,7 +8,11 @@ use clap::error::{Error, ErrorKind};
 use rows_cell::{ListRecords, Settings};
 use script_cell::script;
 use std::alloc::{AllocError, Global};
-use std::{env, io};
+use std::env;
+use std::io::BufWriter;
+
+/// How many bytes are written at once.
+const WRITE_SIZE: usize = 0x1_0000;
 
 /// Does what the command line asks for, and answers the exit status: that of the script; 2 for a wrong command line;
 /// 4 where memory runs out before.
@@ -72,12 +76,15 @@ fn run_script(rt: &HostRuntime) -> Result<u8>
     let alloc = rt.alloc();
     let settings = Settings::standard(alloc).context("making the settings")?;
     let records = ListRecords::new(alloc, &settings).context("making the rows")?;
+    let mut output = BufWriter::with_capacity(alloc, WRITE_SIZE, rt.stdout()).context(
+        "making room for the output",
+    )?;
     Ok(script(
         alloc,
         &settings,
         records,
         rt.reader(),
-        rt.stdout(),
+        &mut output,
         rt.stderr(),
     ))
 }

@@ -1,5 +1,6 @@
 mod Contents
 mod Decimals
+mod Doings
 mod Lifts
 mod LineWords
 mod Written

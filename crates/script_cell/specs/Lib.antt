@@ -1,4 +1,5 @@
 pub mod Readings
+pub mod Scripts
 pub mod Steps
 pub mod Stops
 pub mod Words

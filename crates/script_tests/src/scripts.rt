@@ -665,7 +665,8 @@ fn write_that_fails(rt: HostRuntime) -> Result<(), Fail> {
     let records = ListRecords::new(alloc, &settings)?;
     let mut errors = Vec::new(alloc);
     let steps = b"up 0\n".as_slice();
-    let status = script(alloc, &settings, records, steps, Shut, &mut errors);
+    let mut shut = Shut;
+    let status = script(alloc, &settings, records, steps, &mut shut, &mut errors);
     assert_eq!(rt; status, 1);
     assert!(rt; errors.is_empty());
     Ok(())
