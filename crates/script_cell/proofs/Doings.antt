@@ -1,25 +1,24 @@
 -- What is done and written, step behind step.
-use Rattle.std.proofs.Common.{◌≡◌, ◌⊎◌, inl, inr, ◌∷◌, [], ◌++◌, ◌≤◌, ◌<◌, ◌+◌, suc, List, ℕ, Bool, true, false, length, take, take-suc, slice_index_or, Option, None, Some, Result, Ok, Err, refl, sym, ap, subst, arith, ◌∙◌}
-use Rattle.std.specs.Prelude.{IfOk, IfErr, OnOk, OnErr, is_some, ◌&&◌}
-use Rattle.std.specs.Result.{IsErr, IsErrAnd}
-use Rattle.std.specs.List.{list_all}
-use Rattle.std.specs.Io.KnownBytes.{Appends, Keeps}
-use Rattle.std.proofs.lemmas.List.{append-nil, append_assoc, take_all}
+use Rattle.std.proofs.Common.{◌≡◌, ◌⊎◌, inl, inr, ◌∷◌, [], ◌++◌, ◌≤◌, ◌<◌, ◌+◌, zero, suc, List, ℕ, Bool, true, false, length, take, take-suc, slice_index_or, Option, None, Some, Result, Ok, Err, refl, sym, ap, subst, arith, ◌∙◌}
+use Rattle.std.specs.Prelude.{OnOk, is_some, not, ◌&&◌}
+use Rattle.std.specs.Io.KnownBytes.{Appends, Keeps, IsAtEnd}
+use Rattle.std.specs.Str.Lossy.{utf8_lossy}
+use Rattle.std.proofs.lemmas.List.{append-nil, append_assoc, length-append, take_all}
 use Rattle.node_core.specs.declared.refusals.Fault.{Fault}
 use Rattle.node_core.specs.declared.refusals.Fault.TheVariants.{MasterDown}
 use Rattle.node_core.specs.declared.lines.Line.{Line}
 use Rattle.node_core.specs.declared.lines.Line.TheVariants as lines
 use Rattle.node_core.specs.Texts.{line_text}
-use Rattle.world_cell.specs.declared.steps.Step.{Step}
-use Rattle.world_cell.specs.declared.steps.Step.TheVariants as steps
 use Rattle.world_cell.specs.declared.worlds.Turn.{Turn}
-use Rattle.world_cell.specs.World.{WorldState, world_step, world_sweep, without_quiet, IsOutside}
-use Rattle.world_cell.specs.Runs.{Does, Run}
-use Rattle.std.specs.Str.Lossy.{utf8_lossy}
+use Rattle.world_cell.specs.Messages.{first_waiting}
+use Rattle.world_cell.specs.World.{WorldState, IsOutside}
 use Rattle.script_cell.specs.declared.steps.Parsed.{Parsed}
 use Rattle.script_cell.specs.declared.steps.Parsed.TheVariants as parsed
 use Rattle.script_cell.specs.Readings.{IsParsed}
-use Rattle.script_cell.specs.Scripts.{lines_text, is_settling, Settles, DoesParsed, DoesLine, DoesLines, IsOfScript, Wrote}
+use Rattle.script_cell.specs.Settling.{settle_turn, Turns, TakesTurn, SettlesBy, Settles}
+use Rattle.script_cell.specs.Texts.{Reading, Advances}
+use Rattle.script_cell.specs.Scripts.{lines_text, DoesParsed, DoesLine, DoesLines, IsOfPart, IsOfScript, Wrote}
+use Rattle.script_cell.proofs.FirstLines.{passes_none, passes_more, passes_all}
 
 -- ---- bytes
 
@@ -54,114 +53,104 @@ pub wrote_then : (P Q R : List Line → Type 0) (a b c : Option (List ℕ)) → 
 wrote_then P Q R a b c join h k =
     (h.0 ++ k.0, join h.0 k.0 h.1 k.1, subst (Appends a c) (sym (both_texts h.0 k.0)) (appends_then a b c (lines_text h.0) (lines_text k.0) h.2 k.2))
 
--- ---- steps
+pub wrote_none : (P : List Line → Type 0) (a : Option (List ℕ)) → P [] → Wrote P a a
+wrote_none P a h = ([], h, appends_none a)
 
-run_both : (old mid new : WorldState) (a b : List Step) (front back : List Line) → Run old a front mid → Run mid b back new → Run old (a ++ b) (front ++ back) new
-run_both old mid new [] b front back h k =
-    subst (λ w. Run w b (front ++ back) new) h.1 (subst (λ printed. Run mid b printed new) (ap (λ x. x ++ back) (sym h.0)) k)
-run_both old mid new (step ∷ a) b front back h k =
-    (h.0, h.1, h.2 ++ back, h.3, run_both h.0 mid new a b h.2 back h.4 k, ap (λ x. x ++ back) h.5 ∙ append_assoc h.1 h.2 back)
+pub wrote_as : (P Q : List Line → Type 0) (a b : Option (List ℕ)) → ((printed : List Line) → P printed → Q printed) → Wrote P a b → Wrote Q a b
+wrote_as P Q a b gives h = (h.0, gives h.0 h.1, h.2)
 
-first_and : (x y z : Bool) → (x && y) ≡ true → (y ≡ true → z ≡ true) → (x && z) ≡ true
-first_and true y z h k = k h
-first_and false y z h k = cc
+-- ---- settle
 
-all_both : (a b : List Step) → list_all is_settling a ≡ true → list_all is_settling b ≡ true → list_all is_settling (a ++ b) ≡ true
-all_both [] b h k = k
-all_both (step ∷ a) b h k = first_and (is_settling step) (list_all is_settling a) (list_all is_settling (a ++ b)) h (λ e. all_both a b e k)
+turns_more : (count : ℕ) (old mid new : WorldState) (front back : List Line) → Turns count old front mid → TakesTurn true mid back new → Turns (suc count) old (front ++ back) new
+turns_more zero old mid new front back h k =
+    let none : front ++ back ≡ back ++ [] = ap (λ xs. xs ++ back) h.0 ∙ sym (append-nil back) in
+    (new, back, [], subst (λ w. TakesTurn true w back new) h.1 k, (refl, refl), none)
+turns_more (suc count) old mid new front back h k =
+    (h.0, h.1, h.2 ++ back, h.3, turns_more count h.0 mid new h.2 back h.4 k, ap (λ xs. xs ++ back) h.5 ∙ append_assoc h.1 h.2 back)
 
-pub settles_none : (w : WorldState) → Settles w [] w
-settles_none w = ([], refl, (refl, refl))
+pub no_turns : (w : WorldState) → (count : ℕ) × Turns count w [] w
+no_turns w = (0, (refl, refl))
 
-pub settles_then : (old mid new : WorldState) (front back : List Line) → Settles old front mid → Settles mid back new → Settles old (front ++ back) new
-settles_then old mid new front back h k = (h.0 ++ k.0, all_both h.0 k.0 h.1 k.1, run_both old mid new h.0 k.0 front back h.2 k.2)
+pub more_turns : (more : Bool) (old mid new : WorldState) (a b c : Option (List ℕ)) → more ≡ true → Wrote (λ printed. (count : ℕ) × Turns count old printed mid) a b → Wrote (λ printed. TakesTurn more mid printed new) b c → Wrote (λ printed. (count : ℕ) × Turns count old printed new) a c
+more_turns more old mid new a b c is h k =
+    wrote_then (λ p. (count : ℕ) × Turns count old p mid) (λ p. TakesTurn more mid p new) (λ p. (count : ℕ) × Turns count old p new) a b c
+    (λ front back f g. (suc f.0, turns_more f.0 old mid new front back f.1 (subst (λ m. TakesTurn m mid back new) is g))) h k
 
-pub settles_one : (old new : WorldState) (step : Step) (printed : List Line) → is_settling step ≡ true → Does old step new printed → Settles old printed new
-settles_one old new step printed is does = (step ∷ [], ap (λ x. x && true) is, (new, printed, [], does, (refl, refl), sym (append-nil printed)))
+pub all_turns : (up more : Bool) (old mid new : WorldState) (a b c : Option (List ℕ)) → up ≡ is_some old.master → up ≡ true → more ≡ false → Wrote (λ printed. (count : ℕ) × Turns count old printed mid) a b → Wrote (λ printed. TakesTurn more mid printed new) b c → Wrote (λ printed. Settles old printed new) a c
+all_turns up more old mid new a b c is on last h k =
+    wrote_then (λ p. (count : ℕ) × Turns count old p mid) (λ p. TakesTurn more mid p new) (λ p. Settles old p new) a b c
+    (λ front back f g. subst (λ up. SettlesBy up old (front ++ back) new) (sym on ∙ is) (record { count = f.0; mid = mid; here = front; later = back; first = f.1; last = subst (λ m. TakesTurn m mid back new) last g; tells = refl })) h k
 
-pub settles_ok : (old new : WorldState) (step : Step) (r : Result Turn Fault) → is_settling step ≡ true → IfOk r (λ turn. Does old step new turn.lines) → IfOk r (λ turn. Settles old turn.lines new)
-settles_ok old new step (Ok turn) is h = settles_one old new step turn.lines is h
-settles_ok old new step (Err fault) is h = tt
+turn_by : (more waits : Bool) (old new : WorldState) (turn : Turn) → settle_turn old ≡ Ok (new, turn) → waits ≡ is_some (first_waiting new.messages 1) → more ≡ waits → turn.quiet ≡ true → TakesTurn more old turn.lines new
+turn_by true waits old new turn made is e quiet =
+    record { turn = turn; made = made; ends = ap (λ q. q && not (is_some (first_waiting new.messages 1))) quiet ∙ ap not (sym is ∙ sym e); tells = refl }
+turn_by false waits old new turn made is e quiet =
+    inl (record { turn = turn; made = made; ends = ap (λ q. q && not (is_some (first_waiting new.messages 1))) quiet ∙ ap not (sym is ∙ sym e); tells = refl })
 
-pub settles_err : (old new : WorldState) (step : Step) (r : Result Turn Fault) → is_settling step ≡ true → IfErr r (λ fault. Does old step new (lines.Refused fault ∷ [])) → IfErr r (λ fault. Settles old (lines.Refused fault ∷ []) new)
-settles_err old new step (Ok turn) is h = tt
-settles_err old new step (Err fault) is h = settles_one old new step (lines.Refused fault ∷ []) is h
+-- a sweep that found nothing to do
+pub turn_quiet : (more waits : Bool) (old new : WorldState) (turn : Turn) (texts : List Line) (a b : Option (List ℕ)) → texts ≡ turn.lines → settle_turn old ≡ Ok (new, turn) → waits ≡ is_some (first_waiting new.messages 1) → more ≡ waits → turn.quiet ≡ true → Appends a b (lines_text texts) → Wrote (λ printed. TakesTurn more old printed new) a b
+turn_quiet more waits old new turn texts a b same made is e quiet h = (turn.lines, turn_by more waits old new turn made is e quiet, subst (λ xs. Appends a b (lines_text xs)) same h)
 
-step_of_sweep : (old : WorldState) → world_step old steps.Sweep ≡ without_quiet (world_sweep old old.master)
-unfolding world_step
-step_of_sweep old = refl
+-- any other turn
+pub turn_loud : (more : Bool) (old new : WorldState) (turn : Turn) (texts : List Line) (a b : Option (List ℕ)) → texts ≡ turn.lines → settle_turn old ≡ Ok (new, turn) → more ≡ not turn.quiet → turn.quiet ≡ false → Appends a b (lines_text texts) → Wrote (λ printed. TakesTurn more old printed new) a b
+turn_loud more old new turn texts a b same made e loud h =
+    (turn.lines, subst (λ more. TakesTurn more old turn.lines new) (sym (e ∙ ap not loud)) (record { turn = turn; made = made; ends = ap (λ q. q && not (is_some (first_waiting new.messages 1))) loud; tells = refl }), subst (λ xs. Appends a b (lines_text xs)) same h)
 
-pub sweep_ok : (old new : WorldState) (r : Result Turn Fault) → IfOk r (λ turn. world_sweep old old.master ≡ Ok (new, turn)) → IfOk r (λ turn. Settles old turn.lines new)
-sweep_ok old new (Ok turn) h = settles_one old new steps.Sweep turn.lines refl (inl (step_of_sweep old ∙ ap without_quiet h))
-sweep_ok old new (Err fault) h = tt
+pub turn_refused : (old new : WorldState) (fault : Fault) (cell : List ℕ) (before after : ℕ) (a b : Option (List ℕ)) → (settle_turn old ≡ Err fault) ⊎ IsOutside fault cell old.rows before after → new ≡ old → Appends a b (lines_text (lines.Refused fault ∷ [])) → Wrote (λ printed. TakesTurn false old printed new) a b
+turn_refused old new fault cell before after a b (inl e) same h = (lines.Refused fault ∷ [], inr (record { fault = fault; why = inl e; same = same; tells = refl }), h)
+turn_refused old new fault cell before after a b (inr o) same h = (lines.Refused fault ∷ [], inr (record { fault = fault; why = inr (cell, before, after, o); same = same; tells = refl }), h)
 
-why_refused : (old : WorldState) (fault : Fault) (cell : List ℕ) (before after : ℕ) → (world_sweep old old.master ≡ Err fault) ⊎ IsOutside fault cell old.rows before after
-    → (world_step old steps.Sweep ≡ Err fault) ⊎ ((cell : List ℕ) × (before : ℕ) × (after : ℕ) × IsOutside fault cell old.rows before after)
-why_refused old fault cell before after (inl e) = inl (step_of_sweep old ∙ ap without_quiet e)
-why_refused old fault cell before after (inr h) = inr (cell, before, after, h)
-
-pub sweep_err : (old new : WorldState) (cell : List ℕ) (before after : ℕ) (r : Result Turn Fault) → IfErr r (λ e. (world_sweep old old.master ≡ Err e) ⊎ IsOutside e cell old.rows before after) → OnErr r (new ≡ old) → IfErr r (λ fault. Settles old (lines.Refused fault ∷ []) new)
-sweep_err old new cell before after (Ok turn) h same = tt
-sweep_err old new cell before after (Err fault) h same =
-    settles_one old new steps.Sweep (lines.Refused fault ∷ []) refl (inr (record { fault = fault; why = why_refused old fault cell before after h; same = same; line = refl }))
-
-why_not : (old : WorldState) (step : Step) (fault : Fault) (cell : List ℕ) (before after : ℕ) → (world_step old step ≡ Err fault) ⊎ IsOutside fault cell old.rows before after
-    → (world_step old step ≡ Err fault) ⊎ ((cell : List ℕ) × (before : ℕ) × (after : ℕ) × IsOutside fault cell old.rows before after)
-why_not old step fault cell before after (inl e) = inl e
-why_not old step fault cell before after (inr h) = inr (cell, before, after, h)
-
--- the exit of a `?` behind a step
-pub step_err : (old new : WorldState) (step : Step) (cell : List ℕ) (before after : ℕ) (r : Result Turn Fault) (fault : Fault) → IsErr r × IsErrAnd r (λ y. y ≡ fault) → is_settling step ≡ true → (world_step old step ≡ Err fault) ⊎ IsOutside fault cell old.rows before after → new ≡ old
-    → IfErr r (λ fault. Settles old (lines.Refused fault ∷ []) new)
-step_err old new step cell before after (Ok turn) fault exit is why same = tt
-step_err old new step cell before after (Err e) fault exit is why same =
-    subst (λ x. Settles old (lines.Refused x ∷ []) new) (sym exit.1)
-    (settles_one old new step (lines.Refused fault ∷ []) is (inr (record { fault = fault; why = why_not old step fault cell before after why; same = same; line = refl })))
+pub settles_down : {E : Type 0} (w : WorldState) (up : Bool) (a b : Option (List ℕ)) (r : Result (Unit {0}) E) → up ≡ is_some w.master → up ≡ false → OnOk r (Appends a b (lines_text (lines.Refused MasterDown ∷ []))) → OnOk r (Wrote (λ printed. Settles w printed w) a b)
+settles_down w up a b (Ok x) is down h = (lines.Refused MasterDown ∷ [], subst (λ up. SettlesBy up w (lines.Refused MasterDown ∷ []) w) (sym down ∙ is) (refl, refl), h)
+settles_down w up a b (Err e) is down h = tt
 
 -- ---- lines
 
-pub lines_none : (w : WorldState) → (texts : List (List ℕ)) × DoesLines w texts [] w
-lines_none w = ([], (refl, refl))
+lines_more : (old mid new : WorldState) (texts : List (List ℕ)) (line : List ℕ) (front back : List Line) → DoesLines old texts front mid → DoesLine mid line back new → DoesLines old (texts ++ line ∷ []) (front ++ back) new
+lines_more old mid new [] line front back h k =
+    let none : front ++ back ≡ back ++ [] = ap (λ xs. xs ++ back) h.0 ∙ sym (append-nil back) in
+    (new, back, [], subst (λ w. DoesLine w line back new) h.1 k, (refl, refl), none)
+lines_more old mid new (text ∷ texts) line front back h k =
+    (h.0, h.1, h.2 ++ back, h.3, lines_more h.0 mid new texts line h.2 back h.4 k, ap (λ xs. xs ++ back) h.5 ∙ append_assoc h.1 h.2 back)
 
-lines_both : (old mid new : WorldState) (a b : List (List ℕ)) (front back : List Line) → DoesLines old a front mid → DoesLines mid b back new → DoesLines old (a ++ b) (front ++ back) new
-lines_both old mid new [] b front back h k =
-    subst (λ w. DoesLines w b (front ++ back) new) h.1 (subst (λ printed. DoesLines mid b printed new) (ap (λ x. x ++ back) (sym h.0)) k)
-lines_both old mid new (line ∷ a) b front back h k =
-    (h.0, h.1, h.2 ++ back, h.3, lines_both h.0 mid new a b h.2 back h.4 k, ap (λ x. x ++ back) h.5 ∙ append_assoc h.1 h.2 back)
+pub part_none : (reading : Reading) (w : WorldState) (a : Option (List ℕ)) → reading.number ≡ 0 → Wrote (λ printed. IsOfPart reading.rest reading.rest reading.number w printed w) a a
+part_none reading w a none =
+    wrote_none (λ printed. IsOfPart reading.rest reading.rest reading.number w printed w) a
+    (record { texts = []; first = passes_none reading.rest; counted = sym none; few = omega arith; does = (refl, refl) })
 
-pub lines_then : (old mid new : WorldState) (front back : List Line) → (texts : List (List ℕ)) × DoesLines old texts front mid → (texts : List (List ℕ)) × DoesLines mid texts back new → (texts : List (List ℕ)) × DoesLines old texts (front ++ back) new
-lines_then old mid new front back h k = (h.0 ++ k.0, lines_both old mid new h.0 k.0 front back h.1 k.1)
+one_more : (xs : List (List ℕ)) (x : List ℕ) → length (xs ++ x ∷ []) ≡ length xs + 1
+one_more xs x = length-append xs (x ∷ [])
 
-pub one_line : (old new : WorldState) (line : List ℕ) (printed : List Line) → DoesLine old line printed new → (texts : List (List ℕ)) × DoesLines old texts printed new
-one_line old new line printed h = (line ∷ [], (new, printed, [], h, (refl, refl), sym (append-nil printed)))
+part_then : (text : Option (List ℕ)) (mid after : Reading) (old w new : WorldState) (front back : List Line) → Advances true mid after → IsOfPart text mid.rest mid.number old front w → DoesLine w after.line back new → IsOfPart text after.rest after.number old (front ++ back) new
+part_then text mid after old w new front back next h k = record {
+  texts = h.texts ++ after.line ∷ [];
+  first = passes_more text mid.rest after.rest h.texts (after.line ∷ []) h.first next.0;
+  counted = one_more h.texts after.line ∙ ap (λ n. n + 1) h.counted ∙ sym next.1.0;
+  few = next.1.1.0;
+  does = lines_more old w new h.texts after.line front back h.does k;
+}
 
-none_is : {M X : Type 0} (f : Option M → X) (m : Option M) → is_some m ≡ false → f m ≡ f None
-none_is f None e = refl
-none_is f (Some x) e = cc
+pub part_more : (there : Bool) (text : Option (List ℕ)) (mid after : Reading) (old w new : WorldState) (a b c : Option (List ℕ)) → there ≡ true → Advances there mid after → Wrote (λ printed. IsOfPart text mid.rest mid.number old printed w) a b → Wrote (λ printed. DoesLine w after.line printed new) b c → Wrote (λ printed. IsOfPart text after.rest after.number old printed new) a c
+part_more there text mid after old w new a b c is next h k =
+    wrote_then (λ p. IsOfPart text mid.rest mid.number old p w) (λ p. DoesLine w after.line p new) (λ p. IsOfPart text after.rest after.number old p new) a b c
+    (λ front back f g. part_then text mid after old w new front back (subst (λ b. Advances b mid after) is next) f g) h k
 
-no_master : (w : WorldState) → is_some w.master ≡ false → world_sweep w w.master ≡ Err MasterDown
-no_master w e = none_is (world_sweep w) w.master e
+part_whole : (text : Option (List ℕ)) (rest : Option (List ℕ)) (count : ℕ) (old new : WorldState) (printed : List Line) → IsAtEnd rest → IsOfPart text rest count old printed new → IsOfScript text old printed
+part_whole text rest count old new printed ended h =
+    let few : length h.texts ≤ 1000000 = rw h.counted h.few in
+    record { texts = h.texts; whole = passes_all text rest h.texts h.first ended; few = few; new = new; does = h.does }
 
-pub settles_down : {E : Type 0} (w : WorldState) (up : Bool) (a b : Option (List ℕ)) (r : Result (Unit {0}) E) → up ≡ is_some w.master → up ≡ false → OnOk r (Appends a b (lines_text (lines.Refused MasterDown ∷ []))) → OnOk r (Wrote (λ printed. Settles w printed w) a b)
-settles_down w up a b (Ok x) is down h =
-    let why : world_step w steps.Sweep ≡ Err MasterDown = step_of_sweep w ∙ ap without_quiet (no_master w (sym is ∙ down)) in
-    let does : Does w steps.Sweep w (lines.Refused MasterDown ∷ []) = inr (record { fault = MasterDown; why = inl why; same = refl; line = refl }) in
-    (lines.Refused MasterDown ∷ [], settles_one w w steps.Sweep (lines.Refused MasterDown ∷ []) refl does, h)
-settles_down w up a b (Err e) is down h = tt
+pub part_all : (there : Bool) (text : Option (List ℕ)) (mid after : Reading) (old new : WorldState) (a b : Option (List ℕ)) → there ≡ false → Advances there mid after → Wrote (λ printed. IsOfPart text mid.rest mid.number old printed new) a b → Wrote (IsOfScript text old) a b
+part_all there text mid after old new a b none next h =
+    let ended : IsAtEnd mid.rest = subst (λ b. Advances b mid after) none next in
+    wrote_as (λ printed. IsOfPart text mid.rest mid.number old printed new) (IsOfScript text old) a b (λ printed f. part_whole text mid.rest mid.number old new printed ended f) h
 
-pub wrote_settles : (old mid new : WorldState) (a b c : Option (List ℕ)) → Wrote (λ printed. Settles old printed mid) a b → Wrote (λ printed. Settles mid printed new) b c → Wrote (λ printed. Settles old printed new) a c
-wrote_settles old mid new a b c h k = wrote_then (λ p. Settles old p mid) (λ p. Settles mid p new) (λ p. Settles old p new) a b c (settles_then old mid new) h k
+-- the line that was read fits
+pub line_fits : (there : Bool) (mid after : Reading) → there ≡ true → Advances there mid after → length after.line ≤ 1048576
+line_fits there mid after is next = let h = subst (λ b. Advances b mid after) is next in h.1.1.1
 
-pub wrote_lines : (old mid new : WorldState) (a b c : Option (List ℕ)) → Wrote (λ printed. (texts : List (List ℕ)) × DoesLines old texts printed mid) a b → Wrote (λ printed. (texts : List (List ℕ)) × DoesLines mid texts printed new) b c
-    → Wrote (λ printed. (texts : List (List ℕ)) × DoesLines old texts printed new) a c
-wrote_lines old mid new a b c h k =
-    wrote_then (λ p. (texts : List (List ℕ)) × DoesLines old texts p mid) (λ p. (texts : List (List ℕ)) × DoesLines mid texts p new) (λ p. (texts : List (List ℕ)) × DoesLines old texts p new) a b c (lines_then old mid new) h k
-
-pub wrote_none : (w : WorldState) (a : Option (List ℕ)) → Wrote (λ printed. (texts : List (List ℕ)) × DoesLines w texts printed w) a a
-wrote_none w a = ([], lines_none w, appends_none a)
-
-pub wrote_line : (old new : WorldState) (line : List ℕ) (meant : Parsed) (a b : Option (List ℕ)) → IsParsed (utf8_lossy line) meant → Wrote (λ printed. DoesParsed old meant printed new) a b → Wrote (λ printed. (texts : List (List ℕ)) × DoesLines old texts printed new) a b
-wrote_line old new line meant a b is h = (h.0, one_line old new line h.0 (meant, is, h.1), h.2)
+pub wrote_line : (old new : WorldState) (line text : List ℕ) (meant : Parsed) (a b : Option (List ℕ)) → text ≡ line → length line ≤ 1048576 → IsParsed (utf8_lossy text) meant → Wrote (λ printed. DoesParsed old meant printed new) a b → Wrote (λ printed. DoesLine old line printed new) a b
+wrote_line old new line text meant a b same fits is h = (h.0, (fits, (meant, subst (λ t. IsParsed (utf8_lossy t) meant) same is, h.1)), h.2)
 
 pub wrote_refusal : (w : WorldState) (meant : Parsed) (fault : Fault) (a b : Option (List ℕ)) → meant ≡ parsed.Refused fault → Appends a b (lines_text (lines.Refused fault ∷ [])) → Wrote (λ printed. DoesParsed w meant printed w) a b
 wrote_refusal w meant fault a b is h = subst (λ x. Wrote (λ printed. DoesParsed w x printed w) a b) (sym is) (lines.Refused fault ∷ [], (refl, refl), h)
@@ -173,6 +162,7 @@ appends_kept (Some x) (Some y) None bytes h k = absurd k
 appends_kept (Some x) (Some y) (Some z) bytes h k = k ∙ h
 
 -- what was written stays written where the writer is flushed
-pub ran : {E : Type 0} (old new : WorldState) (a b c : Option (List ℕ)) (r : Result (Unit {0}) E) → OnOk r (Wrote (λ printed. (texts : List (List ℕ)) × DoesLines old texts printed new) a b) → Keeps b c → OnOk r (Wrote (IsOfScript old) a c)
-ran old new a b c (Err e) h k = tt
-ran old new a b c (Ok x) h k = (h.0, (h.1.0, new, h.1.1), appends_kept a b c (lines_text h.0) h.2 k)
+pub ran : {E : Type 0} (text rest : Option (List ℕ)) (old w : WorldState) (a b c : Option (List ℕ)) (r : Result (Unit {0}) E) → rest ≡ text → w ≡ old → OnOk r (Wrote (IsOfScript rest w) a b) → Keeps b c → OnOk r (Wrote (IsOfScript text old) a c)
+ran text rest old w a b c (Err e) same from h k = tt
+ran text rest old w a b c (Ok x) same from h k =
+    (h.0, subst (λ t. IsOfScript t old h.0) same (subst (λ v. IsOfScript rest v h.0) from h.1), appends_kept a b c (lines_text h.0) h.2 k)

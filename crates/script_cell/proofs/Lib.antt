@@ -1,6 +1,8 @@
 mod Contents
 mod Decimals
+mod Deliveries
 mod Doings
+mod FirstLines
 mod Lifts
 mod LineWords
 mod Written

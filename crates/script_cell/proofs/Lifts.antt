@@ -1,11 +1,9 @@
 -- A part that is wrong, or written by no words, makes the whole so.
-use Rattle.std.proofs.Common.{◌≡◌, ◌≢◌, ◌∷◌, [], ◌≤◌, ◌<◌, List, ℕ, length, get_or, take, drop, ◌-◌, Option, None, Some, Result, Ok, Err, sym, ap, arith, ◌∙◌, Bor}
+use Rattle.std.proofs.Common.{◌≡◌, ◌∷◌, [], ◌≤◌, ◌<◌, List, ℕ, length, get_or, take, drop, ◌-◌, Option, None, Some, Result, Err, sym, ap, arith, ◌∙◌, Bor}
 use Rattle.std.proofs.lemmas.List.{take_all}
 use Rattle.std.specs.Result.{IsErr, IsErrAnd}
 use Rattle.std.proofs.lemmas.Result.{err_from_is_err_and}
 use Rattle.node_core.specs.declared.refusals.Fault.{Fault}
-use Rattle.names_cell.specs.declared.faults.NameFault.{NameFault}
-use Rattle.names_cell.specs.declared.faults.NameFault.TheVariants as names
 use Rattle.script_cell.specs.declared.steps.Flaw.{Flaw}
 use Rattle.script_cell.specs.declared.steps.Flaw.TheVariants.{Bad, Refused, NoMemory}
 use Rattle.script_cell.specs.Readings.{Reads}

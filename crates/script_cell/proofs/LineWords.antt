@@ -1,10 +1,9 @@
 -- The words of a line.
-use Rattle.std.proofs.Common.{◌≡◌, ◌≢◌, ◌∷◌, [], ◌++◌, ◌≤◌, ◌<◌, ◌+◌, zero, suc, List, ℕ, Bool, true, false, length, take, Option, None, Some, Result, Ok, Err, refl, sym, ap, subst, arith, ◌∙◌, Bor}
+use Rattle.std.proofs.Common.{◌≡◌, ◌∷◌, [], ◌≤◌, zero, suc, List, ℕ, Bool, true, false, length, take, Option, None, Some, Result, Ok, Err, refl, sym, ap, subst, arith, ◌∙◌, Bor}
 use Rattle.std.specs.Prelude.{◌==◌, ◌||◌}
 use Rattle.std.specs.List.{list_any, slice_split}
 use Rattle.std.proofs.lemmas.Bool.{eqb-true}
 use Rattle.std.proofs.lemmas.List.{take_all}
-use Rattle.node_core.specs.declared.refusals.Fault.{Fault}
 use Rattle.tags_cell.specs.declared.calls.AclNames.{AclNames}
 use Rattle.tags_cell.specs.declared.calls.Create.{Create}
 use Rattle.tags_cell.specs.declared.calls.NewNode.{NewNode}

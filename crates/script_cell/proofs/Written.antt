@@ -1,5 +1,5 @@
 -- The parts of a step and the words that write them.
-use Rattle.std.proofs.Common.{◌≡◌, ◌≢◌, ◌⊎◌, inl, inr, ◌∷◌, [], ◌++◌, ◌≤◌, ◌<◌, ◌^◌, List, ℕ, Bool, true, false, length, drop, Option, None, Some, Result, Ok, Err, refl, sym, ap, subst, arith, ◌∙◌, codes}
+use Rattle.std.proofs.Common.{◌≡◌, ◌≢◌, ◌⊎◌, inl, inr, ◌∷◌, [], ◌++◌, ◌<◌, ◌^◌, List, ℕ, Bool, true, false, length, Option, None, Some, Result, Ok, Err, refl, sym, ap, subst, arith, ◌∙◌, codes}
 use Rattle.std.specs.Prelude.{decimal, ◌&&◌, not, if◌then◌else◌}
 use Rattle.std.proofs.lemmas.Fmt.{decimal_injective}
 use Rattle.std.specs.Str.{bytes_eq}
@@ -27,7 +27,7 @@ use Rattle.script_cell.specs.declared.steps.Flaw.{Flaw}
 use Rattle.script_cell.specs.declared.steps.Flaw.TheVariants.{Bad, Refused, NoMemory}
 use Rattle.tags_cell.specs.Modes.{Rights}
 use Rattle.script_cell.specs.Words.{letters_of, HasRight}
-use Rattle.script_cell.specs.Steps.{WritesStep, WritesAsk, WritesCall, IsHandleCall, WritesOpen, WritesCreate, WritesPermanent, WritesMade, WritesNode, WritesNodeCall, WritesNumber, WritesGeneration, IsFileContent, IsNumber, acl_words, new_acl_words, disposition_word, fault_unless, step_fault, call_fault, open_fault, create_fault, made_fault, new_acls_fault, acls_fault, node_call_fault}
+use Rattle.script_cell.specs.Steps.{WritesStep, WritesCall, IsHandleCall, WritesOpen, WritesCreate, WritesPermanent, WritesMade, WritesNode, WritesNodeCall, WritesGeneration, IsFileContent, IsNumber, acl_words, new_acl_words, disposition_word, fault_unless, step_fault, call_fault, open_fault, create_fault, made_fault, new_acls_fault, acls_fault, node_call_fault}
 use Rattle.script_cell.specs.Readings.{Reads, flaw_of}
 use Rattle.script_cell.proofs.Decimals.{unlike, same_text}
 use Rattle.script_cell.proofs.Lifts.{IsPart}

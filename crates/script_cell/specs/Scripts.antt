@@ -1,19 +1,18 @@
 -- What the lines of a script do to a world, and what they write.
-use Rattle.std.specs.Prelude.{◌≡◌, ℕ, Bool, true, false, List, [], ◌∷◌, ◌++◌, Option, Result, Ok, Err}
-use Rattle.std.specs.List.{list_all}
+use Rattle.std.specs.Prelude.{◌≡◌, ◌≤◌, ℕ, List, [], ◌∷◌, ◌++◌, length, Option, Result, Ok, Err}
 use Rattle.std.specs.Io.KnownBytes.{Appends}
 use Rattle.std.specs.Str.Lossy.{utf8_lossy}
 use Rattle.node_core.specs.declared.refusals.Fault.{Fault}
 use Rattle.node_core.specs.declared.lines.Line.{Line}
 use Rattle.node_core.specs.declared.lines.Line.TheVariants as lines
 use Rattle.node_core.specs.Texts.{line_text}
-use Rattle.world_cell.specs.declared.steps.Step.{Step}
-use Rattle.world_cell.specs.declared.steps.Step.TheVariants as steps
 use Rattle.world_cell.specs.World.{WorldState}
-use Rattle.world_cell.specs.Runs.{Does, Run}
+use Rattle.world_cell.specs.Runs.{Does}
 use Rattle.script_cell.specs.declared.steps.Parsed.{Parsed}
 use Rattle.script_cell.specs.declared.steps.Parsed.TheVariants as parsed
 use Rattle.script_cell.specs.Readings.{IsParsed}
+use Rattle.script_cell.specs.Settling.{Settles}
+use Rattle.script_cell.specs.Texts.{AreLines, Passes}
 
 -- each line with LF behind it
 abbrev pub lines_text : List Line → List ℕ
@@ -25,17 +24,6 @@ abbrev pub told : Result (List Line) Fault → List Line
 told (Ok printed) = printed
 told (Err fault) = lines.Refused fault ∷ []
 
--- a delivery or a sweep
-abbrev pub is_settling : Step → Bool
-is_settling (steps.Take message) = true
-is_settling (steps.Give message) = true
-is_settling steps.Sweep = true
-is_settling _ = false
-
--- deliveries and sweeps, one behind the other
-abbrev pub Settles : WorldState → List Line → WorldState → Type 0
-Settles old printed new = (taken : List Step) × (list_all is_settling taken ≡ true) × Run old taken printed new
-
 -- what a line asks for is done
 abbrev pub DoesParsed : WorldState → Parsed → List Line → WorldState → Type 0
 DoesParsed old parsed.Nothing printed new = (printed ≡ []) × (new ≡ old)
@@ -44,8 +32,9 @@ DoesParsed old parsed.Settle printed new = Settles old printed new
 DoesParsed old (parsed.Refused fault) printed new = (printed ≡ lines.Refused fault ∷ []) × (new ≡ old)
 DoesParsed old parsed.Bad printed new = ⊥
 
+-- a line of at most 1,048,576 bytes, without its LF
 abbrev pub DoesLine : WorldState → List ℕ → List Line → WorldState → Type 0
-DoesLine old line printed new = (meant : Parsed) × IsParsed (utf8_lossy line) meant × DoesParsed old meant printed new
+DoesLine old line printed new = (length line ≤ 1048576) × ((meant : Parsed) × IsParsed (utf8_lossy line) meant × DoesParsed old meant printed new)
 
 -- the lines of a script, one behind the other, and what they print in order
 abbrev pub DoesLines : WorldState → List (List ℕ) → List Line → WorldState → Type 0
@@ -53,9 +42,21 @@ DoesLines old [] printed new = (printed ≡ []) × (new ≡ old)
 DoesLines old (line ∷ rest) printed new =
     (mid : WorldState) × (here : List Line) × (later : List Line) × DoesLine old line here mid × DoesLines mid rest later new × (printed ≡ here ++ later)
 
--- what some script prints on a world
-abbrev pub IsOfScript : WorldState → List Line → Type 0
-IsOfScript old printed = (texts : List (List ℕ)) × (new : WorldState) × DoesLines old texts printed new
+-- what a script of at most 1,000,000 lines prints on a world
+pub record IsOfScript (text : Option (List ℕ)) (old : WorldState) (printed : List Line) : Type 0 where
+  pub texts : List (List ℕ)
+  pub whole : AreLines text texts
+  pub few : length texts ≤ 1000000
+  pub new : WorldState
+  pub does : DoesLines old texts printed new
+
+-- what the lines so far print on a world, and how many they were
+pub record IsOfPart (text after : Option (List ℕ)) (count : ℕ) (old : WorldState) (printed : List Line) (new : WorldState) : Type 0 where
+  pub texts : List (List ℕ)
+  pub first : Passes text texts after
+  pub counted : length texts ≡ count
+  pub few : count ≤ 1000000
+  pub does : DoesLines old texts printed new
 
 -- lines of which P holds are written behind the bytes before, where those are known
 abbrev pub Wrote : (List Line → Type 0) → Option (List ℕ) → Option (List ℕ) → Type 0

@@ -1,15 +1,18 @@
 //! The lines of a script.
-ghost use Rattle.std.specs.Prelude.{◌≡◌, ◌+◌, ◌<◌, IsErr};
+ghost use Rattle.std.specs.Prelude.{◌≡◌, ◌+◌, ◌<◌, [], IsErr, IfOk};
 ghost use Rattle.std.specs.Io.{ReadsAtMost};
 ghost use Rattle.std.specs.Io.KnownBytes.{ReadConsumes};
+ghost use Rattle.std.specs.Io.BufRead.{strip_last};
+ghost use Rattle.script_cell.specs.Texts.{Advances, Fills};
 
 use crate::stops::Stop;
 use std::alloc::Global;
 use std::io;
 use std::io::{BufRead, BufReader, ErrorKind, Read};
+use std::marker::Model;
 
 /// The most lines of a script.
-const LINE_COUNT_LIMIT: u64 = 1_000_000;
+pub(crate) const LINE_COUNT_LIMIT: u64 = 1_000_000;
 
 /// The most bytes of a line, without its LF.
 const LINE_LENGTH_LIMIT: usize = 1_048_576;
@@ -55,18 +58,60 @@ impl<R: Read> Read for Counted<R> {
     }
 }
 
+/// A reader that is read until it gave so many bytes more; the next read fails.
+#[derive(Drop)]
+struct Rationed<R> {
+    reader: R,
+    left: usize,
+}
+
+impl<R> Rationed<R> {
+    fn allow(&mut self, left: usize)
+        ensures reader { self.new.reader ≡ self.old.reader }
+    {
+        self.left = left;
+    }
+}
+
+impl<R: Read> Read for Rationed<R> {
+    ghost remaining = { λ rationed. R.remaining rationed.reader };
+
+    fn read(&mut self, buf: &mut [u8]) -> io::Result<usize> {
+        if self.left == 0 {
+            return Err(io::Error::other("too many bytes"));
+        }
+        let count = self.reader.read(buf)?;
+        self.left = self.left.saturating_sub(count);
+        Ok(count)
+    }
+}
+
 /// The lines of a script, one after another, in a buffer of one line.
 #[derive(Drop)]
 pub(crate) struct ScriptLines<R: Read + Drop> {
-    reader: BufReader<Counted<R>>,
+    reader: BufReader<Rationed<Counted<R>>>,
     line: Vec<u8>,
     number: u64,
 }
 
+impl<R: Read + Drop> Model for ScriptLines<R> {
+    ghost use Rattle.std.specs.Io.Buffered.{reader_remaining};
+    ghost use Rattle.script_cell.specs.Texts.{Reading};
+
+    ghost Value = { Reading };
+
+    ghost view = { λ l. record { rest = reader_remaining (λ rationed. R.remaining rationed.reader.reader) l.reader; line = l.line.items; number = l.number } };
+}
+
 impl<R: Read + Drop> ScriptLines<R> {
-    pub(crate) fn new(alloc: Global, reader: R) -> Result<ScriptLines<R>, Stop> {
-        let counted = Counted::new(reader, READ_LIMIT);
-        match BufReader::with_capacity(alloc, READ_SIZE, counted) {
+    pub(crate) fn new(alloc: Global, reader: R) -> Result<ScriptLines<R>, Stop>
+        ensures { IfOk result (λ lines. lines ≡ record { rest = R.remaining reader; line = []; number = 0 }) }
+    {
+        let rationed = Rationed {
+            reader: Counted::new(reader, READ_LIMIT),
+            left: 0,
+        };
+        match BufReader::with_capacity(alloc, READ_SIZE, rationed) {
             Ok(reader) => Ok(ScriptLines {
                 reader,
                 line: Vec::new(alloc),
@@ -76,37 +121,56 @@ impl<R: Read + Drop> ScriptLines<R> {
         }
     }
 
-    /// The next line, without its LF; the last one may lack it. None behind the last one. A line that is too long, too
-    /// many or can't be read is no step.
-    pub(crate) fn next_line(&mut self) -> Result<Option<&[u8]>, Stop> {
+    /// Goes on to the next line; false where there is none. A line that is too long, too many or can't be read is no
+    /// step.
+    pub(crate) fn advance(&mut self) -> Result<bool, Stop>
+        ensures { IfOk result (λ is_there. Advances is_there self.old self.new) }
+    {
         self.number = self.number.saturating_add(1);
         if self.fill()? == 0 {
-            return Ok(None);
+            return Ok(false);
         }
-        let line = match self.line.as_slice() {
-            [line @ .., b'\n'] => line,
-            line => line,
-        };
-        if self.number > LINE_COUNT_LIMIT || line.len() > LINE_LENGTH_LIMIT {
+        cut(&mut self.line);
+        if self.number > LINE_COUNT_LIMIT || self.line.len() > LINE_LENGTH_LIMIT {
             return Err(Stop::BadStep(self.number));
         }
-        Ok(Some(line))
+        Ok(true)
     }
 
-    /// The number of the line that was read last, counted from 1.
-    pub(crate) fn number(&self) -> u64 {
+    /// The line that was read last, without its LF.
+    pub(crate) fn line(&self) -> &[u8]
+        ensures { result.now ≡ self.now.line }
+    {
+        self.line.as_slice()
+    }
+
+    /// Its number, counted from 1.
+    pub(crate) fn number(&self) -> u64
+        ensures { result ≡ self.now.number }
+    {
         self.number
     }
 
-    // Reads up to and with the next LF, at most a byte more than a line may have.
-    fn fill(&mut self) -> Result<usize, Stop> {
+    // Reads up to and with the next LF, and little more than a line may have.
+    fn fill(&mut self) -> Result<usize, Stop>
+        ensures { IfOk result (λ count. Fills count self.old self.new) }
+    {
         self.line.clear();
-        let most = LINE_LENGTH_LIMIT as u64 + 1;
-        let mut reader = self.reader.by_ref().take(most);
-        match reader.read_until(b'\n', &mut self.line) {
+        self.reader.get_mut().allow(LINE_LENGTH_LIMIT + 1);
+        match self.reader.read_until(b'\n', &mut self.line) {
             Ok(count) => Ok(count),
             Err(error) if error.kind() == ErrorKind::OutOfMemory => Err(Stop::NoMemory),
             Err(_) => Err(Stop::BadStep(self.number)),
         }
+    }
+}
+
+// Takes the LF away that ends a line, if one does.
+fn cut(line: &mut Vec<u8>)
+    ensures { line.new.items ≡ strip_last 10 line.old.items }
+{
+    let len = line.len();
+    if len > 0 && line[len - 1] == b'\n' {
+        line.truncate(len - 1);
     }
 }

@@ -1,11 +1,13 @@
 //! Runs a script.
-ghost use Rattle.std.specs.Prelude.{◌≡◌, ◌∷◌, [], ℕ, List, true, OnOk, IfOk, IfErr, IfSome};
+ghost use Rattle.std.specs.Prelude.{◌≡◌, ◌⊎◌, ◌≤◌, ◌∷◌, [], Some, Ok, Err, is_some, length, true, OnOk, OnErr, IfOk, IfErr};
 ghost use Rattle.std.specs.Io.KnownBytes.{Appends};
-ghost use Rattle.world_cell.specs.World.{new_world};
-ghost use Rattle.script_cell.specs.Scripts.{Wrote, IsOfScript, DoesLines, DoesParsed, Settles, is_settling, lines_text, told};
+ghost use Rattle.world_cell.specs.Messages.{first_waiting};
+ghost use Rattle.world_cell.specs.World.{new_world, IsOutside};
+ghost use Rattle.script_cell.specs.Scripts.{Wrote, IsOfScript, DoesLine, DoesParsed, lines_text, told};
+ghost use Rattle.script_cell.specs.Settling.{Settles, TakesTurn, settle_turn as settled, AreDelivered, before_message};
 ghost use Rattle.script_cell.specs.Stops.{IsStatus};
 
-use crate::lines::ScriptLines;
+use crate::lines::{LINE_COUNT_LIMIT, ScriptLines};
 use crate::steps::{Parsed, read_line};
 use crate::stops::Stop;
 use node_core::{Fault, Line};
@@ -19,16 +21,16 @@ use world_cell::{Step, Turn, World};
 /// Answers the exit status: 0; 1 at a line that is no step, where the steps before it stand, and where a line can't be
 /// written; 4 where memory runs out outside a step. The words of it go to `errors`; behind a write that failed there are
 /// none. Each line is written by itself, so the writer should have a buffer; it is flushed at the end.
-pub fn script<R: Records + Drop, W: Write>(
+pub fn script<R: Records + Drop, I: Read + Drop, W: Write>(
     alloc: Global,
     settings: &Settings,
     records: R,
-    reader: impl Read + Drop,
+    reader: I,
     writer: &mut W,
     mut errors: impl Write + Drop,
 ) -> u8
     ensures status { IsStatus result }
-    ensures written { result ≡ 0 → Wrote (IsOfScript (new_world (R.rows records) settings.now.lease)) (W.contents writer.old) (W.contents writer.new) }
+    ensures written { result ≡ 0 → Wrote (IsOfScript (I.remaining reader) (new_world (R.rows records) settings.now.lease)) (W.contents writer.old) (W.contents writer.new) }
 {
     match run(alloc, settings, records, reader, writer) {
         Ok(()) => 0,
@@ -48,14 +50,14 @@ fn write_stop(errors: &mut impl Write, stop: &Stop) -> io::Result<()> {
     }
 }
 
-fn run<R: Records + Drop, W: Write>(
+fn run<R: Records + Drop, I: Read + Drop, W: Write>(
     alloc: Global,
     settings: &Settings,
     records: R,
-    reader: impl Read + Drop,
+    reader: I,
     writer: &mut W,
 ) -> Result<(), Stop>
-    ensures { OnOk result (Wrote (IsOfScript (new_world (R.rows records) settings.now.lease)) (W.contents writer.old) (W.contents writer.new)) }
+    ensures { OnOk result (Wrote (IsOfScript (I.remaining reader) (new_world (R.rows records) settings.now.lease)) (W.contents writer.old) (W.contents writer.new)) }
 {
     let mut lines = ScriptLines::new(alloc, reader)?;
     let mut world = World::new(alloc, records, settings);
@@ -71,137 +73,164 @@ fn run_lines<R: Records + Drop, I: Read + Drop, W: Write>(
     lines: &mut ScriptLines<I>,
     output: &mut W,
 ) -> Result<(), Stop>
-    ensures { OnOk result (Wrote (λ printed. (texts : List (List ℕ)) × DoesLines world.old.world texts printed world.new.world) (W.contents output.old) (W.contents output.new)) }
+    requires { lines.old.number ≡ 0 }
+    ensures { OnOk result (Wrote (IsOfScript lines.old.rest world.old.world) (W.contents output.old) (W.contents output.new)) }
 {
     let mut delivered = 0;
-    for _ in 0..u64::MAX {
-        if !run_line(alloc, world, lines, &mut delivered, output)? {
+    for _ in 0..=LINE_COUNT_LIMIT {
+        if !lines.advance()? {
             return Ok(());
         }
+        run_line(alloc, world, lines, &mut delivered, output)?;
+    }
+    Err(Stop::BadStep(lines.number()))
+}
+
+// Does what the line asks for that was read last.
+fn run_line<R: Records + Drop, I: Read + Drop, W: Write>(
+    alloc: Global,
+    world: &mut World<R>,
+    lines: &ScriptLines<I>,
+    delivered: &mut usize,
+    output: &mut W,
+) -> Result<(), Stop>
+    requires delivered { AreDelivered delivered.old world.old.world.messages }
+    requires fits { length lines.now.line ≤ 1048576 }
+    ensures wrote { OnOk result (Wrote (λ printed. DoesLine world.old.world lines.now.line printed world.new.world) (W.contents output.old) (W.contents output.new)) }
+    ensures delivered { OnOk result (AreDelivered delivered.new world.new.world.messages) }
+{
+    let parsed = read_line(alloc, lines.line())?;
+    if !obey(world, &parsed, delivered, output)? {
+        return Err(Stop::BadStep(lines.number()));
     }
     Ok(())
 }
 
-// Does what the next line asks for; false where there is none.
-fn run_line<R: Records + Drop, I: Read + Drop, W: Write>(
-    alloc: Global,
-    world: &mut World<R>,
-    lines: &mut ScriptLines<I>,
-    delivered: &mut usize,
-    output: &mut W,
-) -> Result<bool, Stop>
-    ensures { OnOk result (Wrote (λ printed. (texts : List (List ℕ)) × DoesLines world.old.world texts printed world.new.world) (W.contents output.old) (W.contents output.new)) }
-{
-    let parsed = match lines.next_line()? {
-        Some(line) => read_line(alloc, line)?,
-        None => return Ok(false),
-    };
-    if !obey(world, &parsed, delivered, output)? {
-        return Err(Stop::BadStep(lines.number()));
-    }
-    Ok(true)
-}
-
-// Does what a line asks for; false where it is no step.
+// Does what a line asks for; false where it is no step. The first `delivered` messages came to their receivers.
 fn obey<R: Records + Drop, W: Write>(
     world: &mut World<R>,
     parsed: &Parsed,
     delivered: &mut usize,
     output: &mut W,
 ) -> Result<bool, Stop>
-    ensures { IfOk result (λ done. done ≡ true → Wrote (λ printed. DoesParsed world.old.world parsed.now printed world.new.world) (W.contents output.old) (W.contents output.new)) }
+    requires delivered { AreDelivered delivered.old world.old.world.messages }
+    ensures wrote { IfOk result (λ done. done ≡ true → Wrote (λ printed. DoesParsed world.old.world parsed.now printed world.new.world) (W.contents output.old) (W.contents output.new)) }
+    ensures delivered { IfOk result (λ _. AreDelivered delivered.new world.new.world.messages) }
 {
     match parsed {
         Parsed::Nothing => {}
         Parsed::Step(step) => write_answer(output, &world.step(step))?,
         Parsed::Settle => settle(world, delivered, output)?,
-        Parsed::Refused(fault) => write_line(output, &Line::Refused(*fault))?,
+        Parsed::Refused(fault) => write_refusal(output, *fault)?,
         Parsed::Bad => return Ok(false),
     }
     Ok(true)
 }
 
 // Delivers the lowest message that was never delivered, or sweeps where there is none, again and again, until a sweep
-// finds nothing to do and no message is left. A refusal of one of these ends it. The first `delivered` messages, which
-// were delivered before, aren't looked at again.
+// finds nothing to do and no message is left. A refusal of one of these ends it.
 fn settle<R: Records + Drop, W: Write>(
     world: &mut World<R>,
     delivered: &mut usize,
     output: &mut W,
 ) -> Result<(), Stop>
-    ensures { OnOk result (Wrote (λ printed. Settles world.old.world printed world.new.world) (W.contents output.old) (W.contents output.new)) }
+    requires delivered { AreDelivered delivered.old world.old.world.messages }
+    ensures wrote { OnOk result (Wrote (λ printed. Settles world.old.world printed world.new.world) (W.contents output.old) (W.contents output.new)) }
+    ensures delivered { OnOk result (AreDelivered delivered.new world.new.world.messages) }
 {
     if !world.is_up() {
-        return write_line(output, &Line::Refused(Fault::MasterDown));
+        return write_refusal(output, Fault::MasterDown);
     }
     for _ in 0..u64::MAX {
         if !settle_on(world, delivered, output)? {
             return Ok(());
         }
     }
-    Ok(())
+    // So many turns send more messages than memory holds.
+    Err(Stop::NoMemory)
 }
 
-// One of these steps; false where nothing is left to do, or the step was refused.
+// One turn; false where it was the last.
 fn settle_on<R: Records + Drop, W: Write>(
     world: &mut World<R>,
     delivered: &mut usize,
     output: &mut W,
 ) -> Result<bool, Stop>
-    ensures { OnOk result (Wrote (λ printed. Settles world.old.world printed world.new.world) (W.contents output.old) (W.contents output.new)) }
+    requires delivered { AreDelivered delivered.old world.old.world.messages }
+    ensures wrote { IfOk result (λ more. Wrote (λ printed. TakesTurn more world.old.world printed world.new.world) (W.contents output.old) (W.contents output.new)) }
+    ensures delivered { IfOk result (λ _. AreDelivered delivered.new world.new.world.messages) }
 {
-    match settle_once(world, delivered) {
+    match settle_turn(world, delivered) {
         Ok(turn) => {
             write_lines(output, turn.lines.as_slice())?;
-            Ok(!turn.quiet || world.waiting_behind(*delivered).is_some())
+            Ok(!turn.quiet || has_waiting(world, *delivered))
         }
         Err(fault) => {
-            write_line(output, &Line::Refused(fault))?;
+            write_refusal(output, fault)?;
             Ok(false)
         }
     }
 }
 
-// Quiet where it is a sweep that found nothing to do.
-fn settle_once<R: Records + Drop>(
+// The turn itself. It is quiet where it is a sweep that found nothing to do.
+fn settle_turn<R: Records + Drop>(
     world: &mut World<R>,
     delivered: &mut usize,
 ) -> Result<Turn, Fault>
-    ensures ok { IfOk result (λ turn. Settles world.old.world turn.lines world.new.world) }
-    ensures err { IfErr result (λ fault. Settles world.old.world (Line.Refused fault ∷ []) world.new.world) }
+    requires delivered { AreDelivered delivered.old world.old.world.messages }
+    ensures ok { IfOk result (λ turn. settled world.old.world ≡ Ok (world.new.world, turn)) }
+    ensures fault { IfErr result (λ e. (settled world.old.world ≡ Err e) ⊎ IsOutside e world.old.cell world.old.world.rows world.old.refusals world.new.refusals) }
+    ensures err { OnErr result (world.new.world ≡ world.old.world) }
+    ensures delivered { AreDelivered delivered.new world.new.world.messages }
 {
     match world.waiting_behind(*delivered) {
-        Some(step) => deliver(world, &step, delivered),
         None => world.sweep(),
+        Some(step) => {
+            let turn = deliver(world, &step, delivered);
+            drop(step);
+            turn
+        }
     }
 }
 
+// By this step the first message is delivered that came to nobody.
 fn deliver<R: Records + Drop>(
     world: &mut World<R>,
     step: &Step,
     delivered: &mut usize,
 ) -> Result<Turn, Fault>
-    ensures ok { IfOk result (λ turn. Settles world.old.world turn.lines world.new.world) }
-    ensures err { IfErr result (λ fault. Settles world.old.world (Line.Refused fault ∷ []) world.new.world) }
+    requires { first_waiting world.old.world.messages 1 ≡ Some step.now }
+    ensures ok { IfOk result (λ turn. settled world.old.world ≡ Ok (world.new.world, turn)) }
+    ensures fault { IfErr result (λ e. (settled world.old.world ≡ Err e) ⊎ IsOutside e world.old.cell world.old.world.rows world.old.refusals world.new.refusals) }
+    ensures err { OnErr result (world.new.world ≡ world.old.world) }
+    ensures delivered { AreDelivered delivered.new world.new.world.messages }
 {
-    let Some(number) = message_of(step) else {
-        return world.sweep();
-    };
+    *delivered = before_message(step);
     let lines = world.step(step)?;
-    *delivered = number as usize;
     Ok(Turn {
         lines,
         quiet: false,
     })
 }
 
-// The message that a step delivers.
-fn message_of(step: &Step) -> Option<u64>
-    ensures { IfSome result (λ _. is_settling step.now ≡ true) }
+// Whether a message came to nobody.
+fn has_waiting<R: Records + Drop>(world: &World<R>, delivered: usize) -> bool
+    requires { AreDelivered delivered world.now.world.messages }
+    ensures { result ≡ is_some (first_waiting world.now.world.messages 1) }
+{
+    let waiting = world.waiting_behind(delivered);
+    let is_there = waiting.is_some();
+    drop(waiting);
+    is_there
+}
+
+// How many messages come before the one that a step delivers.
+fn before_message(step: &Step) -> usize
+    ensures { result ≡ before_message step.now }
 {
     match step {
-        Step::Take(number) | Step::Give(number) => Some(*number),
-        _ => None,
+        Step::Take(number) | Step::Give(number) => number.saturating_sub(1) as usize,
+        _ => 0,
     }
 }
 
@@ -211,7 +240,7 @@ fn write_answer<W: Write>(output: &mut W, answer: &Result<Items<Line>, Fault>) -
 {
     match answer {
         Ok(lines) => write_lines(output, lines.as_slice()),
-        Err(fault) => write_line(output, &Line::Refused(*fault)),
+        Err(fault) => write_refusal(output, *fault),
     }
 }
 
@@ -222,6 +251,15 @@ fn write_lines<W: Write>(output: &mut W, lines: &[Line]) -> Result<(), Stop>
         write_line(output, line)?;
     }
     Ok(())
+}
+
+fn write_refusal<W: Write>(output: &mut W, fault: Fault) -> Result<(), Stop>
+    ensures { OnOk result (Appends (W.contents output.old) (W.contents output.new) (lines_text (Line.Refused fault ∷ []))) }
+{
+    let line = Line::Refused(fault);
+    let written = write_line(output, &line);
+    drop(line);
+    written
 }
 
 fn write_line<W: Write>(output: &mut W, line: &Line) -> Result<(), Stop>

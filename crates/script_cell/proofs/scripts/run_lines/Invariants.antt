@@ -1,7 +1,9 @@
-use Rattle.std.proofs.Common.{List, ℕ}
-use Rattle.script_cell.specs.Scripts.{Wrote, DoesLines}
+use Rattle.script_cell.specs.Settling.{AreDelivered}
+use Rattle.script_cell.specs.Scripts.{Wrote, IsOfPart}
 use Rattle.script_cell.proofs.scripts.run_lines.Given as goal
 
--- lines so far were done, and what they print was written
+-- the lines so far were done, what they print was written, and each message that isn't looked at again came to its receiver
 abbrev pub invariant-loop : goal.invariant-loop
-invariant-loop g l = Wrote (λ printed. (texts : List (List ℕ)) × DoesLines l.fn.world.world texts printed l.world.world) (g.W.Write.contents l.fn.output) (g.W.Write.contents l.output)
+invariant-loop g l =
+    AreDelivered l.delivered l.world.world.messages
+    × Wrote (λ printed. IsOfPart l.fn.lines.rest l.lines.rest l.lines.number l.fn.world.world printed l.world.world) (g.W.Write.contents l.fn.output) (g.W.Write.contents l.output)

@@ -1,11 +1,16 @@
-use Rattle.script_cell.proofs.Doings.{settles_down, wrote_settles}
+use Rattle.script_cell.proofs.Doings.{settles_down, wrote_none, no_turns, more_turns, all_turns}
 use Rattle.script_cell.proofs.scripts.settle.Goals as goal
 
-pub returns-then-not-is_up : goal.returns-then-not-is_up
-returns-then-not-is_up g c = settles_down c.args.world.now.world c.is_up.result _ _ c.write_line.result c.is_up.ensures c.if-not-is_up.true c.write_line.ensures
+pub returns-then-not-is_up-clause-wrote : goal.returns-then-not-is_up-clause-wrote
+returns-then-not-is_up-clause-wrote g c =
+    settles_down c.args.world.now.world c.is_up.result _ _ c.write_refusal.result c.is_up.ensures c.if-not-is_up.true c.write_refusal.ensures
 
-pub returns-then-not-branch : goal.returns-then-not-branch
-returns-then-not-branch g c = wrote_settles _ _ _ _ _ _ c.loop.invariant c.in_ok-settle_on.ensures
+pub loop-init : goal.loop-init
+loop-init g c = (c.requires.delivered, wrote_none _ _ (no_turns c.args.world.now.world))
+
+pub returns-then-not-branch-clause-wrote : goal.returns-then-not-branch-clause-wrote
+returns-then-not-branch-clause-wrote g c =
+    all_turns c.is_up.result _ _ _ _ _ _ _ c.is_up.ensures c.if-not-is_up.false c.if-not-branch.true c.loop.invariant.1 c.in_ok-settle_on.ensures.wrote
 
 pub loop-preserved : goal.loop-preserved
-loop-preserved g c = wrote_settles _ _ _ _ _ _ c.loop.invariant c.in_ok-settle_on.ensures
+loop-preserved g c = (c.in_ok-settle_on.ensures.delivered, more_turns _ _ _ _ _ _ _ c.if-not-branch.false c.loop.invariant.1 c.in_ok-settle_on.ensures.wrote)

@@ -1,4 +1,3 @@
-use Rattle.std.proofs.Common.{rules, ◌≡◌}
 use Rattle.script_cell.proofs.steps.content_of.Goals as goal
 
 pub returns-in-None : goal.returns-in-None

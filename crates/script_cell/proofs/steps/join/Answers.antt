@@ -1,5 +1,4 @@
 use Rattle.names_cell.specs.declared.faults.NameFault.TheVariants.{BadPrincipal}
-use Rattle.names_cell.specs.Text.{is_component}
 use Rattle.script_cell.proofs.Lifts.{two_words}
 use Rattle.script_cell.proofs.Written.{unnamed, unnamed_join, no_client}
 use Rattle.script_cell.proofs.steps.join.Goals as goal

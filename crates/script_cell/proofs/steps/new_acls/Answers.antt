@@ -1,4 +1,3 @@
-use Rattle.std.proofs.Common.{◌≡◌}
 use Rattle.script_cell.proofs.Lifts.{passed, four_words}
 use Rattle.script_cell.proofs.Written.{new_acls_part, new_acls_written}
 use Rattle.script_cell.proofs.steps.new_acls.Goals as goal

@@ -1,5 +1,4 @@
 use Rattle.names_cell.specs.declared.faults.NameFault.TheVariants.{BadName}
-use Rattle.names_cell.specs.Text.{is_name}
 use Rattle.script_cell.proofs.Lifts.{passed, after_two}
 use Rattle.script_cell.proofs.Written.{unnamed, open_part, unnamed_open, opened}
 use Rattle.script_cell.proofs.steps.open.Goals as goal
