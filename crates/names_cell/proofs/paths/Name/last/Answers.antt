@@ -1,0 +1,5 @@
+use Rattle.std.proofs.Common.{rules}
+use Rattle.names_cell.proofs.paths.Name.last.Goals as goal
+
+pub returns : goal.returns
+returns c = search rules
