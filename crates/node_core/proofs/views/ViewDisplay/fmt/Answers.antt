@@ -1,0 +1,6 @@
+use Rattle.std.proofs.Common.{arith, rules}
+use Rattle.std.proofs.lemmas.Grind.{common_steps}
+use Rattle.node_core.proofs.views.ViewDisplay.fmt.Goals as goal
+
+pub returns-in-File-clause-writes : goal.returns-in-File-clause-writes
+returns-in-File-clause-writes g c = grind (arith, common_steps)
