@@ -1,4 +1,4 @@
-use Rattle.std.proofs.Common.{refl}
+use Rattle.std.proofs.Common.{refl, rules}
 use Rattle.over_core.proofs.KeptByUps.{next_sound, pushed_first}
 use Rattle.over_core.proofs.cells.next_master.Goals as goal
 
@@ -15,3 +15,12 @@ returns-clause-sound g c =
     rw committed
     (next_sound _ _ (g.R.Records.rows c.args.records.now) c.in_ok-rows.rows _ _ loaded.sound loaded.rows loaded.stay refl c.if-rows-ge-NUMBER_LIMIT.false
     (pushed_first _ _ _ c.new-edits.ensures c.in_ok-push.ensures.ok))
+
+pub returns-clause-ok : goal.returns-clause-ok
+returns-clause-ok g c = search rules
+
+pub returns-clause-committed : goal.returns-clause-committed
+returns-clause-committed g c = search rules
+
+pub returns-in_err-commit-clause-left : goal.returns-in_err-commit-clause-left
+returns-in_err-commit-clause-left g c = search rules
