@@ -1,4 +1,3 @@
 mod KeptByTakes
 mod FitsByEffects
 mod KeptBySweeps
-mod KeptByUps

@@ -1,5 +1,5 @@
 //! A master over its records.
-ghost use Rattle.std.specs.Prelude.{◌≡◌, ◌≢◌, ◌⊎◌, ◌≤◌, ◌++◌, ◌∷◌, [], true, Ok, Err, IfOk, IfErr, OnOk, OnErr};
+ghost use Rattle.std.specs.Prelude.{◌≡◌, ◌≢◌, ◌⊎◌, ◌≤◌, ◌++◌, ◌∷◌, [], ◌-◌, ◌^◌, nat_le, true, false, Ok, Err, IfOk, IfErr, OnOk, OnErr};
 ghost use Rattle.rows_cell.specs.Rows.{changed_rows};
 ghost use Rattle.rows_cell.specs.Sound.{sound};
 ghost use Rattle.cell_core.specs.Step.{take_step};
@@ -10,7 +10,7 @@ ghost use Rattle.over_core.specs.Up.{up_edits, up_step, MayRefuseUp};
 use cell_core::{Cell as Master, MOMENT_LIMIT, Swept, Taken};
 use node_core::{Fault, NUMBER_LIMIT};
 use plain::Items;
-use rows_cell::{Edit, Records};
+use rows_cell::{Edit, Records, Rows};
 use std::alloc::Global;
 use std::marker::Model;
 use tags_cell::Request;
@@ -128,15 +128,51 @@ fn next_master<R: Records>(
     if now >= MOMENT_LIMIT {
         return Err(Fault::Exhausted);
     }
+    let rows = next_rows(records)?;
+    let epoch = rows.epoch;
+    let master = Master::of_rows(alloc, rows, lease, now)?;
+    match commit_epoch(alloc, records, epoch) {
+        Ok(()) => Ok(master),
+        Err(fault) => {
+            drop(master);
+            Err(fault)
+        }
+    }
+}
+
+// Reads the rows, and gives them with the next epoch.
+fn next_rows<R: Records>(records: &mut R) -> Result<Rows, Fault>
+    ensures ok { IfOk result (λ rows. rows ≡ changed_rows (R.rows records.old) (up_edits (R.rows records.old))) }
+    ensures room { OnOk result (nat_le (2 ^ 63 - 1) (R.rows records.old).epoch ≡ false) }
+    ensures sound { OnOk result (sound (R.cell records.old) (changed_rows (R.rows records.old) (up_edits (R.rows records.old))) ≡ true) }
+    ensures counted { OnOk result (R.refusals records.new ≡ R.refusals records.old) }
+    ensures fault { IfErr result (λ e. (e ≡ Fault.Exhausted × nat_le (2 ^ 63 - 1) (R.rows records.old).epoch ≡ true) ⊎ MayRefuseUp e (R.cell records.old) (R.rows records.old) (R.refusals records.old) (R.refusals records.new)) }
+    ensures rows { R.rows records.new ≡ R.rows records.old }
+    ensures leave { R.may_leave records.new ≡ R.may_leave records.old }
+    ensures cell { R.cell records.new ≡ R.cell records.old }
+{
     let mut rows = records.load()?;
     if rows.epoch >= NUMBER_LIMIT {
+        drop(rows);
         return Err(Fault::Exhausted);
     }
     let epoch = rows.epoch + 1;
     rows.epoch = epoch;
+    Ok(rows)
+}
+
+// Commits an epoch.
+fn commit_epoch<R: Records>(alloc: Global, records: &mut R, epoch: u64) -> Result<(), Fault>
+    requires { sound (R.cell records.now) (changed_rows (R.rows records.now) (Edit.Epoch epoch ∷ [])) ≡ true }
+    ensures committed { OnOk result (IsCommitted (Edit.Epoch epoch ∷ []) (R.rows records.old) (R.rows records.new) (R.may_leave records.old) (R.may_leave records.new) (R.refusals records.old) (R.refusals records.new)) }
+    ensures fault { IfErr result (λ e. MayRefuseUp e (R.cell records.old) (R.rows records.old) (R.refusals records.old) (R.refusals records.new)) }
+    ensures rows { OnErr result (R.rows records.new ≡ R.rows records.old) }
+    ensures left { OnErr result ((R.may_leave records.new ≡ R.may_leave records.old)
+        ⊎ (R.may_leave records.new ≡ R.may_leave records.old ++ changed_rows (R.rows records.old) (Edit.Epoch epoch ∷ []) ∷ [])) }
+    ensures cell { R.cell records.new ≡ R.cell records.old }
+{
     let mut edits = Items::new(alloc);
     edits.push(Edit::Epoch(epoch))?;
-    let master = Master::of_rows(alloc, rows, lease, now)?;
     records.commit(&edits)?;
-    Ok(master)
+    Ok(())
 }
