@@ -5,7 +5,7 @@ use Rattle.std.specs.List.{slice_split, onto_first, list_any}
 use Rattle.std.proofs.lemmas.List.{take_more}
 use Rattle.std.proofs.lemmas.Bool.Decides.{nat_tests}
 use Rattle.std.proofs.lemmas.Grind.{common_steps}
-use Rattle.names_cell.specs.Text.{is_line_feed, lines_of_parts, acl_lines}
+use Rattle.names_cell.specs.Text.{is_line_feed, lines_of_parts, text_lines}
 
 -- there is always a first part
 first_part : (bs : List ℕ) → (part : List ℕ) × (parts : List (List ℕ)) × (slice_split is_line_feed bs ≡ part ∷ parts)
@@ -41,14 +41,14 @@ more_in_front b false p [] h = refl
 more_in_front b false p (q ∷ ps) h = let e : lines_of_parts (q ∷ ps) ≡ q ∷ ps = cc in ap (λ ls. (b ∷ p) ∷ ls) e
 
 -- where another byte ends the text each part is a line
-pub not_ended : (bs : List ℕ) (n : ℕ) → n + 1 ≡ length bs → get_or bs n 0 ≢ 10 → acl_lines bs ≡ slice_split is_line_feed bs
+pub not_ended : (bs : List ℕ) (n : ℕ) → n + 1 ≡ length bs → get_or bs n 0 ≢ 10 → text_lines bs ≡ slice_split is_line_feed bs
 not_ended [] n h other = absurd (omega arith)
 not_ended (b ∷ []) zero h other = let e : eqb b 10 ≡ false = grind (arith, nat_tests) in rw e refl
 not_ended (b ∷ []) (suc n) h other = absurd (omega arith)
 not_ended (b ∷ c ∷ bs) zero h other = absurd (omega arith)
 not_ended (b ∷ c ∷ bs) (suc n) h other =
     let t = first_part (c ∷ bs) in
-    let l : acl_lines (c ∷ bs) ≡ slice_split is_line_feed (c ∷ bs) = not_ended (c ∷ bs) n (omega arith) other in
+    let l : text_lines (c ∷ bs) ≡ slice_split is_line_feed (c ∷ bs) = not_ended (c ∷ bs) n (omega arith) other in
     let e : lines_of_parts (t.0 ∷ t.1) ≡ t.0 ∷ t.1 = ap lines_of_parts (sym t.2) ∙ l ∙ t.2 in
     let step : List (List ℕ) → List (List ℕ) = λ ps. cond (is_line_feed b) ([] ∷ ps) (onto_first b ps) in
     ap (λ ps. lines_of_parts (step ps)) t.2 ∙ more_in_front b (is_line_feed b) t.0 t.1 e ∙ ap step (sym t.2)
@@ -56,10 +56,10 @@ not_ended (b ∷ c ∷ bs) (suc n) h other =
 front_and_last : (bs : List ℕ) (n : ℕ) → n + 1 ≡ length bs → bs ≡ take n bs ++ get_or bs n 0 ∷ []
 front_and_last bs n h = grind (arith, common_steps, take_more bs n 0)
 
-pub ended_at : (bs : List ℕ) (n : ℕ) → n + 1 ≡ length bs → get_or bs n 0 ≡ 10 → acl_lines bs ≡ slice_split is_line_feed (take n bs)
+pub ended_at : (bs : List ℕ) (n : ℕ) → n + 1 ≡ length bs → get_or bs n 0 ≡ 10 → text_lines bs ≡ slice_split is_line_feed (take n bs)
 ended_at bs n h at =
     let e : bs ≡ take n bs ++ 10 ∷ [] = front_and_last bs n h ∙ ap (λ b. take n bs ++ b ∷ []) at in
-    ap acl_lines e ∙ ended (take n bs)
+    ap text_lines e ∙ ended (take n bs)
 
 -- an empty last part is none that is looked for
 pub any_line : (test : List ℕ → Bool) → test [] ≡ false → (parts : List (List ℕ)) → list_any test (lines_of_parts parts) ≡ list_any test parts

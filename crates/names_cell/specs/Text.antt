@@ -74,10 +74,10 @@ lines_of_parts ([] ∷ []) = []
 lines_of_parts ((b ∷ bs) ∷ []) = (b ∷ bs) ∷ []
 lines_of_parts (x ∷ y ∷ more) = x ∷ lines_of_parts (y ∷ more)
 
--- the lines of an ACL file: each is ended by LF, which the last may lack
-abbrev pub acl_lines : List ℕ → List (List ℕ)
-acl_lines content = lines_of_parts (slice_split is_line_feed content)
+-- the lines of a text: each is ended by LF, which the last may lack
+abbrev pub text_lines : List ℕ → List (List ℕ)
+text_lines text = lines_of_parts (slice_split is_line_feed text)
 
 -- each line is a principal
 abbrev pub is_acl_file : List ℕ → Bool
-is_acl_file content = list_all is_component (acl_lines content)
+is_acl_file content = list_all is_component (text_lines content)

@@ -2,7 +2,7 @@
 ghost use Rattle.std.specs.Prelude.{◌≡◌, Ok, Err, if◌then◌else◌};
 ghost use Rattle.std.specs.List.{list_any};
 ghost use Rattle.std.specs.Str.{bytes_eq};
-ghost use Rattle.names_cell.specs.Text.{is_acl_file, acl_lines};
+ghost use Rattle.names_cell.specs.Text.{is_acl_file, text_lines};
 
 use crate::faults::NameFault;
 use crate::grammar;
@@ -18,11 +18,11 @@ pub struct AclList<'a> {
 
 impl<'a> Model for AclList<'a> {
     ghost use Rattle.std.specs.Prelude.{◌≡◌, List, ℕ, true};
-    ghost use Rattle.names_cell.specs.Text.{is_acl_file, acl_lines};
+    ghost use Rattle.names_cell.specs.Text.{is_acl_file, text_lines};
 
     ghost Value = { List (List ℕ) };
 
-    ghost view = { λ a. acl_lines a.content.now };
+    ghost view = { λ a. text_lines a.content.now };
 
     ghost invariant = { λ a. is_acl_file a.content.now ≡ true };
 }
@@ -31,7 +31,7 @@ impl<'a> AclList<'a> {
     /// Reads the content of an ACL file: principals, one a line. Each line is ended by LF, which the last may lack.
     /// One bad line refuses the whole file. An empty file lists nobody. Takes no memory.
     pub fn read(content: &'a [u8]) -> Result<AclList<'a>, NameFault>
-        ensures { result ≡ (if is_acl_file content.now then Ok (acl_lines content.now) else Err NameFault.BadAcl) }
+        ensures { result ≡ (if is_acl_file content.now then Ok (text_lines content.now) else Err NameFault.BadAcl) }
     {
         if !grammar::is_acl_file(content) {
             return Err(NameFault::BadAcl);

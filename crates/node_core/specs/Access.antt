@@ -3,7 +3,7 @@ use Rattle.std.specs.Prelude.{ℕ, Bool, true, false, ◌&&◌, List, Option}
 use Rattle.std.specs.Option.{option_map, option_map_or}
 use Rattle.std.specs.List.{list_any, slice_get}
 use Rattle.std.specs.Str.{bytes_eq}
-use Rattle.names_cell.specs.Text.{is_acl_file, acl_lines, acl_file_of}
+use Rattle.names_cell.specs.Text.{is_acl_file, text_lines, acl_file_of}
 use Rattle.node_core.specs.Nodes.{Nodes, get_node}
 use Rattle.node_core.specs.declared.views.View.{View}
 use Rattle.node_core.specs.declared.kinds.Kind.{Kind}
@@ -23,7 +23,7 @@ is_file Directory = false
 
 -- a file, well formed, with the principal on one of its lines
 abbrev pub lists : List ℕ → View → Bool
-lists principal node = is_file node.kind && (is_acl_file node.content && list_any (λ line. bytes_eq line principal) (acl_lines node.content))
+lists principal node = is_file node.kind && (is_acl_file node.content && list_any (λ line. bytes_eq line principal) (text_lines node.content))
 
 -- the first name of the map, which tells its cell
 abbrev pub first_name : Nodes → Option (List ℕ)

@@ -6,8 +6,8 @@ use Rattle.std.specs.List.{slice_split}
 use Rattle.std.specs.Io.BufRead.{take_through, drop_through, ends_with_byte, strip_last, first_piece}
 use Rattle.std.specs.Io.KnownBytes.{IsAtEnd}
 use Rattle.std.specs.List.{onto_first}
-use Rattle.names_cell.specs.Text.{is_line_feed, lines_of_parts}
-use Rattle.script_cell.specs.Texts.{script_lines, Passes, AreLines, FillsFrom, Reading}
+use Rattle.names_cell.specs.Text.{is_line_feed, lines_of_parts, text_lines}
+use Rattle.script_cell.specs.Texts.{Passes, AreLines, FillsFrom, Reading}
 
 -- there is always a first part
 record IsCons (xs : List (List ℕ)) : Type 0 where
@@ -54,17 +54,17 @@ stripped : (b c : ℕ) (xs : List ℕ) → BeginsWith c xs → strip_last 10 (b 
 stripped b c xs h = subst (λ ys. strip_last 10 (b ∷ ys) ≡ b ∷ strip_last 10 ys) (sym h.is) (longer_piece b c h.rest)
 
 first_by : (e : Bool) (b : ℕ) (xs : List ℕ) → (b == 10) ≡ e
-    → ((c : ℕ) (ys : List ℕ) → xs ≡ c ∷ ys → script_lines xs ≡ first_piece 10 xs ∷ script_lines (drop_through 10 xs))
+    → ((c : ℕ) (ys : List ℕ) → xs ≡ c ∷ ys → text_lines xs ≡ first_piece 10 xs ∷ text_lines (drop_through 10 xs))
     → lines_of_parts (cond e ([] ∷ slice_split is_line_feed xs) (onto_first b (slice_split is_line_feed xs)))
-    ≡ strip_last 10 (cond e (b ∷ []) (b ∷ take_through 10 xs)) ∷ script_lines (cond e xs (drop_through 10 xs))
+    ≡ strip_last 10 (cond e (b ∷ []) (b ∷ take_through 10 xs)) ∷ text_lines (cond e xs (drop_through 10 xs))
 first_by true b xs is behind =
-    behind_feed (slice_split is_line_feed xs) (some_part xs) ∙ ap (λ e. cond e [] (b ∷ []) ∷ script_lines xs) (sym is)
+    behind_feed (slice_split is_line_feed xs) (some_part xs) ∙ ap (λ e. cond e [] (b ∷ []) ∷ text_lines xs) (sym is)
 first_by false b [] is behind = ap (λ e. cond e [] (b ∷ []) ∷ []) (sym is)
 first_by false b (c ∷ ys) is behind =
-    longer_line b (slice_split is_line_feed (c ∷ ys)) (first_piece 10 (c ∷ ys)) (script_lines (drop_through 10 (c ∷ ys))) (behind c ys refl)
-    ∙ ap (λ line. line ∷ script_lines (drop_through 10 (c ∷ ys))) (sym (stripped b c (take_through 10 (c ∷ ys)) (begins_by (c == 10) c (take_through 10 ys))))
+    longer_line b (slice_split is_line_feed (c ∷ ys)) (first_piece 10 (c ∷ ys)) (text_lines (drop_through 10 (c ∷ ys))) (behind c ys refl)
+    ∙ ap (λ line. line ∷ text_lines (drop_through 10 (c ∷ ys))) (sym (stripped b c (take_through 10 (c ∷ ys)) (begins_by (c == 10) c (take_through 10 ys))))
 
-pub first_line : (b : ℕ) (xs : List ℕ) → script_lines (b ∷ xs) ≡ first_piece 10 (b ∷ xs) ∷ script_lines (drop_through 10 (b ∷ xs))
+pub first_line : (b : ℕ) (xs : List ℕ) → text_lines (b ∷ xs) ≡ first_piece 10 (b ∷ xs) ∷ text_lines (drop_through 10 (b ∷ xs))
 first_line b [] = first_by (b == 10) b [] refl (λ c ys e. cc)
 first_line b (x ∷ xs) = first_by (b == 10) b (x ∷ xs) refl (λ c ys e. first_line x xs)
 
@@ -76,7 +76,7 @@ advanced (Some []) after whole line h some is = absurd (some h.0)
 advanced (Some (b ∷ xs)) after whole line h some is =
     let same : first_piece 10 (b ∷ xs) ≡ line = ap (strip_last 10) (sym h.0) ∙ sym is in
     subst (Passes (Some (b ∷ xs)) (line ∷ [])) (sym h.1)
-    (first_line b xs ∙ ap (λ x. x ∷ script_lines (drop_through 10 (b ∷ xs))) same)
+    (first_line b xs ∙ ap (λ x. x ∷ text_lines (drop_through 10 (b ∷ xs))) same)
 
 -- the same, of a line whose count of bytes is told
 pub advanced_by : (count : ℕ) (told old filled seen : Reading) (rest : Option (List ℕ)) (line : List ℕ) → told ≡ old → rest ≡ told.rest → FillsFrom rest filled.rest filled.line → length filled.line ≡ count → seen ≡ filled → count ≢ 0 → line ≡ strip_last 10 seen.line → Passes old.rest (line ∷ []) seen.rest
@@ -101,9 +101,9 @@ pub passes_more : (text mid after : Option (List ℕ)) (front back : List (List 
 passes_more None mid after front back h k = tt
 passes_more (Some text) None after front back h k = absurd h
 passes_more (Some text) (Some rest) None front back h k = absurd k
-passes_more (Some text) (Some rest) (Some last) front back h k = h ∙ ap (λ xs. front ++ xs) k ∙ sym (append_assoc front back (script_lines last))
+passes_more (Some text) (Some rest) (Some last) front back h k = h ∙ ap (λ xs. front ++ xs) k ∙ sym (append_assoc front back (text_lines last))
 
 pub passes_all : (text after : Option (List ℕ)) (texts : List (List ℕ)) → Passes text texts after → IsAtEnd after → AreLines text texts
 passes_all None after texts h k = tt
 passes_all (Some text) None texts h k = absurd h
-passes_all (Some text) (Some rest) texts h k = sym (append-nil texts) ∙ ap (λ xs. texts ++ script_lines xs) (sym k) ∙ sym h
+passes_all (Some text) (Some rest) texts h k = sym (append-nil texts) ∙ ap (λ xs. texts ++ text_lines xs) (sym k) ∙ sym h

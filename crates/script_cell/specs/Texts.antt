@@ -1,24 +1,19 @@
 -- How the lines of a script are read.
 use Rattle.std.specs.Prelude.{◌≡◌, ◌≤◌, ℕ, ◌+◌, Bool, true, false, List, [], ◌∷◌, ◌++◌, length, ⊤, Option, Some, None}
-use Rattle.std.specs.List.{slice_split}
 use Rattle.std.specs.Io.KnownBytes.{IsAtEnd}
 use Rattle.std.specs.Io.BufRead.{take_through, drop_through}
-use Rattle.names_cell.specs.Text.{is_line_feed, lines_of_parts}
-
--- the lines of a script: each is ended by LF, which the last may lack
-abbrev pub script_lines : List ℕ → List (List ℕ)
-script_lines text = lines_of_parts (slice_split is_line_feed text)
+use Rattle.names_cell.specs.Text.{text_lines}
 
 -- these are the first lines of a text, and what is left behind them, where the text is known
 abbrev pub Passes : Option (List ℕ) → List (List ℕ) → Option (List ℕ) → Type 0
 Passes None texts after = ⊤
 Passes (Some text) texts None = ⊥
-Passes (Some text) texts (Some rest) = script_lines text ≡ texts ++ script_lines rest
+Passes (Some text) texts (Some rest) = text_lines text ≡ texts ++ text_lines rest
 
 -- these are the lines of a text, where it is known
 abbrev pub AreLines : Option (List ℕ) → List (List ℕ) → Type 0
 AreLines None texts = ⊤
-AreLines (Some text) texts = texts ≡ script_lines text
+AreLines (Some text) texts = texts ≡ text_lines text
 
 -- the text that is left, the line that was read last, without its LF, and its number
 pub record Reading : Type 0 where
