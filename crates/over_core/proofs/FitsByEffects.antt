@@ -1,9 +1,9 @@
 -- What a change that waits puts or takes away, when its turn comes, fits the rows.
-use Rattle.std.proofs.Common.{◌≡◌, ℕ, ◌+◌, ◌≤◌, List, [], length, Bool, true, false, cond, Option, Some, None, Result, Ok, Err, refl, sym, ◌∙◌, ap, subst, arith}
+use Rattle.std.proofs.Common.{◌≡◌, ℕ, ◌+◌, ◌≤◌, List, length, Bool, true, false, cond, Option, Some, None, Result, Ok, Err, refl, sym, ◌∙◌, ap, subst, arith}
 use Rattle.std.specs.Prelude.{◌&&◌, ◌||◌, ◌==◌, nat_lt, nat_le, is_none}
 use Rattle.std.specs.Option.{option_map, option_map_or}
 use Rattle.std.specs.Str.{bytes_eq}
-use Rattle.std.proofs.lemmas.Bool.{and_parts, eq-eqb}
+use Rattle.std.proofs.lemmas.Bool.{eq-eqb}
 use Rattle.std.proofs.lemmas.Bool.Decides.{nat_tests}
 use Rattle.std.proofs.lemmas.Slice.Eq.{bytes_eq-Decides}
 use Rattle.names_cell.specs.Text.{parent_of, cell_of}
@@ -19,8 +19,8 @@ use Rattle.node_core.specs.declared.kinds.Right.TheVariants as rights
 use Rattle.node_core.specs.Nodes.{Nodes, get_node, has_children}
 use Rattle.rows_cell.specs.declared.tables.Node.{Node}
 use Rattle.rows_cell.specs.declared.tables.Rows.{Rows}
-use Rattle.rows_cell.specs.Rows.{stored_node, map_of}
-use Rattle.rows_cell.specs.Sound.{sound, is_number, is_directory, is_directory_at, numbers_fit, content_fits, parent_fits}
+use Rattle.rows_cell.specs.Rows.{stored_node}
+use Rattle.rows_cell.specs.Sound.{sound, is_number, is_directory, numbers_fit, content_fits, parent_fits}
 use Rattle.rows_cell.proofs.RowViews.{views_get}
 use Rattle.rows_cell.proofs.SoundChanges.{PutFits, found_fits, sound_numbers}
 use Rattle.rows_cell.proofs.SoundRemovals.{GoneFits}
@@ -41,7 +41,7 @@ use Rattle.tags_cell.specs.declared.outs.CallResult.TheVariants as results
 use Rattle.cell_core.specs.declared.effects.Change.{Change}
 use Rattle.cell_core.specs.declared.effects.Effect.{Effect}
 use Rattle.cell_core.specs.State.{MasterState}
-use Rattle.cell_core.specs.Step.{may, missing_right, is_of_cell, node_of_handle, new_handle, content_fault, node_fault, write_fault, needing, answer_on_node, bytes_of}
+use Rattle.cell_core.specs.Step.{may, missing_right, is_of_cell, node_of_handle, new_handle, content_fault, node_fault, write_fault, needing, answer_on_node}
 use Rattle.cell_core.specs.Effect.{answered, refused, changes_to, is_last, new_view, acls_of, create_made, create_numbered, create_permitted, create_in, create_under, create_new, create_over, create_effect, open_effect, generation_fits, with_content, with_acls, put_at, delete_at, change_at, effect_on, handle_effect, effect}
 use Rattle.over_core.specs.Kept.{IsKept}
 

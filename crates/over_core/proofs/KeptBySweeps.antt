@@ -1,7 +1,6 @@
 -- What a sweep commits is sound, and leaves the master beside its rows.
 use Rattle.std.proofs.Common.{◌≡◌, ℕ, List, [], ◌∷◌, Bool, true, false, cond, Option, Some, None, Result, Ok, Err, refl, sym, ◌∙◌, ap, subst, inl, inr}
-use Rattle.std.specs.Prelude.{◌⊎◌, ◌==◌, ◌^◌, nat_le, max, drop, IfOk, IfErr, OnOk, OnErr}
-use Rattle.std.specs.Option.{option_map_or}
+use Rattle.std.specs.Prelude.{◌⊎◌, ◌^◌, nat_le, max, drop, IfOk, IfErr, OnOk, OnErr}
 use Rattle.std.specs.List.Sorted.{IsStrictlySortedBy}
 use Rattle.std.specs.Map.{keys_of, remove_entry}
 use Rattle.std.specs.BTreeMap.{is_at, insert_entry}
@@ -10,10 +9,9 @@ use Rattle.std.specs.Cmp.Lexicographic.{slice_cmp}
 use Rattle.std.proofs.lemmas.Bool.{and_parts}
 use Rattle.node_core.specs.declared.refusals.Fault.{Fault}
 use Rattle.node_core.specs.declared.refusals.Fault.TheVariants as faults
-use Rattle.node_core.specs.declared.views.View.{View}
 use Rattle.node_core.specs.declared.views.Mod.{Mod}
 use Rattle.node_core.specs.declared.views.Mod.TheVariants.{Put, Gone}
-use Rattle.node_core.specs.Nodes.{Nodes, HasNamesInOrder, get_node}
+use Rattle.node_core.specs.Nodes.{Nodes, HasNamesInOrder}
 use Rattle.rows_cell.specs.declared.tables.Session.{Session}
 use Rattle.rows_cell.specs.declared.tables.Rows.{Rows}
 use Rattle.rows_cell.specs.declared.tables.Edit.TheVariants.{PutSession, NextInstance}
@@ -32,9 +30,8 @@ use Rattle.cell_core.specs.declared.plans.Plan.{Plan}
 use Rattle.cell_core.specs.declared.sweeps.Swept.{Swept}
 use Rattle.cell_core.specs.State.{MasterState}
 use Rattle.cell_core.specs.Step.{may_start, is_live, turned_away, recorded, with_note}
-use Rattle.cell_core.specs.Effect.{effect}
 use Rattle.cell_core.specs.Store.{IsCommitted, IsRefused}
-use Rattle.cell_core.specs.Sweep.{noted, plan_session, plan_start, plan_effect, plan_work, plan_of, edit_of, change_edits, edits_of, queue_edits, sweep_edits, with_change, done, sweep_by, sweep_step}
+use Rattle.cell_core.specs.Sweep.{noted, plan_session, plan_start, plan_work, plan_of, edit_of, change_edits, edits_of, queue_edits, sweep_edits, with_change, done, sweep_by, sweep_step}
 use Rattle.over_core.specs.Kept.{IsKept, queue_fits}
 use Rattle.over_core.proofs.KeptByTakes.{stays, note_kept, clock_kept}
 use Rattle.over_core.proofs.FitsByEffects.{ModFits, ChangeFits, effect_fits}

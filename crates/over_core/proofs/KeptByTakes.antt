@@ -1,33 +1,23 @@
 -- What a master takes leaves it beside its rows.
 use Rattle.std.proofs.Common.{◌≡◌, ℕ, List, [], ◌∷◌, ◌++◌, Bool, true, false, cond, Option, Some, None, refl, sym, ◌∙◌, subst, arith}
-use Rattle.std.specs.Prelude.{◌&&◌, ◌==◌, ◌^◌, ◌≤◌, ◌<◌, nat_lt, nat_le, max, is_none, Result, Ok, Err, IfOk, OnErr}
-use Rattle.std.specs.Option.{option_map_or}
+use Rattle.std.specs.Prelude.{◌==◌, ◌^◌, ◌≤◌, ◌<◌, nat_lt, nat_le, max, is_none, Result, Ok, Err, IfOk, OnErr}
 use Rattle.std.specs.List.{list_all}
 use Rattle.std.proofs.lemmas.Bool.{and_parts, and_from}
 use Rattle.std.proofs.lemmas.Bool.Decides.{nat_tests}
 use Rattle.node_core.specs.declared.refusals.Fault.{Fault}
 use Rattle.node_core.specs.declared.refusals.Fault.TheVariants as faults
-use Rattle.node_core.specs.declared.views.View.{View}
-use Rattle.node_core.specs.declared.kinds.Kind.{Kind}
-use Rattle.node_core.specs.declared.kinds.Kind.TheVariants.{File, Directory}
 use Rattle.rows_cell.specs.declared.tables.Rows.{Rows}
 use Rattle.rows_cell.specs.Sound.{is_number}
-use Rattle.rows_cell.proofs.PutEntries.{all_more}
-use Rattle.tags_cell.specs.declared.calls.Open.{Open}
-use Rattle.tags_cell.specs.declared.calls.Create.{Create}
 use Rattle.tags_cell.specs.declared.calls.Call.{Call}
-use Rattle.tags_cell.specs.declared.calls.Call.TheVariants as calls
 use Rattle.tags_cell.specs.declared.requests.Start.{Start}
 use Rattle.tags_cell.specs.declared.requests.CallMessage.{CallMessage}
 use Rattle.tags_cell.specs.declared.requests.Request.{Request}
 use Rattle.tags_cell.specs.declared.requests.Request.TheVariants as requests
 use Rattle.tags_cell.specs.declared.outs.CallResult.{CallResult}
-use Rattle.tags_cell.specs.declared.outs.CallResult.TheVariants as results
 use Rattle.tags_cell.specs.Messages.{request_client}
 use Rattle.cell_core.specs.declared.pending.Taken.{Taken}
 use Rattle.cell_core.specs.declared.pending.Kept.{Kept}
 use Rattle.cell_core.specs.declared.pending.Pending.{Pending}
-use Rattle.cell_core.specs.declared.pending.Work.{Work}
 use Rattle.cell_core.specs.declared.pending.Work.TheVariants as works
 use Rattle.cell_core.specs.State.{MasterState}
 use Rattle.cell_core.specs.declared.handles.Note.{Note}

@@ -51,7 +51,7 @@ impl<R: Records> Cell<R> {
         ensures ok { IfOk result (λ cell. up_step (R.rows records) lease now ≡ Ok cell.master) }
         ensures same { IfOk result (λ cell. cell.cell ≡ R.cell records) }
         ensures committed { IfOk result (λ cell. IsCommitted (up_edits (R.rows records)) (R.rows records) cell.rows (R.may_leave records) cell.may_leave (R.refusals records) cell.refusals) }
-        ensures fault { IfErr result (λ e. (up_step (R.rows records) lease now ≡ Err e.0) ⊎ MayRefuseUp e.0 (R.cell records) (R.rows records) (R.refusals records) (R.refusals e.1)) }
+        ensures fault { IfErr result (λ e. (up_step (R.rows records) lease now ≡ Err e.0 × R.refusals e.1 ≡ R.refusals records) ⊎ MayRefuseUp e.0 (R.cell records) (R.rows records) (R.refusals records) (R.refusals e.1)) }
         ensures rows { IfErr result (λ e. R.rows e.1 ≡ R.rows records) }
         ensures left { IfErr result (λ e. (R.may_leave e.1 ≡ R.may_leave records)
             ⊎ (R.may_leave e.1 ≡ R.may_leave records ++ changed_rows (R.rows records) (up_edits (R.rows records)) ∷ [])) }
@@ -119,7 +119,7 @@ fn next_master<R: Records>(
     ensures ok { IfOk result (λ master. up_step (R.rows records.old) lease now ≡ Ok master) }
     ensures sound { OnOk result (sound (R.cell records.old) (R.rows records.new) ≡ true) }
     ensures committed { OnOk result (IsCommitted (up_edits (R.rows records.old)) (R.rows records.old) (R.rows records.new) (R.may_leave records.old) (R.may_leave records.new) (R.refusals records.old) (R.refusals records.new)) }
-    ensures fault { IfErr result (λ e. (up_step (R.rows records.old) lease now ≡ Err e) ⊎ MayRefuseUp e (R.cell records.old) (R.rows records.old) (R.refusals records.old) (R.refusals records.new)) }
+    ensures fault { IfErr result (λ e. (up_step (R.rows records.old) lease now ≡ Err e × R.refusals records.new ≡ R.refusals records.old) ⊎ MayRefuseUp e (R.cell records.old) (R.rows records.old) (R.refusals records.old) (R.refusals records.new)) }
     ensures rows { OnErr result (R.rows records.new ≡ R.rows records.old) }
     ensures left { OnErr result ((R.may_leave records.new ≡ R.may_leave records.old)
         ⊎ (R.may_leave records.new ≡ R.may_leave records.old ++ changed_rows (R.rows records.old) (up_edits (R.rows records.old)) ∷ [])) }
@@ -146,7 +146,7 @@ fn next_rows<R: Records>(records: &mut R) -> Result<Rows, Fault>
     ensures room { OnOk result (nat_le (2 ^ 63 - 1) (R.rows records.old).epoch ≡ false) }
     ensures sound { OnOk result (sound (R.cell records.old) (changed_rows (R.rows records.old) (up_edits (R.rows records.old))) ≡ true) }
     ensures counted { OnOk result (R.refusals records.new ≡ R.refusals records.old) }
-    ensures fault { IfErr result (λ e. (e ≡ Fault.Exhausted × nat_le (2 ^ 63 - 1) (R.rows records.old).epoch ≡ true) ⊎ MayRefuseUp e (R.cell records.old) (R.rows records.old) (R.refusals records.old) (R.refusals records.new)) }
+    ensures fault { IfErr result (λ e. (e ≡ Fault.Exhausted × nat_le (2 ^ 63 - 1) (R.rows records.old).epoch ≡ true × R.refusals records.new ≡ R.refusals records.old) ⊎ MayRefuseUp e (R.cell records.old) (R.rows records.old) (R.refusals records.old) (R.refusals records.new)) }
     ensures rows { R.rows records.new ≡ R.rows records.old }
     ensures leave { R.may_leave records.new ≡ R.may_leave records.old }
     ensures cell { R.cell records.new ≡ R.cell records.old }

@@ -6,7 +6,7 @@ use Rattle.node_core.specs.declared.refusals.Fault.{Fault}
 use Rattle.node_core.specs.declared.lines.Line.{Line}
 use Rattle.node_core.specs.declared.lines.Line.TheVariants as lines
 use Rattle.node_core.specs.Texts.{line_text}
-use Rattle.world_cell.specs.World.{WorldState}
+use Rattle.world_cell.specs.World.{WorldView}
 use Rattle.world_cell.specs.Runs.{Does}
 use Rattle.script_cell.specs.declared.steps.Parsed.{Parsed}
 use Rattle.script_cell.specs.declared.steps.Parsed.TheVariants as parsed
@@ -25,7 +25,7 @@ told (Ok printed) = printed
 told (Err fault) = lines.Refused fault ∷ []
 
 -- what a line asks for is done
-abbrev pub DoesParsed : WorldState → Parsed → List Line → WorldState → Type 0
+abbrev pub DoesParsed : WorldView → Parsed → List Line → WorldView → Type 0
 DoesParsed old parsed.Nothing printed new = (printed ≡ []) × (new ≡ old)
 DoesParsed old (parsed.Step step) printed new = Does old step new printed
 DoesParsed old parsed.Settle printed new = Settles old printed new
@@ -33,25 +33,25 @@ DoesParsed old (parsed.Refused fault) printed new = (printed ≡ lines.Refused f
 DoesParsed old parsed.Bad printed new = ⊥
 
 -- a line of at most 1,048,576 bytes, without its LF
-abbrev pub DoesLine : WorldState → List ℕ → List Line → WorldState → Type 0
+abbrev pub DoesLine : WorldView → List ℕ → List Line → WorldView → Type 0
 DoesLine old line printed new = (length line ≤ 1048576) × ((meant : Parsed) × IsParsed (utf8_lossy line) meant × DoesParsed old meant printed new)
 
 -- the lines of a script, one behind the other, and what they print in order
-abbrev pub DoesLines : WorldState → List (List ℕ) → List Line → WorldState → Type 0
+abbrev pub DoesLines : WorldView → List (List ℕ) → List Line → WorldView → Type 0
 DoesLines old [] printed new = (printed ≡ []) × (new ≡ old)
 DoesLines old (line ∷ rest) printed new =
-    (mid : WorldState) × (here : List Line) × (later : List Line) × DoesLine old line here mid × DoesLines mid rest later new × (printed ≡ here ++ later)
+    (mid : WorldView) × (here : List Line) × (later : List Line) × DoesLine old line here mid × DoesLines mid rest later new × (printed ≡ here ++ later)
 
 -- what a script of at most 1,000,000 lines prints on a world
-pub record IsOfScript (text : Option (List ℕ)) (old : WorldState) (printed : List Line) : Type 0 where
+pub record IsOfScript (text : Option (List ℕ)) (old : WorldView) (printed : List Line) : Type 0 where
   pub texts : List (List ℕ)
   pub whole : AreLines text texts
   pub few : length texts ≤ 1000000
-  pub new : WorldState
+  pub new : WorldView
   pub does : DoesLines old texts printed new
 
 -- what the lines so far print on a world, and how many they were
-pub record IsOfPart (text after : Option (List ℕ)) (count : ℕ) (old : WorldState) (printed : List Line) (new : WorldState) : Type 0 where
+pub record IsOfPart (text after : Option (List ℕ)) (count : ℕ) (old : WorldView) (printed : List Line) (new : WorldView) : Type 0 where
   pub texts : List (List ℕ)
   pub first : Passes text texts after
   pub counted : length texts ≡ count

@@ -1,10 +1,11 @@
 //! Runs a script.
-ghost use Rattle.std.specs.Prelude.{◌≡◌, ◌⊎◌, ◌≤◌, ◌∷◌, [], Some, Ok, Err, is_some, length, true, OnOk, OnErr, IfOk, IfErr};
+ghost use Rattle.std.specs.Prelude.{◌≡◌, ◌≤◌, ◌∷◌, [], Some, length, true, OnOk, IfOk, IfErr};
 ghost use Rattle.std.specs.Io.KnownBytes.{Appends};
-ghost use Rattle.world_cell.specs.Messages.{first_waiting};
-ghost use Rattle.world_cell.specs.World.{new_world, IsOutside};
+ghost use Rattle.world_cell.specs.Messages.{first_waiting, AreDelivered};
+ghost use Rattle.world_cell.specs.World.{opened};
+ghost use Rattle.world_cell.specs.Runs.{IsMade, IsRefused};
 ghost use Rattle.script_cell.specs.Scripts.{Wrote, IsOfScript, DoesLine, DoesParsed, lines_text, told};
-ghost use Rattle.script_cell.specs.Settling.{Settles, TakesTurn, settle_turn as settled, AreDelivered, before_message};
+ghost use Rattle.script_cell.specs.Settling.{Settles, TakesTurn, turn_step, is_waiting, is_idle, before_message};
 ghost use Rattle.script_cell.specs.Stops.{IsStatus};
 
 use crate::lines::{LINE_COUNT_LIMIT, ScriptLines};
@@ -30,7 +31,7 @@ pub fn script<R: Records + Drop, I: Read + Drop, W: Write>(
     mut errors: impl Write + Drop,
 ) -> u8
     ensures status { IsStatus result }
-    ensures written { result ≡ 0 → Wrote (IsOfScript (I.remaining reader) (new_world (R.rows records) settings.now.lease)) (W.contents writer.old) (W.contents writer.new) }
+    ensures written { result ≡ 0 → Wrote (IsOfScript (I.remaining reader) (opened (R.cell records) (R.rows records) (R.may_leave records) (R.refusals records) settings.now.lease)) (W.contents writer.old) (W.contents writer.new) }
 {
     match run(alloc, settings, records, reader, writer) {
         Ok(()) => 0,
@@ -57,7 +58,7 @@ fn run<R: Records + Drop, I: Read + Drop, W: Write>(
     reader: I,
     writer: &mut W,
 ) -> Result<(), Stop>
-    ensures { OnOk result (Wrote (IsOfScript (I.remaining reader) (new_world (R.rows records) settings.now.lease)) (W.contents writer.old) (W.contents writer.new)) }
+    ensures { OnOk result (Wrote (IsOfScript (I.remaining reader) (opened (R.cell records) (R.rows records) (R.may_leave records) (R.refusals records) settings.now.lease)) (W.contents writer.old) (W.contents writer.new)) }
 {
     let mut lines = ScriptLines::new(alloc, reader)?;
     let mut world = World::new(alloc, records, settings);
@@ -74,7 +75,7 @@ fn run_lines<R: Records + Drop, I: Read + Drop, W: Write>(
     output: &mut W,
 ) -> Result<(), Stop>
     requires { lines.old.number ≡ 0 }
-    ensures { OnOk result (Wrote (IsOfScript lines.old.rest world.old.world) (W.contents output.old) (W.contents output.new)) }
+    ensures { OnOk result (Wrote (IsOfScript lines.old.rest world.old) (W.contents output.old) (W.contents output.new)) }
 {
     let mut delivered = 0;
     for _ in 0..=LINE_COUNT_LIMIT {
@@ -96,7 +97,7 @@ fn run_line<R: Records + Drop, I: Read + Drop, W: Write>(
 ) -> Result<(), Stop>
     requires delivered { AreDelivered delivered.old world.old.world.messages }
     requires fits { length lines.now.line ≤ 1048576 }
-    ensures wrote { OnOk result (Wrote (λ printed. DoesLine world.old.world lines.now.line printed world.new.world) (W.contents output.old) (W.contents output.new)) }
+    ensures wrote { OnOk result (Wrote (λ printed. DoesLine world.old lines.now.line printed world.new) (W.contents output.old) (W.contents output.new)) }
     ensures delivered { OnOk result (AreDelivered delivered.new world.new.world.messages) }
 {
     let parsed = read_line(alloc, lines.line())?;
@@ -114,7 +115,7 @@ fn obey<R: Records + Drop, W: Write>(
     output: &mut W,
 ) -> Result<bool, Stop>
     requires delivered { AreDelivered delivered.old world.old.world.messages }
-    ensures wrote { IfOk result (λ done. done ≡ true → Wrote (λ printed. DoesParsed world.old.world parsed.now printed world.new.world) (W.contents output.old) (W.contents output.new)) }
+    ensures wrote { IfOk result (λ done. done ≡ true → Wrote (λ printed. DoesParsed world.old parsed.now printed world.new) (W.contents output.old) (W.contents output.new)) }
     ensures delivered { IfOk result (λ _. AreDelivered delivered.new world.new.world.messages) }
 {
     match parsed {
@@ -135,7 +136,7 @@ fn settle<R: Records + Drop, W: Write>(
     output: &mut W,
 ) -> Result<(), Stop>
     requires delivered { AreDelivered delivered.old world.old.world.messages }
-    ensures wrote { OnOk result (Wrote (λ printed. Settles world.old.world printed world.new.world) (W.contents output.old) (W.contents output.new)) }
+    ensures wrote { OnOk result (Wrote (λ printed. Settles world.old printed world.new) (W.contents output.old) (W.contents output.new)) }
     ensures delivered { OnOk result (AreDelivered delivered.new world.new.world.messages) }
 {
     if !world.is_up() {
@@ -157,7 +158,7 @@ fn settle_on<R: Records + Drop, W: Write>(
     output: &mut W,
 ) -> Result<bool, Stop>
     requires delivered { AreDelivered delivered.old world.old.world.messages }
-    ensures wrote { IfOk result (λ more. Wrote (λ printed. TakesTurn more world.old.world printed world.new.world) (W.contents output.old) (W.contents output.new)) }
+    ensures wrote { IfOk result (λ more. Wrote (λ printed. TakesTurn more world.old printed world.new) (W.contents output.old) (W.contents output.new)) }
     ensures delivered { IfOk result (λ _. AreDelivered delivered.new world.new.world.messages) }
 {
     match settle_turn(world, delivered) {
@@ -178,9 +179,9 @@ fn settle_turn<R: Records + Drop>(
     delivered: &mut usize,
 ) -> Result<Turn, Fault>
     requires delivered { AreDelivered delivered.old world.old.world.messages }
-    ensures ok { IfOk result (λ turn. settled world.old.world ≡ Ok (world.new.world, turn)) }
-    ensures fault { IfErr result (λ e. (settled world.old.world ≡ Err e) ⊎ IsOutside e world.old.cell world.old.world.rows world.old.refusals world.new.refusals) }
-    ensures err { OnErr result (world.new.world ≡ world.old.world) }
+    ensures made { IfOk result (λ turn. IsMade world.old (turn_step world.old.world) world.new turn.lines) }
+    ensures quiet { IfOk result (λ turn. turn.quiet ≡ is_idle world.old.world) }
+    ensures refused { IfErr result (λ e. IsRefused world.old (turn_step world.old.world) world.new (Line.Refused e ∷ [])) }
     ensures delivered { AreDelivered delivered.new world.new.world.messages }
 {
     match world.waiting_behind(*delivered) {
@@ -200,9 +201,9 @@ fn deliver<R: Records + Drop>(
     delivered: &mut usize,
 ) -> Result<Turn, Fault>
     requires { first_waiting world.old.world.messages 1 ≡ Some step.now }
-    ensures ok { IfOk result (λ turn. settled world.old.world ≡ Ok (world.new.world, turn)) }
-    ensures fault { IfErr result (λ e. (settled world.old.world ≡ Err e) ⊎ IsOutside e world.old.cell world.old.world.rows world.old.refusals world.new.refusals) }
-    ensures err { OnErr result (world.new.world ≡ world.old.world) }
+    ensures made { IfOk result (λ turn. IsMade world.old (turn_step world.old.world) world.new turn.lines) }
+    ensures quiet { IfOk result (λ turn. turn.quiet ≡ is_idle world.old.world) }
+    ensures refused { IfErr result (λ e. IsRefused world.old (turn_step world.old.world) world.new (Line.Refused e ∷ [])) }
     ensures delivered { AreDelivered delivered.new world.new.world.messages }
 {
     *delivered = before_message(step);
@@ -216,7 +217,7 @@ fn deliver<R: Records + Drop>(
 // Whether a message came to nobody.
 fn has_waiting<R: Records + Drop>(world: &World<R>, delivered: usize) -> bool
     requires { AreDelivered delivered world.now.world.messages }
-    ensures { result ≡ is_some (first_waiting world.now.world.messages 1) }
+    ensures { result ≡ is_waiting world.now.world }
 {
     let waiting = world.waiting_behind(delivered);
     let is_there = waiting.is_some();

@@ -1,5 +1,5 @@
 -- Why each applied change is the effect of a call that was taken.
-use Rattle.std.proofs.Common.{◌≡◌, ℕ, ◌+◌, List, [], ◌∷◌, ◌++◌, Ok, Option, Some, None, drop, refl, sym, ap, ◌∙◌, inl, inr, append_assoc}
+use Rattle.std.proofs.Common.{◌≡◌, ℕ, ◌+◌, List, [], ◌∷◌, ◌++◌, Option, Some, None, drop, refl, sym, ap, ◌∙◌, inl, inr, append_assoc}
 use Rattle.std.proofs.lemmas.List.{append-nil}
 use Rattle.node_core.specs.declared.lines.Line.{Line}
 use Rattle.node_core.specs.declared.lines.Line.TheVariants as lines
@@ -18,8 +18,8 @@ use Rattle.cell_core.specs.Step.{take_at}
 use Rattle.cell_core.specs.Effect.{effect}
 use Rattle.cell_core.specs.Sweep.{noted, sweep_by}
 use Rattle.world_cell.specs.declared.steps.Step.{Step}
-use Rattle.world_cell.specs.World.{WorldState, world_step}
-use Rattle.world_cell.specs.Runs.{Does, Run, map_at, epoch_at, change_of, IsTaken, IsOfCall}
+use Rattle.world_cell.specs.World.{WorldView}
+use Rattle.world_cell.specs.Runs.{IsMade, Does, Run, map_at, epoch_at, change_of, IsTaken, IsOfCall}
 use Rattle.world_cell.proofs.StepKinds.{IsSilent, IsUp, IsTake, IsSweep, Made, is_quiet, is_up, is_take, is_sweep, made}
 use Rattle.world_cell.proofs.TakesAreSilent.{take_silent}
 use Rattle.world_cell.proofs.RowsByRuns.{Tells, silent_map, silent_epoch, map_more, epoch_more, tells_more, step_tells}
@@ -28,13 +28,13 @@ use Rattle.world_cell.proofs.CallsBySweeps.{split, no_split, one_split, silent_s
 
 -- ---- the ground that a master stands on
 
-nodes_after : (g : Ground) (step : Step) (printed : List Line) (new : WorldState) → nodes_on (ground_after g step printed new) ≡ map_at (nodes_on g) printed
-nodes_after g step printed new = map_more (map_of g.old.rows) g.told printed
+nodes_after : (g : Ground) (step : Step) (printed : List Line) (new : WorldView) → nodes_on (ground_after g step printed new) ≡ map_at (nodes_on g) printed
+nodes_after g step printed new = map_more (map_of g.old.world.rows) g.told printed
 
-epoch_after : (g : Ground) (step : Step) (printed : List Line) (new : WorldState) → epoch_on (ground_after g step printed new) ≡ epoch_at (epoch_on g) printed
-epoch_after g step printed new = epoch_more g.old.rows.epoch g.told printed
+epoch_after : (g : Ground) (step : Step) (printed : List Line) (new : WorldView) → epoch_on (ground_after g step printed new) ≡ epoch_at (epoch_on g) printed
+epoch_after g step printed new = epoch_more g.old.world.rows.epoch g.told printed
 
-master_later : (g : Ground) (step : Step) (printed : List Line) (new : WorldState) (s : MasterState) → Does g.here step new printed → IsSilent printed → IsMaster g s → IsMaster (ground_after g step printed new) s
+master_later : (g : Ground) (step : Step) (printed : List Line) (new : WorldView) (s : MasterState) → Does g.here step new printed → IsSilent printed → IsMaster g s → IsMaster (ground_after g step printed new) s
 master_later g step printed new s does silent m =
     let epoch : epoch_on (ground_after g step printed new) ≡ epoch_on g = epoch_after g step printed new ∙ silent_epoch (epoch_on g) printed silent in
     record {
@@ -54,7 +54,7 @@ tail_called g s p rest q m = rw q at m.queue
 rest_called : (g : Ground) (queue : List Pending) (p : Pending) (rest : List Pending) → queue ≡ p ∷ rest → AreCalled g rest → AreCalled g (drop 1 queue)
 rest_called g queue p rest q h = rw q h
 
-sweep_stands : (g : Ground) (step : Step) (new : WorldState) (s : MasterState) (queue : List Pending) → s.queue ≡ queue → IsMaster g s → Does g.here step new (sweep_by s queue).1.lines → IsMaster (ground_after g step (sweep_by s queue).1.lines new) (sweep_by s queue).0
+sweep_stands : (g : Ground) (step : Step) (new : WorldView) (s : MasterState) (queue : List Pending) → s.queue ≡ queue → IsMaster g s → Does g.here step new (sweep_by s queue).1.lines → IsMaster (ground_after g step (sweep_by s queue).1.lines new) (sweep_by s queue).0
 sweep_stands g step new s [] q m does = master_later g step [] new s does tt m
 sweep_stands g step new s (p ∷ rest) q m does =
     let plan = work_planned s p p.work refl in
@@ -118,15 +118,15 @@ stands_as g o p e h = rw e h
 -- the steps of the past told these lines and led to this world
 record Stands (g : Ground) : Type 0 where
   run : Run g.old g.past g.told g.here
-  tells : Tells g.old.rows g.here.rows g.told
-  master : MasterStands g g.here.master
+  tells : Tells g.old.world.rows g.here.world.rows g.told
+  master : MasterStands g g.here.world.master
 
-option_later : (g : Ground) (step : Step) (printed : List Line) (new : WorldState) (o : Option MasterState) → Does g.here step new printed → IsSilent printed → MasterStands g o → MasterStands (ground_after g step printed new) o
+option_later : (g : Ground) (step : Step) (printed : List Line) (new : WorldView) (o : Option MasterState) → Does g.here step new printed → IsSilent printed → MasterStands g o → MasterStands (ground_after g step printed new) o
 option_later g step printed new None does silent m = tt
 option_later g step printed new (Some s) does silent m = master_later g step printed new s does silent m
 
 -- the step that delivered the call's message
-taken_now : (g : Ground) (step : Step) (printed : List Line) (new : WorldState) (t : IsTake g.here step new printed) (epoch : ℕ) → Run g.old g.past g.told g.here → world_step g.here step ≡ Ok (new, printed) → t.master.epoch ≡ epoch → (message : CallMessage) → t.request ≡ requests.Call message → message.epoch ≡ epoch → IsTaken g.old (g.past ++ step ∷ []) (g.told ++ printed) new epoch message.client message.number message.call
+taken_now : (g : Ground) (step : Step) (printed : List Line) (new : WorldView) (t : IsTake g.here.world step new.world printed) (epoch : ℕ) → Run g.old g.past g.told g.here → IsMade g.here step new printed → t.master.epoch ≡ epoch → (message : CallMessage) → t.request ≡ requests.Call message → message.epoch ≡ epoch → IsTaken g.old (g.past ++ step ∷ []) (g.told ++ printed) new epoch message.client message.number message.call
 taken_now g step printed new t epoch run ok of_epoch message is_call same = record {
   front = g.past;
   at = t.number;
@@ -147,34 +147,34 @@ taken_now g step printed new t epoch run ok of_epoch message is_call same = reco
   of_epoch = of_epoch;
 }
 
-take_on : (g : Ground) (step : Step) (new : WorldState) (printed : List Line) (t : IsTake g.here step new printed) → Stands g → Does g.here step new printed → world_step g.here step ≡ Ok (new, printed) → MasterStands (ground_after g step printed new) new.master
+take_on : (g : Ground) (step : Step) (new : WorldView) (printed : List Line) (t : IsTake g.here.world step new.world printed) → Stands g → Does g.here step new printed → IsMade g.here step new printed → MasterStands (ground_after g step printed new) new.world.master
 take_on g step new printed t h does ok =
-    let s = noted t.master g.here.clock in
-    let was : IsMaster g t.master = master_at g g.here.master t.master t.was h.master in
+    let s = noted t.master g.here.world.clock in
+    let was : IsMaster g t.master = master_at g g.here.world.master t.master t.was h.master in
     let silent : IsSilent printed = rw t.tells (take_silent s t.request) in
     let next = ground_after g step printed new in
     let later : IsMaster next t.master = master_later g step printed new t.master does silent was in
-    stands_as next new.master (Some (take_at s t.request).0) t.is (take_stands next s t.request (noted_stands next t.master g.here.clock later) (taken_now g step printed new t (epoch_on next) h.run ok later.epoch))
+    stands_as next new.world.master (Some (take_at s t.request).0) t.is (take_stands next s t.request (noted_stands next t.master g.here.world.clock later) (taken_now g step printed new t (epoch_on next) h.run ok later.epoch))
 
-sweep_on : (g : Ground) (step : Step) (new : WorldState) (printed : List Line) → IsSweep g.here step new printed → Stands g → Does g.here step new printed → MasterStands (ground_after g step printed new) new.master
+sweep_on : (g : Ground) (step : Step) (new : WorldView) (printed : List Line) → IsSweep g.here.world step new.world printed → Stands g → Does g.here step new printed → MasterStands (ground_after g step printed new) new.world.master
 sweep_on g step new printed t h does =
-    let was : IsMaster g t.master = master_at g g.here.master t.master t.was h.master in
-    stands_as (ground_after g step printed new) new.master (Some (sweep_by (noted t.master g.here.clock) t.master.queue).0) t.is (rw t.tells (sweep_stands g step new (noted t.master g.here.clock) t.master.queue refl (noted_stands g t.master g.here.clock was) (rw (← t.tells) does)))
+    let was : IsMaster g t.master = master_at g g.here.world.master t.master t.was h.master in
+    stands_as (ground_after g step printed new) new.world.master (Some (sweep_by (noted t.master g.here.world.clock) t.master.queue).0) t.is (rw t.tells (sweep_stands g step new (noted t.master g.here.world.clock) t.master.queue refl (noted_stands g t.master g.here.world.clock was) (rw (← t.tells) does)))
 
 -- a master that comes up has the map and the epoch of its rows, and nothing waits
-up_on : (h : Ground) (w new : WorldState) (printed : List Line) → map_of new.rows ≡ nodes_on h → new.rows.epoch ≡ epoch_on h → IsUp w new printed → MasterStands h new.master
+up_on : (h : Ground) (w new : WorldView) (printed : List Line) → map_of new.world.rows ≡ nodes_on h → new.world.rows.epoch ≡ epoch_on h → IsUp w.world new.world printed → MasterStands h new.world.master
 up_on h w new printed nodes epoch u =
-    stands_as h new.master (Some (master_of (changed_rows w.rows (up_edits w.rows)) w.lease u.now)) u.master (record { nodes = ap (λ r. map_of r) (sym u.rows) ∙ nodes; epoch = ap (λ r. r.epoch) (sym u.rows) ∙ epoch; queue = tt })
+    stands_as h new.world.master (Some (master_of (changed_rows w.world.rows (up_edits w.world.rows)) w.world.lease u.now)) u.master (record { nodes = ap (λ r. map_of r) (sym u.rows) ∙ nodes; epoch = ap (λ r. r.epoch) (sym u.rows) ∙ epoch; queue = tt })
 
-made_on : (g : Ground) (step : Step) (new : WorldState) (printed : List Line) → Stands g → Does g.here step new printed → Tells g.old.rows new.rows (g.told ++ printed) → Made g.here step new printed → MasterStands (ground_after g step printed new) new.master
-made_on g step new printed h does tells (is_quiet q) = stands_as (ground_after g step printed new) new.master g.here.master q.master (option_later g step printed new g.here.master does q.silent h.master)
+made_on : (g : Ground) (step : Step) (new : WorldView) (printed : List Line) → Stands g → Does g.here step new printed → Tells g.old.world.rows new.world.rows (g.told ++ printed) → Made g.here step new printed → MasterStands (ground_after g step printed new) new.world.master
+made_on g step new printed h does tells (is_quiet q) = stands_as (ground_after g step printed new) new.world.master g.here.world.master q.master (option_later g step printed new g.here.world.master does q.silent h.master)
 made_on g step new printed h does tells (is_up u) = up_on (ground_after g step printed new) g.here new printed tells.is_map tells.is_epoch u
 made_on g step new printed h does tells (is_take t ok) = take_on g step new printed t h does ok
 made_on g step new printed h does tells (is_sweep t ok) = sweep_on g step new printed t h does
 
-step_stands : (g : Ground) (step : Step) (new : WorldState) (printed : List Line) → Stands g → Does g.here step new printed → Stands (ground_after g step printed new)
+step_stands : (g : Ground) (step : Step) (new : WorldView) (printed : List Line) → Stands g → Does g.here step new printed → Stands (ground_after g step printed new)
 step_stands g step new printed h does =
-    let tells = tells_more g.old.rows g.here.rows new.rows g.told printed h.tells (step_tells g.here step new printed does) in
+    let tells = tells_more g.old.world.rows g.here.world.rows new.world.rows g.told printed h.tells (step_tells g.here step new printed does) in
     record {
       run = run_push g.old g.here new g.past g.told step printed h.run does;
       tells = tells;
@@ -183,11 +183,11 @@ step_stands g step new printed h does =
 
 -- ---- the step that tells of a change
 
-of_sweep : (g : Ground) (step : Step) (next : WorldState) (printed before told later : List Line) (client number : ℕ) (change : Mod) (steps : List Step) (rest : List Line) (new : WorldState) → Stands g → (t : IsSweep g.here step next printed) → world_step g.here step ≡ Ok (next, printed) → Run next steps later new → printed ≡ before ++ lines.Applied client number change ∷ told → rest ≡ told ++ later → IsOfCall g.old (g.past ++ step ∷ steps) (g.told ++ before) client number change rest new
+of_sweep : (g : Ground) (step : Step) (next : WorldView) (printed before told later : List Line) (client number : ℕ) (change : Mod) (steps : List Step) (rest : List Line) (new : WorldView) → Stands g → (t : IsSweep g.here.world step next.world printed) → IsMade g.here step next printed → Run next steps later new → printed ≡ before ++ lines.Applied client number change ∷ told → rest ≡ told ++ later → IsOfCall g.old (g.past ++ step ∷ steps) (g.told ++ before) client number change rest new
 of_sweep g step next printed before told later client number change steps rest new h t ok run e r =
-    let was : IsMaster g t.master = master_at g g.here.master t.master t.was h.master in
-    let s = noted t.master g.here.clock in
-    let here = sweep_here g s t.master.queue before told client number change refl (noted_stands g t.master g.here.clock was) (sym t.tells ∙ e) in
+    let was : IsMaster g t.master = master_at g g.here.world.master t.master t.was h.master in
+    let s = noted t.master g.here.world.clock in
+    let here = sweep_here g s t.master.queue before told client number change refl (noted_stands g t.master g.here.world.clock was) (sym t.tells ∙ e) in
     let is_line : printed ≡ lines.Applied client number change ∷ told = e ∙ ap (λ l. l ++ lines.Applied client number change ∷ told) here.first in
     rw (here.first, append-nil g.told) (record {
       front = g.past;
@@ -207,23 +207,23 @@ of_sweep g step next printed before told later client number change steps rest n
       epoch = was.epoch;
       call = here.call;
       taken = in_epoch g t.master.epoch client number here.call was.epoch here.was;
-      is_effect = ap change_of (sym (noted_effect t.master g.here.clock client number here.call)) ∙ here.is_effect;
+      is_effect = ap change_of (sym (noted_effect t.master g.here.world.clock client number here.call)) ∙ here.is_effect;
     })
 
-made_here : (g : Ground) (step : Step) (next : WorldState) (printed before told later : List Line) (client number : ℕ) (change : Mod) (steps : List Step) (rest : List Line) (new : WorldState) → Stands g → Made g.here step next printed → Run next steps later new → printed ≡ before ++ lines.Applied client number change ∷ told → rest ≡ told ++ later → IsOfCall g.old (g.past ++ step ∷ steps) (g.told ++ before) client number change rest new
+made_here : (g : Ground) (step : Step) (next : WorldView) (printed before told later : List Line) (client number : ℕ) (change : Mod) (steps : List Step) (rest : List Line) (new : WorldView) → Stands g → Made g.here step next printed → Run next steps later new → printed ≡ before ++ lines.Applied client number change ∷ told → rest ≡ told ++ later → IsOfCall g.old (g.past ++ step ∷ steps) (g.told ++ before) client number change rest new
 made_here g step next printed before told later client number change steps rest new h (is_quiet q) run e r =
     absurd (silent_split printed before told client number change q.silent e)
 made_here g step next printed before told later client number change steps rest new h (is_up u) run e r =
-    let t = one_split (lines.Up (g.here.rows.epoch + 1)) before told (lines.Applied client number change) (sym u.tells ∙ e) in
-    let line : lines.Up (g.here.rows.epoch + 1) ≡ lines.Applied client number change = t.1 in cc
+    let t = one_split (lines.Up (g.here.world.rows.epoch + 1)) before told (lines.Applied client number change) (sym u.tells ∙ e) in
+    let line : lines.Up (g.here.world.rows.epoch + 1) ≡ lines.Applied client number change = t.1 in cc
 made_here g step next printed before told later client number change steps rest new h (is_take t ok) run e r =
-    absurd (silent_split printed before told client number change (rw t.tells (take_silent (noted t.master g.here.clock) t.request)) e)
+    absurd (silent_split printed before told client number change (rw t.tells (take_silent (noted t.master g.here.world.clock) t.request)) e)
 made_here g step next printed before told later client number change steps rest new h (is_sweep t ok) run e r =
     of_sweep g step next printed before told later client number change steps rest new h t ok run e r
 
 -- ---- a run
 
-run_on : (g : Ground) (steps : List Step) (printed : List Line) (new : WorldState) → Stands g → Run g.here steps printed new → (before rest : List Line) (client number : ℕ) (change : Mod) → printed ≡ before ++ lines.Applied client number change ∷ rest → IsOfCall g.old (g.past ++ steps) (g.told ++ before) client number change rest new
+run_on : (g : Ground) (steps : List Step) (printed : List Line) (new : WorldView) → Stands g → Run g.here steps printed new → (before rest : List Line) (client number : ℕ) (change : Mod) → printed ≡ before ++ lines.Applied client number change ∷ rest → IsOfCall g.old (g.past ++ steps) (g.told ++ before) client number change rest new
 run_on g [] printed new h run before rest client number change e =
     absurd (no_split before rest (lines.Applied client number change) (sym run.0 ∙ e))
 run_on g (step ∷ steps) printed new h run before rest client number change e =
@@ -234,10 +234,10 @@ run_on g (step ∷ steps) printed new h run before rest client number change e =
           rw (k.1, ← append_assoc g.told run.1 k.0, ← append_assoc g.past (step ∷ []) steps) there
     ])
 
-start_stands : (old : WorldState) → old.master ≡ None → Stands (record { old = old; past = []; told = []; here = old })
+start_stands : (old : WorldView) → old.world.master ≡ None → Stands (record { old = old; past = []; told = []; here = old })
 start_stands old none = record { run = (refl, refl); tells = record { is_map = refl; is_epoch = refl }; master = rw none tt }
 
 -- from a world where no master is up, each change that the lines show is the effect of a call that was taken
-pub run_calls : (old : WorldState) (steps : List Step) (printed : List Line) (new : WorldState) → Run old steps printed new → old.master ≡ None → (before rest : List Line) (client number : ℕ) (change : Mod) → printed ≡ before ++ lines.Applied client number change ∷ rest → IsOfCall old steps before client number change rest new
+pub run_calls : (old : WorldView) (steps : List Step) (printed : List Line) (new : WorldView) → Run old steps printed new → old.world.master ≡ None → (before rest : List Line) (client number : ℕ) (change : Mod) → printed ≡ before ++ lines.Applied client number change ∷ rest → IsOfCall old steps before client number change rest new
 run_calls old steps printed new run none before rest client number change e =
     run_on (record { old = old; past = []; told = []; here = old }) steps printed new (start_stands old none) run before rest client number change e

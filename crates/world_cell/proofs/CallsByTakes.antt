@@ -23,24 +23,24 @@ use Rattle.cell_core.specs.State.{MasterState}
 use Rattle.cell_core.specs.Step.{kept_of, is_live, may_start, is_full, queued, with_note, admission_of, full_answer, admit_unless, admit_step, new_call, kept_step, call_step, start_step, take_at, nothing, turned_away, refusal, repeated}
 use Rattle.world_cell.specs.declared.steps.Step.{Step}
 use Rattle.world_cell.specs.declared.steps.Step.TheVariants.{Take}
-use Rattle.world_cell.specs.World.{WorldState}
+use Rattle.world_cell.specs.World.{WorldView}
 use Rattle.world_cell.specs.Runs.{Does, Run, IsTaken, map_at, epoch_at}
 
 -- what a master stands on: the steps made so far from a former world, the lines that they told, and the world that they led to
 pub record Ground : Type 0 where
-  pub old : WorldState
+  pub old : WorldView
   pub past : List Step
   pub told : List Line
-  pub here : WorldState
+  pub here : WorldView
 
 abbrev pub nodes_on : Ground → Nodes
-nodes_on g = map_at (map_of g.old.rows) g.told
+nodes_on g = map_at (map_of g.old.world.rows) g.told
 
 abbrev pub epoch_on : Ground → ℕ
-epoch_on g = epoch_at g.old.rows.epoch g.told
+epoch_on g = epoch_at g.old.world.rows.epoch g.told
 
 -- the ground after one step more
-abbrev pub ground_after : Ground → Step → List Line → WorldState → Ground
+abbrev pub ground_after : Ground → Step → List Line → WorldView → Ground
 ground_after g step printed new = record { old = g.old; past = g.past ++ step ∷ []; told = g.told ++ printed; here = new }
 
 -- one of the steps took the call in this epoch
@@ -62,14 +62,14 @@ pub record IsMaster (g : Ground) (s : MasterState) : Type 0 where
 
 -- ---- later on
 
-pub run_push : (w mid new : WorldState) (steps : List Step) (printed : List Line) (step : Step) (told : List Line) → Run w steps printed mid → Does mid step new told → Run w (steps ++ step ∷ []) (printed ++ told) new
+pub run_push : (w mid new : WorldView) (steps : List Step) (printed : List Line) (step : Step) (told : List Line) → Run w steps printed mid → Does mid step new told → Run w (steps ++ step ∷ []) (printed ++ told) new
 run_push w mid new [] printed step told run does =
     let none : printed ++ told ≡ told ++ [] = ap (λ l. l ++ told) run.0 ∙ sym (append-nil told) in
     (new, told, [], rw run.1 at does, (refl, refl), none)
 run_push w mid new (s ∷ steps) printed step told run does =
     (run.0, run.1, run.2 ++ told, run.3, run_push run.0 mid new steps run.2 step told run.4 does, ap (λ l. l ++ told) run.5 ∙ append_assoc run.1 run.2 told)
 
-taken_later : (old here new : WorldState) (past : List Step) (told : List Line) (step : Step) (printed : List Line) (epoch client number : ℕ) (call : Call) → Does here step new printed → IsTaken old past told here epoch client number call → IsTaken old (past ++ step ∷ []) (told ++ printed) new epoch client number call
+taken_later : (old here new : WorldView) (past : List Step) (told : List Line) (step : Step) (printed : List Line) (epoch client number : ℕ) (call : Call) → Does here step new printed → IsTaken old past told here epoch client number call → IsTaken old (past ++ step ∷ []) (told ++ printed) new epoch client number call
 taken_later old here new past told step printed epoch client number call does t = record {
   front = t.front;
   at = t.at;
@@ -90,12 +90,12 @@ taken_later old here new past told step printed epoch client number call does t 
   of_epoch = t.of_epoch;
 }
 
-work_later : (g : Ground) (step : Step) (printed : List Line) (new : WorldState) (client number : ℕ) (work : Work) → Does g.here step new printed → epoch_on (ground_after g step printed new) ≡ epoch_on g → IsCalled g client number work → IsCalled (ground_after g step printed new) client number work
+work_later : (g : Ground) (step : Step) (printed : List Line) (new : WorldView) (client number : ℕ) (work : Work) → Does g.here step new printed → epoch_on (ground_after g step printed new) ≡ epoch_on g → IsCalled g client number work → IsCalled (ground_after g step printed new) client number work
 work_later g step printed new client number (works.Starts principal) does epoch called = tt
 work_later g step printed new client number (works.Calls call) does epoch called =
     rw epoch (taken_later g.old g.here new g.past g.told step printed (epoch_on g) client number call does called)
 
-pub calls_later : (g : Ground) (step : Step) (printed : List Line) (new : WorldState) (queue : List Pending) → Does g.here step new printed → epoch_on (ground_after g step printed new) ≡ epoch_on g → AreCalled g queue → AreCalled (ground_after g step printed new) queue
+pub calls_later : (g : Ground) (step : Step) (printed : List Line) (new : WorldView) (queue : List Pending) → Does g.here step new printed → epoch_on (ground_after g step printed new) ≡ epoch_on g → AreCalled g queue → AreCalled (ground_after g step printed new) queue
 calls_later g step printed new [] does epoch called = tt
 calls_later g step printed new (p ∷ ps) does epoch called =
     (work_later g step printed new p.client p.number p.work does epoch called.0, calls_later g step printed new ps does epoch called.1)

@@ -9,3 +9,4 @@ pub mod CallsByTakes
 pub mod CallsBySweeps
 pub mod CallsByRuns
 pub mod PartsOfRuns
+pub mod DeliveredStay

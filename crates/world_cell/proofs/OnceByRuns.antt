@@ -21,7 +21,7 @@ use Rattle.cell_core.specs.Step.{kept_of, recorded, with_note, is_live, may_star
 use Rattle.cell_core.specs.Effect.{effect}
 use Rattle.cell_core.specs.Sweep.{applied_lines, with_change, noted, started_out, plan_session, plan_start, plan_effect, plan_work, carried, sweep_by}
 use Rattle.world_cell.specs.declared.steps.Step.{Step}
-use Rattle.world_cell.specs.World.{WorldState}
+use Rattle.world_cell.specs.World.{WorldState, WorldView}
 use Rattle.world_cell.specs.Runs.{Run, applied, put_number, IsAbove, RisesFrom, Rises}
 use Rattle.world_cell.proofs.StepKinds.{IsSilentLine, IsSilent, Made, is_quiet, is_up, is_take, is_sweep, made}
 use Rattle.world_cell.proofs.TakesAreSilent.{take_silent}
@@ -138,17 +138,17 @@ silent_on : (client : ℕ) (new : WorldState) (printed : List Line) (last : Opti
 silent_on client new printed last silent h =
     let e = none_applied client printed silent in record { rises = rw e tt; once = rw e h }
 
-step_on : (client : ℕ) (old : WorldState) (step : Step) (new : WorldState) (printed : List Line) (last : Option ℕ) → OnceIn client old.master last → Made old step new printed → StepsOn client last printed new
-step_on client old step new printed last h (is_quiet q) = silent_on client new printed last q.silent (rw q.master h)
+step_on : (client : ℕ) (old : WorldView) (step : Step) (new : WorldView) (printed : List Line) (last : Option ℕ) → OnceIn client old.world.master last → Made old step new printed → StepsOn client last printed new.world
+step_on client old step new printed last h (is_quiet q) = silent_on client new.world printed last q.silent (rw q.master h)
 step_on client old step new printed last h (is_up u) =
     let none : last ≡ None = rw u.none at h in
     record { rises = rw u.tells tt; once = rw (u.tells, u.master) (refl, none) }
 step_on client old step new printed last h (is_take t ok) =
     let once : Once client t.master last = rw t.was at h in
-    silent_on client new printed last (rw t.tells (take_silent (noted t.master old.clock) t.request)) (rw t.is (take_once client (noted t.master old.clock) t.request last once))
+    silent_on client new.world printed last (rw t.tells (take_silent (noted t.master old.world.clock) t.request)) (rw t.is (take_once client (noted t.master old.world.clock) t.request last once))
 step_on client old step new printed last h (is_sweep w ok) =
     let once : Once client w.master last = rw w.was at h in
-    let on = sweep_on client (noted w.master old.clock) w.master.queue last refl once in
+    let on = sweep_on client (noted w.master old.world.clock) w.master.queue last refl once in
     record { rises = rw w.tells on.rises; once = rw (w.tells, w.is) on.once }
 
 -- ---- a run
@@ -166,7 +166,7 @@ rises_more : (last : Option ℕ) (xs ys : List ℕ) → RisesFrom last xs → Ri
 rises_more last [] ys h k = k
 rises_more last (x ∷ xs) ys h k = (h.0, rises_more (Some x) xs ys h.1 k)
 
-run_on : (client : ℕ) (old : WorldState) (steps : List Step) (printed : List Line) (new : WorldState) (last : Option ℕ) → Run old steps printed new → OnceIn client old.master last → RisesFrom last (applied client printed)
+run_on : (client : ℕ) (old : WorldView) (steps : List Step) (printed : List Line) (new : WorldView) (last : Option ℕ) → Run old steps printed new → OnceIn client old.world.master last → RisesFrom last (applied client printed)
 run_on client old [] printed new last h once = rw h.0 tt
 run_on client old (step ∷ steps) printed new last h once =
     let first = step_on client old step h.0 h.1 last once (made old step h.0 h.1 h.3) in
@@ -174,5 +174,5 @@ run_on client old (step ∷ steps) printed new last h once =
     rw (h.5, applied_more client h.1 h.2) (rises_more last (applied client h.1) (applied client h.2) first.rises then)
 
 -- from a world where no master is up, the numbers of a client's applied calls rise
-pub run_once : (client : ℕ) (old : WorldState) (steps : List Step) (printed : List Line) (new : WorldState) → Run old steps printed new → old.master ≡ None → Rises (applied client printed)
+pub run_once : (client : ℕ) (old : WorldView) (steps : List Step) (printed : List Line) (new : WorldView) → Run old steps printed new → old.world.master ≡ None → Rises (applied client printed)
 run_once client old steps printed new h none = run_on client old steps printed new None h (rw none refl)

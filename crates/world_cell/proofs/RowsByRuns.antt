@@ -22,7 +22,7 @@ use Rattle.cell_core.specs.Step.{is_live, may_start, turned_away}
 use Rattle.cell_core.specs.Effect.{effect}
 use Rattle.cell_core.specs.Sweep.{noted, started_out, plan_session, plan_start, plan_effect, plan_work, applied_lines, edit_of, change_edits, edits_of, queue_edits, sweep_by}
 use Rattle.world_cell.specs.declared.steps.Step.{Step}
-use Rattle.world_cell.specs.World.{WorldState}
+use Rattle.world_cell.specs.World.{WorldView}
 use Rattle.world_cell.specs.Runs.{Does, Run, map_by, map_at, epoch_by, epoch_at}
 use Rattle.world_cell.proofs.StepKinds.{IsSilentLine, IsSilent, Made, is_quiet, is_up, is_take, is_sweep, made}
 use Rattle.world_cell.proofs.TakesAreSilent.{take_silent}
@@ -98,13 +98,13 @@ sweep_tells rows s (pending ∷ rest) = work_tells rows s pending.client pending
 
 -- ---- a step
 
-made_tells : (old : WorldState) (step : Step) (new : WorldState) (printed : List Line) → Made old step new printed → Tells old.rows new.rows printed
-made_tells old step new printed (is_quiet q) = silent_tells old.rows new.rows printed q.silent q.rows
+made_tells : (old : WorldView) (step : Step) (new : WorldView) (printed : List Line) → Made old step new printed → Tells old.world.rows new.world.rows printed
+made_tells old step new printed (is_quiet q) = silent_tells old.world.rows new.world.rows printed q.silent q.rows
 made_tells old step new printed (is_up u) = rw (u.tells, u.rows) (record { is_map = refl; is_epoch = refl })
-made_tells old step new printed (is_take t ok) = silent_tells old.rows new.rows printed (rw t.tells (take_silent (noted t.master old.clock) t.request)) t.rows
-made_tells old step new printed (is_sweep w ok) = rw (w.tells, w.rows) (sweep_tells old.rows (noted w.master old.clock) w.master.queue)
+made_tells old step new printed (is_take t ok) = silent_tells old.world.rows new.world.rows printed (rw t.tells (take_silent (noted t.master old.world.clock) t.request)) t.rows
+made_tells old step new printed (is_sweep w ok) = rw (w.tells, w.rows) (sweep_tells old.world.rows (noted w.master old.world.clock) w.master.queue)
 
-pub step_tells : (old : WorldState) (step : Step) (new : WorldState) (printed : List Line) → Does old step new printed → Tells old.rows new.rows printed
+pub step_tells : (old : WorldView) (step : Step) (new : WorldView) (printed : List Line) → Does old step new printed → Tells old.world.rows new.world.rows printed
 step_tells old step new printed h = made_tells old step new printed (made old step new printed h)
 
 -- ---- a run
@@ -123,13 +123,13 @@ tells_more old mid new xs ys h k = record {
   is_epoch = k.is_epoch ∙ ap (λ e. epoch_at e ys) h.is_epoch ∙ sym (epoch_more old.epoch xs ys);
 }
 
-run_tells : (old : WorldState) (steps : List Step) (printed : List Line) (new : WorldState) → Run old steps printed new → Tells old.rows new.rows printed
+run_tells : (old : WorldView) (steps : List Step) (printed : List Line) (new : WorldView) → Run old steps printed new → Tells old.world.rows new.world.rows printed
 run_tells old [] printed new h = rw (h.0, h.1) (record { is_map = refl; is_epoch = refl })
 run_tells old (step ∷ steps) printed new h =
-    rw h.5 (tells_more old.rows h.0.rows new.rows h.1 h.2 (step_tells old step h.0 h.1 h.3) (run_tells h.0 steps h.2 new h.4))
+    rw h.5 (tells_more old.world.rows h.0.world.rows new.world.rows h.1 h.2 (step_tells old step h.0 h.1 h.3) (run_tells h.0 steps h.2 new h.4))
 
-pub run_map : (old : WorldState) (steps : List Step) (printed : List Line) (new : WorldState) → Run old steps printed new → map_of new.rows ≡ map_at (map_of old.rows) printed
+pub run_map : (old : WorldView) (steps : List Step) (printed : List Line) (new : WorldView) → Run old steps printed new → map_of new.world.rows ≡ map_at (map_of old.world.rows) printed
 run_map old steps printed new h = (run_tells old steps printed new h).is_map
 
-pub run_epoch : (old : WorldState) (steps : List Step) (printed : List Line) (new : WorldState) → Run old steps printed new → new.rows.epoch ≡ epoch_at old.rows.epoch printed
+pub run_epoch : (old : WorldView) (steps : List Step) (printed : List Line) (new : WorldView) → Run old steps printed new → new.world.rows.epoch ≡ epoch_at old.world.rows.epoch printed
 run_epoch old steps printed new h = (run_tells old steps printed new h).is_epoch

@@ -35,8 +35,8 @@ use Rattle.client_core.specs.Gives.{give_step, give_at, taken_own}
 use Rattle.world_cell.specs.declared.steps.Step.{Step}
 use Rattle.world_cell.specs.declared.steps.Step.TheVariants as steps
 use Rattle.world_cell.specs.Messages.{request_at, out_at, delivered, new_out}
-use Rattle.world_cell.specs.World.{WorldState, Outcome, world_step, world_up, came_up, world_join, client_of, with_client, sends, own_refusal, asked_by, asked, beaten_by, beaten, took, world_take, gave_by, gave, given_to, swept, world_sweep, without_quiet}
-use Rattle.world_cell.specs.Runs.{Does}
+use Rattle.world_cell.specs.World.{WorldState, WorldView, Outcome, world_step, world_up, came_up, world_join, client_of, with_client, sends, own_refusal, asked_by, asked, beaten_by, beaten, took, world_take, gave_by, gave, given_to, swept, world_sweep, without_quiet}
+use Rattle.world_cell.specs.Runs.{IsMade, Does}
 
 -- ---- lines that tell of no change and of no new master
 
@@ -83,11 +83,11 @@ pub record IsSweep (old : WorldState) (step : Step) (new : WorldState) (printed 
   pub is : new.master ≡ Some (sweep_by (noted master old.clock) master.queue).0
   pub tells : printed ≡ (sweep_by (noted master old.clock) master.queue).1.lines
 
-pub data Made (old : WorldState) (step : Step) (new : WorldState) (printed : List Line) : Type 0 where
-  is_quiet : IsQuiet old new printed → Made old step new printed
-  is_up : IsUp old new printed → Made old step new printed
-  is_take : IsTake old step new printed → world_step old step ≡ Ok (new, printed) → Made old step new printed
-  is_sweep : IsSweep old step new printed → world_step old step ≡ Ok (new, printed) → Made old step new printed
+pub data Made (old : WorldView) (step : Step) (new : WorldView) (printed : List Line) : Type 0 where
+  is_quiet : IsQuiet old.world new.world printed → Made old step new printed
+  is_up : IsUp old.world new.world printed → Made old step new printed
+  is_take : IsTake old.world step new.world printed → IsMade old step new printed → Made old step new printed
+  is_sweep : IsSweep old.world step new.world printed → IsMade old step new printed → Made old step new printed
 
 pub ok_pair : {A B E : Type 0} (p : A × B) (a : A) (b : B) → (let q : Result (A × B) E = Ok p in q) ≡ Ok (a, b) → (p.0 ≡ a) × (p.1 ≡ b)
 ok_pair {A} {B} p a b h = let e : ◌≡◌ {A = A × B} p (a, b) = cc in (ap (λ (q : A × B). q.0) e, ap (λ (q : A × B). q.1) e)
@@ -255,17 +255,17 @@ sweep_made w (Some master) new printed was h = swept_made w master (nat_le (2 ^ 
 
 -- ---- every step
 
-step_made : (w : WorldState) (step : Step) (new : WorldState) (printed : List Line) → world_step w step ≡ Ok (new, printed) → Made w step new printed
+step_made : (w : WorldView) (step : Step) (new : WorldView) (printed : List Line) → IsMade w step new printed → world_step w.world step ≡ Ok (new.world, printed) → Made w step new printed
 unfolding world_step
-step_made w (steps.Up now) new printed h = is_up (up_made w now w.master new printed refl h)
-step_made w (steps.Join number principal) new printed h = is_quiet (join_made w number principal new printed h)
-step_made w (steps.Ask number ask) new printed h = is_quiet (ask_made w number ask (client_of w number) new printed h)
-step_made w (steps.Beat number) new printed h = is_quiet (beat_made w number (client_of w number) new printed h)
-step_made w (steps.Take number) new printed h = is_take (master_take_made w number w.master new printed refl h) h
-step_made w (steps.Give number) new printed h = is_quiet (give_made w number (out_at w.messages number) new printed h)
-step_made w steps.Sweep new printed h = is_sweep (sweep_made w w.master new printed refl h) h
+step_made w (steps.Up now) new printed m h = is_up (up_made w.world now w.world.master new.world printed refl h)
+step_made w (steps.Join number principal) new printed m h = is_quiet (join_made w.world number principal new.world printed h)
+step_made w (steps.Ask number ask) new printed m h = is_quiet (ask_made w.world number ask (client_of w.world number) new.world printed h)
+step_made w (steps.Beat number) new printed m h = is_quiet (beat_made w.world number (client_of w.world number) new.world printed h)
+step_made w (steps.Take number) new printed m h = is_take (master_take_made w.world number w.world.master new.world printed refl h) m
+step_made w (steps.Give number) new printed m h = is_quiet (give_made w.world number (out_at w.world.messages number) new.world printed h)
+step_made w steps.Sweep new printed m h = is_sweep (sweep_made w.world w.world.master new.world printed refl h) m
 
-pub made : (w : WorldState) (step : Step) (new : WorldState) (printed : List Line) → Does w step new printed → Made w step new printed
-made w step new printed (inl h) = step_made w step new printed h
+pub made : (w : WorldView) (step : Step) (new : WorldView) (printed : List Line) → Does w step new printed → Made w step new printed
+made w step new printed (inl m) = step_made w step new printed m m.is_step
 made w step new printed (inr r) =
-    is_quiet (rw (r.same, r.line) (record { rows = refl; master = refl; silent = (tt, tt) }))
+    is_quiet (rw (r.left.same, r.line) (record { rows = refl; master = refl; silent = (tt, tt) }))

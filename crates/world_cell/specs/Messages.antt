@@ -1,5 +1,5 @@
 -- The messages that were sent.
-use Rattle.std.specs.Prelude.{ℕ, ◌+◌, ◌-◌, ◌==◌, true, false, List, [], ◌∷◌, drop, slice_set, Option, Some, None, if◌then◌else◌}
+use Rattle.std.specs.Prelude.{◌≡◌, ⊤, ℕ, zero, suc, ◌+◌, ◌-◌, ◌==◌, true, false, List, [], ◌∷◌, drop, slice_set, Option, Some, None, if◌then◌else◌}
 use Rattle.std.specs.Option.{option_map_or}
 use Rattle.std.specs.List.{slice_get}
 use Rattle.tags_cell.specs.declared.requests.Request.{Request}
@@ -60,3 +60,9 @@ first_waiting (s ∷ rest) number = if s.delivered then first_waiting rest (numb
 -- the same behind a count of messages
 abbrev pub waiting_behind : List Sent → ℕ → Option Step
 waiting_behind sent count = first_waiting (drop count sent) (count + 1)
+
+-- each of the first so many messages came to its receiver
+abbrev pub AreDelivered : ℕ → List Sent → Type 0
+AreDelivered zero sent = ⊤
+AreDelivered (suc count) [] = ⊥
+AreDelivered (suc count) (s ∷ rest) = (s.delivered ≡ true) × AreDelivered count rest

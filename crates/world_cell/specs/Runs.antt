@@ -1,5 +1,5 @@
 -- Whole runs of a world.
-use Rattle.std.specs.Prelude.{◌≡◌, ◌⊎◌, ℕ, ◌<◌, ◌==◌, List, [], ◌∷◌, ◌++◌, Option, Some, None, Ok, Err, if◌then◌else◌}
+use Rattle.std.specs.Prelude.{◌≡◌, ◌⊎◌, ℕ, ◌<◌, ◌==◌, List, [], ◌∷◌, ◌++◌, Option, Some, None, Ok, if◌then◌else◌}
 use Rattle.std.specs.Option.{option_map}
 use Rattle.node_core.specs.declared.refusals.Fault.{Fault}
 use Rattle.node_core.specs.declared.lines.Line.{Line}
@@ -15,25 +15,30 @@ use Rattle.cell_core.specs.Effect.{effect}
 use Rattle.world_cell.specs.declared.steps.Step.{Step}
 use Rattle.world_cell.specs.declared.steps.Step.TheVariants.{Take, Sweep}
 use Rattle.world_cell.specs.Messages.{request_at}
-use Rattle.world_cell.specs.World.{WorldState, world_step, IsOutside}
+use Rattle.world_cell.specs.World.{WorldView, world_step, step_edits, IsStored, IsLeft, MayRefuseStep}
 
 -- ---- runs
 
+-- the table makes the step, and the store does what it commits
+pub record IsMade (old : WorldView) (step : Step) (new : WorldView) (printed : List Line) : Type 0 where
+  pub is_step : world_step old.world step ≡ Ok (new.world, printed)
+  pub stored : IsStored (step_edits old.world step) old new
+
 -- the table refuses the step, or want of memory or the store does; nothing changes, and one line says so
-pub record IsRefused (old : WorldState) (step : Step) (new : WorldState) (printed : List Line) : Type 0 where
+pub record IsRefused (old : WorldView) (step : Step) (new : WorldView) (printed : List Line) : Type 0 where
   pub fault : Fault
-  pub why : (world_step old step ≡ Err fault) ⊎ ((cell : List ℕ) × (before : ℕ) × (after : ℕ) × IsOutside fault cell old.rows before after)
-  pub same : new ≡ old
+  pub why : MayRefuseStep (world_step old.world step) step fault old new
+  pub left : IsLeft (step_edits old.world step) old new
   pub line : printed ≡ lines.Refused fault ∷ []
 
-abbrev pub Does : WorldState → Step → WorldState → List Line → Type 0
-Does old step new printed = (world_step old step ≡ Ok (new, printed)) ⊎ IsRefused old step new printed
+abbrev pub Does : WorldView → Step → WorldView → List Line → Type 0
+Does old step new printed = IsMade old step new printed ⊎ IsRefused old step new printed
 
 -- one step behind the other, and their lines in order
-abbrev pub Run : WorldState → List Step → List Line → WorldState → Type 0
+abbrev pub Run : WorldView → List Step → List Line → WorldView → Type 0
 Run old [] printed new = (printed ≡ []) × (new ≡ old)
 Run old (step ∷ steps) printed new =
-    (mid : WorldState) × (here : List Line) × (rest : List Line) × Does old step mid here × Run mid steps rest new × (printed ≡ here ++ rest)
+    (mid : WorldView) × (here : List Line) × (rest : List Line) × Does old step mid here × Run mid steps rest new × (printed ≡ here ++ rest)
 
 -- ---- what lines tell
 
@@ -83,7 +88,7 @@ abbrev pub change_of : Effect → Option Mod
 change_of effected = option_map (λ change. change.change) effected.change
 
 -- the master took a call: behind a first part of the steps it was up in that epoch, the next step delivered the call's message and was made, and the others followed
-pub record IsTaken (old : WorldState) (steps : List Step) (printed : List Line) (new : WorldState) (epoch client number : ℕ) (call : Call) : Type 0 where
+pub record IsTaken (old : WorldView) (steps : List Step) (printed : List Line) (new : WorldView) (epoch client number : ℕ) (call : Call) : Type 0 where
   pub front : List Step
   pub at : ℕ
   pub back : List Step
@@ -92,34 +97,34 @@ pub record IsTaken (old : WorldState) (steps : List Step) (printed : List Line) 
   pub told : List Line
   pub after : List Line
   pub are_lines : printed ≡ before ++ told ++ after
-  pub here : WorldState
-  pub next : WorldState
+  pub here : WorldView
+  pub next : WorldView
   pub first : Run old front before here
-  pub is_made : world_step here (Take at) ≡ Ok (next, told)
+  pub is_made : IsMade here (Take at) next told
   pub last : Run next back after new
-  pub sent : request_at here.messages at ≡ Some (requests.Call (record { client = client; epoch = epoch; number = number; call = call }))
+  pub sent : request_at here.world.messages at ≡ Some (requests.Call (record { client = client; epoch = epoch; number = number; call = call }))
   pub master : MasterState
-  pub is_up : here.master ≡ Some master
+  pub is_up : here.world.master ≡ Some master
   pub of_epoch : master.epoch ≡ epoch
 
 -- a change that a line shows: behind a first part of the steps, with the lines before it, the master was up with the map and the epoch that these lines tell; the next
 -- step swept and was made; and the change is what a call does there, which that master, or one of its epoch, took before
-pub record IsOfCall (old : WorldState) (steps : List Step) (before : List Line) (client number : ℕ) (change : Mod) (rest : List Line) (new : WorldState) : Type 0 where
+pub record IsOfCall (old : WorldView) (steps : List Step) (before : List Line) (client number : ℕ) (change : Mod) (rest : List Line) (new : WorldView) : Type 0 where
   pub front : List Step
   pub back : List Step
   pub is_split : steps ≡ front ++ Sweep ∷ back
   pub told : List Line
   pub after : List Line
   pub are_lines : rest ≡ told ++ after
-  pub here : WorldState
-  pub next : WorldState
+  pub here : WorldView
+  pub next : WorldView
   pub first : Run old front before here
-  pub is_made : world_step here Sweep ≡ Ok (next, lines.Applied client number change ∷ told)
+  pub is_made : IsMade here Sweep next (lines.Applied client number change ∷ told)
   pub last : Run next back after new
   pub master : MasterState
-  pub is_up : here.master ≡ Some master
-  pub nodes : master.nodes ≡ map_at (map_of old.rows) before
-  pub epoch : master.epoch ≡ epoch_at old.rows.epoch before
+  pub is_up : here.world.master ≡ Some master
+  pub nodes : master.nodes ≡ map_at (map_of old.world.rows) before
+  pub epoch : master.epoch ≡ epoch_at old.world.rows.epoch before
   pub call : Call
   pub taken : IsTaken old front before here master.epoch client number call
   pub is_effect : change_of (effect master client number call) ≡ Some change

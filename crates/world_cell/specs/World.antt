@@ -1,5 +1,5 @@
 -- A world: the rows, the master while one is up, the clients, and all messages; and what each step does.
-use Rattle.std.specs.Prelude.{false, ◌≡◌, ℕ, ◌+◌, ◌-◌, ◌^◌, List, [], ◌∷◌, ◌++◌, map, Option, Some, None, Result, Ok, Err, if◌then◌else◌, is_some}
+use Rattle.std.specs.Prelude.{◌≡◌, ◌⊎◌, ℕ, List, [], ◌∷◌, ◌++◌, map, Option, Some, None, Result, Ok, Err, if◌then◌else◌, is_some}
 use Rattle.std.specs.Option.{option_map_or}
 use Rattle.std.specs.Map.{lookup, set_value}
 use Rattle.std.specs.BTreeMap.{is_at, insert_entry}
@@ -9,8 +9,8 @@ use Rattle.node_core.specs.declared.refusals.Fault.TheVariants as faults
 use Rattle.node_core.specs.declared.lines.Line.{Line}
 use Rattle.node_core.specs.declared.lines.Line.TheVariants as lines
 use Rattle.rows_cell.specs.declared.tables.Rows.{Rows}
+use Rattle.rows_cell.specs.declared.tables.Edit.{Edit}
 use Rattle.rows_cell.specs.Rows.{changed_rows}
-use Rattle.rows_cell.specs.Sound.{sound}
 use Rattle.tags_cell.specs.declared.requests.Request.{Request}
 use Rattle.tags_cell.specs.declared.outs.Out.{Out}
 use Rattle.tags_cell.specs.Messages.{out_client}
@@ -18,8 +18,9 @@ use Rattle.cell_core.specs.declared.pending.Taken.{Taken}
 use Rattle.cell_core.specs.declared.sweeps.Swept.{Swept}
 use Rattle.cell_core.specs.State.{MasterState}
 use Rattle.cell_core.specs.Step.{take_step}
+use Rattle.cell_core.specs.Store.{left_by, MayRefuse}
 use Rattle.cell_core.specs.Sweep.{sweep_step, sweep_edits}
-use Rattle.over_core.specs.Up.{up_step, up_edits}
+use Rattle.over_core.specs.Up.{up_step, up_edits, MayRefuseUp}
 use Rattle.client_core.specs.declared.asks.Ask.{Ask}
 use Rattle.client_core.specs.declared.asks.Asked.{Asked}
 use Rattle.client_core.specs.declared.asks.Asked.TheVariants.{Sent, Answered}
@@ -52,6 +53,10 @@ pub record WorldView : Type 0 where
 -- no master is up, no client has joined, nothing was sent
 abbrev pub new_world : Rows → ℕ → WorldState
 new_world rows lease = record { rows = rows; master = None; clock = 0; clients = []; messages = []; lease = lease }
+
+-- a new world over a store
+abbrev pub opened : List ℕ → Rows → List Rows → ℕ → ℕ → WorldView
+opened cell rows may_leave refusals lease = record { world = new_world rows lease; cell = cell; may_leave = may_leave; refusals = refusals }
 
 -- what a master's store holds while one is up, and else the records by themselves
 abbrev pub store_of : {X : Type 0} → X → Option X → Option X → X
@@ -190,12 +195,32 @@ world_step w (steps.Take number) = world_take w number w.master
 world_step w (steps.Give number) = world_give w number
 world_step w steps.Sweep = without_quiet (world_sweep w w.master)
 
--- ---- what the table doesn't decide
+-- ---- the store
 
--- want of memory and the store may refuse a step that would change the rows, by the store's cell and rows, and the count of its refusals before and after
-abbrev pub IsOutside : Fault → List ℕ → Rows → ℕ → ℕ → Type 0
-IsOutside faults.NoMemory cell rows before after = after ≡ before
-IsOutside faults.Exhausted cell rows before after = (before ≡ 2 ^ 63 - 1) × (after ≡ before)
-IsOutside faults.StoreRefused cell rows before after = after ≡ before + 1
-IsOutside faults.StoreDamaged cell rows before after = (sound cell rows ≡ false) × (after ≡ before)
-IsOutside _ cell rows before after = ⊥
+-- what a step commits
+abbrev pub step_edits : WorldState → Step → List Edit
+step_edits w (steps.Up now) = up_edits w.rows
+step_edits w steps.Sweep = option_map_or (λ master. sweep_edits master w.clock) w.master []
+step_edits w _ = []
+
+-- behind a step that was made: what it commits stands, and the store refused nothing
+pub record IsStored (edits : List Edit) (old new : WorldView) : Type 0 where
+  pub cell : new.cell ≡ old.cell
+  pub leave : new.may_leave ≡ left_by edits old.may_leave new.world.rows
+  pub counted : new.refusals ≡ old.refusals
+
+-- behind a refused one: nothing changed, but a crash may perhaps leave the rows of the refused commit too
+pub record IsLeft (edits : List Edit) (old new : WorldView) : Type 0 where
+  pub same : new.world ≡ old.world
+  pub cell : new.cell ≡ old.cell
+  pub leave : (new.may_leave ≡ old.may_leave) ⊎ (new.may_leave ≡ old.may_leave ++ changed_rows old.world.rows edits ∷ [])
+
+-- what the table doesn't decide: the store may refuse a master that comes up, and the commit of a sweep; any other step is refused for want of memory alone
+abbrev pub IsOutside : Step → Fault → WorldView → WorldView → Type 0
+IsOutside (steps.Up now) fault old new = MayRefuseUp fault old.cell old.world.rows old.refusals new.refusals
+IsOutside steps.Sweep fault old new = MayRefuse fault old.refusals new.refusals
+IsOutside _ fault old new = (fault ≡ faults.NoMemory) × (new.refusals ≡ old.refusals)
+
+-- why a step is refused: the table refuses it, or want of memory or the store does
+abbrev pub MayRefuseStep : {X : Type 0} → Result X Fault → Step → Fault → WorldView → WorldView → Type 0
+MayRefuseStep outcome step fault old new = ((outcome ≡ Err fault) × (new.refusals ≡ old.refusals)) ⊎ IsOutside step fault old new

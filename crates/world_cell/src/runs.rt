@@ -16,8 +16,8 @@ impl<R: Records + Drop> World<R> {
     /// Steps, one behind the other; a refused step is the one line that says so. Where memory ends, the steps made so
     /// far stand, the last one too, and the lines of all of them are lost.
     pub fn run(&mut self, steps: &[Step]) -> Result<Items<Line>, AllocError>
-        ensures run { IfOk result (λ lines. Run self.old.world steps.now lines self.new.world) }
-        ensures part { OnErr result ((count : ℕ) × (lines : List PrintedLine) × Run self.old.world (take count steps.now) lines self.new.world) }
+        ensures run { IfOk result (λ lines. Run self.old steps.now lines self.new) }
+        ensures part { OnErr result ((count : ℕ) × (lines : List PrintedLine) × Run self.old (take count steps.now) lines self.new) }
         // The rows hold the map that the printed changes make of the former one.
         ensures map { IfOk result (λ lines. map_of self.new.world.rows ≡ map_at (map_of self.old.world.rows) lines) }
         // The epoch is that of the last master that came up.
@@ -26,7 +26,7 @@ impl<R: Records + Drop> World<R> {
         ensures once { IfOk result (λ lines. self.old.world.master ≡ None → (client : ℕ) → Rises (applied client lines)) }
         // Each applied change is what a call does to the map just before it; a master of that epoch took the call before.
         ensures calls { IfOk result (λ lines. self.old.world.master ≡ None → (before rest : List PrintedLine) (client number : ℕ) (change : Mod) →
-            lines ≡ before ++ Line.Applied client number change ∷ rest → IsOfCall self.old.world steps.now before client number change rest self.new.world) }
+            lines ≡ before ++ Line.Applied client number change ∷ rest → IsOfCall self.old steps.now before client number change rest self.new) }
     {
         let mut lines = Items::new(self.alloc());
         for step in steps {
@@ -38,8 +38,8 @@ impl<R: Records + Drop> World<R> {
 
     // One step; a refused one is one line.
     fn line_step(&mut self, step: &Step) -> Result<Items<Line>, AllocError>
-        ensures ok { IfOk result (λ lines. Does self.old.world step.now self.new.world lines) }
-        ensures err { OnErr result ((lines : List PrintedLine) × Does self.old.world step.now self.new.world lines) }
+        ensures ok { IfOk result (λ lines. Does self.old step.now self.new lines) }
+        ensures err { OnErr result ((lines : List PrintedLine) × Does self.old step.now self.new lines) }
     {
         match self.step(step) {
             Ok(lines) => Ok(lines),

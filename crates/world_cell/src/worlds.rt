@@ -1,6 +1,6 @@
 //! A world.
-ghost use Rattle.std.specs.Prelude.{◌≡◌, ◌⊎◌, [], ◌∷◌, Some, None, Ok, Err, IfOk, IfErr, OnErr, is_some};
-ghost use Rattle.world_cell.specs.World.{new_world, world_step, world_up, world_join, world_ask, world_beat, world_take, world_give, world_sweep, IsOutside};
+ghost use Rattle.std.specs.Prelude.{◌≡◌, [], ◌∷◌, Some, None, Ok, Err, IfOk, IfErr, OnOk, OnErr, true, false, is_some};
+ghost use Rattle.world_cell.specs.World.{opened, world_step, world_up, world_join, world_ask, world_beat, world_take, world_give, world_sweep, step_edits, IsStored, IsLeft, MayRefuseStep};
 ghost use Rattle.world_cell.specs.Messages.{waiting_behind};
 
 use crate::mail::{self, Sent};
@@ -66,7 +66,7 @@ impl<R: Records> Model for World<R> {
 impl<R: Records + Drop> World<R> {
     /// No master is up, no client has joined, nothing was sent. Takes no memory yet.
     pub fn new(alloc: Global, records: R, settings: &Settings) -> World<R>
-        ensures { result ≡ record { world = new_world (R.rows records) settings.now.lease; cell = R.cell records; may_leave = R.may_leave records; refusals = R.refusals records } }
+        ensures { result ≡ opened (R.cell records) (R.rows records) (R.may_leave records) (R.refusals records) settings.now.lease }
     {
         World {
             alloc,
@@ -88,9 +88,9 @@ impl<R: Records + Drop> World<R> {
     #[tactic(auto, unfolding(crate::specs::World::world_step))]
     pub fn step(&mut self, step: &Step) -> Result<Items<Line>, Fault>
         ensures ok { IfOk result (λ lines. world_step self.old.world step.now ≡ Ok (self.new.world, lines)) }
-        ensures fault { IfErr result (λ e. (world_step self.old.world step.now ≡ Err e) ⊎ IsOutside e self.old.cell self.old.world.rows self.old.refusals self.new.refusals) }
-        ensures err { OnErr result (self.new.world ≡ self.old.world) }
-        ensures cell { self.new.cell ≡ self.old.cell }
+        ensures stored { OnOk result (IsStored (step_edits self.old.world step.now) self.old self.new) }
+        ensures fault { IfErr result (λ e. MayRefuseStep (world_step self.old.world step.now) step.now e self.old self.new) }
+        ensures left { OnErr result (IsLeft (step_edits self.old.world step.now) self.old self.new) }
     {
         match step {
             Step::Up(now) => self.up(*now),
@@ -107,9 +107,9 @@ impl<R: Records + Drop> World<R> {
     #[tactic(auto, using(crate::proofs::OneMessage::sweep_few))]
     pub fn sweep(&mut self) -> Result<Turn, Fault>
         ensures ok { IfOk result (λ turn. world_sweep self.old.world self.old.world.master ≡ Ok (self.new.world, turn)) }
-        ensures fault { IfErr result (λ e. (world_sweep self.old.world self.old.world.master ≡ Err e) ⊎ IsOutside e self.old.cell self.old.world.rows self.old.refusals self.new.refusals) }
-        ensures err { OnErr result (self.new.world ≡ self.old.world) }
-        ensures cell { self.new.cell ≡ self.old.cell }
+        ensures stored { OnOk result (IsStored (step_edits self.old.world Step.Sweep) self.old self.new) }
+        ensures fault { IfErr result (λ e. MayRefuseStep (world_sweep self.old.world self.old.world.master) Step.Sweep e self.old self.new) }
+        ensures left { OnErr result (IsLeft (step_edits self.old.world Step.Sweep) self.old self.new) }
     {
         match &mut self.master {
             None => Err(Fault::MasterDown),
@@ -168,9 +168,9 @@ impl<R: Records + Drop> World<R> {
 
     fn up(&mut self, now: u64) -> Result<Items<Line>, Fault>
         ensures ok { IfOk result (λ lines. world_up self.old.world now self.old.world.master ≡ Ok (self.new.world, lines)) }
-        ensures fault { IfErr result (λ e. (world_up self.old.world now self.old.world.master ≡ Err e) ⊎ IsOutside e self.old.cell self.old.world.rows self.old.refusals self.new.refusals) }
-        ensures err { OnErr result (self.new.world ≡ self.old.world) }
-        ensures cell { self.new.cell ≡ self.old.cell }
+        ensures stored { OnOk result (IsStored (step_edits self.old.world (Step.Up now)) self.old self.new) }
+        ensures fault { IfErr result (λ e. MayRefuseStep (world_up self.old.world now self.old.world.master) (Step.Up now) e self.old self.new) }
+        ensures left { OnErr result (IsLeft (step_edits self.old.world (Step.Up now)) self.old self.new) }
     {
         let mut lines = Items::new(self.alloc);
         lines.push(Line::Down)?;
@@ -193,9 +193,9 @@ impl<R: Records + Drop> World<R> {
 
     fn join(&mut self, number: ClientNumber, principal: &Principal) -> Result<Items<Line>, Fault>
         ensures ok { IfOk result (λ lines. world_join self.old.world number principal.now ≡ Ok (self.new.world, lines)) }
-        ensures fault { IfErr result (λ e. (world_join self.old.world number principal.now ≡ Err e) ⊎ IsOutside e self.old.cell self.old.world.rows self.old.refusals self.new.refusals) }
-        ensures err { OnErr result (self.new.world ≡ self.old.world) }
-        ensures cell { self.new.cell ≡ self.old.cell }
+        ensures stored { OnOk result (IsStored [] self.old self.new) }
+        ensures fault { IfErr result (λ e. MayRefuseStep (world_join self.old.world number principal.now) (Step.Join number principal.now) e self.old self.new) }
+        ensures left { OnErr result (IsLeft [] self.old self.new) }
     {
         if self.clients.is_taken(number) {
             return Err(Fault::Exists);
@@ -206,9 +206,9 @@ impl<R: Records + Drop> World<R> {
 
     fn ask(&mut self, number: u64, ask: &Ask) -> Result<Items<Line>, Fault>
         ensures ok { IfOk result (λ lines. world_ask self.old.world number ask.now ≡ Ok (self.new.world, lines)) }
-        ensures fault { IfErr result (λ e. (world_ask self.old.world number ask.now ≡ Err e) ⊎ IsOutside e self.old.cell self.old.world.rows self.old.refusals self.new.refusals) }
-        ensures err { OnErr result (self.new.world ≡ self.old.world) }
-        ensures cell { self.new.cell ≡ self.old.cell }
+        ensures stored { OnOk result (IsStored [] self.old self.new) }
+        ensures fault { IfErr result (λ e. MayRefuseStep (world_ask self.old.world number ask.now) (Step.Ask number ask.now) e self.old self.new) }
+        ensures left { OnErr result (IsLeft [] self.old self.new) }
     {
         let mut lines = room(self.alloc)?;
         self.messages.reserve(1)?;
@@ -230,9 +230,9 @@ impl<R: Records + Drop> World<R> {
 
     fn beat(&mut self, number: u64) -> Result<Items<Line>, Fault>
         ensures ok { IfOk result (λ lines. world_beat self.old.world number ≡ Ok (self.new.world, lines)) }
-        ensures fault { IfErr result (λ e. (world_beat self.old.world number ≡ Err e) ⊎ IsOutside e self.old.cell self.old.world.rows self.old.refusals self.new.refusals) }
-        ensures err { OnErr result (self.new.world ≡ self.old.world) }
-        ensures cell { self.new.cell ≡ self.old.cell }
+        ensures stored { OnOk result (IsStored [] self.old self.new) }
+        ensures fault { IfErr result (λ e. MayRefuseStep (world_beat self.old.world number) (Step.Beat number) e self.old self.new) }
+        ensures left { OnErr result (IsLeft [] self.old self.new) }
     {
         self.messages.reserve(1)?;
         match self.clients.beat(number) {
@@ -250,9 +250,9 @@ impl<R: Records + Drop> World<R> {
     #[tactic(auto, using(crate::proofs::OneMessage::take_few))]
     fn take(&mut self, number: u64) -> Result<Items<Line>, Fault>
         ensures ok { IfOk result (λ lines. world_take self.old.world number self.old.world.master ≡ Ok (self.new.world, lines)) }
-        ensures fault { IfErr result (λ e. (world_take self.old.world number self.old.world.master ≡ Err e) ⊎ IsOutside e self.old.cell self.old.world.rows self.old.refusals self.new.refusals) }
-        ensures err { OnErr result (self.new.world ≡ self.old.world) }
-        ensures cell { self.new.cell ≡ self.old.cell }
+        ensures stored { OnOk result (IsStored [] self.old self.new) }
+        ensures fault { IfErr result (λ e. MayRefuseStep (world_take self.old.world number self.old.world.master) (Step.Take number) e self.old self.new) }
+        ensures left { OnErr result (IsLeft [] self.old self.new) }
     {
         match &mut self.master {
             None => Err(Fault::MasterDown),
@@ -271,9 +271,9 @@ impl<R: Records + Drop> World<R> {
 
     fn give(&mut self, number: u64) -> Result<Items<Line>, Fault>
         ensures ok { IfOk result (λ lines. world_give self.old.world number ≡ Ok (self.new.world, lines)) }
-        ensures fault { IfErr result (λ e. (world_give self.old.world number ≡ Err e) ⊎ IsOutside e self.old.cell self.old.world.rows self.old.refusals self.new.refusals) }
-        ensures err { OnErr result (self.new.world ≡ self.old.world) }
-        ensures cell { self.new.cell ≡ self.old.cell }
+        ensures stored { OnOk result (IsStored [] self.old self.new) }
+        ensures fault { IfErr result (λ e. MayRefuseStep (world_give self.old.world number) (Step.Give number) e self.old self.new) }
+        ensures left { OnErr result (IsLeft [] self.old self.new) }
     {
         let Some(out) = mail::out_at(self.messages.as_slice(), number) else {
             return Err(Fault::NoSuchMessage);

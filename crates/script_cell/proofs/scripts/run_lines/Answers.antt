@@ -2,7 +2,7 @@ use Rattle.script_cell.proofs.Doings.{part_none, part_more, part_all}
 use Rattle.script_cell.proofs.scripts.run_lines.Goals as goal
 
 pub loop-init : goal.loop-init
-loop-init g c = (tt, part_none c.args.lines.now c.args.world.now.world _ c.requires)
+loop-init g c = (tt, part_none c.args.lines.now c.args.world.now _ c.requires)
 
 pub returns-then-not-branch : goal.returns-then-not-branch
 returns-then-not-branch g c = part_all _ _ _ c.advance.new.self _ _ _ _ c.if-not-branch.true c.in_ok-advance.ensures c.loop.invariant.1

@@ -1,4 +1,4 @@
-use Rattle.script_cell.specs.Settling.{AreDelivered}
+use Rattle.world_cell.specs.Messages.{AreDelivered}
 use Rattle.script_cell.specs.Scripts.{Wrote, IsOfPart}
 use Rattle.script_cell.proofs.scripts.run_lines.Given as goal
 
@@ -6,4 +6,4 @@ use Rattle.script_cell.proofs.scripts.run_lines.Given as goal
 abbrev pub invariant-loop : goal.invariant-loop
 invariant-loop g l =
     AreDelivered l.delivered l.world.world.messages
-    × Wrote (λ printed. IsOfPart l.fn.lines.rest l.lines.rest l.lines.number l.fn.world.world printed l.world.world) (g.W.Write.contents l.fn.output) (g.W.Write.contents l.output)
+    × Wrote (λ printed. IsOfPart l.fn.lines.rest l.lines.rest l.lines.number l.fn.world printed l.world) (g.W.Write.contents l.fn.output) (g.W.Write.contents l.output)

@@ -3,10 +3,10 @@ use Rattle.script_cell.proofs.scripts.settle.Goals as goal
 
 pub returns-then-not-is_up-clause-wrote : goal.returns-then-not-is_up-clause-wrote
 returns-then-not-is_up-clause-wrote g c =
-    settles_down c.args.world.now.world c.is_up.result _ _ c.write_refusal.result c.is_up.ensures c.if-not-is_up.true c.write_refusal.ensures
+    settles_down c.args.world.now c.is_up.result _ _ c.write_refusal.result c.is_up.ensures c.if-not-is_up.true c.write_refusal.ensures
 
 pub loop-init : goal.loop-init
-loop-init g c = (c.requires.delivered, wrote_none _ _ (no_turns c.args.world.now.world))
+loop-init g c = (c.requires.delivered, wrote_none _ _ (no_turns c.args.world.now))
 
 pub returns-then-not-branch-clause-wrote : goal.returns-then-not-branch-clause-wrote
 returns-then-not-branch-clause-wrote g c =

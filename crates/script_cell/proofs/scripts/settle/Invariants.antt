@@ -1,5 +1,6 @@
 use Rattle.std.proofs.Common.{ℕ}
-use Rattle.script_cell.specs.Settling.{AreDelivered, Turns}
+use Rattle.world_cell.specs.Messages.{AreDelivered}
+use Rattle.script_cell.specs.Settling.{Turns}
 use Rattle.script_cell.specs.Scripts.{Wrote}
 use Rattle.script_cell.proofs.scripts.settle.Given as goal
 
@@ -7,4 +8,4 @@ use Rattle.script_cell.proofs.scripts.settle.Given as goal
 abbrev pub invariant-loop : goal.invariant-loop
 invariant-loop g l =
     AreDelivered l.delivered l.world.world.messages
-    × Wrote (λ printed. (count : ℕ) × Turns count l.fn.world.world printed l.world.world) (g.W.Write.contents l.fn.output) (g.W.Write.contents l.output)
+    × Wrote (λ printed. (count : ℕ) × Turns count l.fn.world printed l.world) (g.W.Write.contents l.fn.output) (g.W.Write.contents l.output)

@@ -4,4 +4,4 @@ use Rattle.world_cell.proofs.worlds.World.run.Given as goal
 
 -- the steps so far were run
 abbrev pub invariant-loop-step : goal.invariant-loop-step
-invariant-loop-step g l = Run l.fn.self.world (take l.step-index l.steps) l.lines l.self.world
+invariant-loop-step g l = Run l.fn.self (take l.step-index l.steps) l.lines l.self
