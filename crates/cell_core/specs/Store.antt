@@ -17,15 +17,25 @@ pub record IsCommitted (edits : List Edit) (old_rows new_rows : Rows) (old_leave
   pub leave : new_leave ≡ left_by edits old_leave new_rows
   pub counted : new_refusals ≡ old_refusals
 
--- why a commit is refused, by the count of the store's refusals before and after
-abbrev pub MayRefuse : Fault → ℕ → ℕ → Type 0
-MayRefuse faults.NoMemory before after = after ≡ before
-MayRefuse faults.Exhausted before after = (before ≡ 2 ^ 63 - 1) × (after ≡ before)
-MayRefuse faults.StoreRefused before after = after ≡ before + 1
-MayRefuse _ before after = ⊥
+-- why a store refuses, by the count of its refusals before and after
+abbrev pub StoreRefuses : Fault → ℕ → ℕ → Type 0
+StoreRefuses faults.NoMemory before after = after ≡ before
+StoreRefuses faults.Exhausted before after = (before ≡ 2 ^ 63 - 1) × (after ≡ before)
+StoreRefuses faults.StoreRefused before after = after ≡ before + 1
+StoreRefuses _ before after = ⊥
 
--- the rows stand as they stood; a crash may leave what it could leave before, and perhaps the rows of the refused commit
+-- why a commit is refused; where nothing is committed the store isn't asked, and memory alone may be wanting
+abbrev pub MayRefuse : List Edit → Fault → ℕ → ℕ → Type 0
+MayRefuse [] fault before after = (fault ≡ faults.NoMemory) × (after ≡ before)
+MayRefuse (edit ∷ edits) fault before after = StoreRefuses fault before after
+
+-- what a crash may leave behind a refused commit: what it could leave before, and perhaps the rows of that commit
+abbrev pub MayLeave : List Edit → Rows → List Rows → List Rows → Type 0
+MayLeave [] rows old new = new ≡ old
+MayLeave (edit ∷ edits) rows old new = (new ≡ old) ⊎ (new ≡ old ++ changed_rows rows (edit ∷ edits) ∷ [])
+
+-- the rows stand as they stood
 pub record IsRefused (fault : Fault) (edits : List Edit) (old_rows new_rows : Rows) (old_leave new_leave : List Rows) (old_refusals new_refusals : ℕ) : Type 0 where
   pub rows : new_rows ≡ old_rows
-  pub leave : (new_leave ≡ old_leave) ⊎ (new_leave ≡ old_leave ++ changed_rows old_rows edits ∷ [])
-  pub why : MayRefuse fault old_refusals new_refusals
+  pub leave : MayLeave edits old_rows old_leave new_leave
+  pub why : MayRefuse edits fault old_refusals new_refusals

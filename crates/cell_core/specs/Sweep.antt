@@ -90,9 +90,9 @@ abbrev pub queue_edits : MasterState → List Pending → List Edit
 queue_edits s [] = []
 queue_edits s (pending ∷ rest) = edits_of (plan_of s pending).deed
 
--- what a sweep at a moment commits
+-- what a sweep at a moment commits; moments end below 2^53
 abbrev pub sweep_edits : MasterState → ℕ → List Edit
-sweep_edits s now = queue_edits (noted s now) s.queue
+sweep_edits s now = if nat_le (2 ^ 53) now then [] else queue_edits (noted s now) s.queue
 
 -- ---- the step
 

@@ -14,6 +14,7 @@ use Rattle.node_core.specs.declared.views.Mod.TheVariants.{Put, Gone}
 use Rattle.node_core.specs.Nodes.{Nodes, HasNamesInOrder}
 use Rattle.rows_cell.specs.declared.tables.Session.{Session}
 use Rattle.rows_cell.specs.declared.tables.Rows.{Rows}
+use Rattle.rows_cell.specs.declared.tables.Edit.{Edit}
 use Rattle.rows_cell.specs.declared.tables.Edit.TheVariants.{PutSession, NextInstance}
 use Rattle.rows_cell.specs.Rows.{changed_rows}
 use Rattle.rows_cell.specs.Sound.{sound, is_number}
@@ -158,16 +159,18 @@ module _ (cell : List ℕ) (rows : Rows) (s : MasterState) (k : IsKept cell rows
 pub sweep_sound : (cell : List ℕ) (rows : Rows) (s : MasterState) (now : ℕ) → IsKept cell rows s → HasNamesInOrder s.nodes → sound cell (changed_rows rows (sweep_edits s now)) ≡ true
 sweep_sound cell rows s now k order =
     let then = clock_kept cell rows s (max s.clock now) k in
-    queue_sound cell rows (noted s now) then s.queue order then.queue
+    let swept = queue_sound cell rows (noted s now) then s.queue order then.queue in
+    elim (nat_le (2 ^ 53) now) as (λ b. sound cell (changed_rows rows (cond b [] (queue_edits (noted s now) s.queue))) ≡ true) [ true ↦ k.sound_rows | false ↦ swept ]
 
 sweep_kept : (cell : List ℕ) (rows : Rows) (s new : MasterState) (now : ℕ) (swept : Swept) → IsKept cell rows s → HasNamesInOrder s.nodes → sweep_step s now ≡ Ok (new, swept) → IsKept cell (changed_rows rows (sweep_edits s now)) new
 unfolding sweep_step
 sweep_kept cell rows s new now swept k order h =
-    (elim (nat_le (2 ^ 53) now) as (λ b. cond {A = Result (MasterState × Swept) Fault} b (Err faults.Exhausted) (Ok (sweep_by (noted s now) s.queue)) ≡ Ok (new, swept) → IsKept cell (changed_rows rows (sweep_edits s now)) new) [
+    let edits : List Edit = queue_edits (noted s now) s.queue in
+    (elim (nat_le (2 ^ 53) now) as (λ b. cond {A = Result (MasterState × Swept) Fault} b (Err faults.Exhausted) (Ok (sweep_by (noted s now) s.queue)) ≡ Ok (new, swept) → IsKept cell (changed_rows rows (cond b [] edits)) new) [
       | true ↦ (λ e. cc)
       | false ↦ (λ e.
           let same : sweep_by (noted s now) s.queue ≡ (new, swept) = cc in
-          let P : MasterState × Swept → Type 0 = λ p. IsKept cell (changed_rows rows (sweep_edits s now)) p.0 in
+          let P : MasterState × Swept → Type 0 = λ p. IsKept cell (changed_rows rows edits) p.0 in
           subst P same (by_kept cell rows (noted s now) (clock_kept cell rows s (max s.clock now) k) s.queue order refl))
     ]) h
 

@@ -4,8 +4,8 @@ ghost use Rattle.rows_cell.specs.Rows.{changed_rows};
 ghost use Rattle.rows_cell.specs.Sound.{sound};
 ghost use Rattle.cell_core.specs.Step.{take_step};
 ghost use Rattle.cell_core.specs.Sweep.{sweep_step, sweep_edits};
-ghost use Rattle.cell_core.specs.Store.{IsCommitted, IsRefused};
-ghost use Rattle.over_core.specs.Up.{up_edits, up_step, MayRefuseUp};
+ghost use Rattle.cell_core.specs.Store.{IsCommitted, IsRefused, StoreRefuses, MayLeave};
+ghost use Rattle.over_core.specs.Up.{up_edits, up_step, up_commit, next_epoch, MayRefuseUp};
 
 use cell_core::{Cell as Master, MOMENT_LIMIT, Swept, Taken};
 use node_core::{Fault, NUMBER_LIMIT};
@@ -48,13 +48,12 @@ impl<R: Records> Cell<R> {
     /// come back, with the rows as they were.
     pub fn up(alloc: Global, mut records: R, lease: u64, now: u64) -> Result<Cell<R>, (Fault, R)>
         requires { (1000 ≤ lease) × (lease ≤ 60000) }
-        ensures ok { IfOk result (λ cell. up_step (R.rows records) lease now ≡ Ok cell.master) }
+        ensures ok { IfOk result (λ cell. up_step (R.cell records) (R.rows records) lease now ≡ Ok cell.master) }
         ensures same { IfOk result (λ cell. cell.cell ≡ R.cell records) }
         ensures committed { IfOk result (λ cell. IsCommitted (up_edits (R.rows records)) (R.rows records) cell.rows (R.may_leave records) cell.may_leave (R.refusals records) cell.refusals) }
-        ensures fault { IfErr result (λ e. (up_step (R.rows records) lease now ≡ Err e.0 × R.refusals e.1 ≡ R.refusals records) ⊎ MayRefuseUp e.0 (R.cell records) (R.rows records) (R.refusals records) (R.refusals e.1)) }
+        ensures fault { IfErr result (λ e. (up_step (R.cell records) (R.rows records) lease now ≡ Err e.0 × R.refusals e.1 ≡ R.refusals records) ⊎ MayRefuseUp now e.0 (R.refusals records) (R.refusals e.1)) }
         ensures rows { IfErr result (λ e. R.rows e.1 ≡ R.rows records) }
-        ensures left { IfErr result (λ e. (R.may_leave e.1 ≡ R.may_leave records)
-            ⊎ (R.may_leave e.1 ≡ R.may_leave records ++ changed_rows (R.rows records) (up_edits (R.rows records)) ∷ [])) }
+        ensures left { IfErr result (λ e. MayLeave (up_commit (up_step (R.cell records) (R.rows records) lease now) (R.rows records)) (R.rows records) (R.may_leave records) (R.may_leave e.1)) }
         ensures cell { IfErr result (λ e. R.cell e.1 ≡ R.cell records) }
     {
         match next_master(alloc, &mut records, lease, now) {
@@ -116,13 +115,12 @@ fn next_master<R: Records>(
     lease: u64,
     now: u64,
 ) -> Result<Master, Fault>
-    ensures ok { IfOk result (λ master. up_step (R.rows records.old) lease now ≡ Ok master) }
+    ensures ok { IfOk result (λ master. up_step (R.cell records.old) (R.rows records.old) lease now ≡ Ok master) }
     ensures sound { OnOk result (sound (R.cell records.old) (R.rows records.new) ≡ true) }
     ensures committed { OnOk result (IsCommitted (up_edits (R.rows records.old)) (R.rows records.old) (R.rows records.new) (R.may_leave records.old) (R.may_leave records.new) (R.refusals records.old) (R.refusals records.new)) }
-    ensures fault { IfErr result (λ e. (up_step (R.rows records.old) lease now ≡ Err e × R.refusals records.new ≡ R.refusals records.old) ⊎ MayRefuseUp e (R.cell records.old) (R.rows records.old) (R.refusals records.old) (R.refusals records.new)) }
+    ensures fault { IfErr result (λ e. (up_step (R.cell records.old) (R.rows records.old) lease now ≡ Err e × R.refusals records.new ≡ R.refusals records.old) ⊎ MayRefuseUp now e (R.refusals records.old) (R.refusals records.new)) }
     ensures rows { OnErr result (R.rows records.new ≡ R.rows records.old) }
-    ensures left { OnErr result ((R.may_leave records.new ≡ R.may_leave records.old)
-        ⊎ (R.may_leave records.new ≡ R.may_leave records.old ++ changed_rows (R.rows records.old) (up_edits (R.rows records.old)) ∷ [])) }
+    ensures left { OnErr result (MayLeave (up_commit (up_step (R.cell records.old) (R.rows records.old) lease now) (R.rows records.old)) (R.rows records.old) (R.may_leave records.old) (R.may_leave records.new)) }
     ensures cell { R.cell records.new ≡ R.cell records.old }
 {
     if now >= MOMENT_LIMIT {
@@ -142,11 +140,11 @@ fn next_master<R: Records>(
 
 // Reads the rows, and gives them with the next epoch.
 fn next_rows<R: Records>(records: &mut R) -> Result<Rows, Fault>
-    ensures ok { IfOk result (λ rows. rows ≡ changed_rows (R.rows records.old) (up_edits (R.rows records.old))) }
-    ensures room { OnOk result (nat_le (2 ^ 63 - 1) (R.rows records.old).epoch ≡ false) }
+    ensures ok { IfOk result (λ rows. next_epoch (R.cell records.old) (R.rows records.old) ≡ Ok rows) }
+    ensures next { IfOk result (λ rows. rows ≡ changed_rows (R.rows records.old) (up_edits (R.rows records.old))) }
     ensures sound { OnOk result (sound (R.cell records.old) (changed_rows (R.rows records.old) (up_edits (R.rows records.old))) ≡ true) }
     ensures counted { OnOk result (R.refusals records.new ≡ R.refusals records.old) }
-    ensures fault { IfErr result (λ e. (e ≡ Fault.Exhausted × nat_le (2 ^ 63 - 1) (R.rows records.old).epoch ≡ true × R.refusals records.new ≡ R.refusals records.old) ⊎ MayRefuseUp e (R.cell records.old) (R.rows records.old) (R.refusals records.old) (R.refusals records.new)) }
+    ensures fault { IfErr result (λ e. (next_epoch (R.cell records.old) (R.rows records.old) ≡ Err e × R.refusals records.new ≡ R.refusals records.old) ⊎ StoreRefuses e (R.refusals records.old) (R.refusals records.new)) }
     ensures rows { R.rows records.new ≡ R.rows records.old }
     ensures leave { R.may_leave records.new ≡ R.may_leave records.old }
     ensures cell { R.cell records.new ≡ R.cell records.old }
@@ -165,7 +163,7 @@ fn next_rows<R: Records>(records: &mut R) -> Result<Rows, Fault>
 fn commit_epoch<R: Records>(alloc: Global, records: &mut R, epoch: u64) -> Result<(), Fault>
     requires { sound (R.cell records.now) (changed_rows (R.rows records.now) (Edit.Epoch epoch ∷ [])) ≡ true }
     ensures committed { OnOk result (IsCommitted (Edit.Epoch epoch ∷ []) (R.rows records.old) (R.rows records.new) (R.may_leave records.old) (R.may_leave records.new) (R.refusals records.old) (R.refusals records.new)) }
-    ensures fault { IfErr result (λ e. MayRefuseUp e (R.cell records.old) (R.rows records.old) (R.refusals records.old) (R.refusals records.new)) }
+    ensures fault { IfErr result (λ e. StoreRefuses e (R.refusals records.old) (R.refusals records.new)) }
     ensures rows { OnErr result (R.rows records.new ≡ R.rows records.old) }
     ensures left { OnErr result ((R.may_leave records.new ≡ R.may_leave records.old)
         ⊎ (R.may_leave records.new ≡ R.may_leave records.old ++ changed_rows (R.rows records.old) (Edit.Epoch epoch ∷ []) ∷ [])) }

@@ -83,7 +83,7 @@ up_sends w now m (Ok master) new printed h =
 
 world_up_sends : (w : WorldState) (now : ℕ) (m : Option MasterState) (new : WorldState) (printed : List Line) → world_up w now m ≡ Ok (new, printed) → Sends w new
 world_up_sends w now (Some master) new printed h = cc
-world_up_sends w now None new printed h = up_sends w now None (up_step w.rows w.lease now) new printed h
+world_up_sends w now None new printed h = up_sends w now None (up_step w.cell w.rows w.lease now) new printed h
 
 join_sends : (w : WorldState) (number : ℕ) (principal : List ℕ) (b : Bool) (new : WorldState) (printed : List Line) → (let r : Outcome = cond b (Err faults.Exists) (Ok (record w { clients = insert_entry nat_cmp w.clients number (new_client number principal) }, [])) in r) ≡ Ok (new, printed) → Sends w new
 join_sends w number principal true new printed h = cc

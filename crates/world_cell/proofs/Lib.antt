@@ -10,3 +10,4 @@ pub mod CallsBySweeps
 pub mod CallsByRuns
 pub mod PartsOfRuns
 pub mod DeliveredStay
+pub mod RefusedUp

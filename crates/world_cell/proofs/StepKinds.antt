@@ -1,6 +1,6 @@
 -- What a step of a world comes to: a master comes up, takes a message, or sweeps, or nothing of the master changes.
 use Rattle.std.proofs.Common.{◌≡◌, ℕ, ◌+◌, ◌-◌, List, [], ◌∷◌, ◌++◌, Bool, true, false, cond, Result, Ok, Err, Option, Some, None, refl, ap, ◌∙◌, rules, inl, inr}
-use Rattle.std.specs.Prelude.{◌^◌, ◌||◌, nat_le, nat_lt, map, is_some}
+use Rattle.std.specs.Prelude.{◌^◌, not, nat_le, nat_lt, map, is_some}
 use Rattle.std.specs.Option.{option_map_or}
 use Rattle.std.specs.BTreeMap.{insert_entry}
 use Rattle.std.specs.Ordering.{nat_cmp}
@@ -10,6 +10,7 @@ use Rattle.node_core.specs.declared.lines.Line.{Line}
 use Rattle.node_core.specs.declared.lines.Line.TheVariants as lines
 use Rattle.node_core.specs.declared.answers.Answer.TheVariants as answers
 use Rattle.rows_cell.specs.Rows.{changed_rows}
+use Rattle.rows_cell.specs.Sound.{sound}
 use Rattle.tags_cell.specs.declared.requests.Request.{Request}
 use Rattle.tags_cell.specs.declared.outs.Out.{Out}
 use Rattle.tags_cell.specs.declared.calls.Call.{Call}
@@ -18,8 +19,8 @@ use Rattle.cell_core.specs.declared.pending.Taken.{Taken}
 use Rattle.cell_core.specs.declared.sweeps.Swept.{Swept}
 use Rattle.cell_core.specs.State.{MasterState, master_of}
 use Rattle.cell_core.specs.Step.{take_at, take_step}
-use Rattle.cell_core.specs.Sweep.{sweep_step, sweep_by, sweep_edits, noted}
-use Rattle.over_core.specs.Up.{up_edits}
+use Rattle.cell_core.specs.Sweep.{sweep_step, sweep_by, sweep_edits, queue_edits, noted}
+use Rattle.over_core.specs.Up.{up_edits, master_by}
 use Rattle.client_core.specs.declared.asks.Ask.{Ask}
 use Rattle.client_core.specs.declared.asks.Asked.{Asked}
 use Rattle.client_core.specs.declared.asks.Asked.TheVariants.{Sent, Answered}
@@ -79,7 +80,7 @@ pub record IsSweep (old : WorldState) (step : Step) (new : WorldState) (printed 
   pub is_step : step ≡ steps.Sweep
   pub master : MasterState
   pub was : old.master ≡ Some master
-  pub rows : new.rows ≡ changed_rows old.rows (sweep_edits master old.clock)
+  pub rows : new.rows ≡ changed_rows old.rows (queue_edits (noted master old.clock) master.queue)
   pub is : new.master ≡ Some (sweep_by (noted master old.clock) master.queue).0
   pub tells : printed ≡ (sweep_by (noted master old.clock) master.queue).1.lines
 
@@ -94,9 +95,11 @@ ok_pair {A} {B} p a b h = let e : ◌≡◌ {A = A × B} p (a, b) = cc in (ap (�
 
 -- ---- a master comes up
 
-came_made : (w : WorldState) (now : ℕ) (b : Bool) (new : WorldState) (printed : List Line) → w.master ≡ None → came_up w now (cond b (Err faults.Exhausted) (Ok (master_of (changed_rows w.rows (up_edits w.rows)) w.lease now))) ≡ Ok (new, printed) → IsUp w new printed
-came_made w now true new printed none h = cc
-came_made w now false new printed none h =
+came_made : (w : WorldState) (now : ℕ) (late unsound last : Bool) (new : WorldState) (printed : List Line) → w.master ≡ None → came_up w now (cond late (Err faults.Exhausted) (master_by w.lease now (cond unsound (Err faults.StoreDamaged) (cond last (Err faults.Exhausted) (Ok (changed_rows w.rows (up_edits w.rows))))))) ≡ Ok (new, printed) → IsUp w new printed
+came_made w now true unsound last new printed none h = cc
+came_made w now false true last new printed none h = cc
+came_made w now false false true new printed none h = cc
+came_made w now false false false new printed none h =
     let master : MasterState = master_of (changed_rows w.rows (up_edits w.rows)) w.lease now in
     let made : WorldState = record w { rows = changed_rows w.rows (up_edits w.rows); master = Some master; clock = now } in
     let p = ok_pair (made, lines.Up master.epoch ∷ []) new printed h in
@@ -104,7 +107,7 @@ came_made w now false new printed none h =
 
 up_made : (w : WorldState) (now : ℕ) (m : Option MasterState) (new : WorldState) (printed : List Line) → w.master ≡ m → world_up w now m ≡ Ok (new, printed) → IsUp w new printed
 up_made w now (Some master) new printed e h = cc
-up_made w now None new printed e h = came_made w now (nat_le (2 ^ 53) now || nat_le (2 ^ 63 - 1) w.rows.epoch) new printed e h
+up_made w now None new printed e h = came_made w now (nat_le (2 ^ 53) now) (not (sound w.cell w.rows)) (nat_le (2 ^ 63 - 1) w.rows.epoch) new printed e h
 
 -- ---- clients
 
@@ -240,18 +243,18 @@ master_take_made w number (Some master) new printed was h = take_made w number m
 
 -- ---- the master sweeps
 
-swept_made : (w : WorldState) (master : MasterState) (b : Bool) (new : WorldState) (printed : List Line) → w.master ≡ Some master → without_quiet (swept w master (cond b (Err faults.Exhausted) (Ok (sweep_by (noted master w.clock) master.queue)))) ≡ Ok (new, printed) → IsSweep w steps.Sweep new printed
-swept_made w master true new printed was h = cc
-swept_made w master false new printed was h =
+swept_made : (w : WorldState) (master : MasterState) (late : Bool) (new : WorldState) (printed : List Line) → w.master ≡ Some master → nat_le (2 ^ 53) w.clock ≡ late → without_quiet (swept w master (cond late (Err faults.Exhausted) (Ok (sweep_by (noted master w.clock) master.queue)))) ≡ Ok (new, printed) → IsSweep w steps.Sweep new printed
+swept_made w master true new printed was is h = cc
+swept_made w master false new printed was is h =
     let x : MasterState × Swept = sweep_by (noted master w.clock) master.queue in
     let made : WorldState = record w { rows = changed_rows w.rows (sweep_edits master w.clock); master = Some x.0; messages = w.messages ++ map new_out x.1.outs } in
     let p = ok_pair (made, x.1.lines) new printed h in
-    rw (← p.0, ← p.1) (record { is_step = refl; master = master; was = was; rows = refl; is = refl; tells = refl })
+    rw (← p.0, ← p.1) (record { is_step = refl; master = master; was = was; rows = rw is refl; is = refl; tells = refl })
 
 sweep_made : (w : WorldState) (m : Option MasterState) (new : WorldState) (printed : List Line) → w.master ≡ m → without_quiet (world_sweep w m) ≡ Ok (new, printed) → IsSweep w steps.Sweep new printed
 unfolding sweep_step
 sweep_made w None new printed was h = cc
-sweep_made w (Some master) new printed was h = swept_made w master (nat_le (2 ^ 53) w.clock) new printed was h
+sweep_made w (Some master) new printed was h = swept_made w master (nat_le (2 ^ 53) w.clock) new printed was refl h
 
 -- ---- every step
 

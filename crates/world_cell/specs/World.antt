@@ -18,9 +18,9 @@ use Rattle.cell_core.specs.declared.pending.Taken.{Taken}
 use Rattle.cell_core.specs.declared.sweeps.Swept.{Swept}
 use Rattle.cell_core.specs.State.{MasterState}
 use Rattle.cell_core.specs.Step.{take_step}
-use Rattle.cell_core.specs.Store.{left_by, MayRefuse}
+use Rattle.cell_core.specs.Store.{left_by, MayLeave, MayRefuse}
 use Rattle.cell_core.specs.Sweep.{sweep_step, sweep_edits}
-use Rattle.over_core.specs.Up.{up_step, up_edits, MayRefuseUp}
+use Rattle.over_core.specs.Up.{up_step, up_edits, up_commit, MayRefuseUp}
 use Rattle.client_core.specs.declared.asks.Ask.{Ask}
 use Rattle.client_core.specs.declared.asks.Asked.{Asked}
 use Rattle.client_core.specs.declared.asks.Asked.TheVariants.{Sent, Answered}
@@ -34,8 +34,9 @@ use Rattle.world_cell.specs.declared.steps.Step.TheVariants as steps
 use Rattle.world_cell.specs.declared.worlds.Turn.{Turn}
 use Rattle.world_cell.specs.Messages.{new_out, new_request, request_at, out_at, delivered}
 
--- rows: those that stand. clock: the master's, in milliseconds. clients: by number. messages: all that were sent, in order. lease: in milliseconds
+-- cell: its name, by the settings of its store. rows: those that stand. clock: the master's, in milliseconds. clients: by number. messages: all that were sent, in order. lease: in milliseconds
 pub record WorldState : Type 0 where
+  pub cell : List ℕ
   pub rows : Rows
   pub master : Option MasterState
   pub clock : ℕ
@@ -43,20 +44,19 @@ pub record WorldState : Type 0 where
   pub messages : List SentMessage
   pub lease : ℕ
 
--- a world and its store: the name of its cell, the rows that a crash may leave, and how often the store refused
+-- a world, and of its store the rows that a crash may leave, and how often it refused
 pub record WorldView : Type 0 where
   pub world : WorldState
-  pub cell : List ℕ
   pub may_leave : List Rows
   pub refusals : ℕ
 
 -- no master is up, no client has joined, nothing was sent
-abbrev pub new_world : Rows → ℕ → WorldState
-new_world rows lease = record { rows = rows; master = None; clock = 0; clients = []; messages = []; lease = lease }
+abbrev pub new_world : List ℕ → Rows → ℕ → WorldState
+new_world cell rows lease = record { cell = cell; rows = rows; master = None; clock = 0; clients = []; messages = []; lease = lease }
 
 -- a new world over a store
 abbrev pub opened : List ℕ → Rows → List Rows → ℕ → ℕ → WorldView
-opened cell rows may_leave refusals lease = record { world = new_world rows lease; cell = cell; may_leave = may_leave; refusals = refusals }
+opened cell rows may_leave refusals lease = record { world = new_world cell rows lease; may_leave = may_leave; refusals = refusals }
 
 -- what a master's store holds while one is up, and else the records by themselves
 abbrev pub store_of : {X : Type 0} → X → Option X → Option X → X
@@ -93,7 +93,7 @@ came_up w now (Ok master) =
 -- one master at a time
 abbrev pub world_up : WorldState → ℕ → Option MasterState → Outcome
 world_up w now (Some master) = Err faults.MasterUp
-world_up w now None = came_up w now (up_step w.rows w.lease now)
+world_up w now None = came_up w now (up_step w.cell w.rows w.lease now)
 
 -- ---- clients
 
@@ -197,29 +197,41 @@ world_step w steps.Sweep = without_quiet (world_sweep w w.master)
 
 -- ---- the store
 
--- what a step commits
+-- what a master that comes up commits; one at a time
+abbrev pub came_up_edits : WorldState → ℕ → Option MasterState → List Edit
+came_up_edits w now (Some master) = []
+came_up_edits w now None = up_commit (up_step w.cell w.rows w.lease now) w.rows
+
+-- what a step commits: a master that comes up its epoch, and a sweep the change whose turn it is
 abbrev pub step_edits : WorldState → Step → List Edit
-step_edits w (steps.Up now) = up_edits w.rows
+step_edits w (steps.Up now) = came_up_edits w now w.master
 step_edits w steps.Sweep = option_map_or (λ master. sweep_edits master w.clock) w.master []
 step_edits w _ = []
 
 -- behind a step that was made: what it commits stands, and the store refused nothing
 pub record IsStored (edits : List Edit) (old new : WorldView) : Type 0 where
-  pub cell : new.cell ≡ old.cell
   pub leave : new.may_leave ≡ left_by edits old.may_leave new.world.rows
   pub counted : new.refusals ≡ old.refusals
 
 -- behind a refused one: nothing changed, but a crash may perhaps leave the rows of the refused commit too
 pub record IsLeft (edits : List Edit) (old new : WorldView) : Type 0 where
   pub same : new.world ≡ old.world
-  pub cell : new.cell ≡ old.cell
-  pub leave : (new.may_leave ≡ old.may_leave) ⊎ (new.may_leave ≡ old.may_leave ++ changed_rows old.world.rows edits ∷ [])
+  pub leave : MayLeave edits old.world.rows old.may_leave new.may_leave
+
+-- want of memory, which may refuse any step
+abbrev pub IsWant : Fault → WorldView → WorldView → Type 0
+IsWant fault old new = (fault ≡ faults.NoMemory) × (new.refusals ≡ old.refusals)
+
+-- what the table doesn't decide where a master comes up: the store isn't asked while another is up
+abbrev pub IsOutsideUp : Option MasterState → ℕ → Fault → WorldView → WorldView → Type 0
+IsOutsideUp None now fault old new = IsWant fault old new ⊎ MayRefuseUp now fault old.refusals new.refusals
+IsOutsideUp (Some master) now fault old new = IsWant fault old new
 
 -- what the table doesn't decide: the store may refuse a master that comes up, and the commit of a sweep; any other step is refused for want of memory alone
 abbrev pub IsOutside : Step → Fault → WorldView → WorldView → Type 0
-IsOutside (steps.Up now) fault old new = MayRefuseUp fault old.cell old.world.rows old.refusals new.refusals
-IsOutside steps.Sweep fault old new = MayRefuse fault old.refusals new.refusals
-IsOutside _ fault old new = (fault ≡ faults.NoMemory) × (new.refusals ≡ old.refusals)
+IsOutside (steps.Up now) fault old new = IsOutsideUp old.world.master now fault old new
+IsOutside steps.Sweep fault old new = MayRefuse (step_edits old.world steps.Sweep) fault old.refusals new.refusals
+IsOutside _ fault old new = IsWant fault old new
 
 -- why a step is refused: the table refuses it, or want of memory or the store does
 abbrev pub MayRefuseStep : {X : Type 0} → Result X Fault → Step → Fault → WorldView → WorldView → Type 0

@@ -48,6 +48,7 @@ impl<R: Records> Model for World<R> {
 
     ghost view = { λ w. record {
       world = record {
+        cell = cell_of (option_map (λ c. c.cell) w.master) (option_map R.cell w.records);
         rows = rows_of (option_map (λ c. c.rows) w.master) (option_map R.rows w.records);
         master = option_map (λ c. c.master) w.master;
         clock = w.clock;
@@ -55,7 +56,6 @@ impl<R: Records> Model for World<R> {
         messages = w.messages.items;
         lease = w.lease;
       };
-      cell = cell_of (option_map (λ c. c.cell) w.master) (option_map R.cell w.records);
       may_leave = leave_of (option_map (λ c. c.may_leave) w.master) (option_map R.may_leave w.records);
       refusals = refusals_of (option_map (λ c. c.refusals) w.master) (option_map R.refusals w.records);
     } };
@@ -111,18 +111,16 @@ impl<R: Records + Drop> World<R> {
         ensures fault { IfErr result (λ e. MayRefuseStep (world_sweep self.old.world self.old.world.master) Step.Sweep e self.old self.new) }
         ensures left { OnErr result (IsLeft (step_edits self.old.world Step.Sweep) self.old self.new) }
     {
-        match &mut self.master {
-            None => Err(Fault::MasterDown),
-            Some(cell) => {
-                self.messages.reserve(MESSAGES_A_STEP)?;
-                let swept = cell.sweep(self.clock)?;
-                mail::send_all(&mut self.messages, swept.outs);
-                Ok(Turn {
-                    lines: swept.lines,
-                    quiet: swept.quiet,
-                })
-            }
-        }
+        let Some(cell) = &mut self.master else {
+            return Err(Fault::MasterDown);
+        };
+        self.messages.reserve(MESSAGES_A_STEP)?;
+        let swept = cell.sweep(self.clock)?;
+        mail::send_all(&mut self.messages, swept.outs);
+        Ok(Turn {
+            lines: swept.lines,
+            quiet: swept.quiet,
+        })
     }
 
     /// The step that delivers the first message that came to nobody, behind a count of messages; None where each of
@@ -145,7 +143,7 @@ impl<R: Records + Drop> World<R> {
         ensures rows { R.rows result ≡ self.world.rows }
         ensures leave { R.may_leave result ≡ self.may_leave }
         ensures refusals { R.refusals result ≡ self.refusals }
-        ensures cell { R.cell result ≡ self.cell }
+        ensures cell { R.cell result ≡ self.world.cell }
     {
         let World {
             alloc: _,
