@@ -1,4 +1,4 @@
-use Rattle.std.proofs.Common.{◌≡◌, sym, ap, ◌∙◌}
+use Rattle.std.proofs.Common.{◌∙◌}
 use Rattle.plain.proofs.Formers.{put_back}
 use Rattle.plain.proofs.tables.Table.put.Goals as goal
 
