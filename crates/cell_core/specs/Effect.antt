@@ -1,5 +1,5 @@
 -- What a change does when its turn comes.
-use Rattle.std.specs.Prelude.{ℕ, Bool, true, ◌==◌, ◌+◌, ◌-◌, ◌^◌, ◌||◌, nat_le, List, [], Option, Some, None, Result, Ok, Err, if◌then◌else◌, is_none}
+use Rattle.std.specs.Prelude.{ℕ, Bool, true, ◌==◌, ◌+◌, ◌||◌, nat_le, List, [], Option, Some, None, Result, Ok, Err, if◌then◌else◌, is_none}
 use Rattle.std.specs.Option.{option_map_or}
 use Rattle.names_cell.specs.Text.{parent_of}
 use Rattle.node_core.specs.declared.refusals.Fault.{Fault}
@@ -11,6 +11,7 @@ use Rattle.node_core.specs.declared.kinds.Kind.{Kind}
 use Rattle.node_core.specs.declared.kinds.Kind.TheVariants as kinds
 use Rattle.node_core.specs.declared.kinds.Life.TheVariants.{Permanent}
 use Rattle.node_core.specs.declared.kinds.Right.TheVariants as rights
+use Rattle.node_core.specs.Limits.{number_limit}
 use Rattle.node_core.specs.Nodes.{get_node, has_children}
 use Rattle.tags_cell.specs.Handles.{read_handle}
 use Rattle.tags_cell.specs.declared.handles.Handle.{Handle}
@@ -42,7 +43,7 @@ changes_to change next_instance answer = record { note = None; change = Some (re
 
 -- a number at its end
 abbrev pub is_last : ℕ → Bool
-is_last n = nat_le (2 ^ 63 - 1) n
+is_last n = nat_le number_limit n
 
 -- ---- creates
 

@@ -1,5 +1,5 @@
 -- What a master does with a message.
-use Rattle.std.specs.Prelude.{ℕ, Bool, true, false, not, ◌&&◌, ◌==◌, ◌^◌, nat_lt, nat_le, max, List, [], ◌∷◌, ◌++◌, length, Option, Some, None, Result, Ok, Err, if◌then◌else◌, is_none}
+use Rattle.std.specs.Prelude.{ℕ, Bool, true, false, not, ◌&&◌, ◌==◌, nat_lt, nat_le, max, List, [], ◌∷◌, ◌++◌, length, Option, Some, None, Result, Ok, Err, if◌then◌else◌, is_none}
 use Rattle.std.specs.Option.{option_map_or}
 use Rattle.std.specs.Map.{lookup}
 use Rattle.std.specs.BTreeMap.{is_at, insert_entry}
@@ -15,6 +15,8 @@ use Rattle.node_core.specs.declared.kinds.Kind.TheVariants as kinds
 use Rattle.node_core.specs.declared.kinds.Right.{Right}
 use Rattle.node_core.specs.declared.kinds.Right.TheVariants as rights
 use Rattle.node_core.specs.declared.stats.Stat.{Stat}
+use Rattle.lease_core.specs.Lease.{moment_limit}
+use Rattle.node_core.specs.Limits.{content_limit}
 use Rattle.node_core.specs.Nodes.{get_node, children}
 use Rattle.node_core.specs.Access.{permitted}
 use Rattle.rows_cell.specs.declared.tables.Session.{Session}
@@ -210,7 +212,7 @@ opened_note (Err fault) = None
 -- ---- what is answered at once
 
 abbrev pub content_fault : List ℕ → Option CallResult
-content_fault content = if nat_lt 262144 (length content) then Some (results.Refused faults.TooLarge) else None
+content_fault content = if nat_lt content_limit (length content) then Some (results.Refused faults.TooLarge) else None
 
 abbrev pub node_fault : NewNode → Option CallResult
 node_fault (made.File content) = content_fault content
@@ -336,7 +338,15 @@ abbrev pub take_at : MasterState → Request → MasterState × Taken
 take_at s (requests.Start start) = start_step s start
 take_at s (requests.Call message) = call_step s message
 
--- a moment earlier than the last one counts as that; moments end below 2^53
+-- ---- moments
+
+-- a moment past the end of moments
+abbrev pub is_past_end : ℕ → Bool
+is_past_end now = nat_le moment_limit now
+
+-- a moment earlier than the last one counts as that
+abbrev pub noted : MasterState → ℕ → MasterState
+noted s now = record s { clock = max s.clock now }
+
 unfoldable pub take_step : MasterState → ℕ → Request → Result (MasterState × Taken) Fault
-take_step s now request =
-    if nat_le (2 ^ 53) now then Err faults.Exhausted else Ok (take_at (record s { clock = max s.clock now }) request)
+take_step s now request = if is_past_end now then Err faults.Exhausted else Ok (take_at (noted s now) request)

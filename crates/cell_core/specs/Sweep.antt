@@ -1,5 +1,5 @@
 -- What a master does by itself.
-use Rattle.std.specs.Prelude.{ℕ, true, false, ◌^◌, nat_le, max, List, [], ◌∷◌, drop, Option, Some, None, Result, Ok, Err, if◌then◌else◌}
+use Rattle.std.specs.Prelude.{ℕ, true, false, List, [], ◌∷◌, drop, Option, Some, None, Result, Ok, Err, if◌then◌else◌}
 use Rattle.std.specs.BTreeMap.{insert_entry}
 use Rattle.std.specs.Ordering.{nat_cmp}
 use Rattle.node_core.specs.declared.refusals.Fault.{Fault}
@@ -23,12 +23,8 @@ use Rattle.cell_core.specs.declared.plans.Deed.TheVariants as deeds
 use Rattle.cell_core.specs.declared.plans.Plan.{Plan}
 use Rattle.cell_core.specs.declared.sweeps.Swept.{Swept}
 use Rattle.cell_core.specs.State.{MasterState}
-use Rattle.cell_core.specs.Step.{may_start, is_live, turned_away, reply, recorded, with_note}
+use Rattle.cell_core.specs.Step.{may_start, is_live, turned_away, reply, recorded, with_note, is_past_end, noted}
 use Rattle.cell_core.specs.Effect.{effect}
-
--- a moment earlier than the last one counts as that
-abbrev pub noted : MasterState → ℕ → MasterState
-noted s now = record s { clock = max s.clock now }
 
 -- ---- what is planned for the change whose turn it is
 
@@ -90,9 +86,9 @@ abbrev pub queue_edits : MasterState → List Pending → List Edit
 queue_edits s [] = []
 queue_edits s (pending ∷ rest) = edits_of (plan_of s pending).deed
 
--- what a sweep at a moment commits; moments end below 2^53
+-- what a sweep at a moment commits
 abbrev pub sweep_edits : MasterState → ℕ → List Edit
-sweep_edits s now = if nat_le (2 ^ 53) now then [] else queue_edits (noted s now) s.queue
+sweep_edits s now = if is_past_end now then [] else queue_edits (noted s now) s.queue
 
 -- ---- the step
 
@@ -115,6 +111,5 @@ abbrev pub sweep_by : MasterState → List Pending → MasterState × Swept
 sweep_by s [] = (s, record { lines = []; outs = []; quiet = true })
 sweep_by s (pending ∷ rest) = carried s (plan_of s pending)
 
--- moments end below 2^53
 unfoldable pub sweep_step : MasterState → ℕ → Result (MasterState × Swept) Fault
-sweep_step s now = if nat_le (2 ^ 53) now then Err faults.Exhausted else Ok (sweep_by (noted s now) s.queue)
+sweep_step s now = if is_past_end now then Err faults.Exhausted else Ok (sweep_by (noted s now) s.queue)

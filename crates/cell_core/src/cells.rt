@@ -15,9 +15,6 @@ use tags_cell::ClientNumber;
 /// How many changes may wait at once.
 pub const PENDING_LIMIT: usize = 4096;
 
-/// Moments end below 2^53, in milliseconds.
-pub const MOMENT_LIMIT: u64 = 0x20_0000_0000_0000;
-
 /// A master in memory: what it read from the rows when it came up and has committed since, the changes that wait, the
 /// last call of each client, and the handles that it knows. It commits nothing by itself.
 #[derive(Drop)]

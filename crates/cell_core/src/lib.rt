@@ -17,7 +17,7 @@ mod sweeps;
 mod takes;
 mod writes;
 
-pub use cells::{Cell, MOMENT_LIMIT, PENDING_LIMIT};
+pub use cells::{Cell, PENDING_LIMIT};
 pub use effects::{Change, Effect};
 pub use handles::{HandleKey, HandleState, Note};
 pub use pending::{Kept, Pending, Taken, Work};

@@ -10,11 +10,12 @@ ghost use Rattle.cell_core.specs.Sweep.{sweep_step, sweep_by, sweep_edits, queue
 ghost use Rattle.cell_core.specs.Step.{with_note};
 ghost use Rattle.cell_core.specs.declared.plans.Deed.TheVariants as deeds;
 
-use crate::cells::{Cell, MOMENT_LIMIT};
+use crate::cells::Cell;
 use crate::effects::Change;
 use crate::handles::Note;
 use crate::pending::{Kept, Taken};
 use crate::plans::{Deed, Plan};
+use lease_core::MOMENT_LIMIT;
 use names_cell::Name;
 use node_core::{Fault, Line, Mod, View};
 use plain::Items;

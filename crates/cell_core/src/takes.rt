@@ -4,9 +4,10 @@ ghost use Rattle.cell_core.specs.Step.{take_step, take_at, start_step, call_step
 ghost use Rattle.cell_core.specs.declared.pending.Work.TheVariants.{Calls};
 
 use crate::admissions::Admission;
-use crate::cells::{Cell, MOMENT_LIMIT};
+use crate::cells::Cell;
 use crate::handles::Note;
 use crate::pending::{Kept, Pending, Taken, Work};
+use lease_core::MOMENT_LIMIT;
 use node_core::Fault;
 use std::alloc::AllocError;
 use tags_cell::{Call, CallMessage, CallResult, ClientNumber, MessageNumber, Request, Start};

@@ -1,8 +1,9 @@
 -- A client is asked for a call.
-use Rattle.std.specs.Prelude.{ℕ, ◌+◌, ◌^◌, nat_lt, List, Option, Some, None, Result, Ok, Err, if◌then◌else◌, is_some}
+use Rattle.std.specs.Prelude.{ℕ, ◌+◌, nat_lt, List, Option, Some, None, Result, Ok, Err, if◌then◌else◌, is_some}
 use Rattle.std.specs.Map.{lookup}
 use Rattle.std.specs.BTreeMap.{is_at}
 use Rattle.std.specs.Ordering.{nat_cmp}
+use Rattle.node_core.specs.Limits.{number_end}
 use Rattle.node_core.specs.declared.refusals.Fault.{Fault}
 use Rattle.node_core.specs.declared.refusals.Fault.TheVariants as faults
 use Rattle.tags_cell.specs.declared.calls.Call.{Call}
@@ -98,7 +99,7 @@ message_of s epoch call = requests.Call (record { client = s.number; epoch = epo
 -- the call is sent under the next number, and is outstanding; behind the last number nothing changes
 abbrev pub send_step : ClientState → ℕ → ℕ → Call → Target → ClientState × Result Asked Fault
 send_step s noted epoch call target =
-    if nat_lt (s.calls + 1) (2 ^ 63)
+    if nat_lt (s.calls + 1) number_end
     then (record s { clock = noted; calls = s.calls + 1; outstanding = Some (record { request = message_of s epoch call; target = target }) }, Ok (Sent (message_of s epoch call)))
     else (s, Err faults.Exhausted)
 

@@ -1,5 +1,6 @@
 -- A client is asked for a Start or a Beat.
-use Rattle.std.specs.Prelude.{ℕ, ◌+◌, ◌^◌, nat_lt, Option, Some, None, Result, Ok, Err, if◌then◌else◌}
+use Rattle.std.specs.Prelude.{ℕ, ◌+◌, nat_lt, Option, Some, None, Result, Ok, Err, if◌then◌else◌}
+use Rattle.node_core.specs.Limits.{number_end}
 use Rattle.node_core.specs.declared.refusals.Fault.{Fault}
 use Rattle.node_core.specs.declared.refusals.Fault.TheVariants as faults
 use Rattle.tags_cell.specs.declared.requests.Request.{Request}
@@ -11,7 +12,7 @@ use Rattle.client_core.specs.State.{ClientState, moment, at_moment}
 -- a Start under the next number; behind the last number nothing changes
 abbrev pub start_step : ClientState → ℕ → ClientState × Result (Option Request) Fault
 start_step s noted =
-    if nat_lt (s.starts + 1) (2 ^ 63)
+    if nat_lt (s.starts + 1) number_end
     then (record s { clock = noted; starts = s.starts + 1 }, Ok (Some (requests.Start (record { client = s.number; number = s.starts + 1; principal = s.principal }))))
     else (s, Err faults.Exhausted)
 

@@ -1,5 +1,6 @@
 -- What holds of every client, whatever it is asked for and given.
-use Rattle.std.specs.Prelude.{◌≡◌, ℕ, ◌<◌, ◌≤◌, ◌^◌, max, List, [], ◌∷◌, Ok}
+use Rattle.std.specs.Prelude.{◌≡◌, ℕ, ◌<◌, ◌≤◌, max, List, [], ◌∷◌, Ok}
+use Rattle.lease_core.specs.Lease.{IsMoment}
 use Rattle.node_core.specs.declared.answers.Answer.TheVariants as answers
 use Rattle.node_core.specs.declared.lines.Line.{Line}
 use Rattle.node_core.specs.declared.lines.Line.TheVariants as lines
@@ -26,5 +27,5 @@ HandleNumbersStay =
 -- a reply that was given before changes nothing but the noted time
 abbrev pub RepeatedReplyIsDropped : Type 0
 RepeatedReplyIsDropped =
-    (s new : ClientState) (now later : ℕ) (reply : Reply) (printed : List Line) → give_step s now (outs.Reply reply) ≡ (new, Ok printed) → later < 2 ^ 53
+    (s new : ClientState) (now later : ℕ) (reply : Reply) (printed : List Line) → give_step s now (outs.Reply reply) ≡ (new, Ok printed) → IsMoment later
     → give_step new later (outs.Reply reply) ≡ (at_moment new (max new.clock later), Ok [])

@@ -1,5 +1,7 @@
 -- What a client is, and when it is.
-use Rattle.std.specs.Prelude.{◌≡◌, ◌≢◌, ℕ, ◌+◌, ◌<◌, ◌≤◌, ◌^◌, nat_lt, max, List, [], Option, Some, None, Result, Ok, Err, if◌then◌else◌}
+use Rattle.std.specs.Prelude.{◌≡◌, ◌≢◌, ℕ, ◌+◌, ◌<◌, ◌≤◌, nat_lt, max, List, [], Option, Some, None, Result, Ok, Err, if◌then◌else◌}
+use Rattle.lease_core.specs.Lease.{moment_limit}
+use Rattle.node_core.specs.Limits.{number_end}
 use Rattle.node_core.specs.declared.refusals.Fault.{Fault}
 use Rattle.node_core.specs.declared.refusals.Fault.TheVariants as faults
 use Rattle.client_core.specs.declared.handles.ClientHandle.{ClientHandle}
@@ -33,15 +35,15 @@ abbrev pub count_of : Option Outstanding → ℕ
 count_of None = 0
 count_of (Some call) = 1
 
--- messages are numbered up to 2^63-1; each handle came of a call of its own that has ended
+-- messages are numbered up to their limit; each handle came of a call of its own that has ended
 pub record IsWithin (starts calls opened : ℕ) (outstanding : Option Outstanding) : Type 0 where
-  pub last_start : starts < 2 ^ 63
-  pub last_call : calls < 2 ^ 63
+  pub last_start : starts < number_end
+  pub last_call : calls < number_end
   pub ended_calls : opened + count_of outstanding ≤ calls
 
--- the moment that is noted: an earlier one counts as the last one, and none is 2^53 or later
+-- the moment that is noted: an earlier one counts as the last one, and moments have an end
 abbrev pub moment : ℕ → ℕ → Result ℕ Fault
-moment clock now = if nat_lt now (2 ^ 53) then Ok (max clock now) else Err faults.Exhausted
+moment clock now = if nat_lt now moment_limit then Ok (max clock now) else Err faults.Exhausted
 
 -- the client at a moment
 abbrev pub at_moment : ClientState → ℕ → ClientState

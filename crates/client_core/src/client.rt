@@ -1,16 +1,17 @@
 //! A client.
-ghost use Rattle.std.specs.Prelude.{◌≡◌, ◌≢◌, ◌+◌, ◌==◌, ◌&&◌, ◌∷◌, [], ◌^◌, ◌<◌, nat_lt, Option, Some, None, Ok, Err, IsSome, OnOk, OnErr, IfOk, IfErr};
+ghost use Rattle.std.specs.Prelude.{◌≡◌, ◌+◌, ◌==◌, ◌&&◌, ◌∷◌, [], ◌^◌, ◌<◌, Option, Some, None, Ok, Err, IsSome, OnOk, OnErr, IfOk};
 ghost use Rattle.std.specs.Option.{option_copied, option_map};
 ghost use Rattle.client_core.specs.State.{new_client, moment, Does};
 ghost use Rattle.client_core.specs.Asks.{ask_step, send_step};
 ghost use Rattle.client_core.specs.Beats.{beat_step, start_step};
-ghost use Rattle.client_core.specs.Gives.{give_step, taken_own, taken, start_taken, awaited, answer_of, ended, reply_for, reply_step, refused_step};
+ghost use Rattle.client_core.specs.Gives.{give_step, taken_own, start_taken, awaited, answer_of, ended, reply_for, reply_step, refused_step};
 
 use crate::asks::{Ask, Asked};
 use crate::handles::ClientHandle;
 use crate::plans::Plan;
 use crate::sessions::Session;
 use crate::targets::{Outstanding, Target};
+use lease_core::MOMENT_LIMIT;
 use names_cell::Principal;
 use node_core::{Answer, Fault, Line};
 use plain::{Items, Table};
@@ -21,9 +22,6 @@ use tags_cell::{
     Call, CallMessage, CallResult, ClientNumber, HandleBytes, MessageNumber, Out, Refused, Reply,
     Request, Start, Started,
 };
-
-/// Every moment is below this many milliseconds: 2^53.
-const MOMENT_LIMIT: u64 = 0x20_0000_0000_0000;
 
 /// A client of a cell (Burrows 2006, section 2.7): its session, its handles, and its call that has no reply yet. To a
 /// contract, the record of these.

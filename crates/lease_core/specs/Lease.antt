@@ -6,9 +6,13 @@ pub record LeaseTerms : Type 0 where
   pub sent : ℕ
   pub span : ℕ
 
+-- where moments and spans end, in milliseconds
+abbrev pub moment_limit : ℕ
+moment_limit = 2 ^ 53
+
 -- a number of milliseconds that a moment or a span may be
 abbrev pub IsMoment : ℕ → Type 0
-IsMoment moment = moment < 2 ^ 53
+IsMoment moment = moment < moment_limit
 
 -- the most that a fair master's clock has gone on since the request was sent, in sixteenths of a millisecond: it gains at most one
 -- part in sixteen on the client's clock, which may have stood a millisecond further than it shows. A moment before `sent` counts as `sent`

@@ -1,6 +1,6 @@
 //! Names of nodes.
 ghost use Rattle.std.specs.Prelude.{◌≡◌, ◌≤◌, Some, Ok, Err, true, refl, nat_eq, if◌then◌else◌, IfOk, codes, ◌++◌, length, is_none};
-ghost use Rattle.std.specs.List.{list_all, slice_split, after_last};
+ghost use Rattle.std.specs.List.{list_all, slice_split};
 ghost use Rattle.std.specs.Str.{bytes_eq};
 ghost use Rattle.std.specs.Cmp.{partial_equiv_from_equiv};
 ghost use Rattle.std.specs.Cmp.Lexicographic.{slice_cmp, pointwise, nat_list_eq_equiv, nat_list_cmp_total, texts_ties, texts_po};

@@ -1,6 +1,6 @@
 -- The names below a name stand next to each other.
 use Rattle.std.proofs.Common.{◌≡◌, ℕ, ◌<◌, ◌≤◌, List, [], ◌∷◌, ◌++◌, length, drop, Bool, true, false, cond, nat_eq, Option, Some, None, Ordering, Less, Equal, Greater, refl, sym, ap, ◌∙◌, arith, length-append, append_assoc, append-nil}
-use Rattle.std.specs.Prelude.{◌&&◌, ◌||◌, nat_le, nat_lt, codes, map, filter}
+use Rattle.std.specs.Prelude.{◌||◌, nat_le, nat_lt, codes, map, filter}
 use Rattle.std.specs.Ordering.{is_le, nat_cmp, ordering_then, ordering_reverse}
 use Rattle.std.specs.Cmp.{tied_itself, nat_cmp_total}
 use Rattle.std.specs.Cmp.Lexicographic.{slice_cmp}
@@ -15,14 +15,10 @@ use Rattle.std.proofs.lemmas.Bool.Decides.{nat_tests}
 use Rattle.std.proofs.lemmas.Map.Lookups.{exact_unsigned}
 use Rattle.std.proofs.lemmas.List.Kept.{IsStrictlySortedBy-filter}
 use Rattle.names_cell.specs.Text.{is_name, is_component, is_component_byte, is_slash, front_of, is_child, is_under, first_child_of, last_of}
-use Rattle.names_cell.proofs.ComponentLemmas.{parts_of_component}
+use Rattle.names_cell.proofs.ComponentLemmas.{both, parts_of_component}
 use Rattle.names_cell.proofs.Parts.{splits, after_front, last_is_component}
 use Rattle.node_core.specs.Nodes.{Nodes, HasNamesInOrder, children, has_children}
 use Rattle.node_core.specs.declared.views.View.{View}
-
-both : (a b : Bool) → (a && b) ≡ true → (a ≡ true) × (b ≡ true)
-both true b h = (refl, h)
-both false b h = absurd (cc)
 
 same_byte : (b : ℕ) → nat_eq b b ≡ true
 same_byte b = grind (arith, nat_tests)

@@ -1,5 +1,6 @@
 pub use Rattle.plain.specs.Results
 pub use Rattle.names_cell.specs.Text
+pub mod Limits
 pub mod Words
 pub mod Refusals
 pub mod Texts

@@ -1,5 +1,5 @@
 -- The map of names to nodes, as the list of its entries in the order of the names, and its changes.
-use Rattle.std.specs.Prelude.{◌≡◌, ℕ, Bool, true, ◌||◌, ◌==◌, ◌-◌, ◌^◌, nat_lt, List, [], ◌∷◌, length, Option, Some, None, if◌then◌else◌, is_none, map, filter}
+use Rattle.std.specs.Prelude.{◌≡◌, ℕ, Bool, true, ◌||◌, ◌==◌, nat_lt, List, [], ◌∷◌, length, Option, Some, None, if◌then◌else◌, is_none, map, filter}
 use Rattle.std.specs.Option.{option_map_or}
 use Rattle.std.specs.List.{AllByRecursion, list_any}
 use Rattle.std.specs.List.Sorted.{IsStrictlySortedBy}
@@ -8,6 +8,7 @@ use Rattle.std.specs.BTreeMap.{is_at, insert_entry}
 use Rattle.std.specs.Cmp.Lexicographic.{slice_cmp}
 use Rattle.std.specs.Ordering.{nat_cmp}
 use Rattle.names_cell.specs.Text.{is_name, parent_of, is_child, last_of}
+use Rattle.node_core.specs.Limits.{content_limit, number_limit}
 use Rattle.node_core.specs.declared.views.View.{View}
 use Rattle.node_core.specs.declared.views.Mod.{Mod}
 use Rattle.node_core.specs.declared.views.Mod.TheVariants.{Put, Gone}
@@ -57,11 +58,11 @@ directory_misfit (Some parent) = parent_kind_misfit parent.kind
 abbrev pub parent_misfit : Nodes → List ℕ → Option NodeFault
 parent_misfit nodes name = option_map_or (λ parent. directory_misfit (get_node nodes parent)) (parent_of name) None
 
--- a content of at most 262,144 bytes, and numbers of at most 2^63-1
+-- its content and its numbers are within their limits
 abbrev pub limit_misfit : View → Option NodeFault
 limit_misfit view =
-    if nat_lt 262144 (length view.content) then Some TooLarge
-    else if nat_lt (2 ^ 63 - 1) view.instance || nat_lt (2 ^ 63 - 1) view.content_generation || nat_lt (2 ^ 63 - 1) view.acl_generation then Some Exhausted
+    if nat_lt content_limit (length view.content) then Some TooLarge
+    else if nat_lt number_limit view.instance || nat_lt number_limit view.content_generation || nat_lt number_limit view.acl_generation then Some Exhausted
     else None
 
 -- a node keeps its kind

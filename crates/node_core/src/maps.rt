@@ -1,5 +1,5 @@
 //! The map of names to nodes.
-ghost use Rattle.std.specs.Prelude.{◌≡◌, ◌≢◌, ◌∷◌, [], Some, None, IfOk, IfErr, OnOk, OnErr};
+ghost use Rattle.std.specs.Prelude.{◌≡◌, ◌≢◌, [], Some, None, IfOk, IfErr, OnOk, OnErr};
 ghost use Rattle.std.specs.Option.{option_copied};
 ghost use Rattle.std.specs.BTreeMap.{is_at, insert_entry};
 ghost use Rattle.std.specs.Map.{remove_entry};
@@ -21,7 +21,7 @@ use std::marker::Model;
 /// The greatest length of a content, in bytes.
 pub const CONTENT_LIMIT: usize = 262_144;
 
-/// The greatest instance and the greatest generation: 2^63-1.
+/// The greatest instance, generation, epoch, or number of a message: 2^63-1.
 pub const NUMBER_LIMIT: u64 = 0x7fff_ffff_ffff_ffff;
 
 /// What a change of the map found.

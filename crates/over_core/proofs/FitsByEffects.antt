@@ -23,6 +23,7 @@ use Rattle.rows_cell.specs.Rows.{stored_node}
 use Rattle.rows_cell.specs.Sound.{sound, is_number, is_directory, numbers_fit, content_fits, parent_fits}
 use Rattle.rows_cell.proofs.RowViews.{views_get}
 use Rattle.rows_cell.proofs.SoundChanges.{PutFits, found_fits, sound_numbers}
+use Rattle.rows_cell.proofs.SoundParts.{five_parts}
 use Rattle.rows_cell.proofs.SoundRemovals.{GoneFits}
 use Rattle.tags_cell.specs.Modes.{has_right}
 use Rattle.tags_cell.specs.Handles.{read_handle}
@@ -68,10 +69,6 @@ record NodeParts (cell : List ℕ) (rows : Rows) (name : List ℕ) (view : View)
 four_parts : (a b c d : Bool) → (a && b && c && d) ≡ true → (a ≡ true) × (b ≡ true) × (c ≡ true) × (d ≡ true)
 four_parts true true true true h = (refl, refl, refl, refl)
 four_parts _ _ _ _ h = cc
-
-five_parts : (a b c d e : Bool) → (a && b && c && d && e) ≡ true → (a ≡ true) × (b ≡ true) × (c ≡ true) × (d ≡ true) × (e ≡ true)
-five_parts true true true true true h = (refl, refl, refl, refl, refl)
-five_parts _ _ _ _ _ h = cc
 
 parts_of_node : (cell : List ℕ) (rows : Rows) (name : List ℕ) (node : Node) → sound cell rows ≡ true → stored_node rows.nodes name ≡ Some node → NodeParts cell rows name node.view
 parts_of_node cell rows name node h found =

@@ -30,9 +30,9 @@ use Rattle.cell_core.specs.declared.plans.Deed.TheVariants as deeds
 use Rattle.cell_core.specs.declared.plans.Plan.{Plan}
 use Rattle.cell_core.specs.declared.sweeps.Swept.{Swept}
 use Rattle.cell_core.specs.State.{MasterState}
-use Rattle.cell_core.specs.Step.{may_start, is_live, turned_away, recorded, with_note}
+use Rattle.cell_core.specs.Step.{may_start, is_live, turned_away, recorded, with_note, noted}
 use Rattle.cell_core.specs.Store.{IsCommitted, IsRefused}
-use Rattle.cell_core.specs.Sweep.{noted, plan_session, plan_start, plan_work, plan_of, edit_of, change_edits, edits_of, queue_edits, sweep_edits, with_change, done, sweep_by, sweep_step}
+use Rattle.cell_core.specs.Sweep.{plan_session, plan_start, plan_work, plan_of, edit_of, change_edits, edits_of, queue_edits, sweep_edits, with_change, done, sweep_by, sweep_step}
 use Rattle.over_core.specs.Kept.{IsKept, queue_fits}
 use Rattle.over_core.proofs.KeptByTakes.{stays, note_kept, clock_kept}
 use Rattle.over_core.proofs.FitsByEffects.{ModFits, ChangeFits, effect_fits}

@@ -1,5 +1,5 @@
 //! A master over its records.
-ghost use Rattle.std.specs.Prelude.{◌≡◌, ◌≢◌, ◌⊎◌, ◌≤◌, ◌++◌, ◌∷◌, [], ◌-◌, ◌^◌, nat_le, true, false, Ok, Err, IfOk, IfErr, OnOk, OnErr};
+ghost use Rattle.std.specs.Prelude.{◌≡◌, ◌≢◌, ◌⊎◌, ◌≤◌, ◌++◌, ◌∷◌, [], true, Ok, Err, IfOk, IfErr, OnOk, OnErr};
 ghost use Rattle.rows_cell.specs.Rows.{changed_rows};
 ghost use Rattle.rows_cell.specs.Sound.{sound};
 ghost use Rattle.cell_core.specs.Step.{take_step};
@@ -7,7 +7,8 @@ ghost use Rattle.cell_core.specs.Sweep.{sweep_step, sweep_edits};
 ghost use Rattle.cell_core.specs.Store.{IsCommitted, IsRefused, StoreRefuses, MayLeave};
 ghost use Rattle.over_core.specs.Up.{up_edits, up_step, up_commit, next_epoch, MayRefuseUp};
 
-use cell_core::{Cell as Master, MOMENT_LIMIT, Swept, Taken};
+use cell_core::{Cell as Master, Swept, Taken};
+use lease_core::MOMENT_LIMIT;
 use node_core::{Fault, NUMBER_LIMIT};
 use plain::Items;
 use rows_cell::{Edit, Records, Rows};

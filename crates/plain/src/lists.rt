@@ -1,6 +1,6 @@
 //! A list that contracts see as such.
 ghost use Rattle.std.specs.Prelude.{◌≡◌, ◌==◌, ◌<◌, ◌+◌, ◌-◌, List, [], ◌∷◌, ◌++◌, length, take, drop, remove, slice_set, OnOk, OnErr};
-ghost use Rattle.std.specs.Option.{option_copied, option_to_list};
+ghost use Rattle.std.specs.Option.{option_to_list};
 
 use crate::clones::Same;
 use std::alloc::{AllocError, Global};

@@ -1,5 +1,5 @@
 //! A map that contracts see as the list of its entries.
-ghost use Rattle.std.specs.Prelude.{◌≡◌, ◌==◌, List, [], length, IfOk, IfErr, OnOk, OnErr, Some, None};
+ghost use Rattle.std.specs.Prelude.{◌≡◌, List, [], IfOk, IfErr, OnOk, OnErr, Some, None};
 ghost use Rattle.std.specs.Option.{option_copied};
 ghost use Rattle.std.specs.Map.{lookup, remove_entry, set_value};
 ghost use Rattle.std.specs.Map.Calls.{CalledAtPair, TakesPair, CallableOnEachPair, RetainsPairs};

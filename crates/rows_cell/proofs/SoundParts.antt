@@ -20,7 +20,7 @@ four_parts : (a b c d : Bool) → (a && b && c && d) ≡ true → (a ≡ true) �
 four_parts true true true true h = (refl, refl, refl, refl)
 four_parts _ _ _ _ h = cc
 
-five_parts : (a b c d e : Bool) → (a && b && c && d && e) ≡ true → (a ≡ true) × (b ≡ true) × (c ≡ true) × (d ≡ true) × (e ≡ true)
+pub five_parts : (a b c d e : Bool) → (a && b && c && d && e) ≡ true → (a ≡ true) × (b ≡ true) × (c ≡ true) × (d ≡ true) × (e ≡ true)
 five_parts true true true true true h = (refl, refl, refl, refl, refl)
 five_parts _ _ _ _ _ h = cc
 

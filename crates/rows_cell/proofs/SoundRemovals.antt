@@ -26,7 +26,7 @@ use Rattle.rows_cell.specs.Rows.{StoredNodes, StoredLocks, stored_node, views_of
 use Rattle.rows_cell.specs.Sound.{sound, is_number, is_directory, is_directory_at, numbers_fit, content_fits, parent_fits, node_fits, are_distinct, is_live_in, holder_fits, is_shared, beside, state_fits, lock_fits}
 use Rattle.rows_cell.proofs.OpeningRows.{equal_bytes}
 use Rattle.rows_cell.proofs.PutEntries.{all_more, all_found}
-use Rattle.rows_cell.proofs.SoundParts.{SoundParts, has_instance, parts_of, sound_of, node_stays}
+use Rattle.rows_cell.proofs.SoundParts.{SoundParts, five_parts, has_instance, parts_of, sound_of, node_stays}
 
 -- ---- tests of all entries, of some entry, and of distinct numbers, where one entry goes
 
@@ -189,10 +189,6 @@ beside_left (e ∷ es) key n h =
       | true ↦ (λ k. rw (apart e.0.instance key.instance n k h) (beside_left es key n h))
       | false ↦ (λ k. ap (λ xs. cond (e.0.instance == key.instance) (e ∷ xs) xs) (beside_left es key n h))
     ]) refl
-
-five_parts : (a b c d e : Bool) → (a && b && c && d && e) ≡ true → (a ≡ true) × (b ≡ true) × (c ≡ true) × (d ≡ true) × (e ≡ true)
-five_parts true true true true true h = (refl, refl, refl, refl, refl)
-five_parts _ _ _ _ _ h = cc
 
 state_left : (rows new : Rows) (key : LockKey) (state : LockState) → beside new.locks key ≡ beside rows.locks key → (holder_fits rows key ≡ true → holder_fits new key ≡ true) → state_fits rows key state ≡ true → state_fits new key state ≡ true
 state_left rows new key Exclusive same holder h =

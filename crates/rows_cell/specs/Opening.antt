@@ -2,6 +2,7 @@
 use Rattle.std.specs.Prelude.{ℕ, ◌||◌, nat_lt, List, [], ◌∷◌, ◌++◌, length, replicate, codes, Result, Ok, Err, if◌then◌else◌}
 use Rattle.std.specs.List.{flat_map}
 use Rattle.names_cell.specs.Text.{root_of}
+use Rattle.node_core.specs.Limits.{content_limit}
 use Rattle.node_core.specs.declared.kinds.Kind.{Kind}
 use Rattle.node_core.specs.declared.kinds.Kind.TheVariants.{File, Directory}
 use Rattle.node_core.specs.declared.kinds.Life.TheVariants.{Permanent}
@@ -25,7 +26,7 @@ base_of principals = flat_map (λ principal. principal ++ 10 ∷ []) principals
 abbrev pub settled_or : List ℕ → ℕ → List ℕ → List ℕ → Result Settled SettingsFault
 settled_or cell lease base secret =
     if nat_lt lease 1000 || nat_lt 60000 lease then Err BadLease
-    else if nat_lt 262144 (length base) then Err TooManyPrincipals
+    else if nat_lt content_limit (length base) then Err TooManyPrincipals
     else Ok (record { cell = cell; lease = lease; base = base; secret = secret })
 
 -- the settings that stand where none are given

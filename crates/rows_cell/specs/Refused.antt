@@ -1,5 +1,6 @@
 -- Refusals of a store.
-use Rattle.std.specs.Prelude.{◌≡◌, ℕ, ◌+◌, ◌-◌, ◌^◌}
+use Rattle.std.specs.Prelude.{◌≡◌, ℕ, ◌+◌}
+use Rattle.node_core.specs.Limits.{number_limit}
 use Rattle.node_core.specs.declared.refusals.Fault.{Fault}
 use Rattle.node_core.specs.declared.refusals.Fault.TheVariants as faults
 use Rattle.rows_cell.specs.declared.records.StoreFault.{StoreFault}
@@ -12,9 +13,9 @@ store_fault Exhausted = faults.Exhausted
 store_fault Refused = faults.StoreRefused
 store_fault Damaged = faults.StoreDamaged
 
--- what a refusal does to the count of the store's refusals, which ends at 2^63-1: it rises by one where the store refused
+-- what a refusal does to the count of the store's refusals, which ends as numbers do: it rises by one where the store refused
 abbrev pub CountsRefusal : StoreFault → ℕ → ℕ → Type 0
 CountsRefusal NoMemory before after = after ≡ before
-CountsRefusal Exhausted before after = (before ≡ 2 ^ 63 - 1) × (after ≡ before)
+CountsRefusal Exhausted before after = (before ≡ number_limit) × (after ≡ before)
 CountsRefusal Refused before after = after ≡ before + 1
 CountsRefusal Damaged before after = after ≡ before

@@ -1,5 +1,5 @@
 -- The test that rows of a store must pass.
-use Rattle.std.specs.Prelude.{ℕ, Bool, true, false, not, ◌&&◌, ◌==◌, ◌-◌, ◌^◌, nat_lt, nat_le, List, [], ◌∷◌, length, map, filter}
+use Rattle.std.specs.Prelude.{ℕ, Bool, true, false, not, ◌&&◌, ◌==◌, nat_lt, nat_le, List, [], ◌∷◌, length, map, filter}
 use Rattle.std.specs.Option.{option_map_or}
 use Rattle.std.specs.List.{list_all, list_any}
 use Rattle.std.specs.Map.{lookup}
@@ -7,6 +7,7 @@ use Rattle.std.specs.BTreeMap.{is_at}
 use Rattle.std.specs.Ordering.{nat_cmp}
 use Rattle.std.specs.Str.{bytes_eq}
 use Rattle.names_cell.specs.Text.{parent_of, cell_of, root_of}
+use Rattle.node_core.specs.Limits.{content_limit, number_limit, lock_delay_limit}
 use Rattle.node_core.specs.declared.kinds.Kind.{Kind}
 use Rattle.node_core.specs.declared.kinds.Kind.TheVariants.{File, Directory}
 use Rattle.node_core.specs.declared.views.View.{View}
@@ -18,9 +19,9 @@ use Rattle.rows_cell.specs.declared.keys.LockKey.{LockKey}
 use Rattle.rows_cell.specs.declared.tables.Rows.{Rows}
 use Rattle.rows_cell.specs.Rows.{StoredNodes, StoredLocks, stored_node}
 
--- a number of the store: at most 2^63-1
+-- a number of the store
 abbrev pub is_number : ℕ → Bool
-is_number n = nat_le n (2 ^ 63 - 1)
+is_number n = nat_le n number_limit
 
 abbrev pub is_directory : Kind → Bool
 is_directory File = false
@@ -37,7 +38,7 @@ numbers_fit next node =
 
 -- a content within its limit; a directory has none, and no content generation
 abbrev pub content_fits : Kind → View → Bool
-content_fits File view = nat_le (length view.content) 262144
+content_fits File view = nat_le (length view.content) content_limit
 content_fits Directory view = view.content_generation == 0 && length view.content == 0
 
 -- each name but the root's stands under a directory
@@ -83,7 +84,7 @@ state_fits rows key Lapsed = length (beside rows.locks key) == 1 && key.client =
 abbrev pub lock_fits : Rows → LockKey × LockRow → Bool
 lock_fits rows entry =
     list_any (λ e. e.1.view.instance == entry.0.instance) rows.nodes && is_number entry.0.client && is_number entry.0.handle
-    && nat_le entry.1.delay 60000 && state_fits rows entry.0 entry.1.state
+    && nat_le entry.1.delay lock_delay_limit && state_fits rows entry.0 entry.1.state
 
 -- rows that a cell of this name may have
 abbrev pub sound : List ℕ → Rows → Bool

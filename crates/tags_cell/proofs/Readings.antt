@@ -6,6 +6,7 @@ use Rattle.std.specs.Option.{SomeIff, ok_or}
 use Rattle.std.specs.Str.{bytes_eq}
 use Rattle.std.proofs.lemmas.Slice.Eq.{bytes_eq-Decides}
 use Rattle.std.proofs.lemmas.Bool.Decides.{nat_tests}
+use Rattle.names_cell.proofs.ComponentLemmas.{both}
 use Rattle.names_cell.specs.Text.{is_name}
 use Rattle.node_core.specs.declared.kinds.Life.{Life}
 use Rattle.node_core.specs.declared.kinds.Life.TheVariants.{Permanent, Ephemeral}
@@ -21,10 +22,6 @@ use Rattle.tags_cell.specs.Faults.{fault_of_name}
 use Rattle.tags_cell.specs.declared.handle_faults.HandleFault.{HandleFault}
 use Rattle.tags_cell.specs.declared.handle_faults.HandleFault.TheVariants.{NoMemory, BadHandle}
 use Rattle.tags_cell.proofs.Fields.{fields_back, parts_of_bytes, length_head, length_digits, mode_at, life_at, events_at}
-
-both : (a b : Bool) → (a && b) ≡ true → (a ≡ true) × (b ≡ true)
-both true b h = (refl, h)
-both false b h = cc
 
 join : (a b : Bool) → a ≡ true → b ≡ true → (a && b) ≡ true
 join a b h k = rw (h, k) refl

@@ -14,9 +14,9 @@ use Rattle.cell_core.specs.declared.pending.Pending.{Pending}
 use Rattle.cell_core.specs.declared.pending.Work.{Work}
 use Rattle.cell_core.specs.declared.pending.Work.TheVariants as works
 use Rattle.cell_core.specs.State.{MasterState, master_of}
-use Rattle.cell_core.specs.Step.{take_at}
+use Rattle.cell_core.specs.Step.{take_at, noted}
 use Rattle.cell_core.specs.Effect.{effect}
-use Rattle.cell_core.specs.Sweep.{noted, sweep_by}
+use Rattle.cell_core.specs.Sweep.{sweep_by}
 use Rattle.world_cell.specs.declared.steps.Step.{Step}
 use Rattle.world_cell.specs.World.{WorldView}
 use Rattle.world_cell.specs.Runs.{IsMade, Does, Run, map_at, epoch_at, change_of, IsTaken, IsOfCall}

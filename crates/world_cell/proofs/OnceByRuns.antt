@@ -17,9 +17,9 @@ use Rattle.cell_core.specs.declared.pending.Work.TheVariants as works
 use Rattle.cell_core.specs.declared.plans.Deed.TheVariants as deeds
 use Rattle.cell_core.specs.declared.plans.Plan.{Plan}
 use Rattle.cell_core.specs.State.{MasterState}
-use Rattle.cell_core.specs.Step.{kept_of, recorded, with_note, is_live, may_start, turned_away}
+use Rattle.cell_core.specs.Step.{kept_of, recorded, with_note, is_live, may_start, turned_away, noted}
 use Rattle.cell_core.specs.Effect.{effect}
-use Rattle.cell_core.specs.Sweep.{applied_lines, with_change, noted, started_out, plan_session, plan_start, plan_effect, plan_work, carried, sweep_by}
+use Rattle.cell_core.specs.Sweep.{applied_lines, with_change, started_out, plan_session, plan_start, plan_effect, plan_work, carried, sweep_by}
 use Rattle.world_cell.specs.declared.steps.Step.{Step}
 use Rattle.world_cell.specs.World.{WorldState, WorldView}
 use Rattle.world_cell.specs.Runs.{Run, applied, put_number, IsAbove, RisesFrom, Rises}

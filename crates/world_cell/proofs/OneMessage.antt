@@ -1,5 +1,5 @@
 -- A step of a master sends one message at most.
-use Rattle.std.proofs.Common.{◌≡◌, ℕ, ◌≤◌, List, [], ◌∷◌, length, true, false, cond, Result, Ok, Err, Option, Some, None, ap, rules, max}
+use Rattle.std.proofs.Common.{◌≡◌, ℕ, ◌≤◌, List, [], ◌∷◌, length, true, false, cond, Ok, Err, Option, Some, None, rules, max}
 use Rattle.std.specs.Prelude.{nat_le, ◌==◌, ◌^◌}
 use Rattle.node_core.specs.declared.refusals.Fault.TheVariants as faults
 use Rattle.tags_cell.specs.declared.calls.Call.{Call}
@@ -16,9 +16,10 @@ use Rattle.cell_core.specs.declared.pending.Work.{Work}
 use Rattle.cell_core.specs.declared.pending.Work.TheVariants as works
 use Rattle.cell_core.specs.declared.sweeps.Swept.{Swept}
 use Rattle.cell_core.specs.State.{MasterState}
-use Rattle.cell_core.specs.Step.{take_step, take_at, start_step, call_step, kept_step, kept_of, full_answer, with_note, admission_of, admit_unless, admit_step, new_call, is_live, refusal, repeated_result}
+use Rattle.cell_core.specs.Step.{take_step, take_at, start_step, call_step, kept_step, kept_of, full_answer, with_note, admission_of, admit_unless, admit_step, new_call, is_live, refusal, repeated_result, noted}
 use Rattle.cell_core.specs.Effect.{effect}
-use Rattle.cell_core.specs.Sweep.{sweep_step, sweep_by, noted, plan_work, plan_start, plan_effect}
+use Rattle.cell_core.specs.Sweep.{sweep_step, sweep_by, plan_work, plan_start, plan_effect}
+use Rattle.world_cell.proofs.StepKinds.{ok_pair}
 
 abbrev Few : Taken → Type 0
 Few taken = length taken.outs ≤ 1
@@ -60,9 +61,6 @@ call_few s message =
 take_at_few : (s : MasterState) (request : Request) → Few (take_at s request).1
 take_at_few s (requests.Start start) = start_few s start
 take_at_few s (requests.Call message) = call_few s message
-
-pub ok_pair : {A B E : Type 0} (p : A × B) (a : A) (b : B) → (let q : Result (A × B) E = Ok p in q) ≡ Ok (a, b) → (p.0 ≡ a) × (p.1 ≡ b)
-ok_pair {A} {B} p a b h = let e : ◌≡◌ {A = A × B} p (a, b) = cc in (ap (λ (q : A × B). q.0) e, ap (λ (q : A × B). q.1) e)
 
 pub take_few : (s : MasterState) (now : ℕ) (request : Request) (new : MasterState) (taken : Taken) → take_step s now request ≡ Ok (new, taken) → length taken.outs ≤ 1
 unfolding take_step

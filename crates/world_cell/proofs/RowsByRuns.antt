@@ -18,9 +18,9 @@ use Rattle.cell_core.specs.declared.pending.Work.TheVariants as works
 use Rattle.cell_core.specs.declared.plans.Deed.TheVariants as deeds
 use Rattle.cell_core.specs.declared.plans.Plan.{Plan}
 use Rattle.cell_core.specs.State.{MasterState}
-use Rattle.cell_core.specs.Step.{is_live, may_start, turned_away}
+use Rattle.cell_core.specs.Step.{is_live, may_start, turned_away, noted}
 use Rattle.cell_core.specs.Effect.{effect}
-use Rattle.cell_core.specs.Sweep.{noted, started_out, plan_session, plan_start, plan_effect, plan_work, applied_lines, edit_of, change_edits, edits_of, queue_edits, sweep_by}
+use Rattle.cell_core.specs.Sweep.{started_out, plan_session, plan_start, plan_effect, plan_work, applied_lines, edit_of, change_edits, edits_of, queue_edits, sweep_by}
 use Rattle.world_cell.specs.declared.steps.Step.{Step}
 use Rattle.world_cell.specs.World.{WorldView}
 use Rattle.world_cell.specs.Runs.{Does, Run, map_by, map_at, epoch_by, epoch_at}

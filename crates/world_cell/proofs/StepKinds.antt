@@ -18,8 +18,8 @@ use Rattle.tags_cell.specs.Messages.{out_client, request_number}
 use Rattle.cell_core.specs.declared.pending.Taken.{Taken}
 use Rattle.cell_core.specs.declared.sweeps.Swept.{Swept}
 use Rattle.cell_core.specs.State.{MasterState, master_of}
-use Rattle.cell_core.specs.Step.{take_at, take_step}
-use Rattle.cell_core.specs.Sweep.{sweep_step, sweep_by, sweep_edits, queue_edits, noted}
+use Rattle.cell_core.specs.Step.{take_at, take_step, noted}
+use Rattle.cell_core.specs.Sweep.{sweep_step, sweep_by, sweep_edits, queue_edits}
 use Rattle.over_core.specs.Up.{up_edits, master_by}
 use Rattle.client_core.specs.declared.asks.Ask.{Ask}
 use Rattle.client_core.specs.declared.asks.Asked.{Asked}

@@ -18,7 +18,7 @@ use Rattle.cell_core.specs.declared.pending.Taken.{Taken}
 use Rattle.cell_core.specs.declared.sweeps.Swept.{Swept}
 use Rattle.cell_core.specs.State.{MasterState}
 use Rattle.cell_core.specs.Step.{take_step}
-use Rattle.cell_core.specs.Store.{left_by, MayLeave, MayRefuse}
+use Rattle.cell_core.specs.Store.{left_by, IsWant, MayLeave, MayRefuse}
 use Rattle.cell_core.specs.Sweep.{sweep_step, sweep_edits}
 use Rattle.over_core.specs.Up.{up_step, up_edits, up_commit, MayRefuseUp}
 use Rattle.client_core.specs.declared.asks.Ask.{Ask}
@@ -218,20 +218,16 @@ pub record IsLeft (edits : List Edit) (old new : WorldView) : Type 0 where
   pub same : new.world ≡ old.world
   pub leave : MayLeave edits old.world.rows old.may_leave new.may_leave
 
--- want of memory, which may refuse any step
-abbrev pub IsWant : Fault → WorldView → WorldView → Type 0
-IsWant fault old new = (fault ≡ faults.NoMemory) × (new.refusals ≡ old.refusals)
-
 -- what the table doesn't decide where a master comes up: the store isn't asked while another is up
 abbrev pub IsOutsideUp : Option MasterState → ℕ → Fault → WorldView → WorldView → Type 0
-IsOutsideUp None now fault old new = IsWant fault old new ⊎ MayRefuseUp now fault old.refusals new.refusals
-IsOutsideUp (Some master) now fault old new = IsWant fault old new
+IsOutsideUp None now fault old new = IsWant fault old.refusals new.refusals ⊎ MayRefuseUp now fault old.refusals new.refusals
+IsOutsideUp (Some master) now fault old new = IsWant fault old.refusals new.refusals
 
 -- what the table doesn't decide: the store may refuse a master that comes up, and the commit of a sweep; any other step is refused for want of memory alone
 abbrev pub IsOutside : Step → Fault → WorldView → WorldView → Type 0
 IsOutside (steps.Up now) fault old new = IsOutsideUp old.world.master now fault old new
 IsOutside steps.Sweep fault old new = MayRefuse (step_edits old.world steps.Sweep) fault old.refusals new.refusals
-IsOutside _ fault old new = IsWant fault old new
+IsOutside _ fault old new = IsWant fault old.refusals new.refusals
 
 -- why a step is refused: the table refuses it, or want of memory or the store does
 abbrev pub MayRefuseStep : {X : Type 0} → Result X Fault → Step → Fault → WorldView → WorldView → Type 0

@@ -1,8 +1,8 @@
 //! The messages that were sent.
-ghost use Rattle.std.specs.Prelude.{◌≡◌, ◌≤◌, ◌<◌, ◌+◌, ◌++◌, ◌∷◌, [], drop, false, map, length};
+ghost use Rattle.std.specs.Prelude.{◌≡◌, ◌≤◌, ◌<◌, ◌+◌, ◌++◌, ◌∷◌, [], false, map, length};
 ghost use Rattle.std.specs.Option.{option_copied};
 ghost use Rattle.std.specs.Vec.{vec_len, vec_capacity};
-ghost use Rattle.world_cell.specs.Messages.{new_out, new_request, sent_at, request_at, out_at, as_request, as_out, delivered, step_of, first_waiting, waiting_behind};
+ghost use Rattle.world_cell.specs.Messages.{new_out, new_request, sent_at, request_at, out_at, delivered, step_of, waiting_behind};
 
 use crate::steps::Step;
 use plain::Items;

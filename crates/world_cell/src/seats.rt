@@ -1,5 +1,5 @@
 //! The clients of a world.
-ghost use Rattle.std.specs.Prelude.{◌≡◌, ℕ, [], Some, None, IfSome, OnErr, IsNone, OnOk, is_some};
+ghost use Rattle.std.specs.Prelude.{◌≡◌, [], Some, None, IfSome, OnErr, IsNone, OnOk, is_some};
 ghost use Rattle.std.specs.Map.{lookup};
 ghost use Rattle.std.specs.BTreeMap.{is_at, insert_entry};
 ghost use Rattle.std.specs.Ordering.{nat_cmp};
