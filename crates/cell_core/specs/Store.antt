@@ -1,12 +1,12 @@
 -- What becomes of a store that is asked for a commit.
-use Rattle.std.specs.Prelude.{◌≡◌, ◌⊎◌, ℕ, List, [], ◌∷◌, ◌++◌}
+use Rattle.std.specs.Prelude.{◌≡◌, ℕ, List, [], ◌∷◌}
 use Rattle.node_core.specs.declared.refusals.Fault.{Fault}
 use Rattle.node_core.specs.declared.refusals.Fault.TheVariants as faults
 use Rattle.rows_cell.specs.declared.tables.Rows.{Rows}
 use Rattle.rows_cell.specs.declared.tables.Edit.{Edit}
 use Rattle.rows_cell.specs.declared.records.StoreFault.TheVariants.{NoMemory, Exhausted, Refused}
 use Rattle.rows_cell.specs.Rows.{changed_rows}
-use Rattle.rows_cell.specs.Refused.{CountsRefusal}
+use Rattle.rows_cell.specs.Refused.{CountsRefusal, MayAlsoLeave}
 
 -- what a crash may leave: where nothing is committed the same as before, and behind a commit its rows alone
 abbrev pub left_by : List Edit → List Rows → Rows → List Rows
@@ -38,7 +38,7 @@ MayRefuse (edit ∷ edits) fault before after = StoreRefuses fault before after
 -- what a crash may leave behind a refused commit: what it could leave before, and perhaps the rows of that commit
 abbrev pub MayLeave : List Edit → Rows → List Rows → List Rows → Type 0
 MayLeave [] rows old new = new ≡ old
-MayLeave (edit ∷ edits) rows old new = (new ≡ old) ⊎ (new ≡ old ++ changed_rows rows (edit ∷ edits) ∷ [])
+MayLeave (edit ∷ edits) rows old new = MayAlsoLeave (changed_rows rows (edit ∷ edits)) old new
 
 -- the rows stand as they stood
 pub record IsRefused (fault : Fault) (edits : List Edit) (old_rows new_rows : Rows) (old_leave new_leave : List Rows) (old_refusals new_refusals : ℕ) : Type 0 where

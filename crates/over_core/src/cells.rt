@@ -166,8 +166,7 @@ fn commit_epoch<R: Records>(alloc: Global, records: &mut R, epoch: u64) -> Resul
     ensures committed { OnOk result (IsCommitted (Edit.Epoch epoch ∷ []) (R.rows records.old) (R.rows records.new) (R.may_leave records.old) (R.may_leave records.new) (R.refusals records.old) (R.refusals records.new)) }
     ensures fault { IfErr result (λ e. StoreRefuses e (R.refusals records.old) (R.refusals records.new)) }
     ensures rows { OnErr result (R.rows records.new ≡ R.rows records.old) }
-    ensures left { OnErr result ((R.may_leave records.new ≡ R.may_leave records.old)
-        ⊎ (R.may_leave records.new ≡ R.may_leave records.old ++ changed_rows (R.rows records.old) (Edit.Epoch epoch ∷ []) ∷ [])) }
+    ensures left { OnErr result (MayLeave (Edit.Epoch epoch ∷ []) (R.rows records.old) (R.may_leave records.old) (R.may_leave records.new)) }
     ensures cell { R.cell records.new ≡ R.cell records.old }
 {
     let mut edits = Items::new(alloc);

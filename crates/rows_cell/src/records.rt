@@ -49,12 +49,12 @@ impl From<StoreFault> for Fault {
 
 /// What keeps the rows of a cell, one change at a time.
 pub trait Records {
-    ghost use Rattle.std.specs.Prelude.{◌≡◌, ◌≢◌, ◌⊎◌, ℕ, List, [], ◌∷◌, ◌++◌, true, false, Err, IfOk, IfErr, OnOk, OnErr};
+    ghost use Rattle.std.specs.Prelude.{◌≡◌, ◌≢◌, ℕ, List, [], ◌∷◌, true, false, Err, IfOk, IfErr, OnOk, OnErr};
     ghost use Rattle.rows_cell.specs.declared.tables.Rows.{Rows};
     ghost use Rattle.rows_cell.specs.declared.records.StoreFault.TheVariants.{Damaged};
     ghost use Rattle.rows_cell.specs.Rows.{changed_rows};
     ghost use Rattle.rows_cell.specs.Sound.{sound};
-    ghost use Rattle.rows_cell.specs.Refused.{CountsRefusal};
+    ghost use Rattle.rows_cell.specs.Refused.{CountsRefusal, MayAlsoLeave};
 
     /// The cell that the settings name.
     ghost cell: { Self → List ℕ };
@@ -85,8 +85,7 @@ pub trait Records {
         ensures ok { OnOk result (rows self.new ≡ changed_rows (rows self.old) change.now) }
         ensures kept { OnOk result (may_leave self.new ≡ rows self.new ∷ []) }
         ensures err { OnErr result (rows self.new ≡ rows self.old) }
-        ensures left { OnErr result ((may_leave self.new ≡ may_leave self.old)
-            ⊎ (may_leave self.new ≡ may_leave self.old ++ changed_rows (rows self.old) change.now ∷ [])) }
+        ensures left { OnErr result (MayAlsoLeave (changed_rows (rows self.old) change.now) (may_leave self.old) (may_leave self.new)) }
         ensures whole { IfErr result (λ e. e ≢ Damaged) }
         ensures cell { cell self.new ≡ cell self.old }
         ensures counted { OnOk result (refusals self.new ≡ refusals self.old) }
