@@ -1,3 +1,5 @@
 mod Commits
 mod MissingRights
 mod Notes
+pub mod TakeCases
+pub mod SweepCases

@@ -7,3 +7,4 @@ pub mod Step
 pub mod Effect
 pub mod Store
 pub mod Sweep
+pub mod Cases

@@ -1,0 +1,120 @@
+-- The arm of the table that a message takes.
+use Rattle.std.proofs.Common.{◌≡◌, ◌≢◌, ℕ, ◌<◌, Bool, true, false, cond, Option, Some, None, Result, Ok, Err, refl, arith, eqb, inl, inr}
+use Rattle.std.specs.Prelude.{◌==◌, nat_lt, nat_le, is_none}
+use Rattle.std.proofs.lemmas.Bool.Decides.{nat_tests}
+use Rattle.node_core.specs.declared.refusals.Fault.{Fault}
+use Rattle.node_core.specs.declared.refusals.Fault.TheVariants as faults
+use Rattle.tags_cell.specs.declared.requests.Start.{Start}
+use Rattle.tags_cell.specs.declared.requests.CallMessage.{CallMessage}
+use Rattle.tags_cell.specs.declared.requests.Request.{Request}
+use Rattle.tags_cell.specs.declared.requests.Request.TheVariants as requests
+use Rattle.tags_cell.specs.declared.outs.CallResult.{CallResult}
+use Rattle.tags_cell.specs.declared.outs.CallResult.TheVariants as results
+use Rattle.cell_core.specs.declared.admissions.Admission.{Admission}
+use Rattle.cell_core.specs.declared.pending.Taken.{Taken}
+use Rattle.cell_core.specs.declared.pending.Kept.{Kept}
+use Rattle.cell_core.specs.declared.pending.Work.TheVariants as works
+use Rattle.cell_core.specs.State.{MasterState}
+use Rattle.cell_core.specs.Step.{kept_of, is_live, is_full, may_start, turned_away, refusal, repeated, queued, nothing, with_note, admission_of, full_answer, admit_unless, admit_step, new_call, kept_step, call_step, start_step, take_at, take_step, is_past_end, noted}
+use Rattle.cell_core.specs.Cases.{IsBehind, IsHeard, IsNew, IsAnswered, IsAdmitted, TakeCase, taken_by}
+use Rattle.cell_core.specs.Cases.TakeCase.{StartRefused, StartFull, StartQueued, OldEpoch, NoSession, Repeated, OlderCall, Outstanding, Answered, Waits}
+
+-- one of the cases is what is done
+abbrev pub IsCase : (s : MasterState) → Request → MasterState × Taken → Type 0
+IsCase s request p = (c : TakeCase s request) × (p ≡ taken_by s request c)
+
+either : (s : MasterState) (request : Request) (b : Bool) (x y : MasterState × Taken) → (b ≡ true → IsCase s request x) → (b ≡ false → IsCase s request y) → IsCase s request (cond b x y)
+either s request true x y h k = h refl
+either s request false x y h k = k refl
+
+same : (n m : ℕ) → eqb n m ≡ true → n ≡ m
+same n m h = grind (arith, nat_tests)
+
+other : (n m : ℕ) → eqb n m ≡ false → n ≢ m
+other n m h = grind (arith, nat_tests)
+
+less : (n m : ℕ) → nat_lt n m ≡ true → n < m
+less n m h = grind (arith, nat_tests)
+
+above : (n m : ℕ) → eqb n m ≡ false → nat_lt n m ≡ false → m < n
+above n m h k = grind (arith, nat_tests)
+
+no_result : (o : Option CallResult) → is_none o ≡ true → o ≡ None
+no_result None h = refl
+no_result (Some result) h = cc
+
+some_result : (o : Option CallResult) → is_none o ≡ false → (result : CallResult) × (o ≡ Some result)
+some_result None h = cc
+some_result (Some result) h = (result, refl)
+
+-- ---- a new call
+
+unless_case : (s : MasterState) (request : Request) (message : CallMessage) (o : Option CallResult) (full : Bool) → IsNew s request message → (admission_of s message.client message.number message.call).answer ≡ None → is_full (with_note s (admission_of s message.client message.number message.call).note) ≡ full → full_answer (with_note s (admission_of s message.client message.number message.call).note) ≡ o → cond full (Some (results.Refused faults.Busy)) None ≡ o → IsCase s request (admit_unless (with_note s (admission_of s message.client message.number message.call).note) message.client message.number message.call o)
+unless_case s request message None true new none full is at = cc
+unless_case s request message None false new none full is at =
+    (Waits message (admission_of s message.client message.number message.call).note new (record { is_noted = refl; passes = none; room = full }), refl)
+unless_case s request message (Some answer) true new none full is at =
+    let busy : answer ≡ results.Refused faults.Busy = cc in
+    (Answered message (admission_of s message.client message.number message.call).note answer new (record { is_noted = refl; is_answer = inr (none, full, busy) }), refl)
+unless_case s request message (Some answer) false new none full is at = cc
+
+admit_case : (s : MasterState) (request : Request) (message : CallMessage) (o : Option CallResult) → IsNew s request message → (admission_of s message.client message.number message.call).answer ≡ o → IsCase s request (admit_step (with_note s (admission_of s message.client message.number message.call).note) message.client message.number message.call o)
+admit_case s request message None new is =
+    let t : MasterState = with_note s (admission_of s message.client message.number message.call).note in
+    unless_case s request message (full_answer t) (is_full t) new is refl refl refl
+admit_case s request message (Some answer) new is =
+    (Answered message (admission_of s message.client message.number message.call).note answer new (record { is_noted = refl; is_answer = inl is }), refl)
+
+new_case : (s : MasterState) (request : Request) (message : CallMessage) → IsNew s request message → IsCase s request (new_call s message.client message.number message.call)
+new_case s request message new = admit_case s request message (admission_of s message.client message.number message.call).answer new refl
+
+-- ---- a call, by the client's last one
+
+kept_case : (s : MasterState) (request : Request) (message : CallMessage) (o : Option Kept) → IsHeard s request message → kept_of s message.client ≡ o → IsCase s request (kept_step s message.client message.number message.call o)
+kept_case s request message None heard is = new_case s request message (record { heard = heard; behind = rw is tt })
+kept_case s request message (Some kept) heard is =
+    let new = new_call s message.client message.number message.call in
+    let outstanding = cond (is_none kept.result) (s, refusal s message.client message.number faults.CallOutstanding) new in
+    let older = cond (nat_lt message.number kept.number) (s, refusal s message.client message.number faults.Repeat) outstanding in
+    either s request (message.number == kept.number) (s, repeated s message.client kept) older (λ e. (Repeated message kept heard is (same message.number kept.number e), refl)) (λ apart.
+    either s request (nat_lt message.number kept.number) (s, refusal s message.client message.number faults.Repeat) outstanding (λ e. (OlderCall message kept heard is (less message.number kept.number e), refl)) (λ more.
+    let high = above message.number kept.number apart more in
+    either s request (is_none kept.result) (s, refusal s message.client message.number faults.CallOutstanding) new (λ e. (Outstanding message kept heard is high (no_result kept.result e), refl)) (λ e.
+    let t = some_result kept.result e in
+    new_case s request message (record { heard = heard; behind = rw is (t.0, t.1, high) }))))
+
+call_case : (s : MasterState) (request : Request) (message : CallMessage) → request ≡ requests.Call message → IsCase s request (call_step s message)
+call_case s request message is =
+    let kept = kept_step s message.client message.number message.call (kept_of s message.client) in
+    let live = cond (is_live s message.client) kept (s, refusal s message.client message.number faults.NoSession) in
+    either s request (message.epoch == s.epoch) live (s, refusal s message.client message.number (faults.OldEpoch s.epoch)) (λ e.
+    let epoch = same message.epoch s.epoch e in
+    either s request (is_live s message.client) kept (s, refusal s message.client message.number faults.NoSession)
+    (λ alive. kept_case s request message (kept_of s message.client) (record { is_call = is; epoch = epoch; live = alive }) refl)
+    (λ ended. (NoSession message is epoch ended, refl)))
+    (λ e. (OldEpoch message is (other message.epoch s.epoch e), refl))
+
+start_case : (s : MasterState) (request : Request) (start : Start) → request ≡ requests.Start start → IsCase s request (start_step s start)
+start_case s request start is =
+    let waits : MasterState × Taken = (queued s (record { client = start.client; number = start.number; work = works.Starts start.principal }), nothing) in
+    let room = cond (is_full s) (s, turned_away s start.client start.number faults.Busy) waits in
+    either s request (may_start s start.client start.principal) room (s, refusal s start.client start.number faults.NoSession) (λ may.
+    either s request (is_full s) (s, turned_away s start.client start.number faults.Busy) waits (λ full. (StartFull start is may full, refl)) (λ free. (StartQueued start is may free, refl)))
+    (λ may. (StartRefused start is may, refl))
+
+-- ---- the lemma
+
+pub take_case : (s : MasterState) (request : Request) → IsCase s request (take_at s request)
+take_case s (requests.Start start) = start_case s (requests.Start start) start refl
+take_case s (requests.Call message) = call_case s (requests.Call message) message refl
+
+-- a message that is taken at a moment
+pub taken_case : (s new : MasterState) (now : ℕ) (request : Request) (taken : Taken) → take_step s now request ≡ Ok (new, taken) → (is_past_end now ≡ false) × ((c : TakeCase (noted s now) request) × ((new, taken) ≡ taken_by (noted s now) request c))
+unfolding take_step
+taken_case s new now request taken h =
+    (elim (is_past_end now) as (λ b. is_past_end now ≡ b → cond {A = Result (MasterState × Taken) Fault} b (Err faults.Exhausted) (Ok (take_at (noted s now) request)) ≡ Ok (new, taken) → (is_past_end now ≡ false) × IsCase (noted s now) request (new, taken)) [
+      | true ↦ (λ late e. cc)
+      | false ↦ (λ late e.
+          let is : take_at (noted s now) request ≡ (new, taken) = cc in
+          (late, rw (← is) (take_case (noted s now) request)))
+    ]) refl h
