@@ -1,2 +1,4 @@
 pub mod Entries
 pub mod Formers
+pub mod Keys
+pub mod OneKey

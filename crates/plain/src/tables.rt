@@ -1,6 +1,7 @@
 //! A map that contracts see as the list of its entries.
 ghost use Rattle.std.specs.Prelude.{◌≡◌, List, [], IfOk, IfErr, OnOk, OnErr, Some, None};
-ghost use Rattle.std.specs.Option.{option_copied};
+ghost use Rattle.std.specs.Borrow.{sem};
+ghost use Rattle.std.specs.Option.{option_copied, option_copied_mut};
 ghost use Rattle.std.specs.Map.{lookup, remove_entry, set_value};
 ghost use Rattle.std.specs.Map.Calls.{CalledAtPair, TakesPair, CallableOnEachPair, RetainsPairs};
 ghost use Rattle.std.specs.BTreeMap.{is_at, insert_entry};
@@ -48,6 +49,19 @@ impl<K: Ord, V> Table<K, V> {
         ensures { result.now.entries ≡ self.now }
     {
         &self.map
+    }
+}
+
+impl<K: Ord, V> Table<K, V> {
+    ghost use Rattle.plain.specs.Lent.{LendsValue};
+
+    /// The value of a key, to be changed where it stands: one look-up in the tree. Takes no memory. Once the borrow
+    /// ends the key has what was left behind it; a key that isn't there leaves the table.
+    pub fn get_mut(&mut self, key: &K) -> Option<&mut V>
+        ensures* writes_back { sem 𝓛 (LendsValue K.row V.row K.Ord self.entry key.now result) }
+        ensures value { option_copied_mut result ≡ lookup (is_at (K.cmp key.now)) self.old }
+    {
+        self.map.get_mut(key)
     }
 }
 
