@@ -1,6 +1,6 @@
 -- The arm of the table that a message takes.
-use Rattle.std.proofs.Common.{◌≡◌, ◌≢◌, ℕ, ◌<◌, Bool, true, false, cond, Option, Some, None, Result, Ok, Err, refl, arith, eqb, inl, inr}
-use Rattle.std.specs.Prelude.{◌==◌, nat_lt, nat_le, is_none}
+use Rattle.std.proofs.Common.{◌≡◌, ◌≢◌, ℕ, ◌<◌, List, [], Bool, true, false, cond, Option, Some, None, Result, Ok, Err, refl, arith, eqb, inl, inr}
+use Rattle.std.specs.Prelude.{◌==◌, ◌||◌, nat_lt, nat_le, is_none}
 use Rattle.std.proofs.lemmas.Bool.Decides.{nat_tests}
 use Rattle.node_core.specs.declared.refusals.Fault.{Fault}
 use Rattle.node_core.specs.declared.refusals.Fault.TheVariants as faults
@@ -15,7 +15,7 @@ use Rattle.cell_core.specs.declared.pending.Taken.{Taken}
 use Rattle.cell_core.specs.declared.pending.Kept.{Kept}
 use Rattle.cell_core.specs.declared.pending.Work.TheVariants as works
 use Rattle.cell_core.specs.State.{MasterState}
-use Rattle.cell_core.specs.Step.{kept_of, is_live, is_full, may_start, turned_away, refusal, repeated, queued, nothing, with_note, admission_of, full_answer, admit_unless, admit_step, new_call, kept_step, call_step, start_step, take_at, take_step, is_past_end, noted}
+use Rattle.cell_core.specs.Step.{kept_of, is_live, is_full, may_start, turned_away, refusal, repeated, queued, replied, waits, nothing, with_note, admission_of, admit_step, new_call, kept_step, call_step, start_step, take_at, take_step, is_past_end, is_spent, noted}
 use Rattle.cell_core.specs.Cases.{IsBehind, IsHeard, IsNew, IsAnswered, IsAdmitted, TakeCase, taken_by}
 use Rattle.cell_core.specs.Cases.TakeCase.{StartRefused, StartFull, StartQueued, OldEpoch, NoSession, Repeated, OlderCall, Outstanding, Answered, Waits}
 
@@ -49,24 +49,20 @@ some_result (Some result) h = (result, refl)
 
 -- ---- a new call
 
-unless_case : (s : MasterState) (request : Request) (message : CallMessage) (o : Option CallResult) (full : Bool) → IsNew s request message → (admission_of s message.client message.number message.call).answer ≡ None → is_full (with_note s (admission_of s message.client message.number message.call).note) ≡ full → full_answer (with_note s (admission_of s message.client message.number message.call).note) ≡ o → cond full (Some (results.Refused faults.Busy)) None ≡ o → IsCase s request (admit_unless (with_note s (admission_of s message.client message.number message.call).note) message.client message.number message.call o)
-unless_case s request message None true new none full is at = cc
-unless_case s request message None false new none full is at =
-    (Waits message (admission_of s message.client message.number message.call).note new (record { is_noted = refl; passes = none; room = full }), refl)
-unless_case s request message (Some answer) true new none full is at =
-    let busy : answer ≡ results.Refused faults.Busy = cc in
-    (Answered message (admission_of s message.client message.number message.call).note answer new (record { is_noted = refl; is_answer = inr (none, full, busy) }), refl)
-unless_case s request message (Some answer) false new none full is at = cc
-
-admit_case : (s : MasterState) (request : Request) (message : CallMessage) (o : Option CallResult) → IsNew s request message → (admission_of s message.client message.number message.call).answer ≡ o → IsCase s request (admit_step (with_note s (admission_of s message.client message.number message.call).note) message.client message.number message.call o)
-admit_case s request message None new is =
-    let t : MasterState = with_note s (admission_of s message.client message.number message.call).note in
-    unless_case s request message (full_answer t) (is_full t) new is refl refl refl
-admit_case s request message (Some answer) new is =
-    (Answered message (admission_of s message.client message.number message.call).note answer new (record { is_noted = refl; is_answer = inl is }), refl)
+-- by what it is answered at once, and whether there is room
+admit_case : (s : MasterState) (request : Request) (message : CallMessage) (admission : Admission) (o : Option CallResult) → IsNew s request message → admission_of s message.client message.number message.call ≡ admission → admission.answer ≡ o → IsCase s request (admit_step (with_note s admission.note) message.client message.number message.call admission.touched o)
+admit_case s request message admission None new is none =
+    let t : MasterState = with_note s admission.note in
+    either s request (is_full t) (replied t message.client message.number (results.Refused faults.Busy)) (waits t message.client message.number message.call admission.touched)
+    (λ full. (Answered message admission.note (results.Refused faults.Busy) new (record { is_noted = rw is refl; is_answer = inr (rw is none, full, refl) }), refl))
+    (λ room. (Waits message admission.note admission.touched new (record { is_touched = rw is refl; is_noted = rw is refl; passes = rw is none; room = room }), refl))
+admit_case s request message admission (Some answer) new is some =
+    (Answered message admission.note answer new (record { is_noted = rw is refl; is_answer = inl (rw is some) }), refl)
 
 new_case : (s : MasterState) (request : Request) (message : CallMessage) → IsNew s request message → IsCase s request (new_call s message.client message.number message.call)
-new_case s request message new = admit_case s request message (admission_of s message.client message.number message.call).answer new refl
+new_case s request message new =
+    let admission : Admission = admission_of s message.client message.number message.call in
+    admit_case s request message admission admission.answer new refl refl
 
 -- ---- a call, by the client's last one
 
@@ -96,7 +92,7 @@ call_case s request message is =
 
 start_case : (s : MasterState) (request : Request) (start : Start) → request ≡ requests.Start start → IsCase s request (start_step s start)
 start_case s request start is =
-    let waits : MasterState × Taken = (queued s (record { client = start.client; number = start.number; work = works.Starts start.principal }), nothing) in
+    let waits : MasterState × Taken = (queued s [] (record { client = start.client; number = start.number; work = works.Starts start.principal }), nothing) in
     let room = cond (is_full s) (s, turned_away s start.client start.number faults.Busy) waits in
     either s request (may_start s start.client start.principal) room (s, refusal s start.client start.number faults.NoSession) (λ may.
     either s request (is_full s) (s, turned_away s start.client start.number faults.Busy) waits (λ full. (StartFull start is may full, refl)) (λ free. (StartQueued start is may free, refl)))
@@ -109,12 +105,12 @@ take_case s (requests.Start start) = start_case s (requests.Start start) start r
 take_case s (requests.Call message) = call_case s (requests.Call message) message refl
 
 -- a message that is taken at a moment
-pub taken_case : (s new : MasterState) (now : ℕ) (request : Request) (taken : Taken) → take_step s now request ≡ Ok (new, taken) → (is_past_end now ≡ false) × ((c : TakeCase (noted s now) request) × ((new, taken) ≡ taken_by (noted s now) request c))
+pub taken_case : (s new : MasterState) (now : ℕ) (request : Request) (taken : Taken) → take_step s now request ≡ Ok (new, taken) → (c : TakeCase (noted s now) request) × ((new, taken) ≡ taken_by (noted s now) request c)
 unfolding take_step
 taken_case s new now request taken h =
-    (elim (is_past_end now) as (λ b. is_past_end now ≡ b → cond {A = Result (MasterState × Taken) Fault} b (Err faults.Exhausted) (Ok (take_at (noted s now) request)) ≡ Ok (new, taken) → (is_past_end now ≡ false) × IsCase (noted s now) request (new, taken)) [
-      | true ↦ (λ late e. cc)
-      | false ↦ (λ late e.
+    (elim (is_past_end now || is_spent s) as (λ b. cond {A = Result (MasterState × Taken) Fault} b (Err faults.Exhausted) (Ok (take_at (noted s now) request)) ≡ Ok (new, taken) → IsCase (noted s now) request (new, taken)) [
+      | true ↦ (λ e. cc)
+      | false ↦ (λ e.
           let is : take_at (noted s now) request ≡ (new, taken) = cc in
-          (late, rw (← is) (take_case (noted s now) request)))
-    ]) refl h
+          rw (← is) (take_case (noted s now) request))
+    ]) h

@@ -7,7 +7,8 @@ use Rattle.rows_cell.specs.declared.tables.Node.{Node}
 use Rattle.rows_cell.specs.declared.tables.Session.{Session}
 use Rattle.rows_cell.specs.declared.tables.Rows.{Rows}
 use Rattle.rows_cell.specs.Rows.{map_of}
-use Rattle.cell_core.specs.declared.pending.Pending.{Pending}
+use Rattle.gate_core.specs.Gate.{GateState}
+use Rattle.cell_core.specs.declared.pending.Task.{Task}
 use Rattle.cell_core.specs.declared.pending.Kept.{Kept}
 use Rattle.cell_core.specs.declared.handles.HandleKey.{HandleKey}
 use Rattle.cell_core.specs.declared.handles.HandleState.{HandleState}
@@ -21,7 +22,7 @@ abbrev pub lock_generations_of : Rows → List (ℕ × ℕ)
 lock_generations_of rows = fold with_generation [] rows.nodes
 
 -- name: the cell's. secret: what check digits are made over. nodes: the map. lock_generations: by instance, of the nodes that the rows held when it came up. sessions, kept: by
--- client number. handles: those that were opened, shown or closed in this epoch. queue: the changes that wait, in order of their coming. clock: the last moment that the
+-- client number. handles: those that were opened, shown or closed in this epoch. gate: the changes that wait, in order of their coming. clock: the last moment that the
 -- master was told. lease: in milliseconds
 pub record MasterState : Type 0 where
   pub name : List ℕ
@@ -32,7 +33,7 @@ pub record MasterState : Type 0 where
   pub lock_generations : List (ℕ × ℕ)
   pub sessions : List (ℕ × Session)
   pub handles : List (HandleKey × HandleState)
-  pub queue : List Pending
+  pub gate : GateState Task
   pub kept : List (ℕ × Kept)
   pub clock : ℕ
   pub lease : ℕ
@@ -48,7 +49,7 @@ master_of rows lease now = record {
   lock_generations = lock_generations_of rows;
   sessions = rows.sessions;
   handles = [];
-  queue = [];
+  gate = record { waiting = []; pushed = 0 };
   kept = [];
   clock = now;
   lease = lease;

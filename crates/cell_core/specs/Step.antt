@@ -1,5 +1,5 @@
 -- What a master does with a message.
-use Rattle.std.specs.Prelude.{ℕ, Bool, true, false, not, ◌&&◌, ◌==◌, nat_lt, nat_le, max, List, [], ◌∷◌, ◌++◌, length, Option, Some, None, Result, Ok, Err, if◌then◌else◌, is_none}
+use Rattle.std.specs.Prelude.{ℕ, Bool, true, false, not, ◌&&◌, ◌||◌, ◌==◌, nat_lt, nat_le, max, List, [], ◌∷◌, ◌++◌, length, Option, Some, None, Result, Ok, Err, if◌then◌else◌, is_none}
 use Rattle.std.specs.Option.{option_map_or}
 use Rattle.std.specs.Map.{lookup}
 use Rattle.std.specs.BTreeMap.{is_at, insert_entry}
@@ -16,10 +16,11 @@ use Rattle.node_core.specs.declared.kinds.Right.{Right}
 use Rattle.node_core.specs.declared.kinds.Right.TheVariants as rights
 use Rattle.node_core.specs.declared.stats.Stat.{Stat}
 use Rattle.lease_core.specs.Lease.{moment_limit}
-use Rattle.node_core.specs.Limits.{content_limit}
+use Rattle.node_core.specs.Limits.{content_limit, number_limit}
 use Rattle.node_core.specs.Nodes.{get_node, children}
 use Rattle.node_core.specs.Access.{permitted}
 use Rattle.rows_cell.specs.declared.tables.Session.{Session}
+use Rattle.gate_core.specs.Gate.{pending_limit, with_change}
 use Rattle.tags_cell.specs.Modes.{Rights, has_right}
 use Rattle.tags_cell.specs.Handles.{is_ordinal, handle_bytes, read_handle}
 use Rattle.tags_cell.specs.declared.masks.Events.{Events}
@@ -39,7 +40,7 @@ use Rattle.tags_cell.specs.declared.outs.CallResult.TheVariants as results
 use Rattle.tags_cell.specs.declared.outs.Out.TheVariants as outs
 use Rattle.cell_core.specs.declared.pending.Taken.{Taken}
 use Rattle.cell_core.specs.declared.pending.Kept.{Kept}
-use Rattle.cell_core.specs.declared.pending.Pending.{Pending}
+use Rattle.cell_core.specs.declared.pending.Task.{Task}
 use Rattle.cell_core.specs.declared.pending.Work.TheVariants as works
 use Rattle.cell_core.specs.declared.handles.HandleState.{HandleState}
 use Rattle.cell_core.specs.declared.handles.HandleState.TheVariants as states
@@ -65,7 +66,7 @@ abbrev pub may_start : MasterState → ℕ → List ℕ → Bool
 may_start s client principal = option_map_or (λ session. session.live && bytes_eq session.principal principal) (session_of s client) true
 
 abbrev pub is_full : MasterState → Bool
-is_full s = nat_le 4096 (length s.queue)
+is_full s = nat_le pending_limit (length s.gate.waiting)
 
 -- ---- what is sent and printed
 
@@ -99,8 +100,9 @@ repeated s client kept = repeated_result s client kept.number kept.result
 abbrev pub recorded : MasterState → ℕ → Kept → MasterState
 recorded s client kept = record s { kept = insert_entry nat_cmp s.kept client kept }
 
-abbrev pub queued : MasterState → Pending → MasterState
-queued s pending = record s { queue = s.queue ++ pending ∷ [] }
+-- what waits behind all others, with the names that it touches
+abbrev pub queued : MasterState → List (List ℕ) → Task → MasterState
+queued s touched task = record s { gate = with_change (record { touched = touched; body = task }) s.gate }
 
 -- a call that is answered at once: its result is recorded, and sent
 abbrev pub replied : MasterState → ℕ → ℕ → CallResult → MasterState × Taken
@@ -113,7 +115,7 @@ abbrev pub start_step : MasterState → Start → MasterState × Taken
 start_step s start =
     if may_start s start.client start.principal
     then (if is_full s then (s, turned_away s start.client start.number faults.Busy)
-    else (queued s (record { client = start.client; number = start.number; work = works.Starts start.principal }), nothing))
+    else (queued s [] (record { client = start.client; number = start.number; work = works.Starts start.principal }), nothing))
     else (s, refusal s start.client start.number faults.NoSession)
 
 -- ---- rights
@@ -265,8 +267,9 @@ answer_on s handle call =
 -- ---- the tests of a new call
 
 abbrev pub admission_of_open : MasterState → ℕ → ℕ → Open → Option Create → Admission
-admission_of_open s client number opening (Some create) = record { note = None; answer = node_fault create.node }
+admission_of_open s client number opening (Some create) = record { note = None; touched = opening.name ∷ []; answer = node_fault create.node }
 admission_of_open s client number opening None = record {
+  touched = [];
   note = opened_note (plain_open s client number opening);
   answer = Some (opened_answer s (plain_open s client number opening));
 }
@@ -274,12 +277,20 @@ admission_of_open s client number opening None = record {
 abbrev pub open_admission : MasterState → ℕ → ℕ → Open → Admission
 open_admission s client number opening =
     if is_of_cell s opening.name then admission_of_open s client number opening opening.create
-    else record { note = None; answer = Some (results.Refused faults.OtherCell) }
+    else record { note = None; touched = []; answer = Some (results.Refused faults.OtherCell) }
+
+-- the names that a call on a node touches: whose view it may change
+abbrev pub touched_by : Handle → Call → List (List ℕ)
+touched_by handle (calls.Set bytes content generation) = handle.name ∷ []
+touched_by handle (calls.SetAcl bytes acls generation) = handle.name ∷ []
+touched_by handle (calls.Delete bytes) = handle.name ∷ []
+touched_by handle _ = []
 
 -- a handle that is shown is open from then on, also where the call is refused
 abbrev pub handle_admission : MasterState → Call → Option Handle → Admission
-handle_admission s call None = record { note = None; answer = Some (results.Refused faults.BadHandle) }
-handle_admission s call (Some handle) = record { note = Some (record { key = key_of handle; state = states.Open }); answer = answer_on s handle call }
+handle_admission s call None = record { note = None; touched = []; answer = Some (results.Refused faults.BadHandle) }
+handle_admission s call (Some handle) =
+    record { note = Some (record { key = key_of handle; state = states.Open }); touched = touched_by handle call; answer = answer_on s handle call }
 
 -- the bytes that a call on a node shows
 abbrev pub bytes_of : Call → List ℕ
@@ -296,27 +307,23 @@ abbrev pub admission_of : MasterState → ℕ → ℕ → Call → Admission
 admission_of s client number (calls.Open opening) = open_admission s client number opening
 admission_of s client number call = handle_admission s call (shown_handle s client (bytes_of call))
 
-abbrev pub full_answer : MasterState → Option CallResult
-full_answer s = if is_full s then Some (results.Refused faults.Busy) else None
-
 -- ---- calls
 
-abbrev pub waits : MasterState → ℕ → ℕ → Call → MasterState × Taken
-waits s client number call =
-    (queued (recorded s client (record { number = number; result = None })) (record { client = client; number = number; work = works.Calls call }), nothing)
-
-abbrev pub admit_unless : MasterState → ℕ → ℕ → Call → Option CallResult → MasterState × Taken
-admit_unless s client number call (Some result) = replied s client number result
-admit_unless s client number call None = waits s client number call
+abbrev pub waits : MasterState → ℕ → ℕ → Call → List (List ℕ) → MasterState × Taken
+waits s client number call touched =
+    (queued (recorded s client (record { number = number; result = None })) touched (record { client = client; number = number; work = works.Calls call }), nothing)
 
 -- a call that is answered at once, or waits where there is room
-abbrev pub admit_step : MasterState → ℕ → ℕ → Call → Option CallResult → MasterState × Taken
-admit_step s client number call (Some result) = replied s client number result
-admit_step s client number call None = admit_unless s client number call (full_answer s)
+abbrev pub admit_step : MasterState → ℕ → ℕ → Call → List (List ℕ) → Option CallResult → MasterState × Taken
+admit_step s client number call touched (Some result) = replied s client number result
+admit_step s client number call touched None =
+    if is_full s then replied s client number (results.Refused faults.Busy) else waits s client number call touched
+
+abbrev pub new_call_by : MasterState → ℕ → ℕ → Call → Admission → MasterState × Taken
+new_call_by s client number call admission = admit_step (with_note s admission.note) client number call admission.touched admission.answer
 
 abbrev pub new_call : MasterState → ℕ → ℕ → Call → MasterState × Taken
-new_call s client number call =
-    admit_step (with_note s (admission_of s client number call).note) client number call (admission_of s client number call).answer
+new_call s client number call = new_call_by s client number call (admission_of s client number call)
 
 -- by the last call of the client: it comes again, an older one comes, one comes while it waits, or a new one comes
 abbrev pub kept_step : MasterState → ℕ → ℕ → Call → Option Kept → MasterState × Taken
@@ -348,5 +355,9 @@ is_past_end now = nat_le moment_limit now
 abbrev pub noted : MasterState → ℕ → MasterState
 noted s now = record s { clock = max s.clock now }
 
+-- the count of all changes that ever waited is at its end
+abbrev pub is_spent : MasterState → Bool
+is_spent s = nat_le number_limit s.gate.pushed
+
 unfoldable pub take_step : MasterState → ℕ → Request → Result (MasterState × Taken) Fault
-take_step s now request = if is_past_end now then Err faults.Exhausted else Ok (take_at (noted s now) request)
+take_step s now request = if is_past_end now || is_spent s then Err faults.Exhausted else Ok (take_at (noted s now) request)

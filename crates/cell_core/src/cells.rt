@@ -3,17 +3,15 @@ ghost use Rattle.std.specs.Prelude.{◌≡◌, IfOk};
 ghost use Rattle.cell_core.specs.State.{lock_generations_of};
 
 use crate::handles::{HandleKey, HandleState};
-use crate::pending::{Kept, Pending};
+use crate::pending::{Kept, Task};
+use gate_core::Gate;
 use names_cell::Component;
 use node_core::Map;
-use plain::{Items, Secret, Table};
+use plain::{Secret, Table};
 use rows_cell::{Rows, Session};
 use std::alloc::{AllocError, Global};
 use std::marker::Model;
 use tags_cell::ClientNumber;
-
-/// How many changes may wait at once.
-pub const PENDING_LIMIT: usize = 4096;
 
 /// A master in memory: what it read from the rows when it came up and has committed since, the changes that wait, the
 /// last call of each client, and the handles that it knows. It commits nothing by itself.
@@ -28,7 +26,7 @@ pub struct Cell {
     pub(crate) lock_generations: Table<u64, u64>,
     pub(crate) sessions: Table<u64, Session>,
     pub(crate) handles: Table<HandleKey, HandleState>,
-    pub(crate) queue: Items<Pending>,
+    pub(crate) gate: Gate<Task>,
     pub(crate) kept: Table<ClientNumber, Kept>,
     pub(crate) clock: u64,
     pub(crate) lease: u64,
@@ -48,7 +46,7 @@ impl Model for Cell {
       lock_generations = c.lock_generations;
       sessions = c.sessions;
       handles = c.handles;
-      queue = c.queue;
+      gate = c.gate;
       kept = c.kept;
       clock = c.clock;
       lease = c.lease;
@@ -85,7 +83,7 @@ impl Cell {
             lock_generations,
             sessions,
             handles: Table::new(alloc),
-            queue: Items::new(alloc),
+            gate: Gate::new(alloc),
             kept: Table::new(alloc),
             clock: now,
             lease,

@@ -31,20 +31,21 @@ impl Same for Work {
     ghost exact = { λ x y h. h };
 }
 
-/// A change that waits for its turn (Burrows 2006, section 2.7: a modification is held until every cache has let go).
+/// What a client asked for that waits for its turn (Burrows 2006, section 2.7: a modification is held until every cache
+/// has let go).
 #[derive(Debug, Drop)]
-pub struct Pending {
+pub struct Task {
     pub client: ClientNumber,
     /// The number of the Start or of the call.
     pub number: MessageNumber,
     pub work: Work,
 }
 
-impl Clone for Pending {
+impl Clone for Task {
     ghost is_clone = { λ s t. t ≡ s };
 
-    fn clone(&self) -> Result<Pending, AllocError> {
-        Ok(Pending {
+    fn clone(&self) -> Result<Task, AllocError> {
+        Ok(Task {
             client: self.client,
             number: self.number,
             work: self.work.clone()?,
@@ -52,7 +53,7 @@ impl Clone for Pending {
     }
 }
 
-impl Same for Pending {
+impl Same for Task {
     ghost exact = { λ x y h. h };
 }
 

@@ -2,8 +2,9 @@
 ghost use Rattle.std.specs.Prelude.{◌≡◌, [], ◌∷◌, IfOk};
 ghost use Rattle.cell_core.specs.Step.{refusal, turned_away, reply, repeated, may_start, is_live, is_full};
 
-use crate::cells::{Cell, PENDING_LIMIT};
+use crate::cells::Cell;
 use crate::pending::{Kept, Taken};
+use gate_core::PENDING_LIMIT;
 use names_cell::Principal;
 use node_core::{Fault, Line};
 use plain::Items;
@@ -25,8 +26,8 @@ impl Cell {
         Ok(taken)
     }
 
-    // What is sent, and neither printed nor recorded.
-    pub(crate) fn turned_away(
+    /// What is sent, and neither printed nor recorded.
+    pub fn turned_away(
         &self,
         client: ClientNumber,
         number: MessageNumber,
@@ -43,8 +44,8 @@ impl Cell {
         }))
     }
 
-    // The reply to a call.
-    pub(crate) fn reply_of(
+    /// The reply to a call.
+    pub fn reply_of(
         &self,
         client: ClientNumber,
         number: MessageNumber,
@@ -71,8 +72,8 @@ impl Cell {
         }
     }
 
-    // One message, and no line.
-    pub(crate) fn sent(&self, out: Out) -> Result<Taken, AllocError>
+    /// One message, and no line.
+    pub fn sent(&self, out: Out) -> Result<Taken, AllocError>
         ensures { IfOk result (λ taken. taken ≡ record { lines = []; outs = out ∷ [] }) }
     {
         let mut taken = self.nothing();
@@ -90,7 +91,7 @@ impl Cell {
         }
     }
 
-    pub(crate) fn may_start(&self, client: ClientNumber, principal: &Principal) -> bool
+    pub fn may_start(&self, client: ClientNumber, principal: &Principal) -> bool
         ensures { result ≡ may_start self.now client principal.now }
     {
         match self.sessions.get(&client.get()) {
@@ -99,7 +100,7 @@ impl Cell {
         }
     }
 
-    pub(crate) fn is_live(&self, client: ClientNumber) -> bool
+    pub fn is_live(&self, client: ClientNumber) -> bool
         ensures { result ≡ is_live self.now client }
     {
         match self.sessions.get(&client.get()) {
@@ -111,6 +112,6 @@ impl Cell {
     pub(crate) fn is_full(&self) -> bool
         ensures { result ≡ is_full self.now }
     {
-        self.queue.len() >= PENDING_LIMIT
+        self.gate.as_slice().len() >= PENDING_LIMIT
     }
 }
