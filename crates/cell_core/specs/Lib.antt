@@ -1,6 +1,7 @@
 pub use Rattle.plain.specs.Results
 pub use Rattle.names_cell.specs.Text
 pub use Rattle.node_core.specs.Nodes
+pub mod Handles
 pub mod Keys
 pub mod State
 pub mod Step

@@ -19,7 +19,7 @@ mod writes;
 
 pub use cells::{Cell, PENDING_LIMIT};
 pub use effects::{Change, Effect};
-pub use handles::{HandleKey, HandleState, Note};
+pub use handles::{HandleKey, HandleState, Note, OpenHandle};
 pub use pending::{Kept, Pending, Taken, Work};
 pub use plans::{Deed, Plan};
 pub use sweeps::Swept;

@@ -183,11 +183,15 @@ impl Cell {
         let Some(note) = note else {
             return self.change(change, records);
         };
-        let former = self.handles.put(note.key, note.state)?;
+        let Note { key, state } = note;
+        let former = self.handles.put(key, state)?;
         match self.change(change, records) {
-            Ok(()) => Ok(()),
+            Ok(()) => {
+                drop(former);
+                Ok(())
+            }
             Err(fault) => {
-                self.handles.restore(&note.key, former);
+                self.handles.restore(&key, former);
                 Err(fault)
             }
         }

@@ -131,11 +131,15 @@ impl Cell {
         ensures ok { IfOk result (λ taken. admit_step (with_note self.old (Some note)) client number call.now answer ≡ (self.new, taken)) }
         ensures err { OnErr result (self.new ≡ self.old) }
     {
-        let former = self.handles.put(note.key, note.state)?;
+        let Note { key, state } = note;
+        let former = self.handles.put(key, state)?;
         match self.admit(client, number, call, answer) {
-            Ok(taken) => Ok(taken),
+            Ok(taken) => {
+                drop(former);
+                Ok(taken)
+            }
             Err(error) => {
-                self.handles.restore(&note.key, former);
+                self.handles.restore(&key, former);
                 Err(error)
             }
         }
