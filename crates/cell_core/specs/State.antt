@@ -1,5 +1,6 @@
 -- What a master is.
-use Rattle.std.specs.Prelude.{ℕ, List, [], fold}
+use Rattle.std.specs.Prelude.{ℕ, List, [], ◌∷◌, fold, Option, Some, None}
+use Rattle.std.specs.Option.{option_map}
 use Rattle.std.specs.BTreeMap.{insert_entry}
 use Rattle.std.specs.Ordering.{nat_cmp}
 use Rattle.node_core.specs.Nodes.{Nodes}
@@ -7,7 +8,8 @@ use Rattle.rows_cell.specs.declared.tables.Node.{Node}
 use Rattle.rows_cell.specs.declared.tables.Session.{Session}
 use Rattle.rows_cell.specs.declared.tables.Rows.{Rows}
 use Rattle.rows_cell.specs.Rows.{map_of}
-use Rattle.gate_core.specs.Gate.{GateState}
+use Rattle.gate_core.specs.declared.pending.Waiting.{Waiting}
+use Rattle.gate_core.specs.Gate.{GateState, change_at}
 use Rattle.cell_core.specs.declared.pending.Task.{Task}
 use Rattle.cell_core.specs.declared.pending.Kept.{Kept}
 use Rattle.cell_core.specs.declared.handles.HandleKey.{HandleKey}
@@ -37,6 +39,19 @@ pub record MasterState : Type 0 where
   pub kept : List (ℕ × Kept)
   pub clock : ℕ
   pub lease : ℕ
+
+-- ---- the changes that wait
+
+-- the number of the first
+abbrev pub first_number : List (Waiting Task) → Option ℕ
+first_number [] = None
+first_number (w ∷ ws) = Some w.number
+
+-- what the change of a number does
+abbrev pub task_at : ℕ → List (Waiting Task) → Option Task
+task_at number waiting = option_map (λ change. change.body) (change_at number waiting)
+
+-- ---- a master that comes up
 
 -- a master that comes up with these rows: nothing waits, and it knows of no call and of no handle
 abbrev pub master_of : Rows → ℕ → ℕ → MasterState

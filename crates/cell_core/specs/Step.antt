@@ -143,6 +143,10 @@ handle_state_of s key = lookup (is_at (handle_order key)) s.handles
 abbrev pub key_of : Handle → HandleKey
 key_of handle = record { client = handle.client; number = handle.number }
 
+-- a handle is open, and these are its bytes
+abbrev pub open_note : Handle → List ℕ → Note
+open_note handle bytes = record { key = key_of handle; state = states.Open (record { handle = handle; bytes = bytes }) }
+
 -- what the master notes of a handle, if anything
 abbrev pub with_note : MasterState → Option Note → MasterState
 with_note s None = s
@@ -150,7 +154,7 @@ with_note s (Some note) = record s { handles = insert_entry handle_order s.handl
 
 -- one of this epoch has to be open; one of an earlier epoch may be new to this master, but not closed
 abbrev pub is_usable : MasterState → Handle → Option HandleState → Bool
-is_usable s handle (Some states.Open) = nat_le handle.epoch s.epoch
+is_usable s handle (Some (states.Open noted)) = nat_le handle.epoch s.epoch
 is_usable s handle (Some states.Closed) = false
 is_usable s handle None = nat_lt handle.epoch s.epoch
 
@@ -207,9 +211,9 @@ opened_answer s (Ok handle) = results.Opened (handle_bytes s.secret handle)
 opened_answer s (Err fault) = results.Refused fault
 
 -- a new handle is open
-abbrev pub opened_note : Result Handle Fault → Option Note
-opened_note (Ok handle) = Some (record { key = key_of handle; state = states.Open })
-opened_note (Err fault) = None
+abbrev pub opened_note : MasterState → Result Handle Fault → Option Note
+opened_note s (Ok handle) = Some (open_note handle (handle_bytes s.secret handle))
+opened_note s (Err fault) = None
 
 -- ---- what is answered at once
 
@@ -270,7 +274,7 @@ abbrev pub admission_of_open : MasterState → ℕ → ℕ → Open → Option C
 admission_of_open s client number opening (Some create) = record { note = None; touched = opening.name ∷ []; answer = node_fault create.node }
 admission_of_open s client number opening None = record {
   touched = [];
-  note = opened_note (plain_open s client number opening);
+  note = opened_note s (plain_open s client number opening);
   answer = Some (opened_answer s (plain_open s client number opening));
 }
 
@@ -286,12 +290,6 @@ touched_by handle (calls.SetAcl bytes acls generation) = handle.name ∷ []
 touched_by handle (calls.Delete bytes) = handle.name ∷ []
 touched_by handle _ = []
 
--- a handle that is shown is open from then on, also where the call is refused
-abbrev pub handle_admission : MasterState → Call → Option Handle → Admission
-handle_admission s call None = record { note = None; touched = []; answer = Some (results.Refused faults.BadHandle) }
-handle_admission s call (Some handle) =
-    record { note = Some (record { key = key_of handle; state = states.Open }); touched = touched_by handle call; answer = answer_on s handle call }
-
 -- the bytes that a call on a node shows
 abbrev pub bytes_of : Call → List ℕ
 bytes_of (calls.Open opening) = []
@@ -302,6 +300,16 @@ bytes_of (calls.List bytes) = bytes
 bytes_of (calls.Set bytes content generation) = bytes
 bytes_of (calls.SetAcl bytes acls generation) = bytes
 bytes_of (calls.Delete bytes) = bytes
+
+-- a handle that is shown is open from then on, where nothing is noted of it yet
+abbrev pub shown_note : MasterState → Handle → List ℕ → Option Note
+shown_note s handle bytes = if is_none (handle_state_of s (key_of handle)) then Some (open_note handle bytes) else None
+
+-- it is noted also where the call is refused
+abbrev pub handle_admission : MasterState → Call → Option Handle → Admission
+handle_admission s call None = record { note = None; touched = []; answer = Some (results.Refused faults.BadHandle) }
+handle_admission s call (Some handle) =
+    record { note = shown_note s handle (bytes_of call); touched = touched_by handle call; answer = answer_on s handle call }
 
 abbrev pub admission_of : MasterState → ℕ → ℕ → Call → Admission
 admission_of s client number (calls.Open opening) = open_admission s client number opening

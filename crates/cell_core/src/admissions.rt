@@ -1,11 +1,11 @@
 //! The tests of a new call.
 ghost use Rattle.std.specs.Prelude.{◌≡◌, [], ◌∷◌, Some, None, IfOk};
-ghost use Rattle.cell_core.specs.Step.{admission_of, admission_of_open, open_admission, handle_admission, is_of_cell, touched_by};
+ghost use Rattle.tags_cell.specs.Handles.{read_handle};
+ghost use Rattle.cell_core.specs.Step.{admission_of, admission_of_open, open_admission, handle_admission, shown_note, bytes_of, is_of_cell, touched_by};
 
 use crate::answers::node_fault;
 use crate::cells::Cell;
-use crate::handles::{HandleKey, HandleState, Note};
-use crate::opens::opened_note;
+use crate::handles::{HandleKey, Note, OpenHandle};
 use crate::shown::bytes_of;
 use names_cell::Name;
 use node_core::Fault;
@@ -54,18 +54,29 @@ impl Cell {
         }
     }
 
-    // A handle that is shown is open from then on, also where the call is refused.
+    // A handle that is shown is noted also where the call is refused.
     fn handle_admission(&self, handle: &Handle, call: &Call) -> Result<Admission, AllocError>
+        requires { read_handle self.now.secret (bytes_of call.now) ≡ Some handle.now }
         ensures { IfOk result (λ admission. admission ≡ handle_admission self.now call.now (Some handle.now)) }
     {
+        let answer = self.answer_on(handle, call)?;
         Ok(Admission {
-            note: Some(Note {
-                key: HandleKey::of(handle),
-                state: HandleState::Open,
-            }),
+            note: self.shown_note(handle, bytes_of(call))?,
             touched: touched_by(self.alloc, handle, call)?,
-            answer: self.answer_on(handle, call)?,
+            answer,
         })
+    }
+
+    // It is open from then on, where nothing is noted of it yet.
+    fn shown_note(&self, handle: &Handle, bytes: &[u8]) -> Result<Option<Note>, AllocError>
+        requires { read_handle self.now.secret bytes.now ≡ Some handle.now }
+        ensures { IfOk result (λ note. note ≡ shown_note self.now handle.now bytes.now) }
+    {
+        if self.handles.get(&HandleKey::of(handle)).is_some() {
+            return Ok(None);
+        }
+        let noted = OpenHandle::shown(self.alloc, handle, bytes, &self.secret)?;
+        Ok(Some(noted.note()))
     }
 
     fn open_admission(
@@ -98,10 +109,11 @@ impl Cell {
         ensures { IfOk result (λ admission. admission ≡ admission_of_open self.now client number opening.now None) }
     {
         let opened = self.plain_open(client, number, opening)?;
+        let (note, answer) = self.opened(opened)?;
         Ok(Admission {
-            note: opened_note(&opened),
+            note,
             touched: Items::new(self.alloc),
-            answer: Some(self.opened_answer(&opened)?),
+            answer: Some(answer),
         })
     }
 

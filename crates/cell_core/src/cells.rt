@@ -55,7 +55,9 @@ impl Model for Cell {
 
 impl Cell {
     ghost use Rattle.std.specs.Prelude.{◌≡◌, IfOk};
-    ghost use Rattle.cell_core.specs.State.{master_of};
+    ghost use Rattle.std.specs.Option.{option_copied};
+    ghost use Rattle.cell_core.specs.State.{master_of, first_number, task_at};
+    ghost use Rattle.cell_core.specs.Step.{noted};
 
     /// A master that comes up with these rows, with its lease and the moment in milliseconds: nothing waits, and it
     /// knows of no call and of no handle.
@@ -94,6 +96,52 @@ impl Cell {
         ensures { result ≡ self.now.epoch }
     {
         self.epoch
+    }
+
+    /// In milliseconds.
+    pub fn lease(&self) -> u64
+        ensures { result ≡ self.now.lease }
+    {
+        self.lease
+    }
+
+    pub fn alloc(&self) -> Global {
+        self.alloc
+    }
+
+    /// The number of the change that waits longest.
+    pub fn first_waiting(&self) -> Option<u64>
+        ensures { result ≡ first_number self.now.gate.waiting }
+    {
+        match self.gate.as_slice() {
+            [] => None,
+            [first, ..] => Some(first.number),
+        }
+    }
+
+    /// What the change of a number does, while it waits.
+    pub fn task(&self, number: u64) -> Option<&Task>
+        ensures { option_copied result ≡ task_at number self.now.gate.waiting }
+    {
+        let change = self.gate.get(number)?;
+        Some(&change.body)
+    }
+
+    /// Notes a moment, in milliseconds; an earlier one than the last counts as that. Gives the last one.
+    pub fn note_moment(&mut self, now: u64) -> u64
+        ensures moment { self.new ≡ noted self.old now }
+        ensures before { result ≡ self.old.clock }
+    {
+        let before = self.clock;
+        self.clock = before.max(now);
+        before
+    }
+
+    /// The moment that was the last one before.
+    pub fn restore_moment(&mut self, before: u64)
+        ensures { self.new ≡ record self.old { clock = before } }
+    {
+        self.clock = before;
     }
 
     /// The nodes of the cell, as the rows hold them.

@@ -223,11 +223,19 @@ impl Cell {
     {
         match note {
             None => Ok(None),
-            Some(Note { key, state }) => {
-                let former = self.handles.put(key, state)?;
-                Ok(Some((key, former)))
-            }
+            Some(note) => Ok(Some(self.put_state(note)?)),
         }
+    }
+
+    fn put_state(&mut self, note: Note) -> Result<(HandleKey, Option<HandleState>), AllocError>
+        ensures ok { OnOk result (self.new ≡ with_note self.old (Some note)) }
+        ensures back { IfOk result (λ former. without_note self.new (Some former) ≡ self.old) }
+        ensures err { OnErr result (self.new ≡ self.old) }
+    {
+        let Note { key, state } = note;
+        let HandleKey { client, number } = key;
+        let former = self.handles.put(key, state)?;
+        Ok((HandleKey { client, number }, former))
     }
 
     // A node that is put; one that goes stays until the rest is done.

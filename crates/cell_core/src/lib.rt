@@ -19,5 +19,5 @@ mod writes;
 pub use cells::Cell;
 pub use deeds::{Deed, Former, Grown, KeptPut, Rest, SessionPut};
 pub use effects::{Change, Effect};
-pub use handles::{HandleKey, HandleState, Note};
+pub use handles::{HandleKey, HandleState, Note, OpenHandle};
 pub use pending::{Kept, Taken, Task, Work};

@@ -66,7 +66,7 @@ pub struct Kept {
 }
 
 impl Kept {
-    pub(crate) fn answered(number: MessageNumber, answer: CallResult) -> Kept
+    pub fn answered(number: MessageNumber, answer: CallResult) -> Kept
         ensures { result ≡ record { number = number; result = Some answer } }
     {
         Kept {

@@ -81,7 +81,7 @@ impl Cell {
         Ok(taken)
     }
 
-    pub(crate) fn nothing(&self) -> Taken
+    pub fn nothing(&self) -> Taken
         ensures lines { result.lines ≡ [] }
         ensures outs { result.outs ≡ [] }
     {

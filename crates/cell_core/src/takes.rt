@@ -27,12 +27,11 @@ impl Cell {
         if now >= MOMENT_LIMIT || self.gate.pushed() >= NUMBER_LIMIT {
             return Err(Fault::Exhausted);
         }
-        let before = self.clock;
-        self.clock = before.max(now);
+        let before = self.note_moment(now);
         match self.take_at(request) {
             Ok(taken) => Ok(taken),
             Err(_) => {
-                self.clock = before;
+                self.restore_moment(before);
                 Err(Fault::NoMemory)
             }
         }
@@ -145,11 +144,15 @@ impl Cell {
         ensures ok { IfOk result (λ taken. admit_step (with_note self.old (Some note)) client number call.now touched answer ≡ (self.new, taken)) }
         ensures err { OnErr result (self.new ≡ self.old) }
     {
-        let former = self.handles.put(note.key, note.state)?;
+        let Note { key, state } = note;
+        let former = self.handles.put(key, state)?;
         match self.admit(client, number, call, touched, answer) {
-            Ok(taken) => Ok(taken),
+            Ok(taken) => {
+                drop(former);
+                Ok(taken)
+            }
             Err(error) => {
-                self.handles.restore(&note.key, former);
+                self.handles.restore(&key, former);
                 Err(error)
             }
         }

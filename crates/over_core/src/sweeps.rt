@@ -1,15 +1,16 @@
 //! What a master does by itself.
-ghost use Rattle.std.specs.Prelude.{◌≡◌, [], ◌∷◌, ◌++◌, true, IfOk, OnErr};
+ghost use Rattle.std.specs.Prelude.{◌≡◌, ◌⊎◌, true, Ok, Err, IfOk, IfErr, OnOk, OnErr};
 ghost use Rattle.rows_cell.specs.Rows.{changed_rows};
 ghost use Rattle.rows_cell.specs.Sound.{sound};
-ghost use Rattle.rows_cell.specs.Stores.{Commits};
-ghost use Rattle.rows_cell.specs.declared.tables.Edit.TheVariants.{PutSession, PutNode, NextInstance};
+ghost use Rattle.rows_cell.specs.Stores.{Commits, IsCommitted, IsRefused};
+ghost use Rattle.rows_cell.specs.declared.tables.Edit.TheVariants.{PutNode};
 ghost use Rattle.cell_core.specs.Deeds.{session_edits, edit_of, change_edits, edits_of, done};
-ghost use Rattle.over_core.specs.Sweep.{first_action, swept, action_edits};
+ghost use Rattle.over_core.specs.Sweep.{first_action, swept, action_edits, sweep_edits, sweep_step};
 
 use crate::actions::{Action, first_action};
 use crate::plans::{Plan, plan};
 use cell_core::{Cell as Master, Change, Deed, Grown, SessionPut, Taken};
+use lease_core::MOMENT_LIMIT;
 use names_cell::Name;
 use node_core::{Fault, Line, Mod, View};
 use plain::Items;
@@ -34,9 +35,37 @@ impl Swept {
     }
 }
 
+/// A sweep at a moment, in milliseconds; an earlier one than the last counts as that, and one of 2^53 or more is refused
+/// as Exhausted. A refusal leaves the master as it was.
+#[tactic(auto, unfolding(crate::specs::Sweep::sweep_step))]
+pub(crate) fn sweep_by<R: Records>(
+    master: &mut Master,
+    records: &mut R,
+    now: u64,
+) -> Result<Swept, Fault>
+    requires { sound (R.store records.old).cell (changed_rows (R.store records.old).rows (sweep_edits master.old now)) ≡ true }
+    ensures ok { IfOk result (λ swept. sweep_step master.old now ≡ Ok (master.new, swept)) }
+    ensures committed { OnOk result (IsCommitted (sweep_edits master.old now) (R.store records.old) (R.store records.new)) }
+    ensures err { OnErr result (master.new ≡ master.old) }
+    ensures fault { IfErr result (λ e. (sweep_step master.old now ≡ Err e × R.store records.new ≡ R.store records.old)
+        ⊎ IsRefused e (sweep_edits master.old now) (R.store records.old) (R.store records.new)) }
+{
+    if now >= MOMENT_LIMIT {
+        return Err(Fault::Exhausted);
+    }
+    let before = master.note_moment(now);
+    match sweep_at(master, records) {
+        Ok(swept) => Ok(swept),
+        Err(fault) => {
+            master.restore_moment(before);
+            Err(fault)
+        }
+    }
+}
+
 // Does the first action that there is, with at most one commit to the records, which comes before all that is printed
 // and sent. A refusal leaves the master as it was.
-pub(crate) fn sweep_at<R: Records>(master: &mut Master, records: &mut R) -> Result<Swept, Fault>
+fn sweep_at<R: Records>(master: &mut Master, records: &mut R) -> Result<Swept, Fault>
     requires { sound (R.store records.old).cell (changed_rows (R.store records.old).rows (action_edits master.old (first_action master.old))) ≡ true }
     ensures ok { IfOk result (λ done. swept master.old (first_action master.old) ≡ (master.new, done)) }
     ensures store { Commits (action_edits master.old (first_action master.old)) (R.store records.old) (R.store records.new) result }
