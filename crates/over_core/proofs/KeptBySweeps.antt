@@ -1,5 +1,5 @@
 -- What a sweep commits is sound, and leaves the master beside its rows.
-use Rattle.std.proofs.Common.{◌≡◌, ℕ, List, [], ◌∷◌, ◌++◌, Bool, true, Option, Some, None, Result, Ok, Err, refl, sym, ◌∙◌, ap, subst, inl, inr}
+use Rattle.std.proofs.Common.{◌≡◌, ℕ, List, [], ◌∷◌, ◌++◌, Bool, true, false, Option, Some, None, Result, Ok, Err, refl, sym, ◌∙◌, ap, subst, inl, inr}
 use Rattle.std.specs.Prelude.{◌⊎◌, ◌&&◌, max, if◌then◌else◌, IfOk, IfErr, OnOk, OnErr}
 use Rattle.std.specs.List.{list_all}
 use Rattle.std.specs.List.Sorted.{IsStrictlySortedBy}
@@ -25,6 +25,7 @@ use Rattle.rows_cell.proofs.SoundRemovals.{gone_sound}
 use Rattle.gate_core.specs.declared.pending.Waiting.{Waiting}
 use Rattle.cell_core.specs.declared.effects.Change.{Change}
 use Rattle.cell_core.specs.declared.effects.Effect.{Effect}
+use Rattle.cell_core.specs.declared.pending.Kept.{Kept}
 use Rattle.cell_core.specs.declared.pending.Task.{Task}
 use Rattle.cell_core.specs.State.{MasterState}
 use Rattle.cell_core.specs.Step.{recorded, with_note, is_past_end, noted}
@@ -71,8 +72,8 @@ module _ (cell : List ℕ) (rows : Rows) (s : MasterState) (k : IsKept cell rows
   case_sound (StartedAgain front back task principal turn work may live) order = k.sound_rows
   case_sound (Started front back task principal turn work may live) order =
       let t = parts front back task turn in session_sound cell rows task.client principal k.sound_rows t.0
-  case_sound (Ended front back task call note answer turn work made) order = k.sound_rows
-  case_sound (Applied front back task call note change answer turn work made) order =
+  case_sound (Ended front back task call _ answer turn work made) order = k.sound_rows
+  case_sound (Applied front back task call _ change answer turn work made) order =
       let P : Effect → Type 0 = EffectFits rows in
       change_sound cell rows change.change change.next_instance k.sound_rows (ordered order) (subst P made (effect_fits cell rows s k task.client task.number call))
 
@@ -120,11 +121,11 @@ module _ (cell : List ℕ) (rows : Rows) where
       }
   case_kept s (Ended front back task call note answer turn work made) k h =
       let t = rest s front back in
-      let kept = record { number = task.number; result = Some answer } in
+      let kept : Kept = record { number = task.number; result = Some answer } in
       note_kept cell rows (recorded t task.client kept) note (recorded_kept cell rows t task.client kept (rest_kept cell rows s k front back task turn))
   case_kept s (Applied front back task call note change answer turn work made) k h =
       let t = mapped (rest s front back) change in
-      let kept = record { number = task.number; result = Some answer } in
+      let kept : Kept = record { number = task.number; result = Some answer } in
       let after = changed_rows rows (edit_of change.change ∷ NextInstance change.next_instance ∷ []) in
       note_kept cell after (recorded t task.client kept) note (recorded_kept cell after t task.client kept (mapped_kept (rest s front back) change.change change.next_instance (rest_kept cell rows s k front back task turn) h))
 
@@ -132,21 +133,21 @@ module _ (cell : List ℕ) (rows : Rows) where
 
 pub sweep_sound : (cell : List ℕ) (rows : Rows) (s : MasterState) (now : ℕ) → IsKept cell rows s → HasNamesInOrder s.nodes → sound cell (changed_rows rows (sweep_edits s now)) ≡ true
 sweep_sound cell rows s now k order =
-    let then = noted s now in
-    let c = sweep_case then in
+    let there = noted s now in
+    let c = sweep_case there in
     let P : List Edit → Type 0 = λ edits. sound cell (changed_rows rows edits) ≡ true in
-    let swept = subst P (sym c.2) (case_sound cell rows then (clock_kept cell rows s (max s.clock now) k) c.0 order) in
-    elim (is_past_end now) as (λ b. sound cell (changed_rows rows (if b then [] else action_edits then (first_action then))) ≡ true) [ true ↦ k.sound_rows | false ↦ swept ]
+    let swept = subst P (sym c.2) (case_sound cell rows there (clock_kept cell rows s (max s.clock now) k) c.0 order) in
+    elim (is_past_end now) as (λ b. sound cell (changed_rows rows (if b then [] else action_edits there (first_action there))) ≡ true) [ true ↦ k.sound_rows | false ↦ swept ]
 
 sweep_kept : (cell : List ℕ) (rows : Rows) (s new : MasterState) (now : ℕ) (told : Swept) → IsKept cell rows s → HasNamesInOrder s.nodes → sweep_step s now ≡ Ok (new, told) → IsKept cell (changed_rows rows (sweep_edits s now)) new
 sweep_kept cell rows s new now told k order h =
-    let then = noted s now in
+    let there = noted s now in
     let c = swept_case s new now told h in
     let noted_kept = clock_kept cell rows s (max s.clock now) k in
-    let is : new ≡ (swept_by then c.0).0 = ap (λ (p : MasterState × Swept). p.0) c.1 in
-    let P : List Edit → Type 0 = λ edits. IsKept cell (changed_rows rows edits) (swept_by then c.0).0 in
+    let is : new ≡ (swept_by there c.0).0 = ap (λ (p : MasterState × Swept). p.0) c.1 in
+    let P : List Edit → Type 0 = λ edits. IsKept cell (changed_rows rows edits) (swept_by there c.0).0 in
     let Q : MasterState → Type 0 = IsKept cell (changed_rows rows (sweep_edits s now)) in
-    subst Q (sym is) (subst P (sym c.2) (case_kept cell rows then c.0 noted_kept (case_sound cell rows then noted_kept c.0 order)))
+    subst Q (sym is) (subst P (sym c.2) (case_kept cell rows there c.0 noted_kept (case_sound cell rows there noted_kept c.0 order)))
 
 -- the same of a sweep that may be refused
 pub swept_kept : (old new : Store) (s after : MasterState) (now : ℕ) (result : Result Swept Fault) → IsKept old.cell old.rows s → HasNamesInOrder s.nodes → IfOk result (λ told. sweep_step s now ≡ Ok (after, told)) → OnOk result (IsCommitted (sweep_edits s now) old new) → OnErr result (after ≡ s) → IfErr result (λ e. (sweep_step s now ≡ Err e × new ≡ old) ⊎ IsRefused e (sweep_edits s now) old new) → IsKept new.cell new.rows after

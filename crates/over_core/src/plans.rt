@@ -37,7 +37,7 @@ impl Plan {
 }
 
 // What is done for the change of a number, as the master stands now.
-pub(crate) fn plan(master: &Master, number: u64) -> Result<Plan, AllocError>
+pub(crate) fn plan_for(master: &Master, number: u64) -> Result<Plan, AllocError>
     ensures { IfOk result (λ plan. plan ≡ plan_of master.now (Apply number)) }
 {
     match master.task(number) {

@@ -1,5 +1,5 @@
 //! What a master does by itself.
-ghost use Rattle.std.specs.Prelude.{◌≡◌, ◌⊎◌, true, Ok, Err, IfOk, IfErr, OnOk, OnErr};
+ghost use Rattle.std.specs.Prelude.{◌≡◌, ◌⊎◌, true, false, Ok, Err, IfOk, IfErr, OnOk, OnErr};
 ghost use Rattle.rows_cell.specs.Rows.{changed_rows};
 ghost use Rattle.rows_cell.specs.Sound.{sound};
 ghost use Rattle.rows_cell.specs.Stores.{Commits, IsCommitted, IsRefused};
@@ -8,7 +8,7 @@ ghost use Rattle.cell_core.specs.Deeds.{session_edits, edit_of, change_edits, ed
 ghost use Rattle.over_core.specs.Sweep.{first_action, swept, action_edits, sweep_edits, sweep_step};
 
 use crate::actions::{Action, first_action};
-use crate::plans::{Plan, plan};
+use crate::plans::{Plan, plan_for};
 use cell_core::{Cell as Master, Change, Deed, Grown, SessionPut, Taken};
 use lease_core::MOMENT_LIMIT;
 use names_cell::Name;
@@ -74,7 +74,7 @@ fn sweep_at<R: Records>(master: &mut Master, records: &mut R) -> Result<Swept, F
     match first_action(master) {
         Action::Quiet => Ok(Swept::of(master.nothing(), true)),
         Action::Apply(number) => {
-            let plan = plan(master, number)?;
+            let plan = plan_for(master, number)?;
             carry_out(master, records, number, plan)
         }
     }
