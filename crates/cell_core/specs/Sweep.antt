@@ -23,7 +23,7 @@ use Rattle.cell_core.specs.declared.plans.Deed.TheVariants as deeds
 use Rattle.cell_core.specs.declared.plans.Plan.{Plan}
 use Rattle.cell_core.specs.declared.sweeps.Swept.{Swept}
 use Rattle.cell_core.specs.State.{MasterState}
-use Rattle.cell_core.specs.Step.{may_start, is_live, turned_away, reply, recorded, with_note, is_past_end, noted}
+use Rattle.cell_core.specs.Step.{may_start, is_live, turned_away, reply_of, answered_by, recorded, with_note, is_past_end, noted}
 use Rattle.cell_core.specs.Effect.{effect}
 
 -- ---- what is planned for the change whose turn it is
@@ -52,11 +52,11 @@ abbrev pub applied_lines : ℕ → ℕ → Option Change → List Line
 applied_lines client number None = []
 applied_lines client number (Some change) = lines.Applied client number change.change ∷ []
 
--- the result of a call is kept and sent, and a change of the map is committed and printed
+-- the reply to a call is kept and sent, and a change of the map is committed and printed
 abbrev pub plan_effect : MasterState → ℕ → ℕ → Effect → Plan
 plan_effect s client number effected = record {
-  deed = deeds.Answers client (record { number = number; result = Some effected.answer }) effected.note effected.change;
-  taken = record { lines = applied_lines client number effected.change; outs = (reply s client number effected.answer).outs };
+  deed = deeds.Answers client (answered_by (reply_of s client number effected.answer)) effected.note effected.change;
+  taken = record { lines = applied_lines client number effected.change; outs = outs.Reply (reply_of s client number effected.answer) ∷ [] };
 }
 
 abbrev pub plan_work : MasterState → ℕ → ℕ → Work → Plan

@@ -1,8 +1,8 @@
 //! What is planned for the change whose turn it is.
-ghost use Rattle.std.specs.Prelude.{◌≡◌, [], ◌∷◌, Some, IfOk};
+ghost use Rattle.std.specs.Prelude.{◌≡◌, [], ◌∷◌, IfOk};
 ghost use Rattle.node_core.specs.declared.lines.Line.TheVariants as lines;
-ghost use Rattle.cell_core.specs.declared.plans.Deed.TheVariants.{Nothing, Answers};
-ghost use Rattle.cell_core.specs.Step.{reply};
+ghost use Rattle.cell_core.specs.declared.plans.Deed.TheVariants.{Nothing};
+ghost use Rattle.cell_core.specs.Step.{sends};
 ghost use Rattle.cell_core.specs.Sweep.{started_out, applied_lines, plan_session, plan_start, plan_effect, plan_of};
 
 use crate::cells::Cell;
@@ -13,7 +13,7 @@ use names_cell::Principal;
 use node_core::{Fault, Line, Mod};
 use rows_cell::Session;
 use std::alloc::AllocError;
-use tags_cell::{ClientNumber, MessageNumber, Out, Started};
+use tags_cell::{ClientNumber, MessageNumber, Out, Reply, Started};
 
 /// What the master does, beside printing and sending.
 #[derive(Debug, Drop)]
@@ -22,7 +22,7 @@ pub enum Deed {
     Nothing,
     /// The session of this client number is committed.
     Starts(u64, Session),
-    /// The result of a call is kept, what is noted of a handle too, and a change of the map is committed.
+    /// The reply to a call is kept, what is noted of a handle too, and a change of the map is committed.
     Answers(ClientNumber, Kept, Option<Note>, Option<Change>),
 }
 
@@ -130,23 +130,28 @@ impl Cell {
     ) -> Result<Plan, AllocError>
         ensures { IfOk result (λ plan. plan ≡ plan_effect self.now client number effect) }
     {
-        let taken = self.effect_taken(client, number, &effect)?;
-        Ok(plan_answer(client, number, effect, taken))
+        let Effect {
+            note,
+            change,
+            answer,
+        } = effect;
+        let reply = self.reply_of(client, number, answer);
+        let taken = self.reply_taken(&reply, &change)?;
+        let kept = Kept::answered(reply);
+        Ok(Plan {
+            deed: Deed::Answers(client, kept, note, change),
+            taken,
+        })
     }
 
     // What is printed and sent for a call.
-    fn effect_taken(
-        &self,
-        client: ClientNumber,
-        number: MessageNumber,
-        effect: &Effect,
-    ) -> Result<Taken, AllocError>
-        ensures lines { IfOk result (λ taken. taken.lines ≡ applied_lines client number effect.now.change) }
-        ensures outs { IfOk result (λ taken. taken.outs ≡ (reply self.now client number effect.now.answer).outs) }
+    fn reply_taken(&self, reply: &Reply, change: &Option<Change>) -> Result<Taken, AllocError>
+        ensures lines { IfOk result (λ taken. taken.lines ≡ applied_lines reply.now.client reply.now.number change.now) }
+        ensures outs { IfOk result (λ taken. taken.outs ≡ (sends reply.now).outs) }
     {
-        let mut taken = self.reply_of(client, number, &effect.answer)?;
-        if let Some(applied) = &effect.change {
-            let line = applied_line(client, number, &applied.change)?;
+        let mut taken = self.sends(reply)?;
+        if let Some(applied) = change {
+            let line = applied_line(reply.client, reply.number, &applied.change)?;
             taken.lines.push(line)?;
         }
         Ok(taken)
@@ -162,20 +167,4 @@ fn applied_line(
 {
     let shown = change.clone()?;
     Ok(Line::Applied(client.get(), number.get(), shown))
-}
-
-// A call's result is kept, beside what is printed and sent.
-fn plan_answer(client: ClientNumber, number: MessageNumber, effect: Effect, taken: Taken) -> Plan
-    ensures { result ≡ record { deed = Answers client (record { number = number; result = Some effect.answer }) effect.note effect.change; taken = taken } }
-{
-    let Effect {
-        note,
-        change,
-        answer,
-    } = effect;
-    let kept = Kept::answered(number, answer);
-    Plan {
-        deed: Deed::Answers(client, kept, note, change),
-        taken,
-    }
 }

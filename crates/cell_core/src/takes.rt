@@ -90,10 +90,10 @@ impl Cell {
             None => self.new_call(client, number, call),
             Some(kept) => {
                 if number == kept.number {
-                    self.repeated(client, kept)
+                    self.repeated(kept)
                 } else if number < kept.number {
                     self.refusal(client, number, Fault::Repeat)
-                } else if kept.result.is_none() {
+                } else if kept.reply.is_none() {
                     self.refusal(client, number, Fault::CallOutstanding)
                 } else {
                     self.new_call(client, number, call)
@@ -181,7 +181,7 @@ impl Cell {
         self.queue_call(client, number, call)?;
         let kept = Kept {
             number,
-            result: None,
+            reply: None,
         };
         match self.keep(client, kept) {
             Ok(()) => Ok(self.nothing()),
@@ -237,7 +237,7 @@ impl Cell {
         Ok(())
     }
 
-    // Records a result, and sends it.
+    // Records a reply, and sends it.
     fn reply(
         &mut self,
         client: ClientNumber,
@@ -247,8 +247,9 @@ impl Cell {
         ensures ok { IfOk result (λ taken. replied self.old client number answer ≡ (self.new, taken)) }
         ensures err { OnErr result (self.new ≡ self.old) }
     {
-        let taken = self.reply_of(client, number, &answer)?;
-        self.keep(client, Kept::answered(number, answer))?;
+        let reply = self.reply_of(client, number, answer);
+        let taken = self.sends(&reply)?;
+        self.keep(client, Kept::answered(reply))?;
         Ok(taken)
     }
 }

@@ -21,7 +21,7 @@ use Rattle.cell_core.specs.declared.pending.Pending.{Pending}
 use Rattle.cell_core.specs.declared.pending.Work.TheVariants as works
 use Rattle.cell_core.specs.State.{MasterState}
 use Rattle.cell_core.specs.declared.handles.Note.{Note}
-use Rattle.cell_core.specs.Step.{full_answer, is_full, may_start, is_live, turned_away, refusal, repeated, nothing, queued, recorded, start_step, waits, with_note, admission_of, admit_unless, admit_step, new_call, kept_of, kept_step, call_step, take_at, take_step}
+use Rattle.cell_core.specs.Step.{full_answer, is_full, may_start, is_live, turned_away, refusal, reply_of, answered_by, repeated, nothing, queued, recorded, start_step, waits, with_note, admission_of, admit_unless, admit_step, new_call, kept_of, kept_step, call_step, take_at, take_step}
 use Rattle.over_core.specs.Kept.{IsKept, queue_fits}
 
 -- where what the rows hold is untouched
@@ -62,11 +62,11 @@ module _ (cell : List ℕ) (rows : Rows) where
 
   unless_kept : (s : MasterState) (client number : ℕ) (call : Call) (o : Option CallResult) → IsKept cell rows s → is_number client ≡ true → IsKept cell rows (admit_unless s client number call o).0
   unless_kept s client number call None k in_range = waits_kept s client number call k in_range
-  unless_kept s client number call (Some result) k in_range = recorded_kept s client (record { number = number; result = Some result }) k
+  unless_kept s client number call (Some result) k in_range = recorded_kept s client (answered_by (reply_of s client number result)) k
 
   admit_kept : (s : MasterState) (client number : ℕ) (call : Call) (o : Option CallResult) → IsKept cell rows s → is_number client ≡ true → IsKept cell rows (admit_step s client number call o).0
   admit_kept s client number call None k in_range = unless_kept s client number call (full_answer s) k in_range
-  admit_kept s client number call (Some result) k in_range = recorded_kept s client (record { number = number; result = Some result }) k
+  admit_kept s client number call (Some result) k in_range = recorded_kept s client (answered_by (reply_of s client number result)) k
 
   new_kept : (s : MasterState) (client number : ℕ) (call : Call) → IsKept cell rows s → is_number client ≡ true → IsKept cell rows (new_call s client number call).0
   new_kept s client number call k in_range =
@@ -76,10 +76,10 @@ module _ (cell : List ℕ) (rows : Rows) where
   last_kept : (s : MasterState) (client number : ℕ) (call : Call) (o : Option Kept) → IsKept cell rows s → is_number client ≡ true → IsKept cell rows (kept_step s client number call o).0
   last_kept s client number call None k in_range = new_kept s client number call k in_range
   last_kept s client number call (Some kept) k in_range =
-      let late : MasterState × Taken = cond (is_none kept.result) (s, refusal s client number faults.CallOutstanding) (new_call s client number call) in
-      either_kept (number == kept.number) (s, repeated s client kept) (cond (nat_lt number kept.number) (s, refusal s client number faults.Repeat) late) k
+      let late : MasterState × Taken = cond (is_none kept.reply) (s, refusal s client number faults.CallOutstanding) (new_call s client number call) in
+      either_kept (number == kept.number) (s, repeated kept) (cond (nat_lt number kept.number) (s, refusal s client number faults.Repeat) late) k
       (either_kept (nat_lt number kept.number) (s, refusal s client number faults.Repeat) late k
-      (either_kept (is_none kept.result) (s, refusal s client number faults.CallOutstanding) (new_call s client number call) k
+      (either_kept (is_none kept.reply) (s, refusal s client number faults.CallOutstanding) (new_call s client number call) k
       (new_kept s client number call k in_range)))
 
   call_kept : (s : MasterState) (message : CallMessage) → IsKept cell rows s → is_number message.client ≡ true → IsKept cell rows (call_step s message).0
