@@ -10,6 +10,7 @@ use Rattle.tags_cell.specs.declared.requests.Request.{Request}
 use Rattle.tags_cell.specs.declared.requests.Request.TheVariants as requests
 use Rattle.tags_cell.specs.declared.outs.CallResult.{CallResult}
 use Rattle.tags_cell.specs.declared.outs.CallResult.TheVariants as results
+use Rattle.tags_cell.specs.declared.outs.Reply.{Reply}
 use Rattle.cell_core.specs.declared.admissions.Admission.{Admission}
 use Rattle.cell_core.specs.declared.pending.Taken.{Taken}
 use Rattle.cell_core.specs.declared.pending.Kept.{Kept}
@@ -39,13 +40,13 @@ less n m h = grind (arith, nat_tests)
 above : (n m : ℕ) → eqb n m ≡ false → nat_lt n m ≡ false → m < n
 above n m h k = grind (arith, nat_tests)
 
-no_result : (o : Option CallResult) → is_none o ≡ true → o ≡ None
-no_result None h = refl
-no_result (Some result) h = cc
+no_reply : (o : Option Reply) → is_none o ≡ true → o ≡ None
+no_reply None h = refl
+no_reply (Some reply) h = cc
 
-some_result : (o : Option CallResult) → is_none o ≡ false → (result : CallResult) × (o ≡ Some result)
-some_result None h = cc
-some_result (Some result) h = (result, refl)
+some_reply : (o : Option Reply) → is_none o ≡ false → (reply : Reply) × (o ≡ Some reply)
+some_reply None h = cc
+some_reply (Some reply) h = (reply, refl)
 
 -- ---- a new call
 
@@ -70,13 +71,13 @@ kept_case : (s : MasterState) (request : Request) (message : CallMessage) (o : O
 kept_case s request message None heard is = new_case s request message (record { heard = heard; behind = rw is tt })
 kept_case s request message (Some kept) heard is =
     let new = new_call s message.client message.number message.call in
-    let outstanding = cond (is_none kept.result) (s, refusal s message.client message.number faults.CallOutstanding) new in
+    let outstanding = cond (is_none kept.reply) (s, refusal s message.client message.number faults.CallOutstanding) new in
     let older = cond (nat_lt message.number kept.number) (s, refusal s message.client message.number faults.Repeat) outstanding in
-    either s request (message.number == kept.number) (s, repeated s message.client kept) older (λ e. (Repeated message kept heard is (same message.number kept.number e), refl)) (λ apart.
+    either s request (message.number == kept.number) (s, repeated kept) older (λ e. (Repeated message kept heard is (same message.number kept.number e), refl)) (λ apart.
     either s request (nat_lt message.number kept.number) (s, refusal s message.client message.number faults.Repeat) outstanding (λ e. (OlderCall message kept heard is (less message.number kept.number e), refl)) (λ more.
     let high = above message.number kept.number apart more in
-    either s request (is_none kept.result) (s, refusal s message.client message.number faults.CallOutstanding) new (λ e. (Outstanding message kept heard is high (no_result kept.result e), refl)) (λ e.
-    let t = some_result kept.result e in
+    either s request (is_none kept.reply) (s, refusal s message.client message.number faults.CallOutstanding) new (λ e. (Outstanding message kept heard is high (no_reply kept.reply e), refl)) (λ e.
+    let t = some_reply kept.reply e in
     new_case s request message (record { heard = heard; behind = rw is (t.0, t.1, high) }))))
 
 call_case : (s : MasterState) (request : Request) (message : CallMessage) → request ≡ requests.Call message → IsCase s request (call_step s message)

@@ -6,6 +6,7 @@ use Rattle.tags_cell.specs.declared.requests.CallMessage.{CallMessage}
 use Rattle.tags_cell.specs.declared.requests.Request.{Request}
 use Rattle.tags_cell.specs.declared.requests.Request.TheVariants as requests
 use Rattle.tags_cell.specs.declared.outs.CallResult.{CallResult}
+use Rattle.tags_cell.specs.declared.outs.Reply.{Reply}
 use Rattle.tags_cell.specs.declared.outs.CallResult.TheVariants as results
 use Rattle.cell_core.specs.declared.handles.Note.{Note}
 use Rattle.cell_core.specs.declared.pending.Taken.{Taken}
@@ -16,10 +17,10 @@ use Rattle.cell_core.specs.Step.{kept_of, is_live, is_full, may_start, nothing, 
 
 -- ---- a message
 
--- the client's last call, if it made one, has its result and a smaller number
+-- the client's last call, if it made one, has its reply and a smaller number
 abbrev pub IsBehind : Option Kept → ℕ → Type 0
 IsBehind None number = Unit {0}
-IsBehind (Some kept) number = (result : CallResult) × (kept.result ≡ Some result) × (kept.number < number)
+IsBehind (Some kept) number = (reply : Reply) × (kept.reply ≡ Some reply) × (kept.number < number)
 
 -- a call of the master's epoch, by a live session
 pub record IsHeard (s : MasterState) (request : Request) (message : CallMessage) : Type 0 where
@@ -55,7 +56,7 @@ pub data TakeCase (s : MasterState) (request : Request) : Type 0 where
   NoSession : (message : CallMessage) → request ≡ requests.Call message → message.epoch ≡ s.epoch → is_live s message.client ≡ false → TakeCase s request
   Repeated : (message : CallMessage) (kept : Kept) → IsHeard s request message → kept_of s message.client ≡ Some kept → message.number ≡ kept.number → TakeCase s request
   OlderCall : (message : CallMessage) (kept : Kept) → IsHeard s request message → kept_of s message.client ≡ Some kept → message.number < kept.number → TakeCase s request
-  Outstanding : (message : CallMessage) (kept : Kept) → IsHeard s request message → kept_of s message.client ≡ Some kept → kept.number < message.number → kept.result ≡ None → TakeCase s request
+  Outstanding : (message : CallMessage) (kept : Kept) → IsHeard s request message → kept_of s message.client ≡ Some kept → kept.number < message.number → kept.reply ≡ None → TakeCase s request
   Answered : (message : CallMessage) (note : Option Note) (answer : CallResult) → IsNew s request message → IsAnswered s message note answer → TakeCase s request
   Waits : (message : CallMessage) (note : Option Note) (touched : List (List ℕ)) → IsNew s request message → IsAdmitted s message note touched → TakeCase s request
 
@@ -67,7 +68,7 @@ taken_by s request (StartQueued start is may room) =
     (queued s [] (record { client = start.client; number = start.number; work = works.Starts start.principal }), nothing)
 taken_by s request (OldEpoch message is other) = (s, refusal s message.client message.number (faults.OldEpoch s.epoch))
 taken_by s request (NoSession message is same ended) = (s, refusal s message.client message.number faults.NoSession)
-taken_by s request (Repeated message kept heard is same) = (s, repeated s message.client kept)
+taken_by s request (Repeated message kept heard is same) = (s, repeated kept)
 taken_by s request (OlderCall message kept heard is less) = (s, refusal s message.client message.number faults.Repeat)
 taken_by s request (Outstanding message kept heard is more none) = (s, refusal s message.client message.number faults.CallOutstanding)
 taken_by s request (Answered message note answer new answered) = replied (with_note s note) message.client message.number answer

@@ -38,6 +38,7 @@ use Rattle.tags_cell.specs.declared.requests.Request.TheVariants as requests
 use Rattle.tags_cell.specs.declared.outs.CallResult.{CallResult}
 use Rattle.tags_cell.specs.declared.outs.CallResult.TheVariants as results
 use Rattle.tags_cell.specs.declared.outs.Out.TheVariants as outs
+use Rattle.tags_cell.specs.declared.outs.Reply.{Reply}
 use Rattle.cell_core.specs.declared.pending.Taken.{Taken}
 use Rattle.cell_core.specs.declared.pending.Kept.{Kept}
 use Rattle.cell_core.specs.declared.pending.Task.{Task}
@@ -83,17 +84,20 @@ abbrev pub refusal : MasterState → ℕ → ℕ → Fault → Taken
 refusal s client number fault =
     record { lines = lines.Refused fault ∷ []; outs = outs.Refused (record { client = client; epoch = s.epoch; number = number; fault = fault }) ∷ [] }
 
-abbrev pub reply : MasterState → ℕ → ℕ → CallResult → Taken
-reply s client number result =
-    record { lines = []; outs = outs.Reply (record { client = client; epoch = s.epoch; number = number; result = result }) ∷ [] }
+-- what is sent of a call's result, and kept of it
+abbrev pub reply_of : MasterState → ℕ → ℕ → CallResult → Reply
+reply_of s client number result = record { client = client; epoch = s.epoch; number = number; result = result }
 
--- the last call again: its result, or nothing while it waits
-abbrev pub repeated_result : MasterState → ℕ → ℕ → Option CallResult → Taken
-repeated_result s client number None = nothing
-repeated_result s client number (Some result) = reply s client number result
+abbrev pub sends : Reply → Taken
+sends reply = record { lines = []; outs = outs.Reply reply ∷ [] }
 
-abbrev pub repeated : MasterState → ℕ → Kept → Taken
-repeated s client kept = repeated_result s client kept.number kept.result
+-- the last call again: its reply, or nothing while it waits
+abbrev pub repeated_reply : Option Reply → Taken
+repeated_reply None = nothing
+repeated_reply (Some reply) = sends reply
+
+abbrev pub repeated : Kept → Taken
+repeated kept = repeated_reply kept.reply
 
 -- ---- what the master keeps
 
@@ -104,10 +108,14 @@ recorded s client kept = record s { kept = insert_entry nat_cmp s.kept client ke
 abbrev pub queued : MasterState → List (List ℕ) → Task → MasterState
 queued s touched task = record s { gate = with_change (record { touched = touched; body = task }) s.gate }
 
--- a call that is answered at once: its result is recorded, and sent
+-- the reply to a call is what is recorded of it
+abbrev pub answered_by : Reply → Kept
+answered_by reply = record { number = reply.number; reply = Some reply }
+
+-- a call that is answered at once: its reply is recorded, and sent
 abbrev pub replied : MasterState → ℕ → ℕ → CallResult → MasterState × Taken
 replied s client number result =
-    (recorded s client (record { number = number; result = Some result }), reply s client number result)
+    (recorded s client (answered_by (reply_of s client number result)), sends (reply_of s client number result))
 
 -- ---- Starts
 
@@ -319,7 +327,7 @@ admission_of s client number call = handle_admission s call (shown_handle s clie
 
 abbrev pub waits : MasterState → ℕ → ℕ → Call → List (List ℕ) → MasterState × Taken
 waits s client number call touched =
-    (queued (recorded s client (record { number = number; result = None })) touched (record { client = client; number = number; work = works.Calls call }), nothing)
+    (queued (recorded s client (record { number = number; reply = None })) touched (record { client = client; number = number; work = works.Calls call }), nothing)
 
 -- a call that is answered at once, or waits where there is room
 abbrev pub admit_step : MasterState → ℕ → ℕ → Call → List (List ℕ) → Option CallResult → MasterState × Taken
@@ -337,9 +345,9 @@ new_call s client number call = new_call_by s client number call (admission_of s
 abbrev pub kept_step : MasterState → ℕ → ℕ → Call → Option Kept → MasterState × Taken
 kept_step s client number call None = new_call s client number call
 kept_step s client number call (Some kept) =
-    if number == kept.number then (s, repeated s client kept)
+    if number == kept.number then (s, repeated kept)
     else if nat_lt number kept.number then (s, refusal s client number faults.Repeat)
-    else if is_none kept.result then (s, refusal s client number faults.CallOutstanding)
+    else if is_none kept.reply then (s, refusal s client number faults.CallOutstanding)
     else new_call s client number call
 
 abbrev pub call_step : MasterState → CallMessage → MasterState × Taken

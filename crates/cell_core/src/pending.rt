@@ -1,11 +1,12 @@
 //! What a master keeps of calls, and what a step of it answers.
-ghost use Rattle.std.specs.Prelude.{◌≡◌, Some};
+ghost use Rattle.std.specs.Prelude.{◌≡◌};
+ghost use Rattle.cell_core.specs.Step.{answered_by};
 
 use names_cell::Principal;
 use node_core::Line;
 use plain::{Items, Same};
 use std::alloc::AllocError;
-use tags_cell::{Call, CallResult, ClientNumber, MessageNumber, Out};
+use tags_cell::{Call, ClientNumber, MessageNumber, Out, Reply};
 
 /// What a change that waits will do.
 #[derive(Debug, Drop)]
@@ -57,21 +58,22 @@ impl Same for Task {
     ghost exact = { λ x y h. h };
 }
 
-/// The last call of a client, and its result once there is one: the same call gets it again.
+/// The last call of a client, and its reply once there is one: the same call gets it again.
 #[derive(Debug, Drop)]
 pub struct Kept {
     pub number: MessageNumber,
     /// None while the call waits.
-    pub result: Option<CallResult>,
+    pub reply: Option<Reply>,
 }
 
 impl Kept {
-    pub fn answered(number: MessageNumber, answer: CallResult) -> Kept
-        ensures { result ≡ record { number = number; result = Some answer } }
+    /// What is kept of a call that has its reply.
+    pub fn answered(reply: Reply) -> Kept
+        ensures { result ≡ answered_by reply }
     {
         Kept {
-            number,
-            result: Some(answer),
+            number: reply.number,
+            reply: Some(reply),
         }
     }
 }
@@ -82,8 +84,8 @@ impl Clone for Kept {
     fn clone(&self) -> Result<Kept, AllocError> {
         Ok(Kept {
             number: self.number,
-            result: match &self.result {
-                Some(result) => Some(result.clone()?),
+            reply: match &self.reply {
+                Some(reply) => Some(reply.clone()?),
                 None => None,
             },
         })

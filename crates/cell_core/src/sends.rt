@@ -1,6 +1,6 @@
 //! What a master sends, and the tests of who may call.
 ghost use Rattle.std.specs.Prelude.{◌≡◌, [], ◌∷◌, IfOk};
-ghost use Rattle.cell_core.specs.Step.{refusal, turned_away, reply, repeated, may_start, is_live, is_full};
+ghost use Rattle.cell_core.specs.Step.{refusal, turned_away, reply_of, sends, repeated, may_start, is_live, is_full};
 
 use crate::cells::Cell;
 use crate::pending::{Kept, Taken};
@@ -49,25 +49,31 @@ impl Cell {
         &self,
         client: ClientNumber,
         number: MessageNumber,
-        answer: &CallResult,
-    ) -> Result<Taken, AllocError>
-        ensures { IfOk result (λ taken. taken ≡ reply self.now client number answer.now) }
+        answer: CallResult,
+    ) -> Reply
+        ensures { result ≡ reply_of self.now client number answer }
     {
-        let epoch = self.epoch;
-        self.sent(Out::Reply(Reply {
+        Reply {
             client,
-            epoch,
+            epoch: self.epoch,
             number,
-            result: answer.clone()?,
-        }))
+            result: answer,
+        }
     }
 
-    // The result of the last call again, or nothing while it waits.
-    pub(crate) fn repeated(&self, client: ClientNumber, kept: &Kept) -> Result<Taken, AllocError>
-        ensures { IfOk result (λ taken. taken ≡ repeated self.now client kept.now) }
+    /// What is sent of a reply.
+    pub fn sends(&self, reply: &Reply) -> Result<Taken, AllocError>
+        ensures { IfOk result (λ taken. taken ≡ sends reply.now) }
     {
-        match &kept.result {
-            Some(answer) => self.reply_of(client, kept.number, answer),
+        self.sent(Out::Reply(reply.clone()?))
+    }
+
+    // The reply to the last call again, or nothing while it waits.
+    pub(crate) fn repeated(&self, kept: &Kept) -> Result<Taken, AllocError>
+        ensures { IfOk result (λ taken. taken ≡ repeated kept.now) }
+    {
+        match &kept.reply {
+            Some(reply) => self.sends(reply),
             None => Ok(self.nothing()),
         }
     }

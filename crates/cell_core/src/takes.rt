@@ -96,10 +96,10 @@ impl Cell {
             None => self.new_call(client, number, call),
             Some(kept) => {
                 if number == kept.number {
-                    self.repeated(client, kept)
+                    self.repeated(kept)
                 } else if number < kept.number {
                     self.refusal(client, number, Fault::Repeat)
-                } else if kept.result.is_none() {
+                } else if kept.reply.is_none() {
                     self.refusal(client, number, Fault::CallOutstanding)
                 } else {
                     self.new_call(client, number, call)
@@ -199,7 +199,7 @@ impl Cell {
         let work = Work::Calls(call.clone()?);
         let kept = Kept {
             number,
-            result: None,
+            reply: None,
         };
         let former = self.kept.put(client, kept)?;
         match self.queue(client, number, work, touched) {
@@ -246,7 +246,7 @@ impl Cell {
         Ok(())
     }
 
-    // Records a result, and sends it.
+    // Records a reply, and sends it.
     fn reply(
         &mut self,
         client: ClientNumber,
@@ -256,8 +256,9 @@ impl Cell {
         ensures ok { IfOk result (λ taken. replied self.old client number answer ≡ (self.new, taken)) }
         ensures err { OnErr result (self.new ≡ self.old) }
     {
-        let taken = self.reply_of(client, number, &answer)?;
-        self.keep(client, Kept::answered(number, answer))?;
+        let reply = self.reply_of(client, number, answer);
+        let taken = self.sends(&reply)?;
+        self.keep(client, Kept::answered(reply))?;
         Ok(taken)
     }
 }

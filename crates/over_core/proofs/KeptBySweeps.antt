@@ -28,7 +28,7 @@ use Rattle.cell_core.specs.declared.effects.Effect.{Effect}
 use Rattle.cell_core.specs.declared.pending.Kept.{Kept}
 use Rattle.cell_core.specs.declared.pending.Task.{Task}
 use Rattle.cell_core.specs.State.{MasterState}
-use Rattle.cell_core.specs.Step.{recorded, with_note, is_past_end, noted}
+use Rattle.cell_core.specs.Step.{reply_of, answered_by, recorded, with_note, is_past_end, noted}
 use Rattle.cell_core.specs.Deeds.{edit_of}
 use Rattle.cell_core.specs.Effect.{effect}
 use Rattle.over_core.specs.declared.sweeps.Swept.{Swept}
@@ -121,11 +121,11 @@ module _ (cell : List ℕ) (rows : Rows) where
       }
   case_kept s (Ended front back task call note answer turn work made) k h =
       let t = rest s front back in
-      let kept : Kept = record { number = task.number; result = Some answer } in
+      let kept : Kept = answered_by (reply_of s task.client task.number answer) in
       note_kept cell rows (recorded t task.client kept) note (recorded_kept cell rows t task.client kept (rest_kept cell rows s k front back task turn))
   case_kept s (Applied front back task call note change answer turn work made) k h =
       let t = mapped (rest s front back) change in
-      let kept : Kept = record { number = task.number; result = Some answer } in
+      let kept : Kept = answered_by (reply_of s task.client task.number answer) in
       let after = changed_rows rows (edit_of change.change ∷ NextInstance change.next_instance ∷ []) in
       note_kept cell after (recorded t task.client kept) note (recorded_kept cell after t task.client kept (mapped_kept (rest s front back) change.change change.next_instance (rest_kept cell rows s k front back task turn) h))
 

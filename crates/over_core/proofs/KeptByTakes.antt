@@ -68,8 +68,8 @@ module _ (cell : List ℕ) (rows : Rows) where
   case_kept s request (Outstanding message kept heard is more none) k in_range = k
   case_kept s request (Answered message note answer new answered) k in_range = recorded_kept (with_note s note) message.client _ (note_kept s note k)
   case_kept s request (Waits message note touched new admitted) k in_range =
-      queued_kept (recorded (with_note s note) message.client (record { number = message.number; result = None })) touched _
-      (recorded_kept (with_note s note) message.client (record { number = message.number; result = None }) (note_kept s note k)) (client_of request _ new.heard.is_call in_range)
+      queued_kept (recorded (with_note s note) message.client (record { number = message.number; reply = None })) touched _
+      (recorded_kept (with_note s note) message.client (record { number = message.number; reply = None }) (note_kept s note k)) (client_of request _ new.heard.is_call in_range)
 
   take_kept : (s new : MasterState) (now : ℕ) (request : Request) (taken : Taken) → IsKept cell rows s → is_number (request_client request) ≡ true → take_step s now request ≡ Ok (new, taken) → IsKept cell rows new
   take_kept s new now request taken k in_range h =

@@ -16,7 +16,7 @@ use Rattle.cell_core.specs.declared.pending.Task.{Task}
 use Rattle.cell_core.specs.declared.pending.Work.{Work}
 use Rattle.cell_core.specs.declared.pending.Work.TheVariants as works
 use Rattle.cell_core.specs.State.{MasterState, first_number, task_at}
-use Rattle.cell_core.specs.Step.{may_start, is_live, nothing, turned_away, reply, is_past_end, noted}
+use Rattle.cell_core.specs.Step.{may_start, is_live, nothing, turned_away, reply_of, answered_by, is_past_end, noted}
 use Rattle.cell_core.specs.Deeds.{done, edits_of}
 use Rattle.cell_core.specs.Effect.{effect}
 use Rattle.over_core.specs.declared.actions.Action.{Action}
@@ -59,16 +59,16 @@ abbrev pub applied_lines : ℕ → ℕ → Option Change → List Line
 applied_lines client number None = []
 applied_lines client number (Some change) = lines.Applied client number change.change ∷ []
 
--- the result of a call is kept and sent, and a change of the map is committed and printed
+-- the reply to a call is kept and sent, and a change of the map is committed and printed
 abbrev pub plan_effect : MasterState → ℕ → ℕ → Effect → Plan
 plan_effect s client number effected = record {
   deed = record {
     session = None;
-    kept = Some (record { client = client; kept = record { number = number; result = Some effected.answer } });
+    kept = Some (record { client = client; kept = answered_by (reply_of s client number effected.answer) });
     note = effected.note;
     change = effected.change;
   };
-  taken = record { lines = applied_lines client number effected.change; outs = (reply s client number effected.answer).outs };
+  taken = record { lines = applied_lines client number effected.change; outs = outs.Reply (reply_of s client number effected.answer) ∷ [] };
 }
 
 abbrev pub plan_work : MasterState → ℕ → ℕ → Work → Plan

@@ -10,6 +10,7 @@ use Rattle.rows_cell.specs.declared.tables.Edit.{Edit}
 use Rattle.rows_cell.specs.declared.tables.Edit.TheVariants.{NextInstance, PutSession}
 use Rattle.tags_cell.specs.declared.calls.Call.{Call}
 use Rattle.tags_cell.specs.declared.outs.Out.{Out}
+use Rattle.tags_cell.specs.declared.outs.Out.TheVariants as outs
 use Rattle.tags_cell.specs.declared.outs.CallResult.{CallResult}
 use Rattle.gate_core.specs.declared.pending.Waiting.{Waiting}
 use Rattle.cell_core.specs.declared.effects.Change.{Change}
@@ -17,7 +18,7 @@ use Rattle.cell_core.specs.declared.handles.Note.{Note}
 use Rattle.cell_core.specs.declared.pending.Task.{Task}
 use Rattle.cell_core.specs.declared.pending.Work.TheVariants as works
 use Rattle.cell_core.specs.State.{MasterState}
-use Rattle.cell_core.specs.Step.{may_start, is_live, turned_away, reply, recorded, with_note}
+use Rattle.cell_core.specs.Step.{may_start, is_live, turned_away, reply_of, answered_by, recorded, with_note}
 use Rattle.cell_core.specs.Deeds.{edit_of}
 use Rattle.cell_core.specs.Effect.{effect}
 use Rattle.over_core.specs.declared.sweeps.Swept.{Swept}
@@ -43,9 +44,9 @@ pub data SweepCase (s : MasterState) : Type 0 where
 abbrev pub rest : MasterState → List (Waiting Task) → List (Waiting Task) → MasterState
 rest s front back = record s { gate = record s.gate { waiting = front ++ back } }
 
--- the call's result is kept, and what is noted of its handle
+-- the call's reply is kept, and what is noted of its handle
 abbrev pub ended : MasterState → Task → Option Note → CallResult → MasterState
-ended s task note answer = with_note (recorded s task.client (record { number = task.number; result = Some answer })) note
+ended s task note answer = with_note (recorded s task.client (answered_by (reply_of s task.client task.number answer))) note
 
 -- the map has changed
 abbrev pub mapped : MasterState → Change → MasterState
@@ -63,10 +64,10 @@ swept_by s (Started front back task principal turn work may live) = (
   rest (record s { sessions = insert_entry nat_cmp s.sessions task.client (record { principal = principal; live = true }) }) front back,
   swept_with (lines.Started task.client ∷ []) (started_out s task.client task.number).outs,
 )
-swept_by s (Ended front back task call note answer turn work made) = (ended (rest s front back) task note answer, swept_with [] (reply s task.client task.number answer).outs)
+swept_by s (Ended front back task call note answer turn work made) = (ended (rest s front back) task note answer, swept_with [] (outs.Reply (reply_of s task.client task.number answer) ∷ []))
 swept_by s (Applied front back task call note change answer turn work made) = (
   ended (mapped (rest s front back) change) task note answer,
-  swept_with (lines.Applied task.client task.number change.change ∷ []) (reply s task.client task.number answer).outs,
+  swept_with (lines.Applied task.client task.number change.change ∷ []) (outs.Reply (reply_of s task.client task.number answer) ∷ []),
 )
 
 -- what it commits

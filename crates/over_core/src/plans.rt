@@ -1,16 +1,16 @@
 //! What is planned for an action.
 ghost use Rattle.std.specs.Prelude.{◌≡◌, [], ◌∷◌, Some, None, IfOk};
 ghost use Rattle.node_core.specs.declared.lines.Line.TheVariants as lines;
-ghost use Rattle.cell_core.specs.Step.{reply};
+ghost use Rattle.cell_core.specs.Step.{sends};
 ghost use Rattle.over_core.specs.declared.actions.Action.TheVariants.{Apply};
 ghost use Rattle.over_core.specs.Sweep.{no_deed, started_out, applied_lines, plan_session, plan_start, plan_effect, plan_work, plan_of};
 
-use cell_core::{Cell as Master, Deed, Effect, Kept, KeptPut, SessionPut, Taken, Task, Work};
+use cell_core::{Cell as Master, Change, Deed, Effect, Kept, KeptPut, SessionPut, Taken, Task, Work};
 use names_cell::Principal;
 use node_core::{Fault, Line, Mod};
 use rows_cell::Session;
 use std::alloc::AllocError;
-use tags_cell::{ClientNumber, MessageNumber, Out, Started};
+use tags_cell::{ClientNumber, MessageNumber, Out, Reply, Started};
 
 /// What is done for an action. It is made before anything changes.
 #[derive(Debug, Drop)]
@@ -143,23 +143,40 @@ fn plan_effect(
 ) -> Result<Plan, AllocError>
     ensures { IfOk result (λ plan. plan ≡ plan_effect master.now client number effect) }
 {
-    let taken = effect_taken(master, client, number, &effect)?;
-    Ok(plan_answer(client, number, effect, taken))
+    let Effect {
+        note,
+        change,
+        answer,
+    } = effect;
+    let reply = master.reply_of(client, number, answer);
+    let taken = reply_taken(master, &reply, &change)?;
+    let kept = Some(KeptPut {
+        client,
+        kept: Kept::answered(reply),
+    });
+    Ok(Plan {
+        deed: Deed {
+            session: None,
+            kept,
+            note,
+            change,
+        },
+        taken,
+    })
 }
 
 // What is printed and sent for a call.
-fn effect_taken(
+fn reply_taken(
     master: &Master,
-    client: ClientNumber,
-    number: MessageNumber,
-    effect: &Effect,
+    reply: &Reply,
+    change: &Option<Change>,
 ) -> Result<Taken, AllocError>
-    ensures lines { IfOk result (λ taken. taken.lines ≡ applied_lines client number effect.now.change) }
-    ensures outs { IfOk result (λ taken. taken.outs ≡ (reply master.now client number effect.now.answer).outs) }
+    ensures lines { IfOk result (λ taken. taken.lines ≡ applied_lines reply.now.client reply.now.number change.now) }
+    ensures outs { IfOk result (λ taken. taken.outs ≡ (sends reply.now).outs) }
 {
-    let mut taken = master.reply_of(client, number, &effect.answer)?;
-    if let Some(applied) = &effect.change {
-        let line = applied_line(client, number, &applied.change)?;
+    let mut taken = master.sends(reply)?;
+    if let Some(applied) = change {
+        let line = applied_line(reply.client, reply.number, &applied.change)?;
         taken.lines.push(line)?;
     }
     Ok(taken)
@@ -174,28 +191,4 @@ fn applied_line(
 {
     let shown = change.clone()?;
     Ok(Line::Applied(client.get(), number.get(), shown))
-}
-
-// A call's result is kept, beside what is printed and sent.
-fn plan_answer(client: ClientNumber, number: MessageNumber, effect: Effect, taken: Taken) -> Plan
-    ensures { result ≡ record { deed = record { session = None; kept = Some (record { client = client; kept = record { number = number; result = Some effect.answer } }); note = effect.note; change = effect.change }; taken = taken } }
-{
-    let Effect {
-        note,
-        change,
-        answer,
-    } = effect;
-    let kept = Some(KeptPut {
-        client,
-        kept: Kept::answered(number, answer),
-    });
-    Plan {
-        deed: Deed {
-            session: None,
-            kept,
-            note,
-            change,
-        },
-        taken,
-    }
 }

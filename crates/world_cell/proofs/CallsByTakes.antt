@@ -135,11 +135,11 @@ kept_stands : (g : Ground) (s : MasterState) (client number : ℕ) (call : Call)
 kept_stands g s client number call None h k = new_stands g s client number call h k
 kept_stands g s client number call (Some kept) h k =
     let new = new_call s client number call in
-    let outstanding = cond (is_none kept.result) (s, refusal s client number faults.CallOutstanding) new in
+    let outstanding = cond (is_none kept.reply) (s, refusal s client number faults.CallOutstanding) new in
     let older = cond (nat_lt number kept.number) (s, refusal s client number faults.Repeat) outstanding in
-    either g (number == kept.number) (s, repeated s client kept) older (λ same. h)
+    either g (number == kept.number) (s, repeated kept) older (λ same. h)
     (either g (nat_lt number kept.number) (s, refusal s client number faults.Repeat) outstanding (λ less. h)
-    (either g (is_none kept.result) (s, refusal s client number faults.CallOutstanding) new (λ waits. h) (new_stands g s client number call h k)))
+    (either g (is_none kept.reply) (s, refusal s client number faults.CallOutstanding) new (λ waits. h) (new_stands g s client number call h k)))
 
 same : (n m : ℕ) → eqb n m ≡ true → n ≡ m
 same n m h = grind (arith, nat_tests)

@@ -17,7 +17,7 @@ use Rattle.cell_core.specs.declared.pending.Work.TheVariants as works
 use Rattle.cell_core.specs.declared.plans.Deed.TheVariants as deeds
 use Rattle.cell_core.specs.declared.plans.Plan.{Plan}
 use Rattle.cell_core.specs.State.{MasterState}
-use Rattle.cell_core.specs.Step.{kept_of, recorded, with_note, is_live, may_start, turned_away, noted}
+use Rattle.cell_core.specs.Step.{kept_of, reply_of, answered_by, recorded, with_note, is_live, may_start, turned_away, noted}
 use Rattle.cell_core.specs.Effect.{effect}
 use Rattle.cell_core.specs.Sweep.{applied_lines, with_change, started_out, plan_session, plan_start, plan_effect, plan_work, carried, sweep_by}
 use Rattle.world_cell.specs.declared.steps.Step.{Step}
@@ -25,7 +25,7 @@ use Rattle.world_cell.specs.World.{WorldState, WorldView}
 use Rattle.world_cell.specs.Runs.{Run, applied, put_number, IsAbove, RisesFrom, Rises}
 use Rattle.world_cell.proofs.StepKinds.{IsSilentLine, IsSilent, Made, is_quiet, is_up, is_take, is_sweep, made}
 use Rattle.world_cell.proofs.TakesAreSilent.{take_silent}
-use Rattle.world_cell.proofs.OnceByTakes.{put_waiting, waiting, IsFrom, FitsResult, FitsKept, Once, has, call_of, kept_other, kept_own, take_once}
+use Rattle.world_cell.proofs.OnceByTakes.{put_waiting, waiting, IsFrom, FitsReply, FitsKept, Once, call_of, kept_other, kept_own, take_once}
 
 abbrev last_after : Option ℕ → List ℕ → Option ℕ
 last_after last [] = last
@@ -41,9 +41,9 @@ record GoesOn (client : ℕ) (last : Option ℕ) (printed : List Line) (new : Ma
 head_own : (o : Option Kept) (number : ℕ) (ws : List ℕ) (last : Option ℕ) → FitsKept o (number ∷ ws) last → (ws ≡ []) × IsAbove last number
 head_own None number ws last h = let e = h.0 in cc
 head_own (Some kept) number ws last h =
-    (elim kept.result as (λ r. FitsResult kept.number r (number ∷ ws) last → (ws ≡ []) × IsAbove last number) [
+    (elim kept.reply as (λ r. FitsReply kept.number r (number ∷ ws) last → (ws ≡ []) × IsAbove last number) [
       | None ↦ (λ k. let e = k.0 in let a : ws ≡ [] = cc in let b : number ≡ kept.number = cc in (a, rw b k.1))
-      | Some result ↦ (λ k. let e = k.0 in cc)
+      | Some reply ↦ (λ k. let e = k.0 in cc)
     ]) h
 
 from_above : (last : Option ℕ) (number : ℕ) → IsAbove last number → IsFrom last number
@@ -54,28 +54,28 @@ wait_at : (client : ℕ) (s : MasterState) (p : Pending) (rest : List Pending) (
 wait_at client s p rest last q h = rw q at h
 
 -- a call that is answered and changes nothing
-answers_on : (client : ℕ) (s : MasterState) (whose number : ℕ) (call : Call) (rest : List Pending) (result : CallResult) (last : Option ℕ) → FitsKept (kept_of s client) (put_waiting client whose number (works.Calls call) (waiting client rest)) last → FitsKept (kept_of (recorded s whose (has number result)) client) (waiting client rest) last
+answers_on : (client : ℕ) (s : MasterState) (whose number : ℕ) (call : Call) (rest : List Pending) (result : CallResult) (last : Option ℕ) → FitsKept (kept_of s client) (put_waiting client whose number (works.Calls call) (waiting client rest)) last → FitsKept (kept_of (recorded s whose (answered_by (reply_of s whose number result))) client) (waiting client rest) last
 answers_on client s whose number call rest result last h =
-    (elim (eqb whose client) as (λ b. eqb whose client ≡ b → FitsKept (kept_of s client) (cond b (number ∷ waiting client rest) (waiting client rest)) last → FitsKept (kept_of (recorded s whose (has number result)) client) (waiting client rest) last) [
+    (elim (eqb whose client) as (λ b. eqb whose client ≡ b → FitsKept (kept_of s client) (cond b (number ∷ waiting client rest) (waiting client rest)) last → FitsKept (kept_of (recorded s whose (answered_by (reply_of s whose number result))) client) (waiting client rest) last) [
       | true ↦ (λ e k.
           let same : whose ≡ client = grind (arith, nat_tests) in
           let t = head_own (kept_of s client) number (waiting client rest) last k in
-          rw (same, kept_own s client (has number result)) (t.0, from_above last number t.1))
-      | false ↦ (λ e k. rw (kept_other s client whose (has number result) e) k)
+          rw (same, kept_own s client (answered_by (reply_of s client number result))) (t.0, from_above last number t.1))
+      | false ↦ (λ e k. rw (kept_other s client whose (answered_by (reply_of s whose number result)) e) k)
     ]) refl h
 
 -- a call that is applied
-changes_on : (client : ℕ) (s : MasterState) (whose number : ℕ) (call : Call) (rest : List Pending) (result : CallResult) (last : Option ℕ) → FitsKept (kept_of s client) (put_waiting client whose number (works.Calls call) (waiting client rest)) last → RisesFrom last (cond (whose == client) (number ∷ []) []) × FitsKept (kept_of (recorded s whose (has number result)) client) (waiting client rest) (last_after last (cond (whose == client) (number ∷ []) []))
+changes_on : (client : ℕ) (s : MasterState) (whose number : ℕ) (call : Call) (rest : List Pending) (result : CallResult) (last : Option ℕ) → FitsKept (kept_of s client) (put_waiting client whose number (works.Calls call) (waiting client rest)) last → RisesFrom last (cond (whose == client) (number ∷ []) []) × FitsKept (kept_of (recorded s whose (answered_by (reply_of s whose number result))) client) (waiting client rest) (last_after last (cond (whose == client) (number ∷ []) []))
 changes_on client s whose number call rest result last h =
-    (elim (eqb whose client) as (λ b. eqb whose client ≡ b → FitsKept (kept_of s client) (cond b (number ∷ waiting client rest) (waiting client rest)) last → RisesFrom last (cond b (number ∷ []) []) × FitsKept (kept_of (recorded s whose (has number result)) client) (waiting client rest) (last_after last (cond b (number ∷ []) []))) [
+    (elim (eqb whose client) as (λ b. eqb whose client ≡ b → FitsKept (kept_of s client) (cond b (number ∷ waiting client rest) (waiting client rest)) last → RisesFrom last (cond b (number ∷ []) []) × FitsKept (kept_of (recorded s whose (answered_by (reply_of s whose number result))) client) (waiting client rest) (last_after last (cond b (number ∷ []) []))) [
       | true ↦ (λ e k.
           let same : whose ≡ client = grind (arith, nat_tests) in
           let t = head_own (kept_of s client) number (waiting client rest) last k in
-          ((t.1, tt), rw (same, kept_own s client (has number result)) (t.0, omega arith)))
-      | false ↦ (λ e k. (tt, rw (kept_other s client whose (has number result) e) k))
+          ((t.1, tt), rw (same, kept_own s client (answered_by (reply_of s client number result))) (t.0, omega arith)))
+      | false ↦ (λ e k. (tt, rw (kept_other s client whose (answered_by (reply_of s whose number result)) e) k))
     ]) refl h
 
-effect_on : (client : ℕ) (s : MasterState) (whose number : ℕ) (call : Call) (rest : List Pending) (note : Option Note) (change : Option Change) (result : CallResult) (last : Option ℕ) → s.queue ≡ call_of whose number call ∷ rest → Once client s last → GoesOn client last (applied_lines whose number change) (record (with_change (with_note (recorded s whose (has number result)) note) change) { queue = drop 1 s.queue })
+effect_on : (client : ℕ) (s : MasterState) (whose number : ℕ) (call : Call) (rest : List Pending) (note : Option Note) (change : Option Change) (result : CallResult) (last : Option ℕ) → s.queue ≡ call_of whose number call ∷ rest → Once client s last → GoesOn client last (applied_lines whose number change) (record (with_change (with_note (recorded s whose (answered_by (reply_of s whose number result))) note) change) { queue = drop 1 s.queue })
 effect_on client s whose number call rest None None result last q h =
     record { rises = tt; once = rw q (answers_on client s whose number call rest result last (wait_at client s (call_of whose number call) rest last q h)) }
 effect_on client s whose number call rest (Some note) None result last q h =

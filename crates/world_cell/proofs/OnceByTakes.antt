@@ -13,6 +13,7 @@ use Rattle.tags_cell.specs.declared.requests.CallMessage.{CallMessage}
 use Rattle.tags_cell.specs.declared.requests.Request.{Request}
 use Rattle.tags_cell.specs.declared.requests.Request.TheVariants as requests
 use Rattle.tags_cell.specs.declared.outs.CallResult.{CallResult}
+use Rattle.tags_cell.specs.declared.outs.Reply.{Reply}
 use Rattle.cell_core.specs.declared.pending.Taken.{Taken}
 use Rattle.cell_core.specs.declared.pending.Kept.{Kept}
 use Rattle.cell_core.specs.declared.pending.Pending.{Pending}
@@ -20,7 +21,7 @@ use Rattle.cell_core.specs.declared.pending.Work.{Work}
 use Rattle.cell_core.specs.declared.pending.Work.TheVariants as works
 use Rattle.cell_core.specs.declared.handles.Note.{Note}
 use Rattle.cell_core.specs.State.{MasterState}
-use Rattle.cell_core.specs.Step.{kept_of, is_live, may_start, is_full, recorded, queued, replied, waits, with_note, admission_of, full_answer, admit_unless, admit_step, new_call, kept_step, call_step, start_step, take_at, nothing, turned_away, refusal, repeated}
+use Rattle.cell_core.specs.Step.{kept_of, is_live, may_start, is_full, recorded, queued, replied, waits, with_note, admission_of, full_answer, admit_unless, admit_step, new_call, kept_step, call_step, start_step, take_at, nothing, turned_away, refusal, reply_of, answered_by, repeated}
 use Rattle.node_core.specs.declared.refusals.Fault.TheVariants as faults
 use Rattle.world_cell.specs.Runs.{IsAbove}
 
@@ -39,24 +40,21 @@ abbrev pub IsFrom : Option ℕ → ℕ → Type 0
 IsFrom None number = Unit {0}
 IsFrom (Some last) number = last ≤ number
 
--- the kept call waits, above all that were applied; or it has its result, and nothing waits
-abbrev pub FitsResult : ℕ → Option CallResult → List ℕ → Option ℕ → Type 0
-FitsResult number None numbers last = (numbers ≡ number ∷ []) × IsAbove last number
-FitsResult number (Some result) numbers last = (numbers ≡ []) × IsFrom last number
+-- the kept call waits, above all that were applied; or it has its reply, and nothing waits
+abbrev pub FitsReply : ℕ → Option Reply → List ℕ → Option ℕ → Type 0
+FitsReply number None numbers last = (numbers ≡ number ∷ []) × IsAbove last number
+FitsReply number (Some reply) numbers last = (numbers ≡ []) × IsFrom last number
 
 abbrev pub FitsKept : Option Kept → List ℕ → Option ℕ → Type 0
 FitsKept None numbers last = (numbers ≡ []) × (last ≡ None)
-FitsKept (Some kept) numbers last = FitsResult kept.number kept.result numbers last
+FitsKept (Some kept) numbers last = FitsReply kept.number kept.reply numbers last
 
 -- last: the number of the client's call that was applied last
 abbrev pub Once : ℕ → MasterState → Option ℕ → Type 0
 Once client s last = FitsKept (kept_of s client) (waiting client s.queue) last
 
 abbrev pub asks : ℕ → Kept
-asks number = record { number = number; result = None }
-
-abbrev pub has : ℕ → CallResult → Kept
-has number result = record { number = number; result = Some result }
+asks number = record { number = number; reply = None }
 
 abbrev pub call_of : ℕ → ℕ → Call → Pending
 call_of client number call = record { client = client; number = number; work = works.Calls call }
@@ -95,16 +93,16 @@ kept_own s client kept =
 -- nothing of the client waits, and its number is above the kept one
 abbrev MayAdmit : ℕ → Option Kept → Type 0
 MayAdmit number None = Unit {0}
-MayAdmit number (Some kept) = (is_none kept.result ≡ false) × (kept.number < number)
+MayAdmit number (Some kept) = (is_none kept.reply ≡ false) × (kept.number < number)
 
-result_free : (number more : ℕ) (result : Option CallResult) (ws : List ℕ) (last : Option ℕ) → FitsResult number result ws last → is_none result ≡ false → number < more → (ws ≡ []) × IsAbove last more × IsFrom last more
-result_free number more None ws last h k lt = cc
-result_free number more (Some result) ws None h k lt = (h.0, tt, tt)
-result_free number more (Some result) ws (Some l) h k lt = let le = h.1 in (h.0, omega arith, omega arith)
+reply_free : (number more : ℕ) (reply : Option Reply) (ws : List ℕ) (last : Option ℕ) → FitsReply number reply ws last → is_none reply ≡ false → number < more → (ws ≡ []) × IsAbove last more × IsFrom last more
+reply_free number more None ws last h k lt = cc
+reply_free number more (Some reply) ws None h k lt = (h.0, tt, tt)
+reply_free number more (Some reply) ws (Some l) h k lt = let le = h.1 in (h.0, omega arith, omega arith)
 
 free : (number : ℕ) (o : Option Kept) (ws : List ℕ) (last : Option ℕ) → FitsKept o ws last → MayAdmit number o → (ws ≡ []) × IsAbove last number × IsFrom last number
 free number None ws last h may = (h.0, rw h.1 tt, rw h.1 tt)
-free number (Some kept) ws last h may = result_free kept.number number kept.result ws last h may.0 may.1
+free number (Some kept) ws last h may = reply_free kept.number number kept.reply ws last h may.0 may.1
 
 -- a result at once
 replied_once : (client : ℕ) (s : MasterState) (whose number : ℕ) (result : CallResult) (last : Option ℕ) → Once client s last → (eqb whose client ≡ true → MayAdmit number (kept_of s client)) → Once client (replied s whose number result).0 last
@@ -113,8 +111,8 @@ replied_once client s whose number result last h may =
       | true ↦ (λ e.
           let same : whose ≡ client = grind (arith, nat_tests) in
           let f = free number (kept_of s client) (waiting client s.queue) last h (may e) in
-          rw (same, kept_own s client (has number result)) (f.0, f.2))
-      | false ↦ (λ e. rw (kept_other s client whose (has number result) e) h)
+          rw (same, kept_own s client (answered_by (reply_of s client number result))) (f.0, f.2))
+      | false ↦ (λ e. rw (kept_other s client whose (answered_by (reply_of s whose number result)) e) h)
     ]) refl
 
 -- a call that waits from now on
@@ -166,11 +164,11 @@ kept_once : (client : ℕ) (s : MasterState) (whose number : ℕ) (call : Call) 
 kept_once client s whose number call None last found h = new_once client s whose number call None last found h tt
 kept_once client s whose number call (Some kept) last found h =
     let new = new_call s whose number call in
-    let outstanding = cond (is_none kept.result) (s, refusal s whose number faults.CallOutstanding) new in
+    let outstanding = cond (is_none kept.reply) (s, refusal s whose number faults.CallOutstanding) new in
     let older = cond (nat_lt number kept.number) (s, refusal s whose number faults.Repeat) outstanding in
-    either client last (number == kept.number) (s, repeated s whose kept) older (λ same. h) (λ apart.
+    either client last (number == kept.number) (s, repeated kept) older (λ same. h) (λ apart.
     either client last (nat_lt number kept.number) (s, refusal s whose number faults.Repeat) outstanding (λ less. h) (λ more.
-    either client last (is_none kept.result) (s, refusal s whose number faults.CallOutstanding) new (λ waits. h) (λ ended.
+    either client last (is_none kept.reply) (s, refusal s whose number faults.CallOutstanding) new (λ waits. h) (λ ended.
     new_once client s whose number call (Some kept) last found h (ended, above number kept.number apart more))))
 
 call_once : (client : ℕ) (s : MasterState) (message : CallMessage) (last : Option ℕ) → Once client s last → Once client (call_step s message).0 last

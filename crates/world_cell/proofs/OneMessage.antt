@@ -4,6 +4,7 @@ use Rattle.std.specs.Prelude.{nat_le, ◌==◌, ◌^◌}
 use Rattle.node_core.specs.declared.refusals.Fault.TheVariants as faults
 use Rattle.tags_cell.specs.declared.calls.Call.{Call}
 use Rattle.tags_cell.specs.declared.outs.CallResult.{CallResult}
+use Rattle.tags_cell.specs.declared.outs.Reply.{Reply}
 use Rattle.tags_cell.specs.declared.requests.Request.{Request}
 use Rattle.tags_cell.specs.declared.requests.Request.TheVariants as requests
 use Rattle.tags_cell.specs.declared.requests.Start.{Start}
@@ -16,7 +17,7 @@ use Rattle.cell_core.specs.declared.pending.Work.{Work}
 use Rattle.cell_core.specs.declared.pending.Work.TheVariants as works
 use Rattle.cell_core.specs.declared.sweeps.Swept.{Swept}
 use Rattle.cell_core.specs.State.{MasterState}
-use Rattle.cell_core.specs.Step.{take_step, take_at, start_step, call_step, kept_step, kept_of, full_answer, with_note, admission_of, admit_unless, admit_step, new_call, is_live, refusal, repeated_result, noted}
+use Rattle.cell_core.specs.Step.{take_step, take_at, start_step, call_step, kept_step, kept_of, full_answer, with_note, admission_of, admit_unless, admit_step, new_call, is_live, refusal, repeated_reply, noted}
 use Rattle.cell_core.specs.Effect.{effect}
 use Rattle.cell_core.specs.Sweep.{sweep_step, sweep_by, plan_work, plan_start, plan_effect}
 use Rattle.world_cell.proofs.StepKinds.{ok_pair}
@@ -40,9 +41,9 @@ new_few s client number call =
     let admission = admission_of s client number call in
     admit_few (with_note s admission.note) client number call admission.answer
 
-repeated_few : (s : MasterState) (client number : ℕ) (result : Option CallResult) → Few (repeated_result s client number result)
-repeated_few s client number None = search rules
-repeated_few s client number (Some result) = search rules
+repeated_few : (reply : Option Reply) → Few (repeated_reply reply)
+repeated_few None = search rules
+repeated_few (Some reply) = search rules
 
 kept_few : (s : MasterState) (client number : ℕ) (call : Call) (kept : Option Kept) → Few (kept_step s client number call kept).1
 kept_few s client number call None = new_few s client number call

@@ -8,6 +8,7 @@ use Rattle.tags_cell.specs.declared.requests.CallMessage.{CallMessage}
 use Rattle.tags_cell.specs.declared.requests.Request.{Request}
 use Rattle.tags_cell.specs.declared.requests.Request.TheVariants as requests
 use Rattle.tags_cell.specs.declared.outs.CallResult.{CallResult}
+use Rattle.tags_cell.specs.declared.outs.Reply.{Reply}
 use Rattle.cell_core.specs.declared.pending.Taken.{Taken}
 use Rattle.cell_core.specs.declared.pending.Kept.{Kept}
 use Rattle.cell_core.specs.State.{MasterState}
@@ -34,19 +35,19 @@ either : (b : Bool) (x y : MasterState × Taken) → IsSilent x.1.lines → IsSi
 either true x y h k = h
 either false x y h k = k
 
-result_silent : (s : MasterState) (client number : ℕ) (result : Option CallResult) → IsSilent (repeated s client (record { number = number; result = result })).lines
-result_silent s client number None = tt
-result_silent s client number (Some result) = tt
+reply_silent : (number : ℕ) (reply : Option Reply) → IsSilent (repeated (record { number = number; reply = reply })).lines
+reply_silent number None = tt
+reply_silent number (Some reply) = tt
 
 kept_silent : (s : MasterState) (client number : ℕ) (call : Call) (o : Option Kept) → IsSilent (kept_step s client number call o).1.lines
 kept_silent s client number call None = new_silent s client number call
 kept_silent s client number call (Some kept) =
     let new = new_call s client number call in
-    let outstanding = cond (is_none kept.result) (s, refusal s client number faults.CallOutstanding) new in
+    let outstanding = cond (is_none kept.reply) (s, refusal s client number faults.CallOutstanding) new in
     let older = cond (nat_lt number kept.number) (s, refusal s client number faults.Repeat) outstanding in
-    either (number == kept.number) (s, repeated s client kept) older (result_silent s client kept.number kept.result)
+    either (number == kept.number) (s, repeated kept) older (reply_silent kept.number kept.reply)
     (either (nat_lt number kept.number) (s, refusal s client number faults.Repeat) outstanding (tt, tt)
-    (either (is_none kept.result) (s, refusal s client number faults.CallOutstanding) new (tt, tt) (new_silent s client number call)))
+    (either (is_none kept.reply) (s, refusal s client number faults.CallOutstanding) new (tt, tt) (new_silent s client number call)))
 
 call_silent : (s : MasterState) (message : CallMessage) → IsSilent (call_step s message).1.lines
 call_silent s message =
