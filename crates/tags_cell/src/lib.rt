@@ -28,5 +28,5 @@ pub use masks::Events;
 pub use modes::Mode;
 pub use numbers::MessageNumber;
 pub use ordinals::Ordinal;
-pub use outs::{CallResult, Out, Refused, Reply, Started};
+pub use outs::{CallResult, NewHandle, Out, Refused, Reply, Started};
 pub use requests::{CallMessage, Request, Start};
