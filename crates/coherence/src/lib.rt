@@ -9,14 +9,14 @@ ghost use Rattle.coherence.specs.Joint.{IsJoint};
 ghost use Rattle.coherence.specs.Example.{CanServe};
 
 /// The longest lease that a master may give, in milliseconds.
-pub const LONGEST_LEASE: u64 = 60_000;
+pub const LONGEST_LEASE: u64 = lease_core::LONGEST_LEASE;
 
 /// For how long from its coming up on a new master lets every session live that it finds in the rows, in milliseconds by its own clock.
 ///
 /// A client may hold a longest lease of the master before, given just before that one went: it ends within 60,000 * 16 / 17 ms by the
 /// client's clock. In that time the master's clock moves less than 60,002 ms: it may gain one part in sixteen on the client's, and a
 /// millisecond.
-pub const RECOVERY_TIMEOUT: u64 = 60_002;
+pub const RECOVERY_TIMEOUT: u64 = lease_core::RECOVERY_TIMEOUT;
 
 /// Wherever a schedule leads, an entry under an unexpired lease is the present view, for views of any type.
 pub fn slice_coherent<V>()
