@@ -7,6 +7,8 @@ ghost use Rattle.std.specs.List.{repeat};
 use std::alloc::{AllocError, Global};
 
 #[cfg(test)]
+mod caches;
+#[cfg(test)]
 mod containers;
 #[cfg(test)]
 mod handles;
@@ -18,6 +20,8 @@ mod lines;
 mod messages;
 #[cfg(test)]
 mod names;
+#[cfg(test)]
+mod rights;
 #[cfg(test)]
 mod rows;
 
