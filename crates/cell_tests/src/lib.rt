@@ -7,6 +7,8 @@ ghost use Rattle.std.specs.List.{repeat};
 use std::alloc::{AllocError, Global};
 
 #[cfg(test)]
+mod caches;
+#[cfg(test)]
 mod containers;
 #[cfg(test)]
 mod events;
@@ -22,6 +24,8 @@ mod locks;
 mod messages;
 #[cfg(test)]
 mod names;
+#[cfg(test)]
+mod rights;
 #[cfg(test)]
 mod rows;
 #[cfg(test)]

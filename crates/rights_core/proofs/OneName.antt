@@ -10,6 +10,7 @@ use Rattle.std.specs.Cmp.{nat_cmp_total}
 use Rattle.std.specs.List.Sorted.{IsStrictlySortedBy}
 use Rattle.std.proofs.lemmas.Bool.Decides.{nat_tests}
 use Rattle.std.proofs.lemmas.List.Sums.{sum_by-cons}
+use Rattle.plain.proofs.Keys.{number_same, bytes_swap, bytes_same}
 use Rattle.node_core.proofs.Orders.{sorted_insert}
 use Rattle.node_core.specs.declared.refusals.Fault.{Fault}
 use Rattle.node_core.specs.declared.refusals.Fault.TheVariants as faults
@@ -21,7 +22,7 @@ use Rattle.rights_core.specs.declared.grants.Grant.{Grant}
 use Rattle.rights_core.specs.declared.grants.Grant.TheVariants as grants
 use Rattle.rights_core.specs.Rights.{stands, is_held, is_held_on, is_held_at, holds, held_on, new_right, answer_beside, grant_answer, with_granted, granted, was_asked, invalidations_of, next_invalidation, is_to_ask, with_asked, with_next, is_ended_by, ends, status_after, with_end, ended, AreHeldOnce}
 use Rattle.rights_core.specs.Laws.{asked_for, NewRightIsHeld, KnownRightIsHeld, AskingNumbersRights, AskingCounts, ClientsToAskHold, EndingFrees, FreeNameIsHeldByNone}
-use Rattle.rights_core.proofs.Recorded.{bytes_swap, bytes_same, holds_end, issued_end, count_map}
+use Rattle.rights_core.proofs.Recorded.{holds_end, issued_end, count_map}
 use Rattle.rights_core.proofs.Asking.{lookup_asked}
 
 same_cond : {X : Type 0} (b : Bool) (x : X) → cond b x x ≡ x
@@ -48,9 +49,6 @@ at_parts true true true h = (refl, refl, refl)
 at_parts true true false h = cc
 at_parts true false c h = cc
 at_parts false b c h = cc
-
-pub number_same : (a b : ℕ) → (a == b) ≡ true → a ≡ b
-number_same a b h = grind (arith, nat_tests, h)
 
 -- A NEW RIGHT
 

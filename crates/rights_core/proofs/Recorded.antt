@@ -8,8 +8,8 @@ use Rattle.std.proofs.lemmas.List.Edits.{map_over_more}
 use Rattle.std.proofs.Math.Seq.{drop-length}
 use Rattle.std.proofs.Math.ListN.{set}
 use Rattle.std.proofs.lemmas.List.Sums.{sum_by-cons, sum_by-append}
-use Rattle.std.proofs.lemmas.Bool.Decides.{nat_tests, same_from_decides}
-use Rattle.std.proofs.lemmas.Slice.Eq.{bytes_eq-Decides}
+use Rattle.std.proofs.lemmas.Bool.Decides.{nat_tests}
+use Rattle.plain.proofs.Keys.{bytes_swap, bytes_self, bytes_same}
 use Rattle.node_core.specs.Limits.{number_limit}
 use Rattle.node_core.specs.declared.refusals.Fault.{Fault}
 use Rattle.node_core.specs.declared.refusals.Fault.TheVariants as faults
@@ -19,17 +19,6 @@ use Rattle.rights_core.specs.declared.grants.Grant.TheVariants as grants
 use Rattle.rights_core.specs.declared.endings.Ending.{Ending}
 use Rattle.rights_core.specs.declared.endings.Ending.TheVariants as endings
 use Rattle.rights_core.specs.Rights.{is_to_ask, was_asked, invalidations_of, next_invalidation, ends, status_after, stands, with_next, with_end, held_limit, count_held, is_held, is_held_at, holds, new_right, answer_beside, grant_answer, AreNumbered, AreHeldOnce, is_called, AreCalledOnce, AreCalledWithin, IsRecorded}
-
--- equality of names goes both ways
-pub bytes_swap : (a b : List ℕ) → bytes_eq a b ≡ bytes_eq b a
-bytes_swap a b =
-    same_from_decides {P = a ≡ b} (bytes_eq a b) (bytes_eq b a) (bytes_eq-Decides a b) ((λ h. sym ((bytes_eq-Decides b a).0 h)), (λ e. (bytes_eq-Decides b a).1 (sym e)))
-
-pub bytes_self : (a : List ℕ) → bytes_eq a a ≡ true
-bytes_self a = (bytes_eq-Decides a a).1 refl
-
-pub bytes_same : (a b : List ℕ) → bytes_eq a b ≡ true → a ≡ b
-bytes_same a b h = (bytes_eq-Decides a b).0 h
 
 -- a change of rights that keeps number, client and name of each, and gives no right back that has ended
 pub record KeepsRights (f : CacheRight → CacheRight) : Type 0 where
