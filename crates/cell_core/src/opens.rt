@@ -7,7 +7,7 @@ use crate::handles::{Note, OpenHandle};
 use node_core::{Fault, View};
 use std::alloc::AllocError;
 use tags_cell::{
-    CallResult, ClientNumber, Events, Handle, LockDelay, MessageNumber, Open, Ordinal,
+    CallResult, ClientNumber, Events, Handle, LockDelay, MessageNumber, NewHandle, Open, Ordinal,
 };
 
 // Its client is told of nothing.
@@ -99,8 +99,15 @@ impl Cell {
         ensures note { IfOk result (λ told. told.0 ≡ opened_note self.now (Ok handle)) }
         ensures answer { IfOk result (λ told. told.1 ≡ opened_answer self.now (Ok handle)) }
     {
+        let instance = handle.instance;
+        let life = handle.life;
         let noted = OpenHandle::new(self.alloc, handle, &self.secret)?;
-        let answer = CallResult::Opened(noted.bytes().clone()?);
+        let bytes = noted.bytes().clone()?;
+        let answer = CallResult::Opened(NewHandle {
+            bytes,
+            instance,
+            life,
+        });
         Ok((Some(noted.note()), answer))
     }
 }

@@ -45,12 +45,7 @@ impl Cell {
     }
 
     /// The reply to a call.
-    pub fn reply_of(
-        &self,
-        client: ClientNumber,
-        number: MessageNumber,
-        answer: CallResult,
-    ) -> Reply
+    pub fn reply_of(&self, client: ClientNumber, number: MessageNumber, answer: CallResult) -> Reply
         ensures { result ≡ reply_of self.now client number answer }
     {
         Reply {
