@@ -5,7 +5,9 @@ ghost use Rattle.cell_core.specs.Step.{sends};
 ghost use Rattle.over_core.specs.declared.actions.Action.TheVariants.{Apply};
 ghost use Rattle.over_core.specs.Sweep.{no_deed, started_out, applied_lines, plan_session, plan_start, plan_effect, plan_work, plan_of};
 
-use cell_core::{Cell as Master, Change, Deed, Effect, Kept, KeptPut, SessionPut, Taken, Task, Work};
+use cell_core::{
+    Cell as Master, Change, Deed, Effect, Kept, KeptPut, SessionPut, Taken, Task, Work,
+};
 use names_cell::Principal;
 use node_core::{Fault, Line, Mod};
 use rows_cell::Session;
@@ -166,11 +168,7 @@ fn plan_effect(
 }
 
 // What is printed and sent for a call.
-fn reply_taken(
-    master: &Master,
-    reply: &Reply,
-    change: &Option<Change>,
-) -> Result<Taken, AllocError>
+fn reply_taken(master: &Master, reply: &Reply, change: &Option<Change>) -> Result<Taken, AllocError>
     ensures lines { IfOk result (λ taken. taken.lines ≡ applied_lines reply.now.client reply.now.number change.now) }
     ensures outs { IfOk result (λ taken. taken.outs ≡ (sends reply.now).outs) }
 {
