@@ -201,7 +201,7 @@ abbrev pub plain_open : MasterState → ℕ → ℕ → Open → Result Handle F
 plain_open s client number opening = option_map_or (λ view. open_present s client number opening view) (get_node s.nodes opening.name) (Err faults.NotFound)
 
 abbrev pub opened_answer : MasterState → Result Handle Fault → CallResult
-opened_answer s (Ok handle) = results.Opened (handle_bytes s.secret handle)
+opened_answer s (Ok handle) = results.Opened (record { bytes = handle_bytes s.secret handle; instance = handle.instance; life = handle.life })
 opened_answer s (Err fault) = results.Refused fault
 
 -- a new handle is open

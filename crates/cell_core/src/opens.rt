@@ -7,7 +7,7 @@ use crate::handles::{HandleKey, HandleState, Note};
 use node_core::{Fault, View};
 use std::alloc::AllocError;
 use tags_cell::{
-    CallResult, ClientNumber, Events, Handle, LockDelay, MessageNumber, Open, Ordinal,
+    CallResult, ClientNumber, Events, Handle, LockDelay, MessageNumber, NewHandle, Open, Ordinal,
 };
 
 // Its client is told of nothing.
@@ -87,7 +87,14 @@ impl Cell {
         ensures { IfOk result (λ answer. answer ≡ opened_answer self.now opened.now) }
     {
         match opened {
-            Ok(handle) => Ok(CallResult::Opened(handle.write(self.alloc, &self.secret)?)),
+            Ok(handle) => {
+                let bytes = handle.write(self.alloc, &self.secret)?;
+                Ok(CallResult::Opened(NewHandle {
+                    bytes,
+                    instance: handle.instance,
+                    life: handle.life,
+                }))
+            }
             Err(fault) => Ok(CallResult::Refused(*fault)),
         }
     }
