@@ -185,7 +185,10 @@ fn settle_turn<R: Records + Drop>(
     ensures delivered { AreDelivered delivered.new world.new.world.messages }
 {
     match world.waiting_behind(*delivered) {
-        None => world.sweep(),
+        None => {
+            *delivered = world.message_count();
+            world.sweep()
+        }
         Some(step) => {
             let turn = deliver(world, &step, delivered);
             drop(step);
