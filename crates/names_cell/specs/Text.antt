@@ -1,6 +1,6 @@
 -- The grammar of names, of principals and of ACL files.
-use Rattle.std.specs.Prelude.{ℕ, Bool, false, not, ◌&&◌, ◌||◌, ◌==◌, nat_eq, nat_le, List, [], ◌∷◌, ◌++◌, length, drop, codes, Option, Some, None, if◌then◌else◌}
-use Rattle.std.specs.List.{list_all, slice_split, starts_with, before_first, after_last}
+use Rattle.std.specs.Prelude.{ℕ, Bool, false, not, ◌&&◌, ◌||◌, ◌==◌, nat_eq, nat_le, List, [], ◌∷◌, ◌++◌, ◌-◌, min, length, drop, codes, Option, Some, None, if◌then◌else◌}
+use Rattle.std.specs.List.{list_all, slice_split, starts_with, before_first, after_last, repeat}
 use Rattle.std.specs.Str.{bytes_eq}
 use Rattle.std.specs.Option.{option_map, option_map_or}
 
@@ -59,6 +59,10 @@ is_under name top = starts_with nat_eq name (top ++ codes "/")
 -- the least name that a child may have, since a dash is the least byte of a component; a name of more than 510 bytes has no room for a child
 abbrev pub first_child_of : List ℕ → Option (List ℕ)
 first_child_of name = if nat_le (length name) 510 then Some (name ++ codes "/-") else None
+
+-- the greatest name that a child may have: a `z` is the greatest byte of a component, and there are as many as a component and a name have room for
+abbrev pub last_child_of : List ℕ → Option (List ℕ)
+last_child_of name = if nat_le (length name) 510 then Some (name ++ (codes "/" ++ repeat (min (511 - length name) 64) (codes "z"))) else None
 
 -- where the ACL of this name stands in the cell of the other
 abbrev pub acl_file_of : List ℕ → List ℕ → List ℕ

@@ -9,7 +9,7 @@ ghost use Rattle.std.specs.Cmp.Rules.{hashing};
 ghost use Rattle.std.specs.Hash as fed;
 ghost use Rattle.std.proofs.Common.{rules};
 ghost use Rattle.plain.specs.Results.{Gives};
-ghost use Rattle.names_cell.specs.Text.{is_component, is_name, is_slash, parent_of, is_child, is_under, first_child_of, cell_of, last_of, root_of, acl_file_of};
+ghost use Rattle.names_cell.specs.Text.{is_component, is_name, is_slash, parent_of, is_child, is_under, first_child_of, last_child_of, cell_of, last_of, root_of, acl_file_of};
 
 use crate::components::Component;
 use crate::faults::NameFault;
@@ -140,6 +140,22 @@ impl Name {
         let path = self.path();
         Ok(Some(Name {
             text: format!(in *self.text.allocator(); "/ls/{path}/-")?,
+        }))
+    }
+
+    /// The greatest name, in order of bytes, that a child of this one can have; none where there is no room for a child.
+    pub fn last_child(&self) -> Result<Option<Name>, AllocError>
+        ensures { IfOk result (λ last. last ≡ last_child_of self.now) }
+    {
+        let room = 511usize.saturating_sub(self.text.len());
+        if room == 0 {
+            return Ok(None);
+        }
+        let alloc = *self.text.allocator();
+        let path = self.path();
+        let last = "z".repeat(alloc, room.min(64))?;
+        Ok(Some(Name {
+            text: format!(in alloc; "/ls/{path}/{last}")?,
         }))
     }
 

@@ -1,3 +1,4 @@
 pub mod Orders
 pub mod Changes
+pub mod Jumps
 pub mod Walks

@@ -1,9 +1,9 @@
 -- The names below a name stand next to each other.
 use Rattle.std.proofs.Common.{◌≡◌, ℕ, ◌<◌, ◌≤◌, List, [], ◌∷◌, ◌++◌, length, drop, Bool, true, false, cond, nat_eq, Option, Some, None, Ordering, Less, Equal, Greater, refl, sym, ap, ◌∙◌, arith, length-append, append_assoc, append-nil}
 use Rattle.std.specs.Prelude.{◌||◌, nat_le, nat_lt, codes, map, filter}
-use Rattle.std.specs.Ordering.{is_le, nat_cmp, ordering_then, ordering_reverse}
+use Rattle.std.specs.Ordering.{is_le, is_lt, nat_cmp, ordering_then, ordering_reverse}
 use Rattle.std.specs.Cmp.{tied_itself, nat_cmp_total}
-use Rattle.std.specs.Cmp.Lexicographic.{slice_cmp}
+use Rattle.std.specs.Cmp.Lexicographic.{slice_cmp, nat_list_cmp_total}
 use Rattle.std.specs.Option.{option_map, option_map_or}
 use Rattle.std.specs.List.{AllByRecursion, list_all, list_any, slice_split, starts_with, after_last}
 use Rattle.std.specs.List.Sorted.{IsStrictlySortedBy}
@@ -30,7 +30,7 @@ nat_cmp_same : (b : ℕ) → nat_cmp b b ≡ Equal
 nat_cmp_same b = tied_itself nat_cmp_total b
 
 -- what begins with a text is that text and the rest
-begins : (p c : List ℕ) → starts_with nat_eq c p ≡ true → c ≡ p ++ drop (length p) c
+pub begins : (p c : List ℕ) → starts_with nat_eq c p ≡ true → c ≡ p ++ drop (length p) c
 begins [] c h = refl
 begins (a ∷ p) [] h = absurd (cc)
 begins (a ∷ p) (b ∷ c) h =
@@ -53,17 +53,19 @@ pub record IsChildOf (child name : List ℕ) : Type 0 where
   pub more : List ℕ
   pub joined : child ≡ name ++ 47 ∷ byte ∷ more
   pub least : 45 ≤ byte
+  pub no_more : front_of (byte ∷ more) ≡ None
 
 least_byte : (b : ℕ) → is_component_byte b ≡ true → 45 ≤ b
 least_byte b h = grind (arith, nat_tests)
 
-child_of : (child name front last : List ℕ) → child ≡ codes "/ls/" ++ (front ++ 47 ∷ last) → name ≡ codes "/ls/" ++ front → is_component last ≡ true → IsChildOf child name
-child_of child name front [] e n h = absurd (cc)
-child_of child name front (b ∷ bs) e n h = record {
+child_of : (child name front last : List ℕ) → child ≡ codes "/ls/" ++ (front ++ 47 ∷ last) → name ≡ codes "/ls/" ++ front → is_component last ≡ true → front_of last ≡ None → IsChildOf child name
+child_of child name front [] e n h no_more = absurd (cc)
+child_of child name front (b ∷ bs) e n h no_more = record {
   byte = b;
   more = bs;
   joined = rw n e;
   least = least_byte b (both _ _ (parts_of_component (b ∷ bs) h).bytes).0;
+  no_more = no_more;
 }
 
 child_from : (child name path : List ℕ) → child ≡ codes "/ls/" ++ path → list_all is_component (slice_split is_slash path) ≡ true → (o : Option (List ℕ)) → front_of path ≡ o → option_map_or (λ front. bytes_eq front name) (option_map (λ front. codes "/ls/" ++ front) o) false ≡ true → IsChildOf child name
@@ -72,7 +74,7 @@ child_from child name path e all (Some front) f h =
     let t = splits path front f in
     let n : name ≡ codes "/ls/" ++ front = sym (equal (codes "/ls/" ++ front) name h) in
     let last : after_last is_slash path ≡ t.last = ap (after_last is_slash) t.joined ∙ after_front front t.last t.no_more in
-    child_of child name front t.last (e ∙ ap (λ p. codes "/ls/" ++ p) t.joined) n (rw last at (last_is_component path all))
+    child_of child name front t.last (e ∙ ap (λ p. codes "/ls/" ++ p) t.joined) n (rw last at (last_is_component path all)) t.no_more
 
 pub child_form : (child name : List ℕ) → is_name child ≡ true → is_child child name ≡ true → IsChildOf child name
 child_form child name named h =
@@ -80,7 +82,7 @@ child_form child name named h =
     let u = both _ _ t.0 in
     child_from child name (drop 4 child) (begins (codes "/ls/") child u.0) t.1 (front_of (drop 4 child)) refl h
 
-name_length : (name : List ℕ) → is_name name ≡ true → length name ≤ 512
+pub name_length : (name : List ℕ) → is_name name ≡ true → length name ≤ 512
 name_length name h = let e : nat_le (length name) 512 ≡ true = (both _ _ (both _ _ h).0).1 in grind (arith, nat_tests)
 
 -- ---- a child lies in the range, and below the name
@@ -89,11 +91,11 @@ under_joined : (name rest : List ℕ) → is_under (name ++ 47 ∷ rest) name �
 under_joined [] rest = refl
 under_joined (b ∷ bs) rest = rw (same_byte b) (under_joined bs rest)
 
-same_front : (p x y : List ℕ) → slice_cmp nat_cmp (p ++ x) (p ++ y) ≡ slice_cmp nat_cmp x y
+pub same_front : (p x y : List ℕ) → slice_cmp nat_cmp (p ++ x) (p ++ y) ≡ slice_cmp nat_cmp x y
 same_front [] x y = refl
 same_front (b ∷ p) x y = rw (nat_cmp_same b) (same_front p x y)
 
-nothing_first : (bs : List ℕ) → is_le (slice_cmp nat_cmp [] bs) ≡ true
+pub nothing_first : (bs : List ℕ) → is_le (slice_cmp nat_cmp [] bs) ≡ true
 nothing_first [] = refl
 nothing_first (b ∷ bs) = refl
 
@@ -115,12 +117,12 @@ child_has_room child name c h = omega (arith, ap length c.joined, length-append 
 
 -- ---- what lies between two names with a front has it too
 
-squeeze_byte : (a b : ℕ) (o m n : Ordering) → nat_cmp a b ≡ o → is_le (ordering_then o m) ≡ true → ordering_then (ordering_reverse o) n ≡ Less → (is_le m ≡ true) × (n ≡ Less) × (a ≡ b)
+squeeze_byte : (a b : ℕ) (o m n : Ordering) → nat_cmp a b ≡ o → is_le (ordering_then o m) ≡ true → is_le (ordering_then (ordering_reverse o) n) ≡ true → (is_le m ≡ true) × (is_le n ≡ true) × (a ≡ b)
 squeeze_byte a b Less m n e h k = absurd (cc)
 squeeze_byte a b Equal m n e h k = (h, k, exact_unsigned a b e)
 squeeze_byte a b Greater m n e h k = absurd (cc)
 
-squeeze : (p u t x : List ℕ) → is_le (slice_cmp nat_cmp (p ++ u) x) ≡ true → slice_cmp nat_cmp x (p ++ t) ≡ Less → (rest : List ℕ) × (x ≡ p ++ rest)
+pub squeeze : (p u t x : List ℕ) → is_le (slice_cmp nat_cmp (p ++ u) x) ≡ true → is_le (slice_cmp nat_cmp x (p ++ t)) ≡ true → (rest : List ℕ) × (x ≡ p ++ rest)
 squeeze [] u t x h k = (x, refl)
 squeeze (a ∷ p) u t [] h k = absurd (cc)
 squeeze (a ∷ p) u t (b ∷ x) h k =
@@ -134,7 +136,7 @@ pub nothing_behind : (name x y : List ℕ) → is_le (slice_cmp nat_cmp (name ++
 nothing_behind name x y h under less c =
     let first : is_le (slice_cmp nat_cmp ((name ++ 47 ∷ []) ++ 45 ∷ []) x) ≡ true = rw append_assoc h in
     let last : slice_cmp nat_cmp x ((name ++ 47 ∷ []) ++ c.byte ∷ c.more) ≡ Less = rw append_assoc (rw c.joined at less) in
-    let r = squeeze (name ++ 47 ∷ []) (45 ∷ []) (c.byte ∷ c.more) x first last in
+    let r = squeeze (name ++ 47 ∷ []) (45 ∷ []) (c.byte ∷ c.more) x first (ap is_le last) in
     let e : x ≡ name ++ 47 ∷ r.0 = r.1 ∙ append_assoc name (47 ∷ []) r.0 in
     let below : is_under x name ≡ true = ap (λ n. is_under n name) e ∙ under_joined name r.0 in
     absurd (cc)
@@ -177,11 +179,11 @@ from_first name es = entries_between (slice_cmp nat_cmp) (Included (name ++ code
 abbrev in_range : List ℕ → List ℕ → Bool
 in_range name key = range_contains (slice_cmp nat_cmp) (Included (name ++ codes "/-")) Unbounded key
 
-range_keys : (p : List ℕ → Bool) (es : Nodes) → keys_of (filter (λ e. p e.0) es) ≡ filter p (keys_of es)
+pub range_keys : (p : List ℕ → Bool) (es : Nodes) → keys_of (filter (λ e. p e.0) es) ≡ filter p (keys_of es)
 range_keys p [] = refl
 range_keys p (e ∷ es) = elim (p e.0) as (λ v. keys_of (cond v (e ∷ filter (λ x. p x.0) es) (filter (λ x. p x.0) es)) ≡ cond v (e.0 ∷ filter p (keys_of es)) (filter p (keys_of es))) [ true ↦ ap (λ l. e.0 ∷ l) (range_keys p es) | false ↦ range_keys p es ]
 
-all_filter : (P : List ℕ → Type 0) (p : List ℕ → Bool) (ks : List (List ℕ)) → AllByRecursion P ks → AllByRecursion P (filter p ks)
+pub all_filter : (P : List ℕ → Type 0) (p : List ℕ → Bool) (ks : List (List ℕ)) → AllByRecursion P ks → AllByRecursion P (filter p ks)
 all_filter P p [] h = tt
 all_filter P p (k ∷ ks) h = elim (p k) as (λ v. AllByRecursion P (cond v (k ∷ filter p ks) (filter p ks))) [ true ↦ (h.0, all_filter P p ks h.1) | false ↦ all_filter P p ks h.1 ]
 
@@ -228,17 +230,59 @@ no_room name (k ∷ ks) long h =
       | false ↦ (λ e. no_room name ks long h.1)
     ]) refl
 
+-- ---- what is left behind a bound
+
+pub lt_is : (o : Ordering) → is_lt o ≡ true → o ≡ Less
+lt_is Less h = refl
+lt_is Equal h = absurd (cc)
+lt_is Greater h = absurd (cc)
+
+pub le_less : (x y z : List ℕ) → is_le (slice_cmp nat_cmp x y) ≡ true → slice_cmp nat_cmp y z ≡ Less → slice_cmp nat_cmp x z ≡ Less
+le_less x y z h k =
+    (elim (slice_cmp nat_cmp x y) as (λ o. slice_cmp nat_cmp x y ≡ o → is_le o ≡ true → slice_cmp nat_cmp x z ≡ Less) [
+      | Less ↦ (λ e l. nat_list_cmp_total.trans x y z e k)
+      | Equal ↦ (λ e l. nat_list_cmp_total.congr x y z e ∙ k)
+      | Greater ↦ (λ e l. absurd (cc))
+    ]) refl h
+
+in_range_up : (name x y : List ℕ) → slice_cmp nat_cmp x y ≡ Less → in_range name x ≡ true → in_range name y ≡ true
+in_range_up name x y less h = let e = le_less (name ++ codes "/-") x y (both _ _ h).0 less in rw e refl
+
+keep_all : (p : List ℕ → Bool) → ((x y : List ℕ) → slice_cmp nat_cmp x y ≡ Less → p x ≡ true → p y ≡ true) → (x : List ℕ) (es : Nodes) → p x ≡ true → AllByRecursion (λ y. slice_cmp nat_cmp x y ≡ Less) (keys_of es) → filter (λ e. p e.0) es ≡ es
+keep_all p up x [] h all = refl
+keep_all p up x (e ∷ es) h all = let q : p e.0 ≡ true = up x e.0 all.0 h in rw q (ap (λ l. e ∷ l) (keep_all p up x es h all.1))
+
+-- entries that pass a test, as all behind one that does, are the last ones
+pub split_off : (p : List ℕ → Bool) → ((x y : List ℕ) → slice_cmp nat_cmp x y ≡ Less → p x ≡ true → p y ≡ true) → (es : Nodes) → IsStrictlySortedBy (slice_cmp nat_cmp) (keys_of es) → (front : Nodes) × (es ≡ front ++ filter (λ e. p e.0) es)
+unfolding IsStrictlySortedBy
+split_off p up [] s = ([], refl)
+split_off p up (e ∷ es) s =
+    (elim (p e.0) as (λ v. p e.0 ≡ v → (front : Nodes) × (e ∷ es ≡ front ++ cond v (e ∷ filter (λ e. p e.0) es) (filter (λ e. p e.0) es))) [
+      | true ↦ (λ h. ([], ap (λ l. e ∷ l) (sym (keep_all p up e.0 es h s.0))))
+      | false ↦ (λ h. let t = split_off p up es s.1 in (e ∷ t.0, ap (λ l. e ∷ l) t.1))
+    ]) refl
+
 -- ---- the walk over the names below one
 
 -- `names` are the children that were met, and `rest` are the entries that are left
 pub record Walked (nodes : Nodes) (name : List ℕ) (names : List (List ℕ)) (rest : Nodes) : Type 0 where
   pub so_far : names ++ map last_of (filter (childish name) (keys_of rest)) ≡ children nodes name
   pub below : IsBelow name rest
+  pub ordered : HasNamesInOrder nodes
+  pub front : Nodes
+  pub whole : nodes ≡ front ++ rest
+
+-- one more was passed
+one_passed : (nodes front rest : Nodes) (e : List ℕ × View) → nodes ≡ front ++ e ∷ rest → nodes ≡ (front ++ e ∷ []) ++ rest
+one_passed nodes front rest e h = h ∙ sym (append_assoc front (e ∷ []) rest)
 
 pub walk_start : (nodes : Nodes) (name : List ℕ) (names : List (List ℕ)) (rest : Nodes) → HasNamesInOrder nodes → names ≡ [] → rest ≡ from_first name nodes → Walked nodes name names rest
 walk_start nodes name names rest h e r = record {
   so_far = rw (e, r) (ap (map last_of) (walk_has_children name nodes h));
   below = rw r (walk_begins name nodes h);
+  ordered = h;
+  front = (split_off (in_range name) (in_range_up name) nodes h.in_order).0;
+  whole = rw r (split_off (in_range name) (in_range_up name) nodes h.in_order).1;
 }
 
 pub walk_stop : (nodes : Nodes) (name : List ℕ) (names : List (List ℕ)) (e : List ℕ × View) (rest all : Nodes) → all ≡ e ∷ rest → Walked nodes name names all → is_under e.0 name ≡ false → names ≡ children nodes name
@@ -252,12 +296,15 @@ walk_push nodes name names more e rest all q w child m =
     record {
       so_far = rw m (append_assoc names (last_of e.0 ∷ []) (map last_of (filter (childish name) (keys_of rest))) ∙ (rw child at v.so_far));
       below = walk_goes_on name e rest v.below;
+      ordered = v.ordered;
+      front = v.front ++ e ∷ [];
+      whole = one_passed nodes v.front rest e v.whole;
     }
 
 pub walk_skip : (nodes : Nodes) (name : List ℕ) (names : List (List ℕ)) (e : List ℕ × View) (rest all : Nodes) → all ≡ e ∷ rest → Walked nodes name names all → is_child e.0 name ≡ false → Walked nodes name names rest
 walk_skip nodes name names e rest all q w child =
     let v : Walked nodes name names (e ∷ rest) = rw q at w in
-    record { so_far = rw child at v.so_far; below = walk_goes_on name e rest v.below }
+    record { so_far = rw child at v.so_far; below = walk_goes_on name e rest v.below; ordered = v.ordered; front = v.front ++ e ∷ []; whole = one_passed nodes v.front rest e v.whole }
 
 pub walk_done : (nodes : Nodes) (name : List ℕ) (names : List (List ℕ)) (all : Nodes) → all ≡ [] → Walked nodes name names all → names ≡ children nodes name
 walk_done nodes name names all q w =

@@ -7,7 +7,7 @@ use Rattle.std.specs.Map.{keys_of, lookup, remove_entry}
 use Rattle.std.specs.BTreeMap.{is_at, insert_entry}
 use Rattle.std.specs.Cmp.Lexicographic.{slice_cmp}
 use Rattle.std.specs.Ordering.{nat_cmp}
-use Rattle.names_cell.specs.Text.{is_name, parent_of, is_child, last_of}
+use Rattle.names_cell.specs.Text.{is_name, parent_of, is_child, last_of, last_child_of}
 use Rattle.node_core.specs.Limits.{content_limit, number_limit}
 use Rattle.node_core.specs.declared.views.View.{View}
 use Rattle.node_core.specs.declared.views.Mod.{Mod}
@@ -36,6 +36,10 @@ children nodes name = map last_of (filter (λ child. is_child child name) (keys_
 
 abbrev pub has_children : Nodes → List ℕ → Bool
 has_children nodes name = list_any (λ child. is_child child name) (keys_of nodes)
+
+-- the greatest name, in order of bytes, that may have the same parent
+abbrev pub last_sibling_of : List ℕ → Option (List ℕ)
+last_sibling_of name = option_map_or last_child_of (parent_of name) None
 
 -- ---- where a change fits
 

@@ -5,7 +5,7 @@ ghost use Rattle.std.specs.BTreeMap.{is_at, insert_entry};
 ghost use Rattle.std.specs.Map.{remove_entry};
 ghost use Rattle.std.specs.Cmp.Lexicographic.{slice_cmp};
 ghost use Rattle.std.specs.Ordering.{nat_cmp};
-ghost use Rattle.node_core.specs.Nodes.{HasNamesInOrder, get_node, children, has_children, misfit, put_misfit, parent_misfit, limit_misfit, present_misfit, gone_misfit, after, name_of};
+ghost use Rattle.node_core.specs.Nodes.{HasNamesInOrder, get_node, children, has_children, misfit, put_misfit, parent_misfit, limit_misfit, present_misfit, gone_misfit, after, name_of, last_sibling_of};
 ghost use Rattle.node_core.specs.Access.{first_name};
 ghost use Rattle.plain.specs.Tables.{with_former};
 
@@ -17,6 +17,7 @@ use plain::{Items, Same, Table};
 use std::alloc::{AllocError, Global};
 use std::collections::BTreeMap;
 use std::marker::Model;
+use std::ops::Bound;
 
 /// The greatest length of a content, in bytes.
 pub const CONTENT_LIMIT: usize = 262_144;
@@ -100,22 +101,25 @@ impl Map {
         Some(name)
     }
 
-    /// The last components of the children of a name, in order of bytes. It walks over the names below this one and
-    /// no others.
+    /// The last components of the children of a name, in order of bytes. It walks over the children, and passes what
+    /// stands below each of them by look-ups in a tree.
     pub fn children(&self, name: &Name) -> Result<Items<Component>, AllocError>
         ensures { IfOk result (λ names. names ≡ children self.now name.now) }
     {
-        let entries = self.as_map();
+        let nodes = self.as_map();
         let mut names = Items::new(self.alloc);
         let Some(first) = name.first_child()? else {
             return Ok(names);
         };
-        for (child, _) in entries.range(&first..) {
+        let mut entries = nodes.range(&first..);
+        while let Some((child, _)) = entries.next() {
             if !child.is_under(name) {
                 return Ok(names);
             }
             if child.is_child_of(name) {
                 names.push(child.last_component()?)?;
+            } else if let Some(last) = last_sibling(child)? {
+                entries = nodes.range((Bound::Excluded(&last), Bound::Unbounded));
             }
         }
         Ok(names)
@@ -265,6 +269,16 @@ impl Map {
         }
         Ok(None)
     }
+}
+
+// The greatest name, in order of bytes, that may have the same parent.
+fn last_sibling(name: &Name) -> Result<Option<Name>, AllocError>
+    ensures { IfOk result (λ last. last ≡ last_sibling_of name.now) }
+{
+    let Some(parent) = name.parent()? else {
+        return Ok(None);
+    };
+    parent.last_child()
 }
 
 // What is wrong with the view itself.

@@ -1,5 +1,5 @@
 -- Messages that need not be looked at again, and the turns of `settle` as steps.
-use Rattle.std.proofs.Common.{◌≡◌, ℕ, zero, suc, ◌+◌, ◌-◌, ◌≤◌, List, [], ◌∷◌, Bool, true, false, cond, Result, Ok, Err, Option, Some, None, refl, sym, ap, subst, arith, ◌∙◌, inl, inr, drop}
+use Rattle.std.proofs.Common.{◌≡◌, ℕ, zero, suc, ◌+◌, ◌-◌, ◌≤◌, List, [], ◌∷◌, Bool, true, false, cond, Result, Ok, Err, Option, Some, None, refl, sym, ap, subst, arith, ◌∙◌, inl, inr, drop, length}
 use Rattle.std.specs.Prelude.{is_some, not, ◌&&◌, IfOk, IfErr, OnOk, OnErr}
 use Rattle.std.specs.Option.{unwrap_or}
 use Rattle.std.specs.Result.{IsErr, IsErrAnd}
@@ -59,6 +59,15 @@ found_by (s ∷ rest) first step l h = found_here s.delivered s rest first step 
 pub found : (sent : List Sent) (step : Step) → first_waiting sent 1 ≡ Some step → AreDelivered (before_message step) sent
 found sent step h = let is = found_by sent 1 step (omega arith) h in let one : before_message step + 1 - 1 ≡ before_message step = omega arith in subst (λ n. AreDelivered n sent) one is.all
 
+-- where none waits, all were delivered
+all_by : (b : Bool) (s : Sent) (rest : List Sent) (number : ℕ) → s.delivered ≡ b → (first_waiting rest (number + 1) ≡ None → AreDelivered (length rest) rest) → cond b (first_waiting rest (number + 1)) (Some (step_of s.message number)) ≡ None → AreDelivered (length (s ∷ rest)) (s ∷ rest)
+all_by true s rest number is behind h = (is, behind h)
+all_by false s rest number is behind h = cc
+
+all_from : (sent : List Sent) (number : ℕ) → first_waiting sent number ≡ None → AreDelivered (length sent) sent
+all_from [] number h = tt
+all_from (s ∷ rest) number h = all_by s.delivered s rest number refl (all_from rest (number + 1)) h
+
 -- ---- turns
 
 pub none_waits : (w : WorldState) (count : ℕ) → AreDelivered count w.messages → waiting_behind w.messages count ≡ None → first_waiting w.messages 1 ≡ None
@@ -101,9 +110,14 @@ pub swept_refused : (old new : WorldView) (r : Result Turn Fault) → first_wait
 swept_refused old new (Ok turn) none why left = tt
 swept_refused old new (Err fault) none why left = refused_at old new steps.Sweep (turn_step old.world) fault (turn_at old.world None none) (swept_why old new fault why) left
 
-pub swept_delivered : (old new : WorldView) (count : ℕ) (edits : List Edit) (r : Result Turn Fault) → AreDelivered count old.world.messages → IfOk r (λ turn. world_sweep old.world old.world.master ≡ Ok (new.world, turn)) → OnErr r (IsLeft edits old new) → AreDelivered count new.world.messages
-swept_delivered old new count edits (Ok turn) h made left = (sweep_sends old.world old.world.master new.world turn made).stays count h
-swept_delivered old new count edits (Err fault) h made left = subst (λ (x : WorldState). AreDelivered count x.messages) (sym left.same) h
+swept_stay : (old new : WorldView) (count : ℕ) (edits : List Edit) (r : Result Turn Fault) → AreDelivered count old.world.messages → IfOk r (λ turn. world_sweep old.world old.world.master ≡ Ok (new.world, turn)) → OnErr r (IsLeft edits old new) → AreDelivered count new.world.messages
+swept_stay old new count edits (Ok turn) h made left = (sweep_sends old.world old.world.master new.world turn made).stays count h
+swept_stay old new count edits (Err fault) h made left = subst (λ (x : WorldState). AreDelivered count x.messages) (sym left.same) h
+
+-- where none waited, all that were sent before the sweep need not be looked at again
+pub swept_delivered : (old new : WorldView) (count : ℕ) (edits : List Edit) (r : Result Turn Fault) → first_waiting old.world.messages 1 ≡ None → count ≡ length old.world.messages → IfOk r (λ turn. world_sweep old.world old.world.master ≡ Ok (new.world, turn)) → OnErr r (IsLeft edits old new) → AreDelivered count new.world.messages
+swept_delivered old new count edits r none is made left =
+    swept_stay old new count edits r (subst (λ n. AreDelivered n old.world.messages) (sym is) (all_from old.world.messages 1 none)) made left
 
 pub stepped_by : (old new : WorldView) (count : ℕ) (step : Step) (edits : List Edit) (r : Result (List Line) Fault) → AreDelivered count old.world.messages → IfOk r (λ printed. world_step old.world step ≡ Ok (new.world, printed)) → OnErr r (IsLeft edits old new) → AreDelivered count new.world.messages
 stepped_by old new count step edits (Ok printed) h made left = (step_sends old.world step new.world printed made).stays count h

@@ -166,6 +166,9 @@ appends_kept (Some x) (Some y) None bytes h k = absurd k
 appends_kept (Some x) (Some y) (Some z) bytes h k = k ∙ h
 
 -- what was written stays written where the writer is flushed
+pub wrote_kept : (P : List Line → Type 0) (a b c : Option (List ℕ)) → Wrote P a b → Keeps b c → Wrote P a c
+wrote_kept P a b c h k = (h.0, h.1, appends_kept a b c (lines_text h.0) h.2 k)
+
 pub ran : {E : Type 0} (text rest : Option (List ℕ)) (old w : WorldView) (a b c : Option (List ℕ)) (r : Result (Unit {0}) E) → rest ≡ text → w ≡ old → OnOk r (Wrote (IsOfScript rest w) a b) → Keeps b c → OnOk r (Wrote (IsOfScript text old) a c)
 ran text rest old w a b c (Err e) same from h k = tt
 ran text rest old w a b c (Ok x) same from h k =

@@ -121,6 +121,11 @@ impl<R: Read + Drop> ScriptLines<R> {
         }
     }
 
+    /// Whether more input has to be read before the next line is whole.
+    pub(crate) fn is_used_up(&self) -> bool {
+        !self.reader.buffer().contains(&b'\n')
+    }
+
     /// Goes on to the next line; false where there is none. A line that is too long, too many or can't be read is no
     /// step.
     pub(crate) fn advance(&mut self) -> Result<bool, Stop>

@@ -1,12 +1,13 @@
 //! Runs a script.
 ghost use Rattle.std.specs.Prelude.{◌≡◌, ◌≤◌, ◌∷◌, [], Some, length, true, OnOk, IfOk, IfErr};
-ghost use Rattle.std.specs.Io.KnownBytes.{Appends};
+ghost use Rattle.std.specs.Io.KnownBytes.{Appends, Keeps};
 ghost use Rattle.world_cell.specs.Messages.{first_waiting, AreDelivered};
 ghost use Rattle.world_cell.specs.World.{opened};
 ghost use Rattle.world_cell.specs.Runs.{IsMade, IsRefused};
 ghost use Rattle.script_cell.specs.Scripts.{Wrote, IsOfScript, DoesLine, DoesParsed, lines_text, told};
 ghost use Rattle.script_cell.specs.Settling.{Settles, TakesTurn, turn_step, is_waiting, is_idle, before_message};
 ghost use Rattle.script_cell.specs.Stops.{IsStatus};
+ghost use Rattle.script_cell.specs.Texts.{Advances};
 
 use crate::lines::{LINE_COUNT_LIMIT, ScriptLines};
 use crate::steps::{Parsed, read_line};
@@ -21,7 +22,8 @@ use world_cell::{Step, Turn, World};
 /// Runs a script on a new world over the records: reads its steps, one a line, and writes the lines that they print.
 /// Answers the exit status: 0; 1 at a line that is no step, where the steps before it stand, and where a line can't be
 /// written; 4 where memory runs out outside a step. The words of it go to `errors`; behind a write that failed there are
-/// none. Each line is written by itself, so the writer should have a buffer; it is flushed at the end.
+/// none. Each line is written by itself, so the writer should have a buffer; it is flushed before more input is read, and
+/// at the end.
 pub fn script<R: Records + Drop, I: Read + Drop, W: Write>(
     alloc: Global,
     settings: &Settings,
@@ -79,12 +81,26 @@ fn run_lines<R: Records + Drop, I: Read + Drop, W: Write>(
 {
     let mut delivered = 0;
     for _ in 0..=LINE_COUNT_LIMIT {
-        if !lines.advance()? {
+        if !advance(lines, output)? {
             return Ok(());
         }
         run_line(alloc, world, lines, &mut delivered, output)?;
     }
     Err(Stop::BadStep(lines.number()))
+}
+
+// Goes on to the next line; false where there is none. What was printed is written before more input is read.
+fn advance<I: Read + Drop, W: Write>(
+    lines: &mut ScriptLines<I>,
+    output: &mut W,
+) -> Result<bool, Stop>
+    ensures advances { IfOk result (λ is_there. Advances is_there lines.old lines.new) }
+    ensures kept { OnOk result (Keeps (W.contents output.old) (W.contents output.new)) }
+{
+    if lines.is_used_up() {
+        output.flush()?;
+    }
+    lines.advance()
 }
 
 // Does what the line asks for that was read last.
@@ -185,7 +201,10 @@ fn settle_turn<R: Records + Drop>(
     ensures delivered { AreDelivered delivered.new world.new.world.messages }
 {
     match world.waiting_behind(*delivered) {
-        None => world.sweep(),
+        None => {
+            *delivered = world.message_count();
+            world.sweep()
+        }
         Some(step) => {
             let turn = deliver(world, &step, delivered);
             drop(step);

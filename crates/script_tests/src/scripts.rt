@@ -671,3 +671,37 @@ fn write_that_fails(rt: HostRuntime) -> Result<(), Fail> {
     assert!(rt; errors.is_empty());
     Ok(())
 }
+
+// Holds what was written, with a bar wherever it was flushed.
+#[derive(Drop)]
+struct Marked {
+    text: Vec<u8>,
+}
+
+impl Write for Marked {
+    fn write(&mut self, buf: &[u8]) -> io::Result<usize> {
+        self.text.write(buf)
+    }
+
+    fn flush(&mut self) -> io::Result<()> {
+        self.text.write_all(b"|")
+    }
+}
+
+#[test]
+fn lines_are_flushed_before_more_is_read(rt: HostRuntime) -> Result<(), Fail> {
+    let alloc = rt.alloc();
+    let settings = Settings::standard(alloc)?;
+    let records = ListRecords::new(alloc, &settings)?;
+    let steps = Trickle {
+        left: b"up 0\nup 0\n",
+    };
+    let mut output = Marked {
+        text: Vec::new(alloc),
+    };
+    let mut errors = Vec::new(alloc);
+    let _ = script(alloc, &settings, records, steps, &mut output, &mut errors);
+    let lines = "|up 1\n|refused 39 MasterUp\n||";
+    assert_eq!(rt; str::from_utf8(output.text.as_slice())?, lines);
+    Ok(())
+}

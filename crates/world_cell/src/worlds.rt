@@ -1,5 +1,5 @@
 //! A world.
-ghost use Rattle.std.specs.Prelude.{◌≡◌, [], ◌∷◌, Some, None, Ok, Err, IfOk, IfErr, OnOk, OnErr, is_some};
+ghost use Rattle.std.specs.Prelude.{◌≡◌, [], ◌∷◌, Some, None, Ok, Err, IfOk, IfErr, OnOk, OnErr, is_some, length};
 ghost use Rattle.world_cell.specs.World.{opened, world_step, world_up, world_join, world_ask, world_beat, world_take, world_give, world_sweep, step_edits, IsStored, IsLeft, MayRefuseStep};
 ghost use Rattle.world_cell.specs.Messages.{waiting_behind};
 
@@ -129,6 +129,13 @@ impl<R: Records + Drop> World<R> {
         ensures { result ≡ waiting_behind self.now.world.messages count }
     {
         mail::waiting_behind(self.messages.as_slice(), count)
+    }
+
+    /// How many messages were sent so far.
+    pub fn message_count(&self) -> usize
+        ensures { result ≡ length self.now.world.messages }
+    {
+        self.messages.len()
     }
 
     /// Whether a master is up.

@@ -15,7 +15,8 @@ returns-in-None-clause-refused g c =
     swept_refused c.args.world.now _ c.sweep.result (none_waits c.args.world.now.world c.args.delivered.now c.requires.delivered (sym c.in-None.ensures)) c.sweep.ensures.fault c.sweep.ensures.left
 
 pub returns-in-None-clause-delivered : goal.returns-in-None-clause-delivered
-returns-in-None-clause-delivered g c = swept_delivered c.args.world.now _ _ _ c.sweep.result c.requires.delivered c.sweep.ensures.ok c.sweep.ensures.left
+returns-in-None-clause-delivered g c =
+    swept_delivered c.args.world.now _ c.message_count.result _ c.sweep.result (none_waits c.args.world.now.world c.args.delivered.now c.requires.delivered (sym c.in-None.ensures)) c.message_count.ensures c.sweep.ensures.ok c.sweep.ensures.left
 
 pub deliver-turn-requires : goal.deliver-turn-requires
 deliver-turn-requires g c = one_waits c.args.world.now.world c.args.delivered.now _ c.requires.delivered (sym c.in-Some.ensures)

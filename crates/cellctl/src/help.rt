@@ -1,0 +1,46 @@
+//! What help says of scripts.
+
+/// The version of the program.
+pub(crate) const VERSION: &str = "0.1.0";
+
+/// The steps of a script, its limits, and how the program ends.
+pub(crate) const SCRIPTS: &str = "\
+Steps, one a line, with one space between two words; blank lines and lines that begin with # are skipped:
+  up M              a master comes up, its clock at M milliseconds
+  join C PRINCIPAL  client C joins and acts for the principal
+  ask C CALL        client C is asked for a call
+  beat C            client C sends a Start until it has a session
+  take I            message I comes to the master
+  give I            message I comes to its client
+  sweep             one sweep of the master
+  settle            messages that never came are taken and given, and the master sweeps, until nothing is left
+
+Calls; H is the client's own handle number, 1, 2, .. in the order in which its Opens succeed:
+  open NAME MODE    opens the node of this name; MODE is some letters of rwc, in this order
+  open NAME MODE may|must file permanent CONTENT [acl R W C]
+                    the same, and makes a file where there is none; must is refused where there is one
+  open NAME MODE may|must dir permanent [acl R W C]
+                    the same with a directory
+  close H           closes the handle
+  poison H          every later call on the handle but close is refused
+  read H            the content and the numbers of the node
+  stat H            its numbers
+  list H            the names of a directory's children
+  set H CONTENT [G] a new content; with G only at this content generation
+  acl H R W C [G]   new ACL names; with G only at this ACL generation
+  delete H          deletes the node
+CONTENT is hexadecimal in lower case, - for empty, or fill:N:HH for N times one byte.
+
+Limits:
+  a script          1,000,000 lines, 2^30 reads
+  a line            1,048,576 bytes without its end
+  a number          2^64-1; of a client 1 to 2^53-1
+  a name            512 bytes; each component, and a principal, 64
+  a content         262,144 bytes; N of fill at most 300,000
+  changes that wait 4,096
+
+Exit status:
+  0                 the script ran to its end; a refused step is a line like others
+  1                 a bad step, behind which nothing is done; or the output can't be written
+  2                 a wrong command line
+  4                 memory ran out outside a step";
