@@ -110,8 +110,7 @@ fn beat(client: &mut Client) -> &'static str {
 fn give(client: &mut Client) -> Result<&'static str, Fail> {
     let started = started()?;
     Ok(match client.give(0, &started) {
-        Ok(lines) if lines.is_empty() => "no line",
-        Ok(_) => "lines",
+        Ok(lines) => if lines.is_empty() { "no line" } else { "lines" },
         Err(fault) => fault.name(),
     })
 }
@@ -184,7 +183,9 @@ fn goes_so(
 fn clients(rt: HostRuntime) -> Result<(), Fail> {
     for (name, turns) in CLIENTS {
         let mut client = client(rt.alloc())?;
-        goes_so(&rt, rt.alloc(), &mut client, name, turns)?;
+        let done = goes_so(&rt, rt.alloc(), &mut client, name, turns);
+        drop(client);
+        done?;
     }
     Ok(())
 }
