@@ -30,55 +30,72 @@ fn lease(sent: u64, span: u64) -> Result<Lease, &'static str> {
     Lease::new(sent, span).ok_or("no moment")
 }
 
-#[test]
-fn runs_until_its_limit(rt: HostRuntime) -> Result<(), Fail> {
-    // sent, span, now, whether it still runs
-    let cases = [
-        (0, 12_000, 0, true),
-        (0, 12_000, 11_293, true),
-        (0, 12_000, 11_294, false),
-        (500, 12_000, 11_793, true),
-        (500, 12_000, 11_794, false),
-        (0, 0, 0, false),
-        (0, 1, 0, false),
-        (0, 2, 0, true),
-        (0, 2, 1, false),
-        (1_000, 0, 0, false),
-        (1_000, 2, 0, true),
-        (1_000, 2, 1_000, true),
-        (1_000, 2, 1_001, false),
-        (LAST_MOMENT, LAST_MOMENT, LAST_MOMENT, true),
-        (0, LAST_MOMENT, LAST_MOMENT, false),
-        (LAST_MOMENT, LAST_MOMENT, u64::MAX, false),
-    ];
-    for (sent, span, now, runs) in cases {
-        assert_eq!(rt;
-            lease(sent, span)?.unexpired(now),
-            runs,
-            "sent {sent}, span {span}, now {now}"
-        );
+// What is asked of leases, each by when it was sent and its span.
+#[derive(Debug)]
+enum Ask {
+    // Whether it still runs at that moment.
+    Runs(u64, u64, u64),
+    // Whether the first ends later: a millisecond of sending counts 17, and one of span 16.
+    IsBetter((u64, u64), (u64, u64)),
+    // Whether there is such a lease, with these numbers.
+    IsMade(u64, u64),
+}
+
+const ASKS: &[(Ask, bool)] = &[
+    (Ask::Runs(0, 12_000, 0), true),
+    (Ask::Runs(0, 12_000, 11_293), true),
+    (Ask::Runs(0, 12_000, 11_294), false),
+    (Ask::Runs(500, 12_000, 11_793), true),
+    (Ask::Runs(500, 12_000, 11_794), false),
+    (Ask::Runs(0, 0, 0), false),
+    (Ask::Runs(0, 1, 0), false),
+    (Ask::Runs(0, 2, 0), true),
+    (Ask::Runs(0, 2, 1), false),
+    (Ask::Runs(1_000, 0, 0), false),
+    (Ask::Runs(1_000, 2, 0), true),
+    (Ask::Runs(1_000, 2, 1_000), true),
+    (Ask::Runs(1_000, 2, 1_001), false),
+    (Ask::Runs(LAST_MOMENT, LAST_MOMENT, LAST_MOMENT), true),
+    (Ask::Runs(0, LAST_MOMENT, LAST_MOMENT), false),
+    (Ask::Runs(LAST_MOMENT, LAST_MOMENT, u64::MAX), false),
+    (Ask::IsBetter((16, 0), (0, 17)), false),
+    (Ask::IsBetter((0, 17), (16, 0)), false),
+    (Ask::IsBetter((16, 1), (0, 17)), true),
+    (Ask::IsBetter((0, 18), (16, 0)), true),
+    (
+        Ask::IsBetter((LAST_MOMENT, LAST_MOMENT), (LAST_MOMENT, LAST_MOMENT - 1)),
+        true,
+    ),
+    (
+        Ask::IsBetter((LAST_MOMENT, LAST_MOMENT), (LAST_MOMENT, LAST_MOMENT)),
+        false,
+    ),
+    (Ask::IsMade(LAST_MOMENT, 7), true),
+    (Ask::IsMade(7, LAST_MOMENT), true),
+    (Ask::IsMade(LAST_MOMENT + 1, 0), false),
+    (Ask::IsMade(0, LAST_MOMENT + 1), false),
+];
+
+fn is_made(sent: u64, span: u64) -> bool {
+    match Lease::new(sent, span) {
+        Some(lease) => lease.sent() == sent && lease.span() == span,
+        None => false,
     }
-    Ok(())
+}
+
+fn answer(ask: &Ask) -> Result<bool, &'static str> {
+    Ok(match ask {
+        Ask::Runs(sent, span, now) => lease(*sent, *span)?.unexpired(*now),
+        Ask::IsBetter(one, other) => lease(one.0, one.1)?.better(lease(other.0, other.1)?),
+        Ask::IsMade(sent, span) => is_made(*sent, *span),
+    })
 }
 
 #[test]
-fn ends_later(rt: HostRuntime) -> Result<(), Fail> {
-    // A millisecond of sending outweighs 17 of span against 16 of sending.
-    assert!(rt; !lease(16, 0)?.better(lease(0, 17)?));
-    assert!(rt; !lease(0, 17)?.better(lease(16, 0)?));
-    assert!(rt; lease(16, 1)?.better(lease(0, 17)?));
-    assert!(rt; lease(0, 18)?.better(lease(16, 0)?));
-    assert!(rt; lease(LAST_MOMENT, LAST_MOMENT)?.better(lease(LAST_MOMENT, LAST_MOMENT - 1)?));
-    assert!(rt; !lease(LAST_MOMENT, LAST_MOMENT)?.better(lease(LAST_MOMENT, LAST_MOMENT)?));
-    Ok(())
-}
-
-#[test]
-fn moments_end(rt: HostRuntime) -> Result<(), Fail> {
-    assert_eq!(rt; lease(LAST_MOMENT, 7)?.sent(), LAST_MOMENT);
-    assert_eq!(rt; lease(7, LAST_MOMENT)?.span(), LAST_MOMENT);
-    assert!(rt; Lease::new(LAST_MOMENT + 1, 0).is_none());
-    assert!(rt; Lease::new(0, LAST_MOMENT + 1).is_none());
+fn leases_at_their_limits(rt: HostRuntime) -> Result<(), Fail> {
+    for (ask, want) in ASKS {
+        assert!(rt; answer(ask)? == *want, "at {ask:?}");
+    }
     Ok(())
 }
 
@@ -87,5 +104,5 @@ fn a_clock_is_read(rt: HostRuntime) {
     let clock = Standing {
         moment: LAST_MOMENT,
     };
-    assert_eq!(rt; reading(&clock), LAST_MOMENT);
+    assert!(rt; reading(&clock) == LAST_MOMENT);
 }

@@ -1,4 +1,5 @@
 //! The texts of the lines, and a small map.
+use crate::run_of;
 use names_cell::{Component, Name, Principal};
 use node_core::*;
 use plain::{Bytes, Items};
@@ -6,609 +7,708 @@ use std::alloc::Global;
 use std::process::Abort;
 use std::test::Fail;
 
-fn component(alloc: Global, text: &str) -> Result<Component, Fail> {
+// Whether the line is printed so.
+fn shows(alloc: Global, line: &Line, text: &str) -> Result<bool, Fail> {
+    let printed = format!(in alloc; "{line}")?;
+    Ok(printed.as_str() == text)
+}
+
+// A node whose ACLs for reading and changing are `base`: its kind, instance, content generation, ACL for writing, life, and a
+// content so many times over.
+type NodeRow = (Kind, u64, u64, &'static str, Life, (&'static str, usize));
+
+fn acl_of(alloc: Global, text: &str) -> Result<Component, Fail> {
     Ok(Component::parse(alloc, text)?)
+}
+
+fn content_of(alloc: Global, content: (&'static str, usize)) -> Result<Bytes, Fail> {
+    let run = run_of(alloc, content.0, content.1)?;
+    Ok(Bytes::copy_of(alloc, run.as_bytes())?)
+}
+
+fn view_of(alloc: Global, row: &NodeRow) -> Result<View, Fail> {
+    let (kind, instance, generation, write, life, content) = row;
+    Ok(View {
+        kind: *kind,
+        instance: *instance,
+        content_generation: *generation,
+        acl_generation: 1,
+        read: acl_of(alloc, "base")?,
+        write: acl_of(alloc, write)?,
+        change: acl_of(alloc, "base")?,
+        life: *life,
+        content: content_of(alloc, *content)?,
+    })
 }
 
 fn name(alloc: Global, text: &str) -> Result<Name, Fail> {
     Ok(Name::parse(alloc, text)?)
 }
 
-// A permanent node whose ACLs for reading and changing are `base`.
-fn node_with(
-    alloc: Global,
-    kind: Kind,
-    instance: u64,
-    generation: u64,
-    write: &str,
-    content: &[u8],
-) -> Result<View, Fail> {
-    Ok(View {
-        kind,
-        instance,
-        content_generation: generation,
-        acl_generation: 1,
-        read: component(alloc, "base")?,
-        write: component(alloc, write)?,
-        change: component(alloc, "base")?,
-        life: Life::Permanent,
-        content: Bytes::copy_of(alloc, content)?,
-    })
+fn put_of(alloc: Global, at: &str, row: &NodeRow) -> Result<Mod, Fail> {
+    let name = name(alloc, at)?;
+    Ok(Mod::Put(name, view_of(alloc, row)?))
 }
 
-fn file(alloc: Global, instance: u64, generation: u64, content: &[u8]) -> Result<View, Fail> {
-    node_with(alloc, Kind::File, instance, generation, "base", content)
-}
-
-fn directory(alloc: Global, instance: u64) -> Result<View, Fail> {
-    node_with(alloc, Kind::Directory, instance, 0, "base", b"")
-}
-
-// The line is printed so.
-fn shows(rt: &impl Abort, alloc: Global, line: &Line, text: &str) -> Result<(), Fail> {
-    let printed = format!(in alloc; "{line}")?;
-    assert_eq!(rt; printed.as_str(), text);
-    Ok(())
-}
-
-// The same of a line that is not needed any more.
-fn prints(rt: &impl Abort, alloc: Global, line: Line, text: &str) -> Result<(), Fail> {
-    shows(rt, alloc, &line, text)
-}
-
-const REFUSALS: &[(Fault, &str)] = &[
-    (Fault::NoMemory, "refused 1 NoMemory"),
-    (Fault::BadName, "refused 2 BadName"),
-    (Fault::OtherCell, "refused 3 OtherCell"),
-    (Fault::BadPrincipal, "refused 4 BadPrincipal"),
-    (Fault::BadAcl, "refused 5 BadAcl"),
-    (Fault::NotFound, "refused 6 NotFound"),
-    (Fault::Exists, "refused 7 Exists"),
-    (Fault::WrongKind(Kind::File), "refused 8 WrongKind file"),
-    (Fault::WrongKind(Kind::Directory), "refused 8 WrongKind dir"),
-    (Fault::NotEmpty, "refused 9 NotEmpty"),
-    (Fault::Denied(Right::Read), "refused 10 Denied read"),
-    (Fault::Denied(Right::Write), "refused 10 Denied write"),
-    (Fault::Denied(Right::Change), "refused 10 Denied change"),
-    (Fault::WrongGeneration(2), "refused 11 WrongGeneration 2"),
-    (Fault::TooLarge, "refused 12 TooLarge"),
-    (Fault::Exhausted, "refused 13 Exhausted"),
-    (Fault::StaleInstance, "refused 14 StaleInstance"),
-    (Fault::StoreRefused, "refused 15 StoreRefused"),
-    (Fault::StoreDamaged, "refused 16 StoreDamaged"),
-    (Fault::BadHandle, "refused 17 BadHandle"),
-    (Fault::BadSequencer, "refused 18 BadSequencer"),
-    (Fault::NoSession, "refused 19 NoSession"),
-    (Fault::BadAck(0), "refused 20 BadAck 0"),
-    (Fault::Repeat, "refused 21 Repeat"),
-    (Fault::Busy, "refused 22 Busy"),
-    (Fault::Held(LockMode::Exclusive), "refused 23 Held x"),
-    (Fault::Held(LockMode::Shared), "refused 23 Held s"),
-    (Fault::Delayed(60_000), "refused 24 Delayed 60000"),
-    (Fault::NotHolder, "refused 25 NotHolder"),
-    (Fault::SequencerStale, "refused 26 SequencerStale"),
-    (Fault::DelayTooLong, "refused 27 DelayTooLong"),
-    (Fault::OldEpoch(2), "refused 28 OldEpoch 2"),
-    (Fault::Recovering, "refused 29 Recovering"),
-    (Fault::InJeopardy, "refused 30 InJeopardy"),
-    (Fault::SessionExpired, "refused 31 SessionExpired"),
-    (Fault::Poisoned, "refused 32 Poisoned"),
-    (Fault::CallOutstanding, "refused 33 CallOutstanding"),
-    (Fault::Unknown, "refused 34 Unknown"),
-    (Fault::ProtocolFault, "refused 35 ProtocolFault"),
-    (Fault::UnfairClock, "refused 36 UnfairClock"),
-    (Fault::NoSuchMessage, "refused 37 NoSuchMessage"),
-    (Fault::MasterDown, "refused 38 MasterDown"),
-    (Fault::MasterUp, "refused 39 MasterUp"),
-    (Fault::WatchFull, "refused 40 WatchFull"),
-    (Fault::PassMissing(2), "refused 41 PassMissing 2"),
-    (Fault::ReceiptApart(1), "refused 42 ReceiptApart 1"),
-];
-
-// The refusal is printed so.
-fn fault_prints(rt: &impl Abort, alloc: Global, fault: Fault, text: &str) -> Result<(), Fail> {
-    prints(rt, alloc, Line::Refused(fault), text)
-}
-
-#[test]
-fn refusals(rt: HostRuntime) -> Result<(), Fail> {
-    for (fault, text) in REFUSALS {
-        fault_prints(&rt, rt.alloc(), *fault, text)?;
-    }
-    Ok(())
-}
-
-#[test]
-fn lines_of_numbers(rt: HostRuntime) -> Result<(), Fail> {
-    let rows = [
-        (Line::Up(1), "up 1"),
-        (Line::Down, "down"),
-        (Line::Recovered, "recovered"),
-        (Line::Started(1), "started 1"),
-        (Line::Ended(2), "ended 2"),
-        (Line::Acked(1), "acked 1"),
-        (Line::Expired(2), "expired 2"),
-        (Line::Locked(1, 4, LockMode::Exclusive, 1), "locked 1 4 x 1"),
-        (Line::Locked(2, 4, LockMode::Shared, 2), "locked 2 4 s 2"),
-        (Line::Freed(1, 4), "freed 1 4"),
-        (Line::Lapsed(1, 4), "lapsed 1 4"),
-        (Line::Reopened(4), "reopened 4"),
-        (Line::Jeopardy(1), "jeopardy 1"),
-        (Line::Safe(1), "safe 1"),
-        (Line::Lost(1), "lost 1"),
-    ];
-    for (line, text) in rows {
-        prints(&rt, rt.alloc(), line, text)?;
-    }
-    Ok(())
-}
-
-// The event, told to a client, is printed so.
-fn event_prints(rt: &impl Abort, alloc: Global, event: Event, text: &str) -> Result<(), Fail> {
-    prints(rt, alloc, Line::Told(2, event), text)
-}
-
-#[test]
-fn events_of_numbers(rt: HostRuntime) -> Result<(), Fail> {
-    let rows = [
-        (Event::FailOver, "event 2 failover"),
-        (Event::Contents(2, 4, 2), "event 2 contents 2 4 2"),
-        (Event::Invalid(2), "event 2 invalid 2"),
-        (Event::Locked(2), "event 2 locked 2"),
-        (Event::Conflict(2), "event 2 conflict 2"),
-        (Event::Lost, "event 2 lost"),
-    ];
-    for (event, text) in rows {
-        event_prints(&rt, rt.alloc(), event, text)?;
-    }
-    Ok(())
-}
-
-#[test]
-fn a_child_is_added(rt: HostRuntime) -> Result<(), Fail> {
-    let added = Event::ChildAdded(3, name(rt.alloc(), "/ls/c/d/a")?);
-    event_prints(&rt, rt.alloc(), added, "event 2 child-added 3 /ls/c/d/a")
-}
-
-#[test]
-fn a_child_is_removed(rt: HostRuntime) -> Result<(), Fail> {
-    let removed = Event::ChildRemoved(3, name(rt.alloc(), "/ls/c/d/a")?);
-    event_prints(
-        &rt,
-        rt.alloc(),
-        removed,
-        "event 2 child-removed 3 /ls/c/d/a",
-    )
-}
-
-#[test]
-fn a_child_is_modified(rt: HostRuntime) -> Result<(), Fail> {
-    let modified = Event::ChildModified(3, name(rt.alloc(), "/ls/c/d/a")?);
-    event_prints(
-        &rt,
-        rt.alloc(),
-        modified,
-        "event 2 child-modified 3 /ls/c/d/a",
-    )
-}
-
-// The answer, with which a call ends, is printed so.
-fn answer_prints(rt: &impl Abort, alloc: Global, answer: Answer, text: &str) -> Result<(), Fail> {
-    prints(rt, alloc, Line::Done(1, 4, answer), text)
-}
-
-#[test]
-fn answers_of_numbers(rt: HostRuntime) -> Result<(), Fail> {
-    let rows = [
-        (Answer::Opened(1), "done 1 4 opened 1"),
-        (Answer::Closed, "done 1 4 closed"),
-        (Answer::Poisoned, "done 1 4 poisoned"),
-        (Answer::Okay, "done 1 4 ok"),
-        (
-            Answer::Refused(Fault::WrongGeneration(1)),
-            "done 1 4 refused 11 WrongGeneration 1",
-        ),
-    ];
-    for (answer, text) in rows {
-        answer_prints(&rt, rt.alloc(), answer, text)?;
-    }
-    Ok(())
-}
-
-#[test]
-fn a_view_is_answered(rt: HostRuntime) -> Result<(), Fail> {
-    let view = Answer::Viewed(file(rt.alloc(), 4, 1, b"a")?);
-    answer_prints(
-        &rt,
-        rt.alloc(),
-        view,
-        "done 1 4 view file 4 1 1 base base base permanent 1 61",
-    )
-}
-
-fn listing(alloc: Global, texts: &[&str]) -> Result<Answer, Fail> {
-    let mut names = Items::new(alloc);
-    for text in texts {
-        names.push(component(alloc, text)?)?;
-    }
-    Ok(Answer::Names(names))
-}
-
-#[test]
-fn names_are_answered(rt: HostRuntime) -> Result<(), Fail> {
-    answer_prints(&rt, rt.alloc(), listing(rt.alloc(), &[])?, "done 1 4 names")?;
-    answer_prints(
-        &rt,
-        rt.alloc(),
-        listing(rt.alloc(), &["acl"])?,
-        "done 1 4 names acl",
-    )?;
-    answer_prints(
-        &rt,
-        rt.alloc(),
-        listing(rt.alloc(), &["acl", "f"])?,
-        "done 1 4 names acl f",
-    )
-}
-
-#[test]
-fn a_stat_is_answered(rt: HostRuntime) -> Result<(), Fail> {
-    let stat = Stat {
-        kind: Kind::File,
-        instance: 4,
-        content_generation: 1,
-        acl_generation: 2,
-        lock_generation: 0,
-        read: component(rt.alloc(), "base")?,
-        write: component(rt.alloc(), "foo")?,
-        change: component(rt.alloc(), "base")?,
-        life: Life::Permanent,
-        length: 1,
-    };
-    let text = "done 1 4 stat file 4 1 2 0 base foo base permanent 1";
-    answer_prints(&rt, rt.alloc(), Answer::Stated(stat), text)
+// A line, without what it holds that takes memory.
+enum Shape {
+    Refused(Fault),
+    Up(u64),
+    Down,
+    Recovered,
+    Started(u64),
+    Ended(u64),
+    Acked(u64),
+    Expired(u64),
+    Locked(u64, u64, LockMode, u64),
+    Freed(u64, u64),
+    Lapsed(u64, u64),
+    Reopened(u64),
+    Jeopardy(u64),
+    Safe(u64),
+    Lost(u64),
+    FailOver,
+    Contents,
+    Invalid,
+    LockTaken,
+    Conflict,
+    SessionLost,
+    Opened(u64),
+    Closed,
+    Poisoned,
+    Okay,
+    CallRefused(Fault),
+    Put(NodeRow),
+    Gone(&'static str),
+    Granted(&'static str),
+    Absent(&'static str),
+    Served(&'static str, NodeRow),
+    Viewed(NodeRow),
+    Stated,
+    Names(&'static [&'static str]),
+    Sequencer(&'static [u8]),
+    Added(&'static str),
+    Removed(&'static str),
+    Modified(&'static str),
 }
 
 // Version 1, exclusive, instance 4, lock generation 1, and a name of 7 bytes.
 const SEQUENCER: &[u8] =
     b"\x01\x01\x00\x00\x00\x00\x00\x00\x00\x04\x00\x00\x00\x00\x00\x00\x00\x01\x00\x07/ls/c/f";
 
-#[test]
-fn a_sequencer_is_answered(rt: HostRuntime) -> Result<(), Fail> {
-    let sequencer = Answer::Sequencer(Bytes::copy_of(rt.alloc(), SEQUENCER)?);
-    let text = "done 1 4 sequencer 01010000000000000004000000000000000100072f6c732f632f66";
-    answer_prints(&rt, rt.alloc(), sequencer, text)
-}
+const FIRST: NodeRow = (Kind::File, 4, 1, "base", Life::Permanent, ("a", 1));
 
-// The line of this node's put at `/ls/c/f`.
-fn put_prints(rt: &impl Abort, alloc: Global, view: View, text: &str) -> Result<(), Fail> {
-    prints(
-        rt,
-        alloc,
-        Line::Applied(1, 1, Mod::Put(name(alloc, "/ls/c/f")?, view)),
-        text,
-    )
-}
-
-#[test]
-fn files_are_put(rt: HostRuntime) -> Result<(), Fail> {
-    let alloc = rt.alloc();
-    put_prints(
-        &rt,
-        alloc,
-        file(alloc, 4, 1, b"a")?,
+const LINES: &[(Shape, &str)] = &[
+    (Shape::Refused(Fault::NoMemory), "refused 1 NoMemory"),
+    (Shape::Refused(Fault::BadName), "refused 2 BadName"),
+    (Shape::Refused(Fault::OtherCell), "refused 3 OtherCell"),
+    (
+        Shape::Refused(Fault::BadPrincipal),
+        "refused 4 BadPrincipal",
+    ),
+    (Shape::Refused(Fault::BadAcl), "refused 5 BadAcl"),
+    (Shape::Refused(Fault::NotFound), "refused 6 NotFound"),
+    (Shape::Refused(Fault::Exists), "refused 7 Exists"),
+    (
+        Shape::Refused(Fault::WrongKind(Kind::File)),
+        "refused 8 WrongKind file",
+    ),
+    (
+        Shape::Refused(Fault::WrongKind(Kind::Directory)),
+        "refused 8 WrongKind dir",
+    ),
+    (Shape::Refused(Fault::NotEmpty), "refused 9 NotEmpty"),
+    (
+        Shape::Refused(Fault::Denied(Right::Read)),
+        "refused 10 Denied read",
+    ),
+    (
+        Shape::Refused(Fault::Denied(Right::Write)),
+        "refused 10 Denied write",
+    ),
+    (
+        Shape::Refused(Fault::Denied(Right::Change)),
+        "refused 10 Denied change",
+    ),
+    (
+        Shape::Refused(Fault::WrongGeneration(2)),
+        "refused 11 WrongGeneration 2",
+    ),
+    (Shape::Refused(Fault::TooLarge), "refused 12 TooLarge"),
+    (Shape::Refused(Fault::Exhausted), "refused 13 Exhausted"),
+    (
+        Shape::Refused(Fault::StaleInstance),
+        "refused 14 StaleInstance",
+    ),
+    (
+        Shape::Refused(Fault::StoreRefused),
+        "refused 15 StoreRefused",
+    ),
+    (
+        Shape::Refused(Fault::StoreDamaged),
+        "refused 16 StoreDamaged",
+    ),
+    (Shape::Refused(Fault::BadHandle), "refused 17 BadHandle"),
+    (
+        Shape::Refused(Fault::BadSequencer),
+        "refused 18 BadSequencer",
+    ),
+    (Shape::Refused(Fault::NoSession), "refused 19 NoSession"),
+    (Shape::Refused(Fault::BadAck(0)), "refused 20 BadAck 0"),
+    (Shape::Refused(Fault::Repeat), "refused 21 Repeat"),
+    (Shape::Refused(Fault::Busy), "refused 22 Busy"),
+    (
+        Shape::Refused(Fault::Held(LockMode::Exclusive)),
+        "refused 23 Held x",
+    ),
+    (
+        Shape::Refused(Fault::Held(LockMode::Shared)),
+        "refused 23 Held s",
+    ),
+    (
+        Shape::Refused(Fault::Delayed(60_000)),
+        "refused 24 Delayed 60000",
+    ),
+    (Shape::Refused(Fault::NotHolder), "refused 25 NotHolder"),
+    (
+        Shape::Refused(Fault::SequencerStale),
+        "refused 26 SequencerStale",
+    ),
+    (
+        Shape::Refused(Fault::DelayTooLong),
+        "refused 27 DelayTooLong",
+    ),
+    (Shape::Refused(Fault::OldEpoch(2)), "refused 28 OldEpoch 2"),
+    (Shape::Refused(Fault::Recovering), "refused 29 Recovering"),
+    (Shape::Refused(Fault::InJeopardy), "refused 30 InJeopardy"),
+    (
+        Shape::Refused(Fault::SessionExpired),
+        "refused 31 SessionExpired",
+    ),
+    (Shape::Refused(Fault::Poisoned), "refused 32 Poisoned"),
+    (
+        Shape::Refused(Fault::CallOutstanding),
+        "refused 33 CallOutstanding",
+    ),
+    (Shape::Refused(Fault::Unknown), "refused 34 Unknown"),
+    (
+        Shape::Refused(Fault::ProtocolFault),
+        "refused 35 ProtocolFault",
+    ),
+    (Shape::Refused(Fault::UnfairClock), "refused 36 UnfairClock"),
+    (
+        Shape::Refused(Fault::NoSuchMessage),
+        "refused 37 NoSuchMessage",
+    ),
+    (Shape::Refused(Fault::MasterDown), "refused 38 MasterDown"),
+    (Shape::Refused(Fault::MasterUp), "refused 39 MasterUp"),
+    (Shape::Refused(Fault::WatchFull), "refused 40 WatchFull"),
+    (
+        Shape::Refused(Fault::PassMissing(2)),
+        "refused 41 PassMissing 2",
+    ),
+    (
+        Shape::Refused(Fault::ReceiptApart(1)),
+        "refused 42 ReceiptApart 1",
+    ),
+    (Shape::Up(1), "up 1"),
+    (Shape::Down, "down"),
+    (Shape::Recovered, "recovered"),
+    (Shape::Started(1), "started 1"),
+    (Shape::Ended(2), "ended 2"),
+    (Shape::Acked(1), "acked 1"),
+    (Shape::Expired(2), "expired 2"),
+    (
+        Shape::Locked(1, 4, LockMode::Exclusive, 1),
+        "locked 1 4 x 1",
+    ),
+    (Shape::Locked(2, 4, LockMode::Shared, 2), "locked 2 4 s 2"),
+    (Shape::Freed(1, 4), "freed 1 4"),
+    (Shape::Lapsed(1, 4), "lapsed 1 4"),
+    (Shape::Reopened(4), "reopened 4"),
+    (Shape::Jeopardy(1), "jeopardy 1"),
+    (Shape::Safe(1), "safe 1"),
+    (Shape::Lost(1), "lost 1"),
+    (Shape::FailOver, "event 2 failover"),
+    (Shape::Contents, "event 2 contents 2 4 2"),
+    (Shape::Invalid, "event 2 invalid 2"),
+    (Shape::LockTaken, "event 2 locked 2"),
+    (Shape::Conflict, "event 2 conflict 2"),
+    (Shape::SessionLost, "event 2 lost"),
+    (Shape::Opened(1), "done 1 4 opened 1"),
+    (Shape::Closed, "done 1 4 closed"),
+    (Shape::Poisoned, "done 1 4 poisoned"),
+    (Shape::Okay, "done 1 4 ok"),
+    (
+        Shape::CallRefused(Fault::WrongGeneration(1)),
+        "done 1 4 refused 11 WrongGeneration 1",
+    ),
+    (
+        Shape::Put(FIRST),
         "applied 1 1 put /ls/c/f file 4 1 1 base base base permanent 1 61",
-    )?;
-    put_prints(
-        &rt,
-        alloc,
-        file(alloc, 4, 2, b"b")?,
+    ),
+    (
+        Shape::Put((Kind::File, 4, 2, "base", Life::Permanent, ("b", 1))),
         "applied 1 1 put /ls/c/f file 4 2 1 base base base permanent 1 62",
-    )?;
-    put_prints(
-        &rt,
-        alloc,
-        file(alloc, 5, 1, b"")?,
+    ),
+    (
+        Shape::Put((Kind::File, 5, 1, "base", Life::Permanent, ("", 0))),
         "applied 1 1 put /ls/c/f file 5 1 1 base base base permanent 0 -",
-    )?;
-    let text =
-        "applied 1 1 put /ls/c/f file 4 2 1 base base base permanent 17 61616161616161616161616161616161";
-    put_prints(&rt, alloc, file(alloc, 4, 2, b"aaaaaaaaaaaaaaaaa")?, text)
-}
-
-#[test]
-fn other_nodes_are_put(rt: HostRuntime) -> Result<(), Fail> {
-    let alloc = rt.alloc();
-    put_prints(
-        &rt,
-        alloc,
-        directory(alloc, 4)?,
+    ),
+    (
+        Shape::Put((Kind::File, 4, 2, "base", Life::Permanent, ("a", 17))),
+        "applied 1 1 put /ls/c/f file 4 2 1 base base base permanent 17 61616161616161616161616161616161",
+    ),
+    (
+        Shape::Put((Kind::Directory, 4, 0, "base", Life::Permanent, ("", 0))),
         "applied 1 1 put /ls/c/f dir 4 0 1 base base base permanent",
-    )?;
-    let view = node_with(alloc, Kind::File, 5, 1, "foo", b"a")?;
-    put_prints(
-        &rt,
-        alloc,
-        view,
+    ),
+    (
+        Shape::Put((Kind::File, 5, 1, "foo", Life::Permanent, ("a", 1))),
         "applied 1 1 put /ls/c/f file 5 1 1 base foo base permanent 1 61",
-    )
-}
-
-#[test]
-fn an_ephemeral_file_comes_and_goes(rt: HostRuntime) -> Result<(), Fail> {
-    let alloc = rt.alloc();
-    let mut view = file(alloc, 4, 1, b"")?;
-    view.life = Life::Ephemeral;
-    put_prints(
-        &rt,
-        alloc,
-        view,
+    ),
+    (
+        Shape::Put((Kind::File, 4, 1, "base", Life::Ephemeral, ("", 0))),
         "applied 1 1 put /ls/c/f file 4 1 1 base base base ephemeral 0 -",
-    )?;
-    prints(
-        &rt,
-        alloc,
-        Line::Applied(0, 0, Mod::Gone(name(alloc, "/ls/c/e")?)),
-        "applied 0 0 gone /ls/c/e",
-    )
+    ),
+    (Shape::Gone("/ls/c/e"), "applied 0 0 gone /ls/c/e"),
+    (Shape::Granted("/ls/c/g"), "granted 1 2 /ls/c/g"),
+    (Shape::Absent("/ls/c/g"), "served 2 /ls/c/g absent"),
+    (
+        Shape::Served("/ls/c/f", FIRST),
+        "served 1 /ls/c/f file 4 1 1 base base base permanent 1 61",
+    ),
+    (
+        Shape::Viewed(FIRST),
+        "done 1 4 view file 4 1 1 base base base permanent 1 61",
+    ),
+    (
+        Shape::Stated,
+        "done 1 4 stat file 4 1 2 0 base foo base permanent 1",
+    ),
+    (Shape::Names(&[]), "done 1 4 names"),
+    (Shape::Names(&["acl"]), "done 1 4 names acl"),
+    (Shape::Names(&["acl", "f"]), "done 1 4 names acl f"),
+    (
+        Shape::Sequencer(SEQUENCER),
+        "done 1 4 sequencer 01010000000000000004000000000000000100072f6c732f632f66",
+    ),
+    (Shape::Added("/ls/c/d/a"), "event 2 child-added 3 /ls/c/d/a"),
+    (
+        Shape::Removed("/ls/c/d/a"),
+        "event 2 child-removed 3 /ls/c/d/a",
+    ),
+    (
+        Shape::Modified("/ls/c/d/a"),
+        "event 2 child-modified 3 /ls/c/d/a",
+    ),
+];
+
+fn listing(alloc: Global, texts: &[&str]) -> Result<Answer, Fail> {
+    let mut names = Items::new(alloc);
+    for text in texts {
+        names.push(acl_of(alloc, text)?)?;
+    }
+    Ok(Answer::Names(names))
+}
+
+fn stat_of(alloc: Global) -> Result<Answer, Fail> {
+    Ok(Answer::Stated(Stat {
+        kind: Kind::File,
+        instance: 4,
+        content_generation: 1,
+        acl_generation: 2,
+        lock_generation: 0,
+        read: acl_of(alloc, "base")?,
+        write: acl_of(alloc, "foo")?,
+        change: acl_of(alloc, "base")?,
+        life: Life::Permanent,
+        length: 1,
+    }))
+}
+
+fn served(alloc: Global, at: &str, row: &NodeRow) -> Result<Line, Fail> {
+    let name = name(alloc, at)?;
+    Ok(Line::Served(1, name, Some(view_of(alloc, row)?)))
+}
+
+// A line of numbers and words alone.
+fn plain_line(shape: &Shape) -> Option<Line> {
+    Some(match shape {
+        Shape::Refused(fault) => Line::Refused(*fault),
+        Shape::Up(epoch) => Line::Up(*epoch),
+        Shape::Down => Line::Down,
+        Shape::Recovered => Line::Recovered,
+        Shape::Started(client) => Line::Started(*client),
+        Shape::Ended(client) => Line::Ended(*client),
+        Shape::Acked(right) => Line::Acked(*right),
+        Shape::Expired(right) => Line::Expired(*right),
+        Shape::Locked(client, instance, mode, generation) => {
+            Line::Locked(*client, *instance, *mode, *generation)
+        }
+        Shape::Freed(client, instance) => Line::Freed(*client, *instance),
+        Shape::Lapsed(client, instance) => Line::Lapsed(*client, *instance),
+        Shape::Reopened(instance) => Line::Reopened(*instance),
+        Shape::Jeopardy(client) => Line::Jeopardy(*client),
+        Shape::Safe(client) => Line::Safe(*client),
+        Shape::Lost(client) => Line::Lost(*client),
+        _ => return plain_part(shape),
+    })
+}
+
+// A line of an event or an answer of numbers alone.
+fn plain_part(shape: &Shape) -> Option<Line> {
+    Some(match shape {
+        Shape::FailOver => Line::Told(2, Event::FailOver),
+        Shape::Contents => Line::Told(2, Event::Contents(2, 4, 2)),
+        Shape::Invalid => Line::Told(2, Event::Invalid(2)),
+        Shape::LockTaken => Line::Told(2, Event::Locked(2)),
+        Shape::Conflict => Line::Told(2, Event::Conflict(2)),
+        Shape::SessionLost => Line::Told(2, Event::Lost),
+        Shape::Opened(handle) => Line::Done(1, 4, Answer::Opened(*handle)),
+        Shape::Closed => Line::Done(1, 4, Answer::Closed),
+        Shape::Poisoned => Line::Done(1, 4, Answer::Poisoned),
+        Shape::Okay => Line::Done(1, 4, Answer::Okay),
+        Shape::CallRefused(fault) => Line::Done(1, 4, Answer::Refused(*fault)),
+        _ => return None,
+    })
+}
+
+fn line_of(alloc: Global, shape: &Shape) -> Result<Line, Fail> {
+    Ok(match shape {
+        Shape::Put(row) => Line::Applied(1, 1, put_of(alloc, "/ls/c/f", row)?),
+        Shape::Gone(at) => Line::Applied(0, 0, Mod::Gone(name(alloc, at)?)),
+        Shape::Granted(at) => Line::Granted(1, 2, name(alloc, at)?),
+        Shape::Absent(at) => Line::Served(2, name(alloc, at)?, None),
+        Shape::Served(at, row) => served(alloc, at, row)?,
+        Shape::Viewed(row) => Line::Done(1, 4, Answer::Viewed(view_of(alloc, row)?)),
+        Shape::Stated => Line::Done(1, 4, stat_of(alloc)?),
+        Shape::Names(texts) => Line::Done(1, 4, listing(alloc, texts)?),
+        Shape::Sequencer(bytes) => {
+            Line::Done(1, 4, Answer::Sequencer(Bytes::copy_of(alloc, bytes)?))
+        }
+        Shape::Added(at) => Line::Told(2, Event::ChildAdded(3, name(alloc, at)?)),
+        Shape::Removed(at) => Line::Told(2, Event::ChildRemoved(3, name(alloc, at)?)),
+        Shape::Modified(at) => Line::Told(2, Event::ChildModified(3, name(alloc, at)?)),
+        _ => plain_line(shape).ok_or("no line")?,
+    })
+}
+
+fn shape_shows(alloc: Global, shape: &Shape, text: &str) -> Result<bool, Fail> {
+    let line = line_of(alloc, shape)?;
+    let is_so = shows(alloc, &line, text);
+    drop(line);
+    is_so
 }
 
 #[test]
-fn rights_and_cached_reads(rt: HostRuntime) -> Result<(), Fail> {
-    let alloc = rt.alloc();
-    prints(
-        &rt,
-        alloc,
-        Line::Granted(1, 2, name(alloc, "/ls/c/g")?),
-        "granted 1 2 /ls/c/g",
-    )?;
-    prints(
-        &rt,
-        alloc,
-        Line::Served(2, name(alloc, "/ls/c/g")?, None),
-        "served 2 /ls/c/g absent",
-    )?;
-    let view = file(alloc, 4, 1, b"a")?;
-    let text = "served 1 /ls/c/f file 4 1 1 base base base permanent 1 61";
-    prints(
-        &rt,
-        alloc,
-        Line::Served(1, name(alloc, "/ls/c/f")?, Some(view)),
-        text,
-    )
+fn lines(rt: HostRuntime) -> Result<(), Fail> {
+    for (shape, text) in LINES {
+        assert!(rt; shape_shows(rt.alloc(), shape, text)?, "at {text}");
+    }
+    Ok(())
 }
 
-fn put(
-    alloc: Global,
-    map: &mut Map,
-    at: &str,
-    view: View,
-) -> Result<Result<Outcome, NodeFault>, Fail> {
-    let change = Mod::Put(name(alloc, at)?, view);
-    Ok(map.apply(&change))
+// What is done to a map, or asked of it.
+enum Ask {
+    Put(&'static str, NodeRow),
+    Gone(&'static str),
+    Children(&'static str),
+    // Whether the principal may do this with a node whose ACL for writing is `foo`.
+    May(&'static str, Right),
 }
 
-fn gone(alloc: Global, map: &mut Map, at: &str) -> Result<Result<Outcome, NodeFault>, Fail> {
-    let change = Mod::Gone(name(alloc, at)?);
-    Ok(map.apply(&change))
-}
+type Asks = &'static [(Ask, &'static str)];
+
+const P: Life = Life::Permanent;
 
 // The nodes of a new cell, whose `base` lists `ann` and `bob`.
-fn opening(alloc: Global) -> Result<Map, Fail> {
-    let mut map = Map::new(alloc);
-    put(alloc, &mut map, "/ls/c", directory(alloc, 1)?)??;
-    put(alloc, &mut map, "/ls/c/acl", directory(alloc, 2)?)??;
-    put(
-        alloc,
-        &mut map,
-        "/ls/c/acl/base",
-        file(alloc, 3, 1, b"ann\nbob\n")?,
-    )??;
-    Ok(map)
-}
+const OPENING: Asks = &[
+    (
+        Ask::Put("/ls/c", (Kind::Directory, 1, 0, "base", P, ("", 0))),
+        "new",
+    ),
+    (
+        Ask::Put("/ls/c/acl", (Kind::Directory, 2, 0, "base", P, ("", 0))),
+        "new",
+    ),
+    (
+        Ask::Put(
+            "/ls/c/acl/base",
+            (Kind::File, 3, 1, "base", P, ("ann\nbob\n", 1)),
+        ),
+        "new",
+    ),
+];
 
 // A number above its limit.
 const PAST: u64 = 0x8000_0000_0000_0000;
 
 // Each row has every fault from its own on.
-const MISFITS: &[(&str, Kind, u64, usize, NodeFault)] = &[
-    ("/ls/c/d/a", Kind::File, PAST, 262_145, NodeFault::NotFound),
+const MISFITS: Asks = &[
     (
-        "/ls/c/acl/base/a",
-        Kind::File,
-        PAST,
-        262_145,
-        NodeFault::WrongKind(Kind::File),
+        Ask::Put(
+            "/ls/c/d/a",
+            (Kind::File, PAST, 1, "base", P, ("a", 262_145)),
+        ),
+        "6 NotFound",
     ),
     (
-        "/ls/c/acl/base",
-        Kind::Directory,
-        PAST,
-        262_145,
-        NodeFault::TooLarge,
+        Ask::Put(
+            "/ls/c/acl/base/a",
+            (Kind::File, PAST, 1, "base", P, ("a", 262_145)),
+        ),
+        "8 WrongKind file",
     ),
     (
-        "/ls/c/acl/base",
-        Kind::Directory,
-        PAST,
-        262_144,
-        NodeFault::Exhausted,
+        Ask::Put(
+            "/ls/c/acl/base",
+            (Kind::Directory, PAST, 1, "base", P, ("a", 262_145)),
+        ),
+        "12 TooLarge",
     ),
     (
-        "/ls/c/acl/base",
-        Kind::Directory,
-        4,
-        0,
-        NodeFault::StaleInstance,
+        Ask::Put(
+            "/ls/c/acl/base",
+            (Kind::Directory, PAST, 1, "base", P, ("a", 262_144)),
+        ),
+        "13 Exhausted",
     ),
     (
-        "/ls/c/acl/base",
-        Kind::Directory,
-        3,
-        0,
-        NodeFault::WrongKind(Kind::File),
+        Ask::Put(
+            "/ls/c/acl/base",
+            (Kind::Directory, 4, 1, "base", P, ("a", 0)),
+        ),
+        "14 StaleInstance",
     ),
     (
-        "/ls/c/acl",
-        Kind::File,
-        2,
-        0,
-        NodeFault::WrongKind(Kind::Directory),
+        Ask::Put(
+            "/ls/c/acl/base",
+            (Kind::Directory, 3, 1, "base", P, ("a", 0)),
+        ),
+        "8 WrongKind file",
+    ),
+    (
+        Ask::Put("/ls/c/acl", (Kind::File, 2, 1, "base", P, ("a", 0))),
+        "8 WrongKind dir",
     ),
 ];
 
-// A node with so many bytes.
-fn sized(alloc: Global, kind: Kind, instance: u64, length: usize) -> Result<View, Fail> {
-    let content = vec![in alloc; b'a'; length]?;
-    node_with(alloc, kind, instance, 1, "base", &content)
-}
+const PUT_AGAIN: Asks = &[
+    (
+        Ask::Put(
+            "/ls/c/acl/base",
+            (Kind::File, 3, 2, "base", P, ("ann\n", 1)),
+        ),
+        "over 1",
+    ),
+    (Ask::Gone("/ls/c/acl/base"), "over 2"),
+];
 
-#[test]
-fn puts_that_do_not_fit(rt: HostRuntime) -> Result<(), Fail> {
-    let alloc = rt.alloc();
-    let mut map = opening(alloc)?;
-    for (at, kind, instance, length, fault) in MISFITS {
-        let view = sized(alloc, *kind, *instance, *length)?;
-        assert_eq!(rt;
-            put(alloc, &mut map, at, view)?.err(),
-            Some(*fault),
-            "at {at}"
-        );
-    }
-    Ok(())
-}
-
-#[test]
-fn a_node_is_put_again(rt: HostRuntime) -> Result<(), Fail> {
-    let alloc = rt.alloc();
-    let mut map = opening(alloc)?;
-    let outcome = put(
-        alloc,
-        &mut map,
-        "/ls/c/acl/base",
-        file(alloc, 3, 2, b"ann\n")?,
-    )??;
-    assert_eq!(rt; outcome.former.map(|view| view.content_generation), Some(1));
-    let outcome = gone(alloc, &mut map, "/ls/c/acl/base")??;
-    assert_eq!(rt; outcome.former.map(|view| view.content_generation), Some(2));
-    Ok(())
-}
-
-#[test]
-fn nodes_that_stay(rt: HostRuntime) -> Result<(), Fail> {
-    let alloc = rt.alloc();
-    let mut map = opening(alloc)?;
-    for (at, fault) in [
-        ("/ls/c/acl", NodeFault::NotEmpty),
-        ("/ls/c", NodeFault::NotEmpty),
-        ("/ls/c/f", NodeFault::NotFound),
-    ] {
-        assert_eq!(rt; gone(alloc, &mut map, at)?.err(), Some(fault), "at {at}");
-    }
-    Ok(())
-}
+const STAY: Asks = &[
+    (Ask::Gone("/ls/c/acl"), "9 NotEmpty"),
+    (Ask::Gone("/ls/c"), "9 NotEmpty"),
+    (Ask::Gone("/ls/c/f"), "6 NotFound"),
+];
 
 // The root alone can't go either.
-#[test]
-fn the_root_stays(rt: HostRuntime) -> Result<(), Fail> {
-    let alloc = rt.alloc();
-    let mut map = Map::new(alloc);
-    put(alloc, &mut map, "/ls/c", directory(alloc, 1)?)??;
-    assert_eq!(rt;
-        gone(alloc, &mut map, "/ls/c")?.err(),
-        Some(NodeFault::NotEmpty)
-    );
-    Ok(())
-}
+const ROOT_STAYS: Asks = &[
+    (Ask::Gone("/ls/c/acl/base"), "over 1"),
+    (Ask::Gone("/ls/c/acl"), "over 0"),
+    (Ask::Gone("/ls/c"), "9 NotEmpty"),
+];
+
+const SMALL: NodeRow = (Kind::File, 4, 1, "base", P, ("", 0));
 
 // Names between a directory and its children, in order of bytes, and a child that comes first of all.
-const NEIGHBOURS: &[&str] = &[
-    "/ls/c/f",
-    "/ls/c/acl-x",
-    "/ls/c/acl.x",
-    "/ls/c/acl/-",
-    "/ls/c/acl0",
-    "/ls/c/-",
+const CHILDREN: Asks = &[
+    (Ask::Put("/ls/c/f", SMALL), "new"),
+    (Ask::Put("/ls/c/acl-x", SMALL), "new"),
+    (Ask::Put("/ls/c/acl.x", SMALL), "new"),
+    (Ask::Put("/ls/c/acl/-", SMALL), "new"),
+    (Ask::Put("/ls/c/acl0", SMALL), "new"),
+    (Ask::Put("/ls/c/-", SMALL), "new"),
+    (Ask::Children("/ls/c"), "names - acl acl-x acl.x acl0 f"),
+    (Ask::Children("/ls/c/acl"), "names - base"),
 ];
 
-fn children(alloc: Global, map: &Map, at: &str) -> Result<Answer, Fail> {
-    Ok(Answer::Names(map.children(&name(alloc, at)?)?))
-}
-
-#[test]
-fn children_in_order(rt: HostRuntime) -> Result<(), Fail> {
-    let alloc = rt.alloc();
-    let mut map = opening(alloc)?;
-    for at in NEIGHBOURS {
-        put(alloc, &mut map, at, file(alloc, 4, 1, b"")?)??;
-    }
-    answer_prints(
-        &rt,
-        alloc,
-        children(alloc, &map, "/ls/c")?,
-        "done 1 4 names - acl acl-x acl.x acl0 f",
-    )?;
-    answer_prints(
-        &rt,
-        alloc,
-        children(alloc, &map, "/ls/c/acl")?,
-        "done 1 4 names - base",
-    )
-}
-
-// Whether `bob` may write a node whose ACL for writing is `foo`.
-fn bob_may_write(alloc: Global, map: &Map) -> Result<bool, Fail> {
-    let view = node_with(alloc, Kind::File, 5, 1, "foo", b"")?;
-    let bob = Principal::parse(alloc, "bob")?;
-    Ok(permitted(map, &bob, &view, Right::Write)?)
-}
-
-const ACL_FILES: &[(&[u8], bool)] = &[
-    (b"bob\n", true),
-    (b"ann\nbob", true),
-    (b"bob\n\n", false),
-    (b"ann\n", false),
-    (b"", false),
-];
-
-#[test]
-fn access_by_acl(rt: HostRuntime) -> Result<(), Fail> {
-    let alloc = rt.alloc();
-    let mut map = opening(alloc)?;
-    assert!(rt; !bob_may_write(alloc, &map)?, "no such file");
-    for (content, allowed) in ACL_FILES {
-        put(
-            alloc,
-            &mut map,
+const ACL_FILES: Asks = &[
+    (Ask::May("bob", Right::Write), "no"),
+    (
+        Ask::Put("/ls/c/acl/foo", (Kind::File, 4, 1, "base", P, ("bob\n", 1))),
+        "new",
+    ),
+    (Ask::May("bob", Right::Write), "yes"),
+    (
+        Ask::Put(
             "/ls/c/acl/foo",
-            file(alloc, 4, 1, content)?,
-        )??;
-        assert_eq!(rt; bob_may_write(alloc, &map)?, *allowed);
+            (Kind::File, 4, 1, "base", P, ("ann\nbob", 1)),
+        ),
+        "over 1",
+    ),
+    (Ask::May("bob", Right::Write), "yes"),
+    (
+        Ask::Put(
+            "/ls/c/acl/foo",
+            (Kind::File, 4, 1, "base", P, ("bob\n\n", 1)),
+        ),
+        "over 1",
+    ),
+    (Ask::May("bob", Right::Write), "no"),
+    (
+        Ask::Put("/ls/c/acl/foo", (Kind::File, 4, 1, "base", P, ("ann\n", 1))),
+        "over 1",
+    ),
+    (Ask::May("bob", Right::Write), "no"),
+    (
+        Ask::Put("/ls/c/acl/foo", (Kind::File, 4, 1, "base", P, ("", 0))),
+        "over 1",
+    ),
+    (Ask::May("bob", Right::Write), "no"),
+];
+
+const DIRECTORY_AS_ACL: Asks = &[
+    (
+        Ask::Put("/ls/c/acl/foo", (Kind::Directory, 4, 0, "base", P, ("", 0))),
+        "new",
+    ),
+    (Ask::May("bob", Right::Write), "no"),
+];
+
+const EACH_RIGHT: Asks = &[
+    (Ask::May("ann", Right::Read), "yes"),
+    (Ask::May("ann", Right::Write), "no"),
+    (Ask::May("ann", Right::Change), "yes"),
+];
+
+// Each begins with the nodes of a new cell.
+const MAPS: &[(&str, Asks)] = &[
+    ("misfits", MISFITS),
+    ("put_again", PUT_AGAIN),
+    ("nodes_that_stay", STAY),
+    ("the_root_stays", ROOT_STAYS),
+    ("children_in_order", CHILDREN),
+    ("acl_files", ACL_FILES),
+    ("directory_as_acl", DIRECTORY_AS_ACL),
+    ("each_right_has_its_acl", EACH_RIGHT),
+];
+
+fn text_of(alloc: Global, done: Result<Outcome, NodeFault>) -> Result<String, Fail> {
+    match done {
+        Ok(outcome) => {
+            let text = former_text(alloc, &outcome);
+            drop(outcome);
+            text
+        }
+        Err(fault) => fault_text(alloc, Fault::from(fault)),
+    }
+}
+
+fn former_text(alloc: Global, outcome: &Outcome) -> Result<String, Fail> {
+    match &outcome.former {
+        Some(view) => {
+            let generation = view.content_generation;
+            Ok(format!(in alloc; "over {generation}")?)
+        }
+        None => Ok("new".to_string(alloc)?),
+    }
+}
+
+fn fault_text(alloc: Global, fault: Fault) -> Result<String, Fail> {
+    Ok(format!(in alloc; "{fault}")?)
+}
+
+fn applied(alloc: Global, map: &mut Map, change: &Mod) -> Result<String, Fail> {
+    text_of(alloc, map.apply(change))
+}
+
+fn put(alloc: Global, map: &mut Map, at: &str, row: &NodeRow) -> Result<String, Fail> {
+    let change = put_of(alloc, at, row)?;
+    let text = applied(alloc, map, &change);
+    drop(change);
+    text
+}
+
+fn gone(alloc: Global, map: &mut Map, at: &str) -> Result<String, Fail> {
+    let change = Mod::Gone(name(alloc, at)?);
+    let text = applied(alloc, map, &change);
+    drop(change);
+    text
+}
+
+fn answer_text(alloc: Global, answer: &Answer) -> Result<String, Fail> {
+    Ok(format!(in alloc; "{answer}")?)
+}
+
+fn children(alloc: Global, map: &Map, at: &str) -> Result<String, Fail> {
+    let name = name(alloc, at)?;
+    let answer = Answer::Names(map.children(&name)?);
+    let text = answer_text(alloc, &answer);
+    drop(answer);
+    text
+}
+
+fn may(alloc: Global, map: &Map, principal: &str, right: Right) -> Result<bool, Fail> {
+    let principal = Principal::parse(alloc, principal)?;
+    let view = view_of(alloc, &(Kind::File, 5, 1, "foo", P, ("", 0)))?;
+    let allowed = permitted(map, &principal, &view, right);
+    drop(view);
+    Ok(allowed?)
+}
+
+fn answer(alloc: Global, map: &mut Map, ask: &Ask) -> Result<String, Fail> {
+    match ask {
+        Ask::Put(at, row) => put(alloc, map, at, row),
+        Ask::Gone(at) => gone(alloc, map, at),
+        Ask::Children(at) => children(alloc, map, at),
+        Ask::May(principal, right) => {
+            let text = if may(alloc, map, principal, *right)? {
+                "yes"
+            } else {
+                "no"
+            };
+            Ok(text.to_string(alloc)?)
+        }
+    }
+}
+
+fn answers(alloc: Global, map: &mut Map, ask: &Ask, want: &str) -> Result<bool, Fail> {
+    let found = answer(alloc, map, ask)?;
+    Ok(found.as_str() == want)
+}
+
+// Each answer is the one that stands behind its step.
+fn goes_so(
+    rt: &impl Abort,
+    alloc: Global,
+    map: &mut Map,
+    row: &str,
+    asks: Asks,
+) -> Result<(), Fail> {
+    for (ask, want) in asks {
+        assert!(rt; answers(alloc, map, ask, want)?, "at {want} of {row}");
     }
     Ok(())
 }
 
-#[test]
-fn a_directory_is_no_acl(rt: HostRuntime) -> Result<(), Fail> {
-    let alloc = rt.alloc();
-    let mut map = opening(alloc)?;
-    put(alloc, &mut map, "/ls/c/acl/foo", directory(alloc, 4)?)??;
-    assert!(rt; !bob_may_write(alloc, &map)?);
-    Ok(())
+fn map_goes(
+    rt: &impl Abort,
+    alloc: Global,
+    map: &mut Map,
+    row: &str,
+    asks: Asks,
+) -> Result<(), Fail> {
+    goes_so(rt, alloc, map, row, OPENING)?;
+    goes_so(rt, alloc, map, row, asks)
 }
 
 #[test]
-fn each_right_has_its_acl(rt: HostRuntime) -> Result<(), Fail> {
-    let alloc = rt.alloc();
-    let map = opening(alloc)?;
-    let view = node_with(alloc, Kind::File, 5, 1, "foo", b"")?;
-    let ann = Principal::parse(alloc, "ann")?;
-    for (right, allowed) in [
-        (Right::Read, true),
-        (Right::Write, false),
-        (Right::Change, true),
-    ] {
-        assert_eq!(rt; permitted(&map, &ann, &view, right)?, allowed);
+fn maps(rt: HostRuntime) -> Result<(), Fail> {
+    for (row, asks) in MAPS {
+        let mut map = Map::new(rt.alloc());
+        let done = map_goes(&rt, rt.alloc(), &mut map, row, asks);
+        drop(map);
+        done?;
     }
     Ok(())
 }

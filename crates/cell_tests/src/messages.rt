@@ -1,36 +1,70 @@
 //! The ends of the ranges.
 use node_core::Right;
-use std::test::Fail;
 use tags_cell::{ClientNumber, MessageNumber, Mode};
 
-#[test]
-fn numbers_at_their_ends(rt: HostRuntime) {
-    let most = 9_007_199_254_740_991;
-    for (number, fits) in [(0, false), (1, true), (most, true), (most + 1, false)] {
-        let client = ClientNumber::new(number);
-        assert_eq!(rt; client.is_some(), fits, "client {number}");
-        assert_eq!(rt; client.map_or(number, |n| n.get()), number);
-    }
-    let most = 9_223_372_036_854_775_807;
-    for (number, fits) in [(0, false), (1, true), (most, true), (most + 1, false)] {
-        let message = MessageNumber::new(number);
-        assert_eq!(rt; message.is_some(), fits, "message {number}");
-        assert_eq!(rt; message.map_or(number, |n| n.get()), number);
+#[derive(Clone, Copy)]
+enum Numbers {
+    Client,
+    Message,
+}
+
+// The number as it is kept, or none.
+fn kept(numbers: Numbers, number: u64) -> Option<u64> {
+    match numbers {
+        Numbers::Client => match ClientNumber::new(number) {
+            Some(client) => Some(client.get()),
+            None => None,
+        },
+        Numbers::Message => match MessageNumber::new(number) {
+            Some(message) => Some(message.get()),
+            None => None,
+        },
     }
 }
 
+const MOST_CLIENTS: u64 = 9_007_199_254_740_991;
+
+const MOST_MESSAGES: u64 = 9_223_372_036_854_775_807;
+
+const NUMBERS: &[(Numbers, u64, bool)] = &[
+    (Numbers::Client, 0, false),
+    (Numbers::Client, 1, true),
+    (Numbers::Client, MOST_CLIENTS, true),
+    (Numbers::Client, MOST_CLIENTS + 1, false),
+    (Numbers::Message, 0, false),
+    (Numbers::Message, 1, true),
+    (Numbers::Message, MOST_MESSAGES, true),
+    (Numbers::Message, MOST_MESSAGES + 1, false),
+];
+
 #[test]
-fn numbers_in_order(rt: HostRuntime) {
+fn numbers_at_their_ends(rt: HostRuntime) {
+    for (numbers, number, fits) in NUMBERS {
+        let want = if *fits { Some(*number) } else { None };
+        assert!(rt; kept(*numbers, *number) == want, "at {number}");
+    }
     assert!(rt; ClientNumber::new(1) < ClientNumber::new(2));
     assert!(rt; MessageNumber::new(1) < MessageNumber::new(2));
 }
 
+// What a mode asks for, and which right is looked for; no answer where there is no such mode.
+const MODES: &[([bool; 3], Right, Option<bool>)] = &[
+    ([false, false, false], Right::Read, None),
+    ([true, false, true], Right::Read, Some(true)),
+    ([true, false, true], Right::Write, Some(false)),
+    ([true, false, true], Right::Change, Some(true)),
+];
+
+fn has(asked: [bool; 3], right: Right) -> Option<bool> {
+    match Mode::new(asked[0], asked[1], asked[2]) {
+        Some(mode) => Some(mode.has(right)),
+        None => None,
+    }
+}
+
 #[test]
-fn modes_ask_for_something(rt: HostRuntime) -> Result<(), Fail> {
-    assert!(rt; Mode::new(false, false, false).is_none());
-    let mode = Mode::new(true, false, true).ok_or("mode")?;
-    assert!(rt; mode.has(Right::Read));
-    assert!(rt; !mode.has(Right::Write));
-    assert!(rt; mode.has(Right::Change));
-    Ok(())
+fn modes_ask_for_something(rt: HostRuntime) {
+    for (asked, right, want) in MODES {
+        assert!(rt; has(*asked, *right) == *want, "at {right}");
+    }
 }

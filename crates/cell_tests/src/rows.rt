@@ -3,44 +3,69 @@ use names_cell::{Component, Principal};
 use plain::Secret;
 use rows_cell::{ListRecords, Records, Rows, Settings, SettingsFault};
 use std::alloc::Global;
-use std::process::Abort;
 use std::test::Fail;
+
+// What the standard settings hold, each with its name.
+fn standard_rows(settings: &Settings) -> [(&'static str, bool); 4] {
+    [
+        ("cell", settings.cell().as_str() == "c"),
+        ("lease", settings.lease() == 12_000),
+        (
+            "base",
+            settings.base().as_slice() == b"ann\nbob\n".as_slice(),
+        ),
+        ("secret", settings.secret().as_bytes() == [0; 32].as_slice()),
+    ]
+}
 
 #[test]
 fn standard_settings(rt: HostRuntime) -> Result<(), Fail> {
     let settings = Settings::standard(rt.alloc())?;
-    assert_eq!(rt; settings.cell().as_str(), "c");
-    assert_eq!(rt; settings.lease(), 12_000);
-    assert_eq!(rt; settings.base().as_slice(), b"ann\nbob\n".as_slice());
-    assert_eq!(rt; settings.secret().as_bytes(), [0; 32].as_slice());
-    Ok(())
-}
-
-#[test]
-fn leases_at_their_limits(rt: HostRuntime) -> Result<(), Fail> {
-    for (lease, want) in [(999, false), (1_000, true), (60_000, true), (60_001, false)] {
-        let cell = Component::parse(rt.alloc(), "c")?;
-        let made = Settings::new(rt.alloc(), cell, lease, &[], Secret::new([0; 32]));
-        assert_eq!(rt; made.is_ok(), want, "at {lease}");
+    let rows = standard_rows(&settings);
+    drop(settings);
+    for (name, is_so) in rows {
+        assert!(rt; is_so, "at {name}");
     }
     Ok(())
 }
 
-#[test]
-fn too_many_principals(rt: HostRuntime) -> Result<(), Fail> {
-    let mut names = Vec::new(rt.alloc());
-    for _ in 0..131_073 {
-        names.push(Principal::parse(rt.alloc(), "a")?)?;
+// A lease, how many principals, and why there are no such settings.
+const LIMITS: &[(u64, usize, Option<SettingsFault>)] = &[
+    (999, 0, Some(SettingsFault::BadLease)),
+    (1_000, 0, None),
+    (60_000, 0, None),
+    (60_001, 0, Some(SettingsFault::BadLease)),
+    (12_000, 131_073, Some(SettingsFault::TooManyPrincipals)),
+];
+
+fn principals(alloc: Global, count: usize) -> Result<Vec<Principal>, Fail> {
+    let mut names = Vec::new(alloc);
+    for _ in 0..count {
+        names.push(Principal::parse(alloc, "a")?)?;
     }
-    let cell = Component::parse(rt.alloc(), "c")?;
-    let made = Settings::new(
-        rt.alloc(),
-        cell,
-        12_000,
-        names.as_slice(),
-        Secret::new([0; 32]),
-    );
-    assert!(rt; matches!(made, Err(SettingsFault::TooManyPrincipals)));
+    Ok(names)
+}
+
+fn refusal_of(
+    alloc: Global,
+    lease: u64,
+    principals: &[Principal],
+) -> Result<Option<SettingsFault>, Fail> {
+    let cell = Component::parse(alloc, "c")?;
+    Ok(Settings::new(alloc, cell, lease, principals, Secret::new([0; 32])).err())
+}
+
+fn refusal(alloc: Global, lease: u64, count: usize) -> Result<Option<SettingsFault>, Fail> {
+    let principals = principals(alloc, count)?;
+    refusal_of(alloc, lease, principals.as_slice())
+}
+
+#[test]
+fn settings_at_their_limits(rt: HostRuntime) -> Result<(), Fail> {
+    for (lease, count, want) in LIMITS {
+        let is_so = refusal(rt.alloc(), *lease, *count)? == *want;
+        assert!(rt; is_so, "at {lease} and {count}");
+    }
     Ok(())
 }
 
@@ -61,20 +86,27 @@ fn nodes_of(alloc: Global, rows: &Rows) -> Result<String, Fail> {
     Ok(shown)
 }
 
-fn are_new(rt: &impl Abort, rows: &Rows) {
-    assert_eq!(rt; rows.epoch, 0);
-    assert_eq!(rt; rows.next_instance, 4);
-    assert_eq!(rt; rows.cell.as_str(), "c");
+const NODES: &str =
+    "/ls/c dir 1 0 1 base base base permanent;/ls/c/acl dir 2 0 1 base base base permanent;/ls/c/acl/base file 3 1 1 base base base permanent 8 616e6e0a626f620a;";
+
+// What the rows of a new store hold, each with its name.
+fn new_facts(alloc: Global, rows: &Rows) -> Result<[(&'static str, bool); 4], Fail> {
+    let nodes = nodes_of(alloc, rows)?;
+    Ok([
+        ("epoch", rows.epoch == 0),
+        ("next instance", rows.next_instance == 4),
+        ("cell's name", rows.cell.as_str() == "c"),
+        ("nodes", nodes.as_str() == NODES),
+    ])
 }
 
 #[test]
 fn rows_of_a_new_store(rt: HostRuntime) -> Result<(), Fail> {
     let rows = new_rows(rt.alloc())?;
-    are_new(&rt, &rows);
-    let shown = nodes_of(rt.alloc(), &rows)?;
-    assert_eq!(rt;
-        shown.as_str(),
-        "/ls/c dir 1 0 1 base base base permanent;/ls/c/acl dir 2 0 1 base base base permanent;/ls/c/acl/base file 3 1 1 base base base permanent 8 616e6e0a626f620a;"
-    );
+    let facts = new_facts(rt.alloc(), &rows);
+    drop(rows);
+    for (name, is_so) in facts? {
+        assert!(rt; is_so, "at {name}");
+    }
     Ok(())
 }

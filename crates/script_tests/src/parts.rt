@@ -28,13 +28,53 @@ fn next_epoch(alloc: Global, records: ListRecords) -> Result<(u64, ListRecords),
     Ok((cell.epoch(), cell.down()))
 }
 
+fn two_epochs(alloc: Global) -> Result<(u64, u64), Fail> {
+    let (first, records) = next_epoch(alloc, new_records(alloc)?)?;
+    let (second, records) = next_epoch(alloc, records)?;
+    drop(records);
+    Ok((first, second))
+}
+
 #[test]
 fn each_master_has_the_next_epoch(rt: HostRuntime) -> Result<(), Fail> {
-    let (first, records) = next_epoch(rt.alloc(), new_records(rt.alloc())?)?;
-    let (second, _) = next_epoch(rt.alloc(), records)?;
-    assert_eq!(rt; (first, second), (1, 2));
+    assert!(rt; two_epochs(rt.alloc())? == (1, 2));
     Ok(())
 }
+
+// What a client does, or is given.
+#[derive(Clone, Copy)]
+enum Turn {
+    Beat,
+    Started,
+    Read,
+    // The same message comes again.
+    Open,
+    Again,
+}
+
+// Each client has no session at first.
+const CLIENTS: &[(&str, &[(Turn, &str)])] = &[
+    (
+        "session_is_given",
+        &[
+            (Turn::Read, "NoSession"),
+            (Turn::Beat, "start 1"),
+            (Turn::Started, "no line"),
+            (Turn::Beat, "nothing"),
+            (Turn::Read, "BadHandle"),
+            (Turn::Again, "nothing"),
+        ],
+    ),
+    (
+        "call_is_sent_again",
+        &[
+            (Turn::Open, "NoSession"),
+            (Turn::Beat, "start 1"),
+            (Turn::Started, "no line"),
+            (Turn::Open, "sent, and again"),
+        ],
+    ),
+];
 
 fn client(alloc: Global) -> Result<Client, Fail> {
     let principal = Principal::parse(alloc, "ann")?;
@@ -51,56 +91,56 @@ fn started() -> Result<Out, Fail> {
     }))
 }
 
-// The number of the Start that it sends.
-fn start_number(client: &mut Client) -> Option<u64> {
+fn start_text(request: &Request) -> &'static str {
+    if request.number().get() == 1 {
+        "start 1"
+    } else {
+        "another start"
+    }
+}
+
+fn beat(client: &mut Client) -> &'static str {
     match client.beat(0) {
-        Ok(Some(request)) => Some(request.number().get()),
-        _ => None,
+        Ok(Some(request)) => start_text(&request),
+        Ok(None) => "nothing",
+        Err(fault) => fault.name(),
     }
 }
 
-// Why it may not read its first handle.
-fn refusal_of_a_read(client: &mut Client) -> Option<Fault> {
-    match client.ask(0, &Ask::Node(1, NodeCall::Read)) {
-        Ok(_) => None,
-        Err(fault) => Some(fault),
-    }
-}
-
-// How many lines a message prints.
-fn lines_of(client: &mut Client, out: &Out) -> Option<usize> {
-    match client.give(0, out) {
-        Ok(lines) => Some(lines.len()),
-        Err(_) => None,
-    }
-}
-
-fn begins_session(rt: &impl Abort, client: &mut Client) -> Result<(), Fail> {
+fn give(client: &mut Client) -> Result<&'static str, Fail> {
     let started = started()?;
-    assert_eq!(rt; start_number(client), Some(1));
-    assert_eq!(rt; lines_of(client, &started), Some(0));
-    Ok(())
+    Ok(match client.give(0, &started) {
+        Ok(lines) => if lines.is_empty() { "no line" } else { "lines" },
+        Err(fault) => fault.name(),
+    })
 }
 
-// Without a session it may not read; its Start goes out until it has one; then it has no handle.
-fn is_given_a_session(rt: &impl Abort, client: &mut Client) -> Result<(), Fail> {
-    assert_eq!(rt; refusal_of_a_read(client), Some(Fault::NoSession));
-    begins_session(rt, client)?;
-    assert_eq!(rt; start_number(client), None);
-    assert_eq!(rt; refusal_of_a_read(client), Some(Fault::BadHandle));
-    assert!(rt; client.again().is_none());
-    Ok(())
+fn again(client: &Client) -> &'static str {
+    match client.again() {
+        Some(_) => "a call",
+        None => "nothing",
+    }
 }
 
-#[test]
-fn session_is_given(rt: HostRuntime) -> Result<(), Fail> {
-    let mut client = client(rt.alloc())?;
-    is_given_a_session(&rt, &mut client)
+fn again_text(client: &Client, request: &Request) -> &'static str {
+    if client.again() == Some(request) {
+        "sent, and again"
+    } else {
+        "sent"
+    }
 }
 
-fn open_of(alloc: Global, name: &str) -> Result<Ask, Fail> {
-    let name = Name::parse(alloc, name)?;
+fn ask(client: &mut Client, ask: &Ask) -> &'static str {
+    match client.ask(0, ask) {
+        Ok(Asked::Sent(request)) => again_text(client, &request),
+        Ok(_) => "lines",
+        Err(fault) => fault.name(),
+    }
+}
+
+fn open_of(alloc: Global) -> Result<Ask, Fail> {
     let mode = Mode::new(true, false, false).ok_or("mode")?;
+    let name = Name::parse(alloc, "/ls/c/f")?;
     Ok(Ask::Open(Open {
         name,
         mode,
@@ -108,33 +148,44 @@ fn open_of(alloc: Global, name: &str) -> Result<Ask, Fail> {
     }))
 }
 
-fn is_sent_again(client: &Client, request: &Request) -> bool {
-    client.again() == Some(request)
+fn open(alloc: Global, client: &mut Client) -> Result<&'static str, Fail> {
+    let opening = open_of(alloc)?;
+    Ok(ask(client, &opening))
 }
 
-fn asks_and_sends_again(client: &mut Client, ask: &Ask) -> bool {
-    match client.ask(0, ask) {
-        Ok(Asked::Sent(request)) => is_sent_again(client, &request),
-        _ => false,
+fn answer(alloc: Global, client: &mut Client, turn: Turn) -> Result<&'static str, Fail> {
+    match turn {
+        Turn::Beat => Ok(beat(client)),
+        Turn::Started => give(client),
+        Turn::Read => Ok(ask(client, &Ask::Node(1, NodeCall::Read))),
+        Turn::Open => open(alloc, client),
+        Turn::Again => Ok(again(client)),
     }
 }
 
-// Whether an Open goes out, and the same message again.
-fn opens_again(alloc: Global, client: &mut Client) -> Result<bool, Fail> {
-    let ask = open_of(alloc, "/ls/c/f")?;
-    Ok(asks_and_sends_again(client, &ask))
-}
-
-// Only a client with a session sends a call.
-fn sends_again(rt: &impl Abort, alloc: Global, client: &mut Client) -> Result<(), Fail> {
-    assert!(rt; !opens_again(alloc, client)?);
-    begins_session(rt, client)?;
-    assert!(rt; opens_again(alloc, client)?);
+fn goes_so(
+    rt: &impl Abort,
+    alloc: Global,
+    client: &mut Client,
+    name: &str,
+    turns: &[(Turn, &str)],
+) -> Result<(), Fail> {
+    for (turn, want) in turns {
+        assert!(rt;
+            answer(alloc, client, *turn)? == *want,
+            "at {want} of {name}"
+        );
+    }
     Ok(())
 }
 
 #[test]
-fn call_is_sent_again(rt: HostRuntime) -> Result<(), Fail> {
-    let mut client = client(rt.alloc())?;
-    sends_again(&rt, rt.alloc(), &mut client)
+fn clients(rt: HostRuntime) -> Result<(), Fail> {
+    for (name, turns) in CLIENTS {
+        let mut client = client(rt.alloc())?;
+        let done = goes_so(&rt, rt.alloc(), &mut client, name, turns);
+        drop(client);
+        done?;
+    }
+    Ok(())
 }
