@@ -12,7 +12,7 @@ use Rattle.rows_cell.specs.declared.tables.Session.{Session}
 use Rattle.rows_cell.specs.declared.tables.Edit.{Edit}
 use Rattle.rows_cell.specs.declared.tables.Edit.TheVariants.{NextInstance, PutNode, RemoveNode, PutSession}
 use Rattle.gate_core.specs.Gate.{without}
-use Rattle.cell_core.specs.declared.effects.Change.{Change}
+use Rattle.cell_core.specs.declared.deeds.Change.{Change}
 use Rattle.cell_core.specs.declared.handles.HandleKey.{HandleKey}
 use Rattle.cell_core.specs.declared.handles.HandleState.{HandleState}
 use Rattle.cell_core.specs.declared.pending.Kept.{Kept}

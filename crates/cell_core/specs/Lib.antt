@@ -6,6 +6,5 @@ pub mod Handles
 pub mod Keys
 pub mod State
 pub mod Step
-pub mod Effect
 pub mod Cases
 pub mod Deeds

@@ -117,7 +117,7 @@ impl Cell {
         })
     }
 
-    pub(crate) fn is_of_cell(&self, name: &Name) -> bool
+    pub fn is_of_cell(&self, name: &Name) -> bool
         ensures { result ≡ is_of_cell self.now name.now }
     {
         name.in_cell(self.name.as_str())

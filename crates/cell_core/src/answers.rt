@@ -10,12 +10,8 @@ use std::alloc::AllocError;
 use tags_cell::{Call, CallResult, Handle, NewNode};
 
 impl Cell {
-    // What is answered at once, or None where the call waits for its turn.
-    pub(crate) fn answer_on(
-        &self,
-        handle: &Handle,
-        call: &Call,
-    ) -> Result<Option<CallResult>, AllocError>
+    /// What is answered at once, or None where the call waits for its turn.
+    pub fn answer_on(&self, handle: &Handle, call: &Call) -> Result<Option<CallResult>, AllocError>
         ensures { IfOk result (λ answer. answer ≡ answer_on self.now handle.now call.now) }
     {
         match call {
@@ -133,8 +129,8 @@ fn write_fault(kind: Kind, content: &Bytes) -> Option<CallResult>
     }
 }
 
-// Why a new node isn't made.
-pub(crate) fn node_fault(node: &NewNode) -> Option<CallResult>
+/// Why a new node isn't made.
+pub fn node_fault(node: &NewNode) -> Option<CallResult>
     ensures { result ≡ node_fault node.now }
 {
     match node {

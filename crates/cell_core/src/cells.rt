@@ -98,6 +98,13 @@ impl Cell {
         self.epoch
     }
 
+    /// The instance of the next node.
+    pub fn next_instance(&self) -> u64
+        ensures { result ≡ self.now.next_instance }
+    {
+        self.next_instance
+    }
+
     /// In milliseconds.
     pub fn lease(&self) -> u64
         ensures { result ≡ self.now.lease }

@@ -4,7 +4,6 @@ ghost use Rattle.cell_core.specs.Step.{with_note};
 ghost use Rattle.cell_core.specs.Deeds.{with_session, with_kept, with_put, with_node, grown, without_session, without_kept, without_note, without_node, undone, without_gone, with_rest, rest_of, left};
 
 use crate::cells::Cell;
-use crate::effects::Change;
 use crate::handles::{HandleKey, HandleState, Note};
 use crate::pending::Kept;
 use names_cell::Name;
@@ -25,6 +24,14 @@ pub struct SessionPut {
 pub struct KeptPut {
     pub client: ClientNumber,
     pub kept: Kept,
+}
+
+/// A change of the map.
+#[derive(Debug, Drop)]
+pub struct Change {
+    pub change: Mod,
+    /// The instance of the next node from then on.
+    pub next_instance: u64,
 }
 
 /// What a step changes in the parts of the master.

@@ -18,7 +18,7 @@ pub struct HandleKey {
 }
 
 impl HandleKey {
-    pub(crate) fn of(handle: &Handle) -> HandleKey
+    pub fn of(handle: &Handle) -> HandleKey
         ensures { result ≡ key_of handle.now }
     {
         HandleKey {

@@ -4,9 +4,7 @@
 mod admissions;
 mod answers;
 mod cells;
-mod creates;
 mod deeds;
-mod effects;
 mod handles;
 mod opens;
 mod pending;
@@ -14,10 +12,10 @@ mod rights;
 mod sends;
 mod shown;
 mod takes;
-mod writes;
 
+pub use answers::node_fault;
 pub use cells::Cell;
-pub use deeds::{Deed, Former, Grown, KeptPut, Rest, SessionPut};
-pub use effects::{Change, Effect};
+pub use deeds::{Change, Deed, Former, Grown, KeptPut, Rest, SessionPut};
 pub use handles::{HandleKey, HandleState, Note, OpenHandle};
 pub use pending::{Kept, Taken, Task, Work};
+pub use shown::bytes_of;

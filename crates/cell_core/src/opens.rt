@@ -19,8 +19,8 @@ const NO_EVENTS: Events = Events {
 };
 
 impl Cell {
-    // A handle of a node; its numbers have to be ones that a handle can carry.
-    pub(crate) fn new_handle(
+    /// A handle of a node; its numbers have to be ones that a handle can carry.
+    pub fn new_handle(
         &self,
         client: ClientNumber,
         number: MessageNumber,
@@ -49,8 +49,8 @@ impl Cell {
         }))
     }
 
-    // An Open of a present node: the rights of the mode are looked up on the node itself.
-    pub(crate) fn open_present(
+    /// An Open of a present node: the rights of the mode are looked up on the node itself.
+    pub fn open_present(
         &self,
         client: ClientNumber,
         number: MessageNumber,
@@ -65,8 +65,8 @@ impl Cell {
         }
     }
 
-    // An Open that makes nothing.
-    pub(crate) fn plain_open(
+    /// An Open that makes nothing.
+    pub fn plain_open(
         &self,
         client: ClientNumber,
         number: MessageNumber,
@@ -80,8 +80,8 @@ impl Cell {
         }
     }
 
-    // What is noted of the handle that an Open gives, if it gives one, and its answer.
-    pub(crate) fn opened(
+    /// What is noted of the handle that an Open gives, if it gives one, and its answer.
+    pub fn opened(
         &self,
         opened: Result<Handle, Fault>,
     ) -> Result<(Option<Note>, CallResult), AllocError>

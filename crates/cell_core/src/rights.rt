@@ -8,13 +8,8 @@ use std::alloc::AllocError;
 use tags_cell::{ClientNumber, Mode};
 
 impl Cell {
-    // Whether the client's principal is permitted the right to a node with this view.
-    pub(crate) fn may(
-        &self,
-        client: ClientNumber,
-        view: &View,
-        right: Right,
-    ) -> Result<bool, AllocError>
+    /// Whether the client's principal is permitted the right to a node with this view.
+    pub fn may(&self, client: ClientNumber, view: &View, right: Right) -> Result<bool, AllocError>
         ensures { IfOk result (λ allowed. allowed ≡ may self.now client view.now right) }
     {
         match self.sessions.get(&client.get()) {
@@ -38,8 +33,8 @@ impl Cell {
         Ok(!self.may(client, view, right)?)
     }
 
-    // The first right of the mode that isn't permitted.
-    pub(crate) fn missing_right(
+    /// The first right of the mode that isn't permitted.
+    pub fn missing_right(
         &self,
         client: ClientNumber,
         mode: Mode,

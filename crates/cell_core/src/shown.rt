@@ -11,8 +11,8 @@ use node_core::View;
 use std::alloc::AllocError;
 use tags_cell::{Call, ClientNumber, Handle, HandleFault, Ordinal};
 
-// The bytes that a call on a node shows; none for an Open.
-pub(crate) fn bytes_of(call: &Call) -> &[u8]
+/// The bytes that a call on a node shows; none for an Open.
+pub fn bytes_of(call: &Call) -> &[u8]
     ensures { result.now ≡ bytes_of call.now }
 {
     match call {
@@ -38,9 +38,9 @@ fn shown_key(client: ClientNumber, bytes: &[u8]) -> Option<HandleKey> {
 }
 
 impl Cell {
-    // The handle whose bytes these are. Its check digits are made anew only where no open handle is noted with the same
-    // bytes.
-    pub(crate) fn handle_in(
+    /// The handle whose bytes these are. Its check digits are made anew only where no open handle is noted with the same
+    /// bytes.
+    pub fn handle_in(
         &self,
         client: ClientNumber,
         bytes: &[u8],
@@ -116,8 +116,8 @@ impl Cell {
         }
     }
 
-    // The node of a handle, where its instance is there.
-    pub(crate) fn node_of(&self, handle: &Handle) -> Option<&View>
+    /// The node of a handle, where its instance is there.
+    pub fn node_of(&self, handle: &Handle) -> Option<&View>
         ensures { option_copied result ≡ node_of_handle self.now handle.now }
     {
         let view = self.map.get(&handle.name)?;

@@ -39,11 +39,11 @@ use Rattle.tags_cell.specs.declared.calls.Call.{Call}
 use Rattle.tags_cell.specs.declared.calls.Call.TheVariants as calls
 use Rattle.tags_cell.specs.declared.outs.CallResult.{CallResult}
 use Rattle.tags_cell.specs.declared.outs.CallResult.TheVariants as results
-use Rattle.cell_core.specs.declared.effects.Change.{Change}
-use Rattle.cell_core.specs.declared.effects.Effect.{Effect}
+use Rattle.cell_core.specs.declared.deeds.Change.{Change}
+use Rattle.over_core.specs.declared.effects.Effect.{Effect}
 use Rattle.cell_core.specs.State.{MasterState}
 use Rattle.cell_core.specs.Step.{may, missing_right, is_of_cell, node_of_handle, new_handle, content_fault, node_fault, write_fault, needing, answer_on_node}
-use Rattle.cell_core.specs.Effect.{answered, refused, changes_to, is_last, new_view, acls_of, create_made, create_numbered, create_permitted, create_in, create_under, create_new, create_over, create_effect, open_effect, generation_fits, with_content, with_acls, put_at, delete_at, change_at, effect_on, handle_effect, effect}
+use Rattle.over_core.specs.Effect.{answered, refused, changes_to, is_last, new_view, acls_of, create_made, create_numbered, create_permitted, create_in, create_under, create_new, create_over, create_effect, open_effect, generation_fits, with_content, with_acls, put_at, delete_at, change_at, effect_on, handle_effect, effect}
 use Rattle.over_core.specs.Kept.{IsKept}
 
 -- ---- the node that stands at a name

@@ -23,14 +23,14 @@ use Rattle.rows_cell.proofs.RowViews.{views_put, views_gone, rows_in_order}
 use Rattle.rows_cell.proofs.SoundChanges.{put_sound, session_sound}
 use Rattle.rows_cell.proofs.SoundRemovals.{gone_sound}
 use Rattle.gate_core.specs.declared.pending.Waiting.{Waiting}
-use Rattle.cell_core.specs.declared.effects.Change.{Change}
-use Rattle.cell_core.specs.declared.effects.Effect.{Effect}
+use Rattle.cell_core.specs.declared.deeds.Change.{Change}
+use Rattle.over_core.specs.declared.effects.Effect.{Effect}
 use Rattle.cell_core.specs.declared.pending.Kept.{Kept}
 use Rattle.cell_core.specs.declared.pending.Task.{Task}
 use Rattle.cell_core.specs.State.{MasterState}
 use Rattle.cell_core.specs.Step.{reply_of, answered_by, recorded, with_note, is_past_end, noted}
 use Rattle.cell_core.specs.Deeds.{edit_of}
-use Rattle.cell_core.specs.Effect.{effect}
+use Rattle.over_core.specs.Effect.{effect}
 use Rattle.over_core.specs.declared.sweeps.Swept.{Swept}
 use Rattle.over_core.specs.Kept.{IsKept, waiting_fits}
 use Rattle.over_core.specs.Sweep.{action_edits, first_action, sweep_edits, sweep_step}

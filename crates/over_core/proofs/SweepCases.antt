@@ -13,14 +13,14 @@ use Rattle.tags_cell.specs.declared.calls.Call.{Call}
 use Rattle.tags_cell.specs.declared.outs.CallResult.{CallResult}
 use Rattle.gate_core.specs.declared.pending.Waiting.{Waiting}
 use Rattle.gate_core.specs.Gate.{without}
-use Rattle.cell_core.specs.declared.effects.Change.{Change}
+use Rattle.cell_core.specs.declared.deeds.Change.{Change}
 use Rattle.cell_core.specs.declared.handles.Note.{Note}
 use Rattle.cell_core.specs.declared.pending.Task.{Task}
 use Rattle.cell_core.specs.declared.pending.Work.{Work}
 use Rattle.cell_core.specs.declared.pending.Work.TheVariants as works
 use Rattle.cell_core.specs.State.{MasterState, first_number, task_at}
 use Rattle.cell_core.specs.Step.{is_live, may_start, turned_away, is_past_end, noted}
-use Rattle.cell_core.specs.Effect.{effect}
+use Rattle.over_core.specs.Effect.{effect}
 use Rattle.cell_core.specs.Deeds.{done, edits_of}
 use Rattle.over_core.specs.declared.actions.Action.{Action}
 use Rattle.over_core.specs.declared.actions.Action.TheVariants as actions

@@ -9,6 +9,7 @@ pub use Rattle.cell_core.specs.Step
 pub use Rattle.cell_core.specs.Cases
 pub use Rattle.cell_core.specs.Deeds
 pub mod Kept
+pub mod Effect
 pub mod Sweep
 pub mod SweepCase
 pub mod Up

@@ -9,8 +9,8 @@ use Rattle.rows_cell.specs.declared.tables.Edit.{Edit}
 use Rattle.tags_cell.specs.declared.outs.Out.TheVariants as outs
 use Rattle.gate_core.specs.declared.pending.Waiting.{Waiting}
 use Rattle.cell_core.specs.declared.deeds.Deed.{Deed}
-use Rattle.cell_core.specs.declared.effects.Effect.{Effect}
-use Rattle.cell_core.specs.declared.effects.Change.{Change}
+use Rattle.over_core.specs.declared.effects.Effect.{Effect}
+use Rattle.cell_core.specs.declared.deeds.Change.{Change}
 use Rattle.cell_core.specs.declared.pending.Taken.{Taken}
 use Rattle.cell_core.specs.declared.pending.Task.{Task}
 use Rattle.cell_core.specs.declared.pending.Work.{Work}
@@ -18,7 +18,7 @@ use Rattle.cell_core.specs.declared.pending.Work.TheVariants as works
 use Rattle.cell_core.specs.State.{MasterState, first_number, task_at}
 use Rattle.cell_core.specs.Step.{may_start, is_live, nothing, turned_away, reply_of, answered_by, is_past_end, noted}
 use Rattle.cell_core.specs.Deeds.{done, edits_of}
-use Rattle.cell_core.specs.Effect.{effect}
+use Rattle.over_core.specs.Effect.{effect}
 use Rattle.over_core.specs.declared.actions.Action.{Action}
 use Rattle.over_core.specs.declared.actions.Action.TheVariants.{Apply, Quiet}
 use Rattle.over_core.specs.declared.plans.Plan.{Plan}

@@ -13,14 +13,14 @@ use Rattle.tags_cell.specs.declared.outs.Out.{Out}
 use Rattle.tags_cell.specs.declared.outs.Out.TheVariants as outs
 use Rattle.tags_cell.specs.declared.outs.CallResult.{CallResult}
 use Rattle.gate_core.specs.declared.pending.Waiting.{Waiting}
-use Rattle.cell_core.specs.declared.effects.Change.{Change}
+use Rattle.cell_core.specs.declared.deeds.Change.{Change}
 use Rattle.cell_core.specs.declared.handles.Note.{Note}
 use Rattle.cell_core.specs.declared.pending.Task.{Task}
 use Rattle.cell_core.specs.declared.pending.Work.TheVariants as works
 use Rattle.cell_core.specs.State.{MasterState}
 use Rattle.cell_core.specs.Step.{may_start, is_live, turned_away, reply_of, answered_by, recorded, with_note}
 use Rattle.cell_core.specs.Deeds.{edit_of}
-use Rattle.cell_core.specs.Effect.{effect}
+use Rattle.over_core.specs.Effect.{effect}
 use Rattle.over_core.specs.declared.sweeps.Swept.{Swept}
 use Rattle.over_core.specs.Sweep.{started_out}
 

@@ -9,7 +9,7 @@ use Rattle.rows_cell.specs.Rows.{changed_rows}
 use Rattle.rows_cell.specs.Sound.{sound}
 use Rattle.cell_core.specs.State.{MasterState, master_of}
 use Rattle.cell_core.specs.Step.{is_past_end}
-use Rattle.cell_core.specs.Effect.{is_last}
+use Rattle.over_core.specs.Effect.{is_last}
 use Rattle.rows_cell.specs.Stores.{Store, StoreRefuses, MayLeave}
 
 -- it commits the next epoch

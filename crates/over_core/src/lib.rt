@@ -3,10 +3,14 @@
 
 mod actions;
 mod cells;
+mod creates;
+mod effects;
 mod plans;
 mod sweeps;
+mod writes;
 
 pub use actions::Action;
 pub use cells::Cell;
+pub use effects::Effect;
 pub use plans::Plan;
 pub use sweeps::Swept;

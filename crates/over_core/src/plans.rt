@@ -5,9 +5,8 @@ ghost use Rattle.cell_core.specs.Step.{sends};
 ghost use Rattle.over_core.specs.declared.actions.Action.TheVariants.{Apply};
 ghost use Rattle.over_core.specs.Sweep.{no_deed, started_out, applied_lines, plan_session, plan_start, plan_effect, plan_work, plan_of};
 
-use cell_core::{
-    Cell as Master, Change, Deed, Effect, Kept, KeptPut, SessionPut, Taken, Task, Work,
-};
+use crate::effects::{Effect, effect_of};
+use cell_core::{Cell as Master, Change, Deed, Kept, KeptPut, SessionPut, Taken, Task, Work};
 use names_cell::Principal;
 use node_core::{Fault, Line, Mod};
 use rows_cell::Session;
@@ -56,7 +55,7 @@ fn plan_task(master: &Master, task: &Task) -> Result<Plan, AllocError>
     match &task.work {
         Work::Starts(principal) => plan_start(master, client, number, principal),
         Work::Calls(call) => {
-            let effect = master.effect(client, number, call)?;
+            let effect = effect_of(master, client, number, call)?;
             plan_effect(master, client, number, effect)
         }
     }

@@ -1,5 +1,5 @@
 use Rattle.std.proofs.Common.{rules}
-use Rattle.cell_core.proofs.cells.Cell.delete_at.Goals as goal
+use Rattle.over_core.proofs.creates.made_change.Goals as goal
 
 pub returns : goal.returns
 returns c = search rules

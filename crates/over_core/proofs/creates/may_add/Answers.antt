@@ -1,5 +1,5 @@
 use Rattle.std.proofs.Common.{rules}
-use Rattle.cell_core.proofs.cells.Cell.may_add.Goals as goal
+use Rattle.over_core.proofs.creates.may_add.Goals as goal
 
 pub returns : goal.returns
 returns c = search rules

@@ -26,7 +26,7 @@ use Rattle.tags_cell.specs.declared.calls.Call.{Call}
 use Rattle.tags_cell.specs.declared.calls.Call.TheVariants as calls
 use Rattle.tags_cell.specs.declared.outs.CallResult.{CallResult}
 use Rattle.tags_cell.specs.declared.outs.CallResult.TheVariants as results
-use Rattle.cell_core.specs.declared.effects.Effect.{Effect}
+use Rattle.over_core.specs.declared.effects.Effect.{Effect}
 use Rattle.cell_core.specs.declared.handles.HandleState.TheVariants as states
 use Rattle.cell_core.specs.State.{MasterState}
 use Rattle.cell_core.specs.Step.{may, missing_right, is_of_cell, node_fault, key_of, node_of_handle, new_handle, open_present, plain_open, opened_answer, opened_note, answer_on, bytes_of}
