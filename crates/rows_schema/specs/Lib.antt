@@ -1,0 +1,2 @@
+pub mod OurSchema
+pub mod Fields
