@@ -124,16 +124,10 @@ impl Cell {
                 gone,
                 next_instance,
             } = rest;
-            self.remove_gone(gone);
+            if let Some(name) = gone {
+                drop(self.map.unset(&name));
+            }
             self.next_instance = next_instance;
-        }
-    }
-
-    fn remove_gone(&mut self, gone: Option<Name>)
-        ensures { self.new ≡ without_gone self.old gone }
-    {
-        if let Some(name) = gone {
-            drop(self.map.unset(&name));
         }
     }
 
@@ -230,19 +224,13 @@ impl Cell {
     {
         match note {
             None => Ok(None),
-            Some(note) => Ok(Some(self.put_state(note)?)),
+            Some(note) => {
+                let Note { key, state } = note;
+                let HandleKey { client, number } = key;
+                let former = self.handles.put(key, state)?;
+                Ok(Some((HandleKey { client, number }, former)))
+            }
         }
-    }
-
-    fn put_state(&mut self, note: Note) -> Result<(HandleKey, Option<HandleState>), AllocError>
-        ensures ok { OnOk result (self.new ≡ with_note self.old (Some note)) }
-        ensures back { IfOk result (λ former. without_note self.new (Some former) ≡ self.old) }
-        ensures err { OnErr result (self.new ≡ self.old) }
-    {
-        let Note { key, state } = note;
-        let HandleKey { client, number } = key;
-        let former = self.handles.put(key, state)?;
-        Ok((HandleKey { client, number }, former))
     }
 
     // A node that is put; one that goes stays until the rest is done.
