@@ -17,4 +17,5 @@ pub use Rattle.client_core.specs.Gives
 pub mod Messages
 pub mod Seats
 pub mod World
+pub mod Consistent
 pub mod Runs

@@ -2,9 +2,9 @@ use denote.Param.{param}
 use Rattle.std.proofs.Common.{rules, []}
 use Rattle.over_core.specs.Kept.{CellState}
 use Rattle.world_cell.specs.World.{WorldView}
-use Rattle.world_cell.specs.contracts.worlds.World.{the_view}
+use Rattle.world_cell.specs.contracts.stages.Stage.{the_view}
 use Rattle.world_cell.proofs.RefusedUp.{of_records, refused_up, left_down}
-use Rattle.world_cell.proofs.worlds.World.up.Goals as goal
+use Rattle.world_cell.proofs.stages.Stage.up.Goals as goal
 
 pub returns-in-Err-clause-fault : goal.returns-in-Err-clause-fault
 returns-in-Err-clause-fault g c =
