@@ -1,5 +1,3 @@
-mod Commits
 mod MissingRights
 mod Notes
 pub mod TakeCases
-pub mod SweepCases

@@ -1,6 +1,6 @@
 -- The arm of the table that a message takes.
-use Rattle.std.proofs.Common.{◌≡◌, ◌≢◌, ℕ, ◌<◌, Bool, true, false, cond, Option, Some, None, Result, Ok, Err, refl, arith, eqb, inl, inr}
-use Rattle.std.specs.Prelude.{◌==◌, nat_lt, nat_le, is_none}
+use Rattle.std.proofs.Common.{◌≡◌, ◌≢◌, ℕ, ◌<◌, List, [], Bool, true, false, cond, Option, Some, None, Result, Ok, Err, refl, arith, eqb, inl, inr}
+use Rattle.std.specs.Prelude.{◌==◌, ◌||◌, nat_lt, nat_le, is_none}
 use Rattle.std.proofs.lemmas.Bool.Decides.{nat_tests}
 use Rattle.node_core.specs.declared.refusals.Fault.{Fault}
 use Rattle.node_core.specs.declared.refusals.Fault.TheVariants as faults
@@ -10,12 +10,13 @@ use Rattle.tags_cell.specs.declared.requests.Request.{Request}
 use Rattle.tags_cell.specs.declared.requests.Request.TheVariants as requests
 use Rattle.tags_cell.specs.declared.outs.CallResult.{CallResult}
 use Rattle.tags_cell.specs.declared.outs.CallResult.TheVariants as results
+use Rattle.tags_cell.specs.declared.outs.Reply.{Reply}
 use Rattle.cell_core.specs.declared.admissions.Admission.{Admission}
 use Rattle.cell_core.specs.declared.pending.Taken.{Taken}
 use Rattle.cell_core.specs.declared.pending.Kept.{Kept}
 use Rattle.cell_core.specs.declared.pending.Work.TheVariants as works
 use Rattle.cell_core.specs.State.{MasterState}
-use Rattle.cell_core.specs.Step.{kept_of, is_live, is_full, may_start, turned_away, refusal, repeated, queued, nothing, with_note, admission_of, full_answer, admit_unless, admit_step, new_call, kept_step, call_step, start_step, take_at, take_step, is_past_end, noted}
+use Rattle.cell_core.specs.Step.{kept_of, is_live, is_full, may_start, turned_away, refusal, repeated, queued, replied, waits, nothing, with_note, admission_of, admit_step, new_call, kept_step, call_step, start_step, take_at, take_step, is_past_end, is_spent, noted}
 use Rattle.cell_core.specs.Cases.{IsBehind, IsHeard, IsNew, IsAnswered, IsAdmitted, TakeCase, taken_by}
 use Rattle.cell_core.specs.Cases.TakeCase.{StartRefused, StartFull, StartQueued, OldEpoch, NoSession, Repeated, OlderCall, Outstanding, Answered, Waits}
 
@@ -39,34 +40,30 @@ less n m h = grind (arith, nat_tests)
 above : (n m : ℕ) → eqb n m ≡ false → nat_lt n m ≡ false → m < n
 above n m h k = grind (arith, nat_tests)
 
-no_result : (o : Option CallResult) → is_none o ≡ true → o ≡ None
-no_result None h = refl
-no_result (Some result) h = cc
+no_reply : (o : Option Reply) → is_none o ≡ true → o ≡ None
+no_reply None h = refl
+no_reply (Some reply) h = cc
 
-some_result : (o : Option CallResult) → is_none o ≡ false → (result : CallResult) × (o ≡ Some result)
-some_result None h = cc
-some_result (Some result) h = (result, refl)
+some_reply : (o : Option Reply) → is_none o ≡ false → (reply : Reply) × (o ≡ Some reply)
+some_reply None h = cc
+some_reply (Some reply) h = (reply, refl)
 
 -- ---- a new call
 
-unless_case : (s : MasterState) (request : Request) (message : CallMessage) (o : Option CallResult) (full : Bool) → IsNew s request message → (admission_of s message.client message.number message.call).answer ≡ None → is_full (with_note s (admission_of s message.client message.number message.call).note) ≡ full → full_answer (with_note s (admission_of s message.client message.number message.call).note) ≡ o → cond full (Some (results.Refused faults.Busy)) None ≡ o → IsCase s request (admit_unless (with_note s (admission_of s message.client message.number message.call).note) message.client message.number message.call o)
-unless_case s request message None true new none full is at = cc
-unless_case s request message None false new none full is at =
-    (Waits message (admission_of s message.client message.number message.call).note new (record { is_noted = refl; passes = none; room = full }), refl)
-unless_case s request message (Some answer) true new none full is at =
-    let busy : answer ≡ results.Refused faults.Busy = cc in
-    (Answered message (admission_of s message.client message.number message.call).note answer new (record { is_noted = refl; is_answer = inr (none, full, busy) }), refl)
-unless_case s request message (Some answer) false new none full is at = cc
-
-admit_case : (s : MasterState) (request : Request) (message : CallMessage) (o : Option CallResult) → IsNew s request message → (admission_of s message.client message.number message.call).answer ≡ o → IsCase s request (admit_step (with_note s (admission_of s message.client message.number message.call).note) message.client message.number message.call o)
-admit_case s request message None new is =
-    let t : MasterState = with_note s (admission_of s message.client message.number message.call).note in
-    unless_case s request message (full_answer t) (is_full t) new is refl refl refl
-admit_case s request message (Some answer) new is =
-    (Answered message (admission_of s message.client message.number message.call).note answer new (record { is_noted = refl; is_answer = inl is }), refl)
+-- by what it is answered at once, and whether there is room
+admit_case : (s : MasterState) (request : Request) (message : CallMessage) (admission : Admission) (o : Option CallResult) → IsNew s request message → admission_of s message.client message.number message.call ≡ admission → admission.answer ≡ o → IsCase s request (admit_step (with_note s admission.note) message.client message.number message.call admission.touched o)
+admit_case s request message admission None new is none =
+    let t : MasterState = with_note s admission.note in
+    either s request (is_full t) (replied t message.client message.number (results.Refused faults.Busy)) (waits t message.client message.number message.call admission.touched)
+    (λ full. (Answered message admission.note (results.Refused faults.Busy) new (record { is_noted = rw is refl; is_answer = inr (rw is none, full, refl) }), refl))
+    (λ room. (Waits message admission.note admission.touched new (record { is_touched = rw is refl; is_noted = rw is refl; passes = rw is none; room = room }), refl))
+admit_case s request message admission (Some answer) new is some =
+    (Answered message admission.note answer new (record { is_noted = rw is refl; is_answer = inl (rw is some) }), refl)
 
 new_case : (s : MasterState) (request : Request) (message : CallMessage) → IsNew s request message → IsCase s request (new_call s message.client message.number message.call)
-new_case s request message new = admit_case s request message (admission_of s message.client message.number message.call).answer new refl
+new_case s request message new =
+    let admission : Admission = admission_of s message.client message.number message.call in
+    admit_case s request message admission admission.answer new refl refl
 
 -- ---- a call, by the client's last one
 
@@ -74,13 +71,13 @@ kept_case : (s : MasterState) (request : Request) (message : CallMessage) (o : O
 kept_case s request message None heard is = new_case s request message (record { heard = heard; behind = rw is tt })
 kept_case s request message (Some kept) heard is =
     let new = new_call s message.client message.number message.call in
-    let outstanding = cond (is_none kept.result) (s, refusal s message.client message.number faults.CallOutstanding) new in
+    let outstanding = cond (is_none kept.reply) (s, refusal s message.client message.number faults.CallOutstanding) new in
     let older = cond (nat_lt message.number kept.number) (s, refusal s message.client message.number faults.Repeat) outstanding in
-    either s request (message.number == kept.number) (s, repeated s message.client kept) older (λ e. (Repeated message kept heard is (same message.number kept.number e), refl)) (λ apart.
+    either s request (message.number == kept.number) (s, repeated kept) older (λ e. (Repeated message kept heard is (same message.number kept.number e), refl)) (λ apart.
     either s request (nat_lt message.number kept.number) (s, refusal s message.client message.number faults.Repeat) outstanding (λ e. (OlderCall message kept heard is (less message.number kept.number e), refl)) (λ more.
     let high = above message.number kept.number apart more in
-    either s request (is_none kept.result) (s, refusal s message.client message.number faults.CallOutstanding) new (λ e. (Outstanding message kept heard is high (no_result kept.result e), refl)) (λ e.
-    let t = some_result kept.result e in
+    either s request (is_none kept.reply) (s, refusal s message.client message.number faults.CallOutstanding) new (λ e. (Outstanding message kept heard is high (no_reply kept.reply e), refl)) (λ e.
+    let t = some_reply kept.reply e in
     new_case s request message (record { heard = heard; behind = rw is (t.0, t.1, high) }))))
 
 call_case : (s : MasterState) (request : Request) (message : CallMessage) → request ≡ requests.Call message → IsCase s request (call_step s message)
@@ -96,7 +93,7 @@ call_case s request message is =
 
 start_case : (s : MasterState) (request : Request) (start : Start) → request ≡ requests.Start start → IsCase s request (start_step s start)
 start_case s request start is =
-    let waits : MasterState × Taken = (queued s (record { client = start.client; number = start.number; work = works.Starts start.principal }), nothing) in
+    let waits : MasterState × Taken = (queued s [] (record { client = start.client; number = start.number; work = works.Starts start.principal }), nothing) in
     let room = cond (is_full s) (s, turned_away s start.client start.number faults.Busy) waits in
     either s request (may_start s start.client start.principal) room (s, refusal s start.client start.number faults.NoSession) (λ may.
     either s request (is_full s) (s, turned_away s start.client start.number faults.Busy) waits (λ full. (StartFull start is may full, refl)) (λ free. (StartQueued start is may free, refl)))
@@ -109,12 +106,12 @@ take_case s (requests.Start start) = start_case s (requests.Start start) start r
 take_case s (requests.Call message) = call_case s (requests.Call message) message refl
 
 -- a message that is taken at a moment
-pub taken_case : (s new : MasterState) (now : ℕ) (request : Request) (taken : Taken) → take_step s now request ≡ Ok (new, taken) → (is_past_end now ≡ false) × ((c : TakeCase (noted s now) request) × ((new, taken) ≡ taken_by (noted s now) request c))
+pub taken_case : (s new : MasterState) (now : ℕ) (request : Request) (taken : Taken) → take_step s now request ≡ Ok (new, taken) → (c : TakeCase (noted s now) request) × ((new, taken) ≡ taken_by (noted s now) request c)
 unfolding take_step
 taken_case s new now request taken h =
-    (elim (is_past_end now) as (λ b. is_past_end now ≡ b → cond {A = Result (MasterState × Taken) Fault} b (Err faults.Exhausted) (Ok (take_at (noted s now) request)) ≡ Ok (new, taken) → (is_past_end now ≡ false) × IsCase (noted s now) request (new, taken)) [
-      | true ↦ (λ late e. cc)
-      | false ↦ (λ late e.
+    (elim (is_past_end now || is_spent s) as (λ b. cond {A = Result (MasterState × Taken) Fault} b (Err faults.Exhausted) (Ok (take_at (noted s now) request)) ≡ Ok (new, taken) → IsCase (noted s now) request (new, taken)) [
+      | true ↦ (λ e. cc)
+      | false ↦ (λ e.
           let is : take_at (noted s now) request ≡ (new, taken) = cc in
-          (late, rw (← is) (take_case (noted s now) request)))
-    ]) refl h
+          rw (← is) (take_case (noted s now) request))
+    ]) h

@@ -48,7 +48,7 @@ is_last n = nat_le number_limit n
 -- ---- creates
 
 abbrev pub opened_effect : MasterState → Result Handle Fault → Effect
-opened_effect s opened = record { note = opened_note opened; change = None; answer = opened_answer s opened }
+opened_effect s opened = record { note = opened_note s opened; change = None; answer = opened_answer s opened }
 
 abbrev pub kind_of : NewNode → Kind
 kind_of (made.File content) = kinds.File
@@ -86,7 +86,7 @@ new_view above instance node acls = record {
 abbrev pub create_made : MasterState → Open → View → Result Handle Fault → Effect
 create_made s opening view (Err fault) = refused fault
 create_made s opening view (Ok handle) = record {
-  note = opened_note (Ok handle);
+  note = opened_note s (Ok handle);
   change = Some (record { change = Put opening.name view; next_instance = s.next_instance + 1 });
   answer = opened_answer s (Ok handle);
 }

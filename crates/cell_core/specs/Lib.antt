@@ -1,10 +1,11 @@
 pub use Rattle.plain.specs.Results
 pub use Rattle.names_cell.specs.Text
 pub use Rattle.node_core.specs.Nodes
+pub use Rattle.gate_core.specs.Gate
+pub mod Handles
 pub mod Keys
 pub mod State
 pub mod Step
 pub mod Effect
-pub mod Store
-pub mod Sweep
 pub mod Cases
+pub mod Deeds

@@ -1,5 +1,5 @@
 -- What a master does with a message.
-use Rattle.std.specs.Prelude.{ℕ, Bool, true, false, not, ◌&&◌, ◌==◌, nat_lt, nat_le, max, List, [], ◌∷◌, ◌++◌, length, Option, Some, None, Result, Ok, Err, if◌then◌else◌, is_none}
+use Rattle.std.specs.Prelude.{ℕ, Bool, true, false, not, ◌&&◌, ◌||◌, ◌==◌, nat_lt, nat_le, max, List, [], ◌∷◌, ◌++◌, length, Option, Some, None, Result, Ok, Err, if◌then◌else◌, is_none}
 use Rattle.std.specs.Option.{option_map_or}
 use Rattle.std.specs.Map.{lookup}
 use Rattle.std.specs.BTreeMap.{is_at, insert_entry}
@@ -16,10 +16,11 @@ use Rattle.node_core.specs.declared.kinds.Right.{Right}
 use Rattle.node_core.specs.declared.kinds.Right.TheVariants as rights
 use Rattle.node_core.specs.declared.stats.Stat.{Stat}
 use Rattle.lease_core.specs.Lease.{moment_limit}
-use Rattle.node_core.specs.Limits.{content_limit}
+use Rattle.node_core.specs.Limits.{content_limit, number_limit}
 use Rattle.node_core.specs.Nodes.{get_node, children}
 use Rattle.node_core.specs.Access.{permitted}
 use Rattle.rows_cell.specs.declared.tables.Session.{Session}
+use Rattle.gate_core.specs.Gate.{pending_limit, with_change}
 use Rattle.tags_cell.specs.Modes.{Rights, has_right}
 use Rattle.tags_cell.specs.Handles.{is_ordinal, handle_bytes, read_handle}
 use Rattle.tags_cell.specs.declared.masks.Events.{Events}
@@ -37,9 +38,10 @@ use Rattle.tags_cell.specs.declared.requests.Request.TheVariants as requests
 use Rattle.tags_cell.specs.declared.outs.CallResult.{CallResult}
 use Rattle.tags_cell.specs.declared.outs.CallResult.TheVariants as results
 use Rattle.tags_cell.specs.declared.outs.Out.TheVariants as outs
+use Rattle.tags_cell.specs.declared.outs.Reply.{Reply}
 use Rattle.cell_core.specs.declared.pending.Taken.{Taken}
 use Rattle.cell_core.specs.declared.pending.Kept.{Kept}
-use Rattle.cell_core.specs.declared.pending.Pending.{Pending}
+use Rattle.cell_core.specs.declared.pending.Task.{Task}
 use Rattle.cell_core.specs.declared.pending.Work.TheVariants as works
 use Rattle.cell_core.specs.declared.handles.HandleState.{HandleState}
 use Rattle.cell_core.specs.declared.handles.HandleState.TheVariants as states
@@ -65,7 +67,7 @@ abbrev pub may_start : MasterState → ℕ → List ℕ → Bool
 may_start s client principal = option_map_or (λ session. session.live && bytes_eq session.principal principal) (session_of s client) true
 
 abbrev pub is_full : MasterState → Bool
-is_full s = nat_le 4096 (length s.queue)
+is_full s = nat_le pending_limit (length s.gate.waiting)
 
 -- ---- what is sent and printed
 
@@ -82,30 +84,38 @@ abbrev pub refusal : MasterState → ℕ → ℕ → Fault → Taken
 refusal s client number fault =
     record { lines = lines.Refused fault ∷ []; outs = outs.Refused (record { client = client; epoch = s.epoch; number = number; fault = fault }) ∷ [] }
 
-abbrev pub reply : MasterState → ℕ → ℕ → CallResult → Taken
-reply s client number result =
-    record { lines = []; outs = outs.Reply (record { client = client; epoch = s.epoch; number = number; result = result }) ∷ [] }
+-- what is sent of a call's result, and kept of it
+abbrev pub reply_of : MasterState → ℕ → ℕ → CallResult → Reply
+reply_of s client number result = record { client = client; epoch = s.epoch; number = number; result = result }
 
--- the last call again: its result, or nothing while it waits
-abbrev pub repeated_result : MasterState → ℕ → ℕ → Option CallResult → Taken
-repeated_result s client number None = nothing
-repeated_result s client number (Some result) = reply s client number result
+abbrev pub sends : Reply → Taken
+sends reply = record { lines = []; outs = outs.Reply reply ∷ [] }
 
-abbrev pub repeated : MasterState → ℕ → Kept → Taken
-repeated s client kept = repeated_result s client kept.number kept.result
+-- the last call again: its reply, or nothing while it waits
+abbrev pub repeated_reply : Option Reply → Taken
+repeated_reply None = nothing
+repeated_reply (Some reply) = sends reply
+
+abbrev pub repeated : Kept → Taken
+repeated kept = repeated_reply kept.reply
 
 -- ---- what the master keeps
 
 abbrev pub recorded : MasterState → ℕ → Kept → MasterState
 recorded s client kept = record s { kept = insert_entry nat_cmp s.kept client kept }
 
-abbrev pub queued : MasterState → Pending → MasterState
-queued s pending = record s { queue = s.queue ++ pending ∷ [] }
+-- what waits behind all others, with the names that it touches
+abbrev pub queued : MasterState → List (List ℕ) → Task → MasterState
+queued s touched task = record s { gate = with_change (record { touched = touched; body = task }) s.gate }
 
--- a call that is answered at once: its result is recorded, and sent
+-- the reply to a call is what is recorded of it
+abbrev pub answered_by : Reply → Kept
+answered_by reply = record { number = reply.number; reply = Some reply }
+
+-- a call that is answered at once: its reply is recorded, and sent
 abbrev pub replied : MasterState → ℕ → ℕ → CallResult → MasterState × Taken
 replied s client number result =
-    (recorded s client (record { number = number; result = Some result }), reply s client number result)
+    (recorded s client (answered_by (reply_of s client number result)), sends (reply_of s client number result))
 
 -- ---- Starts
 
@@ -113,7 +123,7 @@ abbrev pub start_step : MasterState → Start → MasterState × Taken
 start_step s start =
     if may_start s start.client start.principal
     then (if is_full s then (s, turned_away s start.client start.number faults.Busy)
-    else (queued s (record { client = start.client; number = start.number; work = works.Starts start.principal }), nothing))
+    else (queued s [] (record { client = start.client; number = start.number; work = works.Starts start.principal }), nothing))
     else (s, refusal s start.client start.number faults.NoSession)
 
 -- ---- rights
@@ -141,6 +151,10 @@ handle_state_of s key = lookup (is_at (handle_order key)) s.handles
 abbrev pub key_of : Handle → HandleKey
 key_of handle = record { client = handle.client; number = handle.number }
 
+-- a handle is open, and these are its bytes
+abbrev pub open_note : Handle → List ℕ → Note
+open_note handle bytes = record { key = key_of handle; state = states.Open (record { handle = handle; bytes = bytes }) }
+
 -- what the master notes of a handle, if anything
 abbrev pub with_note : MasterState → Option Note → MasterState
 with_note s None = s
@@ -148,7 +162,7 @@ with_note s (Some note) = record s { handles = insert_entry handle_order s.handl
 
 -- one of this epoch has to be open; one of an earlier epoch may be new to this master, but not closed
 abbrev pub is_usable : MasterState → Handle → Option HandleState → Bool
-is_usable s handle (Some states.Open) = nat_le handle.epoch s.epoch
+is_usable s handle (Some (states.Open noted)) = nat_le handle.epoch s.epoch
 is_usable s handle (Some states.Closed) = false
 is_usable s handle None = nat_lt handle.epoch s.epoch
 
@@ -201,13 +215,13 @@ abbrev pub plain_open : MasterState → ℕ → ℕ → Open → Result Handle F
 plain_open s client number opening = option_map_or (λ view. open_present s client number opening view) (get_node s.nodes opening.name) (Err faults.NotFound)
 
 abbrev pub opened_answer : MasterState → Result Handle Fault → CallResult
-opened_answer s (Ok handle) = results.Opened (handle_bytes s.secret handle)
+opened_answer s (Ok handle) = results.Opened (record { bytes = handle_bytes s.secret handle; instance = handle.instance; life = handle.life })
 opened_answer s (Err fault) = results.Refused fault
 
 -- a new handle is open
-abbrev pub opened_note : Result Handle Fault → Option Note
-opened_note (Ok handle) = Some (record { key = key_of handle; state = states.Open })
-opened_note (Err fault) = None
+abbrev pub opened_note : MasterState → Result Handle Fault → Option Note
+opened_note s (Ok handle) = Some (open_note handle (handle_bytes s.secret handle))
+opened_note s (Err fault) = None
 
 -- ---- what is answered at once
 
@@ -265,21 +279,24 @@ answer_on s handle call =
 -- ---- the tests of a new call
 
 abbrev pub admission_of_open : MasterState → ℕ → ℕ → Open → Option Create → Admission
-admission_of_open s client number opening (Some create) = record { note = None; answer = node_fault create.node }
+admission_of_open s client number opening (Some create) = record { note = None; touched = opening.name ∷ []; answer = node_fault create.node }
 admission_of_open s client number opening None = record {
-  note = opened_note (plain_open s client number opening);
+  touched = [];
+  note = opened_note s (plain_open s client number opening);
   answer = Some (opened_answer s (plain_open s client number opening));
 }
 
 abbrev pub open_admission : MasterState → ℕ → ℕ → Open → Admission
 open_admission s client number opening =
     if is_of_cell s opening.name then admission_of_open s client number opening opening.create
-    else record { note = None; answer = Some (results.Refused faults.OtherCell) }
+    else record { note = None; touched = []; answer = Some (results.Refused faults.OtherCell) }
 
--- a handle that is shown is open from then on, also where the call is refused
-abbrev pub handle_admission : MasterState → Call → Option Handle → Admission
-handle_admission s call None = record { note = None; answer = Some (results.Refused faults.BadHandle) }
-handle_admission s call (Some handle) = record { note = Some (record { key = key_of handle; state = states.Open }); answer = answer_on s handle call }
+-- the names that a call on a node touches: whose view it may change
+abbrev pub touched_by : Handle → Call → List (List ℕ)
+touched_by handle (calls.Set bytes content generation) = handle.name ∷ []
+touched_by handle (calls.SetAcl bytes acls generation) = handle.name ∷ []
+touched_by handle (calls.Delete bytes) = handle.name ∷ []
+touched_by handle _ = []
 
 -- the bytes that a call on a node shows
 abbrev pub bytes_of : Call → List ℕ
@@ -292,39 +309,45 @@ bytes_of (calls.Set bytes content generation) = bytes
 bytes_of (calls.SetAcl bytes acls generation) = bytes
 bytes_of (calls.Delete bytes) = bytes
 
+-- a handle that is shown is open from then on, where nothing is noted of it yet
+abbrev pub shown_note : MasterState → Handle → List ℕ → Option Note
+shown_note s handle bytes = if is_none (handle_state_of s (key_of handle)) then Some (open_note handle bytes) else None
+
+-- it is noted also where the call is refused
+abbrev pub handle_admission : MasterState → Call → Option Handle → Admission
+handle_admission s call None = record { note = None; touched = []; answer = Some (results.Refused faults.BadHandle) }
+handle_admission s call (Some handle) =
+    record { note = shown_note s handle (bytes_of call); touched = touched_by handle call; answer = answer_on s handle call }
+
 abbrev pub admission_of : MasterState → ℕ → ℕ → Call → Admission
 admission_of s client number (calls.Open opening) = open_admission s client number opening
 admission_of s client number call = handle_admission s call (shown_handle s client (bytes_of call))
 
-abbrev pub full_answer : MasterState → Option CallResult
-full_answer s = if is_full s then Some (results.Refused faults.Busy) else None
-
 -- ---- calls
 
-abbrev pub waits : MasterState → ℕ → ℕ → Call → MasterState × Taken
-waits s client number call =
-    (queued (recorded s client (record { number = number; result = None })) (record { client = client; number = number; work = works.Calls call }), nothing)
-
-abbrev pub admit_unless : MasterState → ℕ → ℕ → Call → Option CallResult → MasterState × Taken
-admit_unless s client number call (Some result) = replied s client number result
-admit_unless s client number call None = waits s client number call
+abbrev pub waits : MasterState → ℕ → ℕ → Call → List (List ℕ) → MasterState × Taken
+waits s client number call touched =
+    (queued (recorded s client (record { number = number; reply = None })) touched (record { client = client; number = number; work = works.Calls call }), nothing)
 
 -- a call that is answered at once, or waits where there is room
-abbrev pub admit_step : MasterState → ℕ → ℕ → Call → Option CallResult → MasterState × Taken
-admit_step s client number call (Some result) = replied s client number result
-admit_step s client number call None = admit_unless s client number call (full_answer s)
+abbrev pub admit_step : MasterState → ℕ → ℕ → Call → List (List ℕ) → Option CallResult → MasterState × Taken
+admit_step s client number call touched (Some result) = replied s client number result
+admit_step s client number call touched None =
+    if is_full s then replied s client number (results.Refused faults.Busy) else waits s client number call touched
+
+abbrev pub new_call_by : MasterState → ℕ → ℕ → Call → Admission → MasterState × Taken
+new_call_by s client number call admission = admit_step (with_note s admission.note) client number call admission.touched admission.answer
 
 abbrev pub new_call : MasterState → ℕ → ℕ → Call → MasterState × Taken
-new_call s client number call =
-    admit_step (with_note s (admission_of s client number call).note) client number call (admission_of s client number call).answer
+new_call s client number call = new_call_by s client number call (admission_of s client number call)
 
 -- by the last call of the client: it comes again, an older one comes, one comes while it waits, or a new one comes
 abbrev pub kept_step : MasterState → ℕ → ℕ → Call → Option Kept → MasterState × Taken
 kept_step s client number call None = new_call s client number call
 kept_step s client number call (Some kept) =
-    if number == kept.number then (s, repeated s client kept)
+    if number == kept.number then (s, repeated kept)
     else if nat_lt number kept.number then (s, refusal s client number faults.Repeat)
-    else if is_none kept.result then (s, refusal s client number faults.CallOutstanding)
+    else if is_none kept.reply then (s, refusal s client number faults.CallOutstanding)
     else new_call s client number call
 
 abbrev pub call_step : MasterState → CallMessage → MasterState × Taken
@@ -348,5 +371,9 @@ is_past_end now = nat_le moment_limit now
 abbrev pub noted : MasterState → ℕ → MasterState
 noted s now = record s { clock = max s.clock now }
 
+-- the count of all changes that ever waited is at its end
+abbrev pub is_spent : MasterState → Bool
+is_spent s = nat_le number_limit s.gate.pushed
+
 unfoldable pub take_step : MasterState → ℕ → Request → Result (MasterState × Taken) Fault
-take_step s now request = if is_past_end now then Err faults.Exhausted else Ok (take_at (noted s now) request)
+take_step s now request = if is_past_end now || is_spent s then Err faults.Exhausted else Ok (take_at (noted s now) request)

@@ -1,15 +1,16 @@
 //! The tests of a new call.
-ghost use Rattle.std.specs.Prelude.{◌≡◌, Some, None, IfOk};
-ghost use Rattle.cell_core.specs.Step.{admission_of, admission_of_open, open_admission, handle_admission, is_of_cell};
+ghost use Rattle.std.specs.Prelude.{◌≡◌, [], ◌∷◌, Some, None, IfOk};
+ghost use Rattle.tags_cell.specs.Handles.{read_handle};
+ghost use Rattle.cell_core.specs.Step.{admission_of, admission_of_open, open_admission, handle_admission, shown_note, bytes_of, is_of_cell, touched_by};
 
 use crate::answers::node_fault;
 use crate::cells::Cell;
-use crate::handles::{HandleKey, HandleState, Note};
-use crate::opens::opened_note;
+use crate::handles::{HandleKey, Note, OpenHandle};
 use crate::shown::bytes_of;
 use names_cell::Name;
 use node_core::Fault;
-use std::alloc::AllocError;
+use plain::Items;
+use std::alloc::{AllocError, Global};
 use tags_cell::{Call, CallResult, ClientNumber, Handle, MessageNumber, Open};
 
 /// What the tests of a new call give. It is made before anything changes.
@@ -17,16 +18,19 @@ use tags_cell::{Call, CallResult, ClientNumber, Handle, MessageNumber, Open};
 pub(crate) struct Admission {
     /// What is noted of a handle first.
     pub note: Option<Note>,
+    /// The names whose view the call may change, where it waits.
+    pub touched: Items<Name>,
     /// What is answered at once; None where the call waits for its turn.
     pub answer: Option<CallResult>,
 }
 
 impl Admission {
-    fn refused(fault: Fault) -> Admission
-        ensures { result ≡ record { note = None; answer = Some (CallResult.Refused fault) } }
+    fn refused(alloc: Global, fault: Fault) -> Admission
+        ensures { result ≡ record { note = None; touched = []; answer = Some (CallResult.Refused fault) } }
     {
         Admission {
             note: None,
+            touched: Items::new(alloc),
             answer: Some(CallResult::Refused(fault)),
         }
     }
@@ -44,23 +48,35 @@ impl Cell {
         match call {
             Call::Open(opening) => self.open_admission(client, number, opening),
             _ => match self.shown_handle(client, bytes_of(call))? {
-                None => Ok(Admission::refused(Fault::BadHandle)),
+                None => Ok(Admission::refused(self.alloc, Fault::BadHandle)),
                 Some(handle) => self.handle_admission(&handle, call),
             },
         }
     }
 
-    // A handle that is shown is open from then on, also where the call is refused.
+    // A handle that is shown is noted also where the call is refused.
     fn handle_admission(&self, handle: &Handle, call: &Call) -> Result<Admission, AllocError>
+        requires { read_handle self.now.secret (bytes_of call.now) ≡ Some handle.now }
         ensures { IfOk result (λ admission. admission ≡ handle_admission self.now call.now (Some handle.now)) }
     {
+        let answer = self.answer_on(handle, call)?;
         Ok(Admission {
-            note: Some(Note {
-                key: HandleKey::of(handle),
-                state: HandleState::Open,
-            }),
-            answer: self.answer_on(handle, call)?,
+            note: self.shown_note(handle, bytes_of(call))?,
+            touched: touched_by(self.alloc, handle, call)?,
+            answer,
         })
+    }
+
+    // It is open from then on, where nothing is noted of it yet.
+    fn shown_note(&self, handle: &Handle, bytes: &[u8]) -> Result<Option<Note>, AllocError>
+        requires { read_handle self.now.secret bytes.now ≡ Some handle.now }
+        ensures { IfOk result (λ note. note ≡ shown_note self.now handle.now bytes.now) }
+    {
+        if self.handles.get(&HandleKey::of(handle)).is_some() {
+            return Ok(None);
+        }
+        let noted = OpenHandle::shown(self.alloc, handle, bytes, &self.secret)?;
+        Ok(Some(noted.note()))
     }
 
     fn open_admission(
@@ -72,12 +88,13 @@ impl Cell {
         ensures { IfOk result (λ admission. admission ≡ open_admission self.now client number opening.now) }
     {
         if !self.is_of_cell(&opening.name) {
-            return Ok(Admission::refused(Fault::OtherCell));
+            return Ok(Admission::refused(self.alloc, Fault::OtherCell));
         }
         match &opening.create {
             None => self.plain_admission(client, number, opening),
             Some(create) => Ok(Admission {
                 note: None,
+                touched: one_name(self.alloc, &opening.name)?,
                 answer: node_fault(&create.node),
             }),
         }
@@ -92,9 +109,11 @@ impl Cell {
         ensures { IfOk result (λ admission. admission ≡ admission_of_open self.now client number opening.now None) }
     {
         let opened = self.plain_open(client, number, opening)?;
+        let (note, answer) = self.opened(opened)?;
         Ok(Admission {
-            note: opened_note(&opened),
-            answer: Some(self.opened_answer(&opened)?),
+            note,
+            touched: Items::new(self.alloc),
+            answer: Some(answer),
         })
     }
 
@@ -103,4 +122,22 @@ impl Cell {
     {
         name.in_cell(self.name.as_str())
     }
+}
+
+// The names that a call on a handle's node touches.
+fn touched_by(alloc: Global, handle: &Handle, call: &Call) -> Result<Items<Name>, AllocError>
+    ensures { IfOk result (λ touched. touched ≡ touched_by handle.now call.now) }
+{
+    match call {
+        Call::Set { .. } | Call::SetAcl { .. } | Call::Delete(_) => one_name(alloc, &handle.name),
+        _ => Ok(Items::new(alloc)),
+    }
+}
+
+fn one_name(alloc: Global, name: &Name) -> Result<Items<Name>, AllocError>
+    ensures { IfOk result (λ names. names ≡ name.now ∷ []) }
+{
+    let mut names = Items::new(alloc);
+    names.push(name.clone()?)?;
+    Ok(names)
 }

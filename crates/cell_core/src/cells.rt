@@ -3,17 +3,15 @@ ghost use Rattle.std.specs.Prelude.{◌≡◌, IfOk};
 ghost use Rattle.cell_core.specs.State.{lock_generations_of};
 
 use crate::handles::{HandleKey, HandleState};
-use crate::pending::{Kept, Pending};
+use crate::pending::{Kept, Task};
+use gate_core::Gate;
 use names_cell::Component;
 use node_core::Map;
-use plain::{Items, Secret, Table};
+use plain::{Secret, Table};
 use rows_cell::{Rows, Session};
 use std::alloc::{AllocError, Global};
 use std::marker::Model;
 use tags_cell::ClientNumber;
-
-/// How many changes may wait at once.
-pub const PENDING_LIMIT: usize = 4096;
 
 /// A master in memory: what it read from the rows when it came up and has committed since, the changes that wait, the
 /// last call of each client, and the handles that it knows. It commits nothing by itself.
@@ -28,7 +26,7 @@ pub struct Cell {
     pub(crate) lock_generations: Table<u64, u64>,
     pub(crate) sessions: Table<u64, Session>,
     pub(crate) handles: Table<HandleKey, HandleState>,
-    pub(crate) queue: Items<Pending>,
+    pub(crate) gate: Gate<Task>,
     pub(crate) kept: Table<ClientNumber, Kept>,
     pub(crate) clock: u64,
     pub(crate) lease: u64,
@@ -48,7 +46,7 @@ impl Model for Cell {
       lock_generations = c.lock_generations;
       sessions = c.sessions;
       handles = c.handles;
-      queue = c.queue;
+      gate = c.gate;
       kept = c.kept;
       clock = c.clock;
       lease = c.lease;
@@ -57,7 +55,9 @@ impl Model for Cell {
 
 impl Cell {
     ghost use Rattle.std.specs.Prelude.{◌≡◌, IfOk};
-    ghost use Rattle.cell_core.specs.State.{master_of};
+    ghost use Rattle.std.specs.Option.{option_copied};
+    ghost use Rattle.cell_core.specs.State.{master_of, first_number, task_at};
+    ghost use Rattle.cell_core.specs.Step.{noted};
 
     /// A master that comes up with these rows, with its lease and the moment in milliseconds: nothing waits, and it
     /// knows of no call and of no handle.
@@ -85,7 +85,7 @@ impl Cell {
             lock_generations,
             sessions,
             handles: Table::new(alloc),
-            queue: Items::new(alloc),
+            gate: Gate::new(alloc),
             kept: Table::new(alloc),
             clock: now,
             lease,
@@ -96,6 +96,52 @@ impl Cell {
         ensures { result ≡ self.now.epoch }
     {
         self.epoch
+    }
+
+    /// In milliseconds.
+    pub fn lease(&self) -> u64
+        ensures { result ≡ self.now.lease }
+    {
+        self.lease
+    }
+
+    pub fn alloc(&self) -> Global {
+        self.alloc
+    }
+
+    /// The number of the change that waits longest.
+    pub fn first_waiting(&self) -> Option<u64>
+        ensures { result ≡ first_number self.now.gate.waiting }
+    {
+        match self.gate.as_slice() {
+            [] => None,
+            [first, ..] => Some(first.number),
+        }
+    }
+
+    /// What the change of a number does, while it waits.
+    pub fn task(&self, number: u64) -> Option<&Task>
+        ensures { option_copied result ≡ task_at number self.now.gate.waiting }
+    {
+        let change = self.gate.get(number)?;
+        Some(&change.body)
+    }
+
+    /// Notes a moment, in milliseconds; an earlier one than the last counts as that. Gives the last one.
+    pub fn note_moment(&mut self, now: u64) -> u64
+        ensures moment { self.new ≡ noted self.old now }
+        ensures before { result ≡ self.old.clock }
+    {
+        let before = self.clock;
+        self.clock = before.max(now);
+        before
+    }
+
+    /// The moment that was the last one before.
+    pub fn restore_moment(&mut self, before: u64)
+        ensures { self.new ≡ record self.old { clock = before } }
+    {
+        self.clock = before;
     }
 
     /// The nodes of the cell, as the rows hold them.

@@ -6,7 +6,6 @@ ghost use Rattle.cell_core.specs.Step.{may};
 
 use crate::cells::Cell;
 use crate::effects::{Change, Effect};
-use crate::opens::opened_note;
 use names_cell::Name;
 use node_core::{Fault, Kind, Life, Mod, NUMBER_LIMIT, Right, View};
 use plain::Bytes;
@@ -140,10 +139,9 @@ impl Cell {
     {
         let name = opening.name.clone()?;
         let change = self.made_change(name, view);
-        let opened = Ok(handle);
-        let answer = self.opened_answer(&opened)?;
+        let (note, answer) = self.opened(Ok(handle))?;
         Ok(Effect {
-            note: opened_note(&opened),
+            note,
             answer,
             change: Some(change),
         })

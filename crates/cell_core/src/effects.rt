@@ -6,7 +6,6 @@ ghost use Rattle.cell_core.specs.Step.{key_of};
 use crate::answers::node_fault;
 use crate::cells::Cell;
 use crate::handles::{HandleKey, HandleState, Note};
-use crate::opens::opened_note;
 use crate::shown::bytes_of;
 use node_core::{Fault, Mod};
 use std::alloc::AllocError;
@@ -75,7 +74,7 @@ impl Cell {
     {
         match call {
             Call::Open(opening) => self.open_effect(client, number, opening),
-            _ => match self.handle_in(bytes_of(call))? {
+            _ => match self.handle_in(client, bytes_of(call))? {
                 None => Ok(Effect::refused(Fault::BadHandle)),
                 Some(handle) => self.effect_on(&handle, call),
             },
@@ -135,10 +134,11 @@ impl Cell {
     pub(crate) fn opened_effect(&self, opened: Result<Handle, Fault>) -> Result<Effect, AllocError>
         ensures { IfOk result (λ done. done ≡ opened_effect self.now opened) }
     {
+        let (note, answer) = self.opened(opened)?;
         Ok(Effect {
-            note: opened_note(&opened),
+            note,
             change: None,
-            answer: self.opened_answer(&opened)?,
+            answer,
         })
     }
 }

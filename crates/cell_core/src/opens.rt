@@ -1,13 +1,13 @@
 //! What an Open of a present node gives.
-ghost use Rattle.std.specs.Prelude.{◌≡◌, IfOk};
+ghost use Rattle.std.specs.Prelude.{◌≡◌, Ok, IfOk};
 ghost use Rattle.cell_core.specs.Step.{new_handle, open_present, plain_open, opened_answer, opened_note};
 
 use crate::cells::Cell;
-use crate::handles::{HandleKey, HandleState, Note};
+use crate::handles::{Note, OpenHandle};
 use node_core::{Fault, View};
 use std::alloc::AllocError;
 use tags_cell::{
-    CallResult, ClientNumber, Events, Handle, LockDelay, MessageNumber, Open, Ordinal,
+    CallResult, ClientNumber, Events, Handle, LockDelay, MessageNumber, NewHandle, Open, Ordinal,
 };
 
 // Its client is told of nothing.
@@ -80,28 +80,34 @@ impl Cell {
         }
     }
 
-    pub(crate) fn opened_answer(
+    // What is noted of the handle that an Open gives, if it gives one, and its answer.
+    pub(crate) fn opened(
         &self,
-        opened: &Result<Handle, Fault>,
-    ) -> Result<CallResult, AllocError>
-        ensures { IfOk result (λ answer. answer ≡ opened_answer self.now opened.now) }
+        opened: Result<Handle, Fault>,
+    ) -> Result<(Option<Note>, CallResult), AllocError>
+        ensures note { IfOk result (λ told. told.0 ≡ opened_note self.now opened) }
+        ensures answer { IfOk result (λ told. told.1 ≡ opened_answer self.now opened) }
     {
         match opened {
-            Ok(handle) => Ok(CallResult::Opened(handle.write(self.alloc, &self.secret)?)),
-            Err(fault) => Ok(CallResult::Refused(*fault)),
+            Ok(handle) => self.given(handle),
+            Err(fault) => Ok((None, CallResult::Refused(fault))),
         }
     }
-}
 
-// A new handle is open.
-pub(crate) fn opened_note(opened: &Result<Handle, Fault>) -> Option<Note>
-    ensures { result ≡ opened_note opened.now }
-{
-    match opened {
-        Ok(handle) => Some(Note {
-            key: HandleKey::of(handle),
-            state: HandleState::Open,
-        }),
-        Err(_) => None,
+    // A new handle is open. Its check digits are made here.
+    fn given(&self, handle: Handle) -> Result<(Option<Note>, CallResult), AllocError>
+        ensures note { IfOk result (λ told. told.0 ≡ opened_note self.now (Ok handle)) }
+        ensures answer { IfOk result (λ told. told.1 ≡ opened_answer self.now (Ok handle)) }
+    {
+        let instance = handle.instance;
+        let life = handle.life;
+        let noted = OpenHandle::new(self.alloc, handle, &self.secret)?;
+        let bytes = noted.bytes().clone()?;
+        let answer = CallResult::Opened(NewHandle {
+            bytes,
+            instance,
+            life,
+        });
+        Ok((Some(noted.note()), answer))
     }
 }

@@ -1,11 +1,12 @@
 //! What a master keeps of calls, and what a step of it answers.
-ghost use Rattle.std.specs.Prelude.{◌≡◌, Some};
+ghost use Rattle.std.specs.Prelude.{◌≡◌};
+ghost use Rattle.cell_core.specs.Step.{answered_by};
 
 use names_cell::Principal;
 use node_core::Line;
 use plain::{Items, Same};
 use std::alloc::AllocError;
-use tags_cell::{Call, CallResult, ClientNumber, MessageNumber, Out};
+use tags_cell::{Call, ClientNumber, MessageNumber, Out, Reply};
 
 /// What a change that waits will do.
 #[derive(Debug, Drop)]
@@ -31,20 +32,21 @@ impl Same for Work {
     ghost exact = { λ x y h. h };
 }
 
-/// A change that waits for its turn (Burrows 2006, section 2.7: a modification is held until every cache has let go).
+/// What a client asked for that waits for its turn (Burrows 2006, section 2.7: a modification is held until every cache
+/// has let go).
 #[derive(Debug, Drop)]
-pub struct Pending {
+pub struct Task {
     pub client: ClientNumber,
     /// The number of the Start or of the call.
     pub number: MessageNumber,
     pub work: Work,
 }
 
-impl Clone for Pending {
+impl Clone for Task {
     ghost is_clone = { λ s t. t ≡ s };
 
-    fn clone(&self) -> Result<Pending, AllocError> {
-        Ok(Pending {
+    fn clone(&self) -> Result<Task, AllocError> {
+        Ok(Task {
             client: self.client,
             number: self.number,
             work: self.work.clone()?,
@@ -52,25 +54,26 @@ impl Clone for Pending {
     }
 }
 
-impl Same for Pending {
+impl Same for Task {
     ghost exact = { λ x y h. h };
 }
 
-/// The last call of a client, and its result once there is one: the same call gets it again.
+/// The last call of a client, and its reply once there is one: the same call gets it again.
 #[derive(Debug, Drop)]
 pub struct Kept {
     pub number: MessageNumber,
     /// None while the call waits.
-    pub result: Option<CallResult>,
+    pub reply: Option<Reply>,
 }
 
 impl Kept {
-    pub(crate) fn answered(number: MessageNumber, answer: CallResult) -> Kept
-        ensures { result ≡ record { number = number; result = Some answer } }
+    /// What is kept of a call that has its reply.
+    pub fn answered(reply: Reply) -> Kept
+        ensures { result ≡ answered_by reply }
     {
         Kept {
-            number,
-            result: Some(answer),
+            number: reply.number,
+            reply: Some(reply),
         }
     }
 }
@@ -81,8 +84,8 @@ impl Clone for Kept {
     fn clone(&self) -> Result<Kept, AllocError> {
         Ok(Kept {
             number: self.number,
-            result: match &self.result {
-                Some(result) => Some(result.clone()?),
+            reply: match &self.reply {
+                Some(reply) => Some(reply.clone()?),
                 None => None,
             },
         })

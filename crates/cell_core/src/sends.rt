@@ -1,9 +1,10 @@
 //! What a master sends, and the tests of who may call.
 ghost use Rattle.std.specs.Prelude.{◌≡◌, [], ◌∷◌, IfOk};
-ghost use Rattle.cell_core.specs.Step.{refusal, turned_away, reply, repeated, may_start, is_live, is_full};
+ghost use Rattle.cell_core.specs.Step.{refusal, turned_away, reply_of, sends, repeated, may_start, is_live, is_full};
 
-use crate::cells::{Cell, PENDING_LIMIT};
+use crate::cells::Cell;
 use crate::pending::{Kept, Taken};
+use gate_core::PENDING_LIMIT;
 use names_cell::Principal;
 use node_core::{Fault, Line};
 use plain::Items;
@@ -25,8 +26,8 @@ impl Cell {
         Ok(taken)
     }
 
-    // What is sent, and neither printed nor recorded.
-    pub(crate) fn turned_away(
+    /// What is sent, and neither printed nor recorded.
+    pub fn turned_away(
         &self,
         client: ClientNumber,
         number: MessageNumber,
@@ -43,36 +44,37 @@ impl Cell {
         }))
     }
 
-    // The reply to a call.
-    pub(crate) fn reply_of(
-        &self,
-        client: ClientNumber,
-        number: MessageNumber,
-        answer: &CallResult,
-    ) -> Result<Taken, AllocError>
-        ensures { IfOk result (λ taken. taken ≡ reply self.now client number answer.now) }
+    /// The reply to a call.
+    pub fn reply_of(&self, client: ClientNumber, number: MessageNumber, answer: CallResult) -> Reply
+        ensures { result ≡ reply_of self.now client number answer }
     {
-        let epoch = self.epoch;
-        self.sent(Out::Reply(Reply {
+        Reply {
             client,
-            epoch,
+            epoch: self.epoch,
             number,
-            result: answer.clone()?,
-        }))
+            result: answer,
+        }
     }
 
-    // The result of the last call again, or nothing while it waits.
-    pub(crate) fn repeated(&self, client: ClientNumber, kept: &Kept) -> Result<Taken, AllocError>
-        ensures { IfOk result (λ taken. taken ≡ repeated self.now client kept.now) }
+    /// What is sent of a reply.
+    pub fn sends(&self, reply: &Reply) -> Result<Taken, AllocError>
+        ensures { IfOk result (λ taken. taken ≡ sends reply.now) }
     {
-        match &kept.result {
-            Some(answer) => self.reply_of(client, kept.number, answer),
+        self.sent(Out::Reply(reply.clone()?))
+    }
+
+    // The reply to the last call again, or nothing while it waits.
+    pub(crate) fn repeated(&self, kept: &Kept) -> Result<Taken, AllocError>
+        ensures { IfOk result (λ taken. taken ≡ repeated kept.now) }
+    {
+        match &kept.reply {
+            Some(reply) => self.sends(reply),
             None => Ok(self.nothing()),
         }
     }
 
-    // One message, and no line.
-    pub(crate) fn sent(&self, out: Out) -> Result<Taken, AllocError>
+    /// One message, and no line.
+    pub fn sent(&self, out: Out) -> Result<Taken, AllocError>
         ensures { IfOk result (λ taken. taken ≡ record { lines = []; outs = out ∷ [] }) }
     {
         let mut taken = self.nothing();
@@ -80,7 +82,7 @@ impl Cell {
         Ok(taken)
     }
 
-    pub(crate) fn nothing(&self) -> Taken
+    pub fn nothing(&self) -> Taken
         ensures lines { result.lines ≡ [] }
         ensures outs { result.outs ≡ [] }
     {
@@ -90,7 +92,7 @@ impl Cell {
         }
     }
 
-    pub(crate) fn may_start(&self, client: ClientNumber, principal: &Principal) -> bool
+    pub fn may_start(&self, client: ClientNumber, principal: &Principal) -> bool
         ensures { result ≡ may_start self.now client principal.now }
     {
         match self.sessions.get(&client.get()) {
@@ -99,7 +101,7 @@ impl Cell {
         }
     }
 
-    pub(crate) fn is_live(&self, client: ClientNumber) -> bool
+    pub fn is_live(&self, client: ClientNumber) -> bool
         ensures { result ≡ is_live self.now client }
     {
         match self.sessions.get(&client.get()) {
@@ -111,6 +113,6 @@ impl Cell {
     pub(crate) fn is_full(&self) -> bool
         ensures { result ≡ is_full self.now }
     {
-        self.queue.len() >= PENDING_LIMIT
+        self.gate.as_slice().len() >= PENDING_LIMIT
     }
 }

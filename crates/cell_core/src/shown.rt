@@ -1,14 +1,15 @@
 //! The handles that clients show.
-ghost use Rattle.std.specs.Prelude.{◌≡◌, IfOk};
+ghost use Rattle.std.specs.Prelude.{◌≡◌, Some, IfOk};
 ghost use Rattle.std.specs.Option.{option_copied};
 ghost use Rattle.tags_cell.specs.Handles.{read_handle};
+ghost use Rattle.tags_cell.specs.declared.handles.Handle.{Handle as HandleValue};
 ghost use Rattle.cell_core.specs.Step.{bytes_of, handle_state_of, key_of, is_usable, own_handle, shown_handle, node_of_handle};
 
 use crate::cells::Cell;
 use crate::handles::{HandleKey, HandleState};
 use node_core::View;
 use std::alloc::AllocError;
-use tags_cell::{Call, ClientNumber, Handle, HandleFault};
+use tags_cell::{Call, ClientNumber, Handle, HandleFault, Ordinal};
 
 // The bytes that a call on a node shows; none for an Open.
 pub(crate) fn bytes_of(call: &Call) -> &[u8]
@@ -26,9 +27,43 @@ pub(crate) fn bytes_of(call: &Call) -> &[u8]
     }
 }
 
+// The key of the handle whose bytes these are, where they are a handle's of this client: its number stands in the eight
+// bytes from 17.
+fn shown_key(client: ClientNumber, bytes: &[u8]) -> Option<HandleKey> {
+    let number = bytes.get(17..)?.first_chunk::<8>()?;
+    Some(HandleKey {
+        client: Ordinal::from(client),
+        number: Ordinal::new(u64::from_be_bytes(*number))?,
+    })
+}
+
 impl Cell {
-    // The handle whose bytes these are, whoever shows them.
-    pub(crate) fn handle_in(&self, bytes: &[u8]) -> Result<Option<Handle>, AllocError>
+    // The handle whose bytes these are. Its check digits are made anew only where no open handle is noted with the same
+    // bytes.
+    pub(crate) fn handle_in(
+        &self,
+        client: ClientNumber,
+        bytes: &[u8],
+    ) -> Result<Option<Handle>, AllocError>
+        ensures { IfOk result (λ handle. handle ≡ read_handle self.now.secret bytes.now) }
+    {
+        match self.noted_handle(client, bytes) {
+            Some(handle) => Ok(Some(handle.clone()?)),
+            None => self.read_handle(bytes),
+        }
+    }
+
+    // The open handle that is noted of this client, where these are its bytes.
+    fn noted_handle(&self, client: ClientNumber, bytes: &[u8]) -> Option<&Handle>
+        ensures { (handle : HandleValue) → option_copied result ≡ Some handle → read_handle self.now.secret bytes.now ≡ Some handle }
+    {
+        match self.handles.get(&shown_key(client, bytes)?)? {
+            HandleState::Open(noted) => noted.handle_of(bytes, &self.secret),
+            HandleState::Closed => None,
+        }
+    }
+
+    fn read_handle(&self, bytes: &[u8]) -> Result<Option<Handle>, AllocError>
         ensures { IfOk result (λ handle. handle ≡ read_handle self.now.secret bytes.now) }
     {
         match Handle::read(self.alloc, bytes, &self.secret) {
@@ -44,9 +79,10 @@ impl Cell {
         client: ClientNumber,
         bytes: &[u8],
     ) -> Result<Option<Handle>, AllocError>
-        ensures { IfOk result (λ handle. handle ≡ shown_handle self.now client bytes.now) }
+        ensures own { IfOk result (λ handle. handle ≡ shown_handle self.now client bytes.now) }
+        ensures read { IfOk result (λ shown. (handle : HandleValue) → shown ≡ Some handle → read_handle self.now.secret bytes.now ≡ Some handle) }
     {
-        match self.handle_in(bytes)? {
+        match self.handle_in(client, bytes)? {
             None => Ok(None),
             Some(handle) => Ok(self.own_handle(client, handle)),
         }
@@ -74,7 +110,7 @@ impl Cell {
     {
         let epoch = handle.epoch.get();
         match state {
-            Some(HandleState::Open) => epoch <= self.epoch,
+            Some(HandleState::Open(_)) => epoch <= self.epoch,
             Some(HandleState::Closed) => false,
             None => epoch < self.epoch,
         }

@@ -1,41 +1,44 @@
 //! What a master does with a message.
-ghost use Rattle.std.specs.Prelude.{◌≡◌, ◌≢◌, ◌-◌, length, take, Some, Ok, Err, IfOk, IfErr, OnOk, OnErr};
-ghost use Rattle.cell_core.specs.Step.{take_step, take_at, start_step, call_step, kept_step, kept_of, new_call, with_note, admit_step, waits, queued, recorded, replied};
-ghost use Rattle.cell_core.specs.declared.pending.Work.TheVariants.{Calls};
+ghost use Rattle.std.specs.Prelude.{◌≡◌, ◌≢◌, ◌-◌, ◌<◌, ◌^◌, [], false, Some, Ok, Err, IfOk, IfErr, OnOk, OnErr};
+ghost use Rattle.cell_core.specs.Step.{take_step, take_at, start_step, call_step, kept_step, kept_of, new_call, with_note, admit_step, waits, is_full, queued, recorded, replied};
 
 use crate::admissions::Admission;
 use crate::cells::Cell;
 use crate::handles::Note;
-use crate::pending::{Kept, Pending, Taken, Work};
+use crate::pending::{Kept, Taken, Task, Work};
+use gate_core::Pending;
 use lease_core::MOMENT_LIMIT;
-use node_core::Fault;
+use names_cell::Name;
+use node_core::{Fault, NUMBER_LIMIT};
+use plain::Items;
 use std::alloc::AllocError;
 use tags_cell::{Call, CallMessage, CallResult, ClientNumber, MessageNumber, Request, Start};
 
 impl Cell {
     /// One step by a request that came. A moment, in milliseconds, that is earlier than the last one counts as that;
-    /// one of 2^53 or more is refused as exhausted. Nothing is committed.
+    /// one of 2^53 or more is refused as Exhausted, and so is every request once 2^63-1 changes have waited. Nothing is
+    /// committed.
     #[tactic(auto, unfolding(crate::specs::Step::take_step))]
     pub fn take(&mut self, now: u64, request: &Request) -> Result<Taken, Fault>
         ensures ok { IfOk result (λ taken. take_step self.old now request.now ≡ Ok (self.new, taken)) }
         ensures fault { IfErr result (λ e. e ≢ Fault.NoMemory → take_step self.old now request.now ≡ Err e) }
         ensures err { OnErr result (self.new ≡ self.old) }
     {
-        if now >= MOMENT_LIMIT {
+        if now >= MOMENT_LIMIT || self.gate.pushed() >= NUMBER_LIMIT {
             return Err(Fault::Exhausted);
         }
-        let before = self.clock;
-        self.clock = before.max(now);
+        let before = self.note_moment(now);
         match self.take_at(request) {
             Ok(taken) => Ok(taken),
             Err(_) => {
-                self.clock = before;
+                self.restore_moment(before);
                 Err(Fault::NoMemory)
             }
         }
     }
 
     fn take_at(&mut self, request: &Request) -> Result<Taken, AllocError>
+        requires { self.old.gate.pushed < 2 ^ 63 - 1 }
         ensures ok { IfOk result (λ taken. take_at self.old request.now ≡ (self.new, taken)) }
         ensures err { OnErr result (self.new ≡ self.old) }
     {
@@ -46,6 +49,7 @@ impl Cell {
     }
 
     fn start(&mut self, start: &Start) -> Result<Taken, AllocError>
+        requires { self.old.gate.pushed < 2 ^ 63 - 1 }
         ensures ok { IfOk result (λ taken. start_step self.old start.now ≡ (self.new, taken)) }
         ensures err { OnErr result (self.new ≡ self.old) }
     {
@@ -56,11 +60,12 @@ impl Cell {
             return self.turned_away(start.client, start.number, Fault::Busy);
         }
         let work = Work::Starts(start.principal.clone()?);
-        self.queue_work(start.client, start.number, work)?;
+        self.queue(start.client, start.number, work, Items::new(self.alloc))?;
         Ok(self.nothing())
     }
 
     fn call(&mut self, message: &CallMessage) -> Result<Taken, AllocError>
+        requires { self.old.gate.pushed < 2 ^ 63 - 1 }
         ensures ok { IfOk result (λ taken. call_step self.old message.now ≡ (self.new, taken)) }
         ensures err { OnErr result (self.new ≡ self.old) }
     {
@@ -83,6 +88,7 @@ impl Cell {
         number: MessageNumber,
         call: &Call,
     ) -> Result<Taken, AllocError>
+        requires { self.old.gate.pushed < 2 ^ 63 - 1 }
         ensures ok { IfOk result (λ taken. kept_step self.old client number call.now (kept_of self.old client) ≡ (self.new, taken)) }
         ensures err { OnErr result (self.new ≡ self.old) }
     {
@@ -90,10 +96,10 @@ impl Cell {
             None => self.new_call(client, number, call),
             Some(kept) => {
                 if number == kept.number {
-                    self.repeated(client, kept)
+                    self.repeated(kept)
                 } else if number < kept.number {
                     self.refusal(client, number, Fault::Repeat)
-                } else if kept.result.is_none() {
+                } else if kept.reply.is_none() {
                     self.refusal(client, number, Fault::CallOutstanding)
                 } else {
                     self.new_call(client, number, call)
@@ -109,13 +115,18 @@ impl Cell {
         number: MessageNumber,
         call: &Call,
     ) -> Result<Taken, AllocError>
+        requires { self.old.gate.pushed < 2 ^ 63 - 1 }
         ensures ok { IfOk result (λ taken. new_call self.old client number call.now ≡ (self.new, taken)) }
         ensures err { OnErr result (self.new ≡ self.old) }
     {
-        let Admission { note, answer } = self.admission(client, number, call)?;
+        let Admission {
+            note,
+            touched,
+            answer,
+        } = self.admission(client, number, call)?;
         match note {
-            None => self.admit(client, number, call, answer),
-            Some(note) => self.admit_noted(note, client, number, call, answer),
+            None => self.admit(client, number, call, touched, answer),
+            Some(note) => self.admit_noted(note, client, number, call, touched, answer),
         }
     }
 
@@ -126,16 +137,22 @@ impl Cell {
         client: ClientNumber,
         number: MessageNumber,
         call: &Call,
+        touched: Items<Name>,
         answer: Option<CallResult>,
     ) -> Result<Taken, AllocError>
-        ensures ok { IfOk result (λ taken. admit_step (with_note self.old (Some note)) client number call.now answer ≡ (self.new, taken)) }
+        requires { self.old.gate.pushed < 2 ^ 63 - 1 }
+        ensures ok { IfOk result (λ taken. admit_step (with_note self.old (Some note)) client number call.now touched answer ≡ (self.new, taken)) }
         ensures err { OnErr result (self.new ≡ self.old) }
     {
-        let former = self.handles.put(note.key, note.state)?;
-        match self.admit(client, number, call, answer) {
-            Ok(taken) => Ok(taken),
+        let Note { key, state } = note;
+        let former = self.handles.put(key, state)?;
+        match self.admit(client, number, call, touched, answer) {
+            Ok(taken) => {
+                drop(former);
+                Ok(taken)
+            }
             Err(error) => {
-                self.handles.restore(&note.key, former);
+                self.handles.restore(&key, former);
                 Err(error)
             }
         }
@@ -147,9 +164,11 @@ impl Cell {
         client: ClientNumber,
         number: MessageNumber,
         call: &Call,
+        touched: Items<Name>,
         answer: Option<CallResult>,
     ) -> Result<Taken, AllocError>
-        ensures ok { IfOk result (λ taken. admit_step self.old client number call.now answer ≡ (self.new, taken)) }
+        requires { self.old.gate.pushed < 2 ^ 63 - 1 }
+        ensures ok { IfOk result (λ taken. admit_step self.old client number call.now touched answer ≡ (self.new, taken)) }
         ensures err { OnErr result (self.new ≡ self.old) }
     {
         match answer {
@@ -158,71 +177,65 @@ impl Cell {
                 if self.is_full() {
                     self.reply(client, number, CallResult::Refused(Fault::Busy))
                 } else {
-                    self.wait(client, number, call)
+                    self.wait(client, number, call, touched)
                 }
             }
         }
     }
 
-    // Queues a call, and keeps that it waits.
+    // Keeps that a call waits, and queues it. What is kept is taken back where memory is refused.
     fn wait(
         &mut self,
         client: ClientNumber,
         number: MessageNumber,
         call: &Call,
+        touched: Items<Name>,
     ) -> Result<Taken, AllocError>
-        ensures ok { IfOk result (λ taken. waits self.old client number call.now ≡ (self.new, taken)) }
+        requires room { is_full self.old ≡ false }
+        requires more { self.old.gate.pushed < 2 ^ 63 - 1 }
+        ensures ok { IfOk result (λ taken. waits self.old client number call.now touched ≡ (self.new, taken)) }
         ensures err { OnErr result (self.new ≡ self.old) }
     {
-        self.queue_call(client, number, call)?;
+        let work = Work::Calls(call.clone()?);
         let kept = Kept {
             number,
-            result: None,
+            reply: None,
         };
-        match self.keep(client, kept) {
-            Ok(()) => Ok(self.nothing()),
+        let former = self.kept.put(client, kept)?;
+        match self.queue(client, number, work, touched) {
+            Ok(()) => {
+                drop(former);
+                Ok(self.nothing())
+            }
             Err(error) => {
-                self.drop_last();
+                self.kept.restore(&client, former);
                 Err(error)
             }
         }
     }
 
-    // The last change leaves the queue.
-    fn drop_last(&mut self)
-        ensures { self.new ≡ record self.old { queue = take (length self.old.queue - 1) self.old.queue } }
-    {
-        drop(self.queue.pop());
-    }
-
-    fn queue_work(
+    // What waits stands behind all others.
+    fn queue(
         &mut self,
         client: ClientNumber,
         number: MessageNumber,
         work: Work,
+        touched: Items<Name>,
     ) -> Result<(), AllocError>
-        ensures ok { OnOk result (self.new ≡ queued self.old (record { client = client; number = number; work = work })) }
+        requires room { is_full self.old ≡ false }
+        requires more { self.old.gate.pushed < 2 ^ 63 - 1 }
+        ensures ok { OnOk result (self.new ≡ queued self.old touched (record { client = client; number = number; work = work })) }
         ensures err { OnErr result (self.new ≡ self.old) }
     {
-        self.queue.push(Pending {
+        let body = Task {
             client,
             number,
             work,
-        })?;
-        Ok(())
-    }
-
-    fn queue_call(
-        &mut self,
-        client: ClientNumber,
-        number: MessageNumber,
-        call: &Call,
-    ) -> Result<(), AllocError>
-        ensures ok { OnOk result (self.new ≡ queued self.old (record { client = client; number = number; work = Calls call.now })) }
-        ensures err { OnErr result (self.new ≡ self.old) }
-    {
-        let work = Work::Calls(call.clone()?);
-        self.queue_work(client, number, work)
+        };
+        match self.gate.push(Pending { touched, body }) {
+            Ok(_) => Ok(()),
+            Err(_) => Err(AllocError),
+        }
     }
 
     fn keep(&mut self, client: ClientNumber, kept: Kept) -> Result<(), AllocError>
@@ -233,7 +246,7 @@ impl Cell {
         Ok(())
     }
 
-    // Records a result, and sends it.
+    // Records a reply, and sends it.
     fn reply(
         &mut self,
         client: ClientNumber,
@@ -243,8 +256,9 @@ impl Cell {
         ensures ok { IfOk result (λ taken. replied self.old client number answer ≡ (self.new, taken)) }
         ensures err { OnErr result (self.new ≡ self.old) }
     {
-        let taken = self.reply_of(client, number, &answer)?;
-        self.keep(client, Kept::answered(number, answer))?;
+        let reply = self.reply_of(client, number, answer);
+        let taken = self.sends(&reply)?;
+        self.keep(client, Kept::answered(reply))?;
         Ok(taken)
     }
 }

@@ -7,7 +7,11 @@ ghost use Rattle.std.specs.List.{repeat};
 use std::alloc::{AllocError, Global};
 
 #[cfg(test)]
+mod caches;
+#[cfg(test)]
 mod containers;
+#[cfg(test)]
+mod events;
 #[cfg(test)]
 mod handles;
 #[cfg(test)]
@@ -15,11 +19,19 @@ mod leases;
 #[cfg(test)]
 mod lines;
 #[cfg(test)]
+mod locks;
+#[cfg(test)]
 mod messages;
 #[cfg(test)]
 mod names;
 #[cfg(test)]
+mod rights;
+#[cfg(test)]
 mod rows;
+#[cfg(test)]
+mod sequencers;
+#[cfg(test)]
+mod sessions;
 
 /// A text many times over, for words and names at their limits.
 pub fn run_of(alloc: Global, text: &str, count: usize) -> Result<String, AllocError>

@@ -1,1 +1,3 @@
+pub mod AskCases
+pub mod GiveCases
 pub mod Numbered

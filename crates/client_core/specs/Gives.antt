@@ -1,5 +1,6 @@
 -- A client is given a message of a master.
 use Rattle.std.specs.Prelude.{ℕ, ◌+◌, ◌==◌, ◌&&◌, nat_le, Bool, true, false, List, [], ◌∷◌, Option, Some, None, Result, Ok, Err, if◌then◌else◌}
+use Rattle.std.specs.Option.{option_map_or}
 use Rattle.std.specs.Map.{remove_entry}
 use Rattle.std.specs.BTreeMap.{is_at, insert_entry}
 use Rattle.std.specs.Ordering.{nat_cmp}
@@ -15,6 +16,12 @@ use Rattle.tags_cell.specs.declared.outs.Started.{Started}
 use Rattle.tags_cell.specs.declared.outs.Reply.{Reply}
 use Rattle.tags_cell.specs.declared.outs.Refused.{Refused}
 use Rattle.tags_cell.specs.declared.outs.CallResult.{CallResult}
+use Rattle.tags_cell.specs.declared.outs.NewHandle.{NewHandle}
+use Rattle.tags_cell.specs.declared.calls.Call.{Call}
+use Rattle.tags_cell.specs.declared.calls.Call.TheVariants as calls
+use Rattle.tags_cell.specs.declared.calls.Open.{Open}
+use Rattle.tags_cell.specs.declared.requests.Request.{Request}
+use Rattle.tags_cell.specs.declared.requests.Request.TheVariants as requests
 use Rattle.tags_cell.specs.declared.outs.CallResult.TheVariants as results
 use Rattle.tags_cell.specs.Messages.{request_number, out_client}
 use Rattle.client_core.specs.declared.sessions.Session.{Session}
@@ -27,22 +34,22 @@ use Rattle.client_core.specs.State.{ClientState, moment, at_moment}
 
 abbrev pub is_unstarted : Session → Bool
 is_unstarted sessions.Unstarted = true
-is_unstarted (sessions.Live epoch) = false
+is_unstarted sessions.Live = false
 is_unstarted sessions.Lost = false
 is_unstarted sessions.TurnedAway = false
 
-abbrev pub is_live_in : Session → ℕ → Bool
-is_live_in sessions.Unstarted epoch = false
-is_live_in (sessions.Live present) epoch = present == epoch
-is_live_in sessions.Lost epoch = false
-is_live_in sessions.TurnedAway epoch = false
+abbrev pub is_live : Session → Bool
+is_live sessions.Unstarted = false
+is_live sessions.Live = true
+is_live sessions.Lost = false
+is_live sessions.TurnedAway = false
 
 -- ---- Started
 
 -- only a client without a session takes it, and only for its newest Start
 abbrev pub start_taken : ClientState → Started → ClientState
 start_taken s message =
-    if is_unstarted s.session && message.number == s.starts then record s { session = sessions.Live message.epoch } else s
+    if is_unstarted s.session && message.number == s.starts then record s { session = sessions.Live; epoch = message.epoch } else s
 
 -- ---- Reply
 
@@ -52,11 +59,11 @@ target_for number (Some call) = if number == request_number call.request then So
 
 -- what it is for, where it is of the client's epoch and for the outstanding call
 abbrev pub awaited : ClientState → Reply → Option Target
-awaited s message = if is_live_in s.session message.epoch then target_for message.number s.outstanding else None
+awaited s message = if is_live s.session && message.epoch == s.epoch then target_for message.number s.outstanding else None
 
 -- how the call ended, as it is told; a new handle has the next of the client's numbers
 abbrev pub answer_of : ClientState → CallResult → Answer
-answer_of s (results.Opened bytes) = answers.Opened (s.opened + 1)
+answer_of s (results.Opened handle) = answers.Opened (s.opened + 1)
 answer_of s results.Closed = answers.Closed
 answer_of s (results.Viewed view) = answers.Viewed view
 answer_of s (results.Stated stat) = answers.Stated stat
@@ -69,10 +76,35 @@ abbrev pub closed : List (ℕ × ClientHandle) → Target → List (ℕ × Clien
 closed handles (targets.Closing number) = remove_entry (is_at (nat_cmp number)) handles
 closed handles _ = handles
 
+-- what is opened by a call, where it is an Open
+abbrev pub opening_in : Call → Option Open
+opening_in (calls.Open opening) = Some opening
+opening_in _ = None
+
+abbrev pub opening_of : Request → Option Open
+opening_of (requests.Start message) = None
+opening_of (requests.Call message) = opening_in message.call
+
+-- what is kept of a new handle: name and mode are those that were asked for
+abbrev pub kept_handle : NewHandle → Open → ClientHandle
+kept_handle handle opening = record {
+  bytes = handle.bytes;
+  name = opening.name;
+  instance = handle.instance;
+  mode = opening.mode;
+  life = handle.life;
+  poisoned = false;
+}
+
+-- the handles behind the outstanding call, if it was an Open
+abbrev pub handles_behind : List (ℕ × ClientHandle) → ℕ → NewHandle → Option Outstanding → List (ℕ × ClientHandle)
+handles_behind handles number handle None = handles
+handles_behind handles number handle (Some call) = option_map_or (λ opening. insert_entry nat_cmp handles number (kept_handle handle opening)) (opening_of call.request) handles
+
 -- the call has ended; a new handle is kept, a closed one is not
 abbrev pub ended : ClientState → Target → CallResult → ClientState
-ended s target (results.Opened bytes) =
-    record s { outstanding = None; handles = insert_entry nat_cmp s.handles (s.opened + 1) (record { bytes = bytes; poisoned = false }); opened = s.opened + 1 }
+ended s target (results.Opened handle) =
+    record s { outstanding = None; handles = handles_behind s.handles (s.opened + 1) handle s.outstanding; opened = s.opened + 1 }
 ended s target results.Closed = record s { outstanding = None; handles = closed s.handles target }
 ended s target _ = record s { outstanding = None }
 
@@ -87,24 +119,24 @@ reply_step s message = reply_for s message (awaited s message)
 
 -- ---- Refused
 
--- the session where a master of this epoch knows none; nothing where it stays as it is
-abbrev pub session_without : Session → ℕ → Option Session
-session_without sessions.Unstarted epoch = Some sessions.TurnedAway
-session_without (sessions.Live present) epoch = if nat_le present epoch then Some sessions.Lost else None
-session_without sessions.Lost epoch = None
-session_without sessions.TurnedAway epoch = None
+-- the session where a master of this epoch knows none, by the client's present epoch; nothing where it stays as it is
+abbrev pub session_without : Session → ℕ → ℕ → Option Session
+session_without sessions.Unstarted present epoch = Some sessions.TurnedAway
+session_without sessions.Live present epoch = if nat_le present epoch then Some sessions.Lost else None
+session_without sessions.Lost present epoch = None
+session_without sessions.TurnedAway present epoch = None
 
 -- of all refusals, that there is no session alone changes it
-abbrev pub session_after : Session → ℕ → Fault → Option Session
-session_after session epoch faults.NoSession = session_without session epoch
-session_after session epoch _ = None
+abbrev pub session_after : Session → ℕ → ℕ → Fault → Option Session
+session_after session present epoch faults.NoSession = session_without session present epoch
+session_after session present epoch _ = None
 
 abbrev pub lose_step : ClientState → Option Session → ClientState × List Line
 lose_step s None = (s, [])
 lose_step s (Some session) = (record s { session = session }, lines.Lost s.number ∷ [])
 
 abbrev pub refused_step : ClientState → Refused → ClientState × List Line
-refused_step s message = lose_step s (session_after s.session message.epoch message.fault)
+refused_step s message = lose_step s (session_after s.session s.epoch message.epoch message.fault)
 
 -- ---- every message
 

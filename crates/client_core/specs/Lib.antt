@@ -6,4 +6,5 @@ pub mod Poisons
 pub mod Asks
 pub mod Gives
 pub mod Beats
+pub mod Cases
 pub mod Laws

@@ -1,16 +1,13 @@
 -- A client poisons a handle.
-use Rattle.std.specs.Prelude.{ℕ, ◌==◌, Bool, true, false, List, [], ◌∷◌, ◌++◌, Option, Some, None, Result, Ok, if◌then◌else◌}
+use Rattle.std.specs.Prelude.{ℕ, ◌==◌, Bool, true, false, List, [], ◌∷◌, ◌++◌, Option, Some, None, if◌then◌else◌}
 use Rattle.std.specs.Map.{set_value}
 use Rattle.std.specs.BTreeMap.{is_at}
 use Rattle.std.specs.Ordering.{nat_cmp}
-use Rattle.node_core.specs.declared.refusals.Fault.{Fault}
 use Rattle.node_core.specs.declared.refusals.Fault.TheVariants as faults
 use Rattle.node_core.specs.declared.answers.Answer.TheVariants as answers
 use Rattle.node_core.specs.declared.lines.Line.{Line}
 use Rattle.node_core.specs.declared.lines.Line.TheVariants as lines
 use Rattle.tags_cell.specs.Messages.{request_number}
-use Rattle.client_core.specs.declared.asks.Asked.{Asked}
-use Rattle.client_core.specs.declared.asks.Asked.TheVariants.{Answered}
 use Rattle.client_core.specs.declared.handles.ClientHandle.{ClientHandle}
 use Rattle.client_core.specs.declared.targets.Target.{Target}
 use Rattle.client_core.specs.declared.targets.Target.TheVariants as targets
@@ -39,10 +36,10 @@ dropped number (Some call) = Some (if is_on number call.target then record call 
 abbrev pub poison_lines : ClientState → ℕ → List Line
 poison_lines s number = refused_lines s number s.outstanding ++ lines.Done s.number 0 answers.Poisoned ∷ []
 
-abbrev pub poisoned : List (ℕ × ClientHandle) → ℕ → List ℕ → List (ℕ × ClientHandle)
-poisoned handles number bytes = set_value (is_at (nat_cmp number)) handles (record { bytes = bytes; poisoned = true })
+abbrev pub poisoned : List (ℕ × ClientHandle) → ℕ → ClientHandle → List (ℕ × ClientHandle)
+poisoned handles number handle = set_value (is_at (nat_cmp number)) handles (record handle { poisoned = true })
 
--- the handle of this number and these bytes is poisoned, and nothing is sent
-abbrev pub poison_step : ClientState → ℕ → ℕ → List ℕ → ClientState × Result Asked Fault
-poison_step s noted number bytes =
-    (record s { clock = noted; handles = poisoned s.handles number bytes; outstanding = dropped number s.outstanding }, Ok (Answered (poison_lines s number)))
+-- the handle of this number is poisoned, and nothing is sent
+abbrev pub with_poisoned : ClientState → ℕ → ℕ → ClientHandle → ClientState
+with_poisoned s noted number handle =
+    record s { clock = noted; handles = poisoned s.handles number handle; outstanding = dropped number s.outstanding }

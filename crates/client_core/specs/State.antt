@@ -17,6 +17,8 @@ pub record ClientState : Type 0 where
   -- the number of its newest Start, 0 before the first
   pub starts : ℕ
   pub session : Session
+  -- the epoch of the master that gave it its session, also once that is lost; 0 before
+  pub epoch : ℕ
   -- the number of its newest call, 0 before the first
   pub calls : ℕ
   -- the call that has no reply yet
@@ -29,7 +31,7 @@ pub record ClientState : Type 0 where
 -- a client that has done nothing yet
 abbrev pub new_client : ℕ → List ℕ → ClientState
 new_client number principal =
-    record { number = number; principal = principal; clock = 0; starts = 0; session = sessions.Unstarted; calls = 0; outstanding = None; handles = []; opened = 0 }
+    record { number = number; principal = principal; clock = 0; starts = 0; session = sessions.Unstarted; epoch = 0; calls = 0; outstanding = None; handles = []; opened = 0 }
 
 abbrev pub count_of : Option Outstanding → ℕ
 count_of None = 0

@@ -4,7 +4,7 @@ ghost use Rattle.std.specs.Option.{option_copied, option_map};
 ghost use Rattle.client_core.specs.State.{new_client, moment, Does};
 ghost use Rattle.client_core.specs.Asks.{ask_step, send_step};
 ghost use Rattle.client_core.specs.Beats.{beat_step, start_step};
-ghost use Rattle.client_core.specs.Gives.{give_step, taken_own, start_taken, awaited, answer_of, ended, reply_for, reply_step, refused_step};
+ghost use Rattle.client_core.specs.Gives.{give_step, taken_own, start_taken, awaited, answer_of, ended, reply_for, reply_step, refused_step, handles_behind};
 
 use crate::asks::{Ask, Asked};
 use crate::handles::ClientHandle;
@@ -19,7 +19,7 @@ use std::alloc::{AllocError, Global};
 use std::marker::Model;
 use std::mem;
 use tags_cell::{
-    Call, CallMessage, CallResult, ClientNumber, HandleBytes, MessageNumber, Out, Refused, Reply,
+    Call, CallMessage, CallResult, ClientNumber, MessageNumber, NewHandle, Out, Refused, Reply,
     Request, Start, Started,
 };
 
@@ -39,6 +39,7 @@ pub struct Client {
     pub(crate) clock: u64,
     pub(crate) starts: u64,
     pub(crate) session: Session,
+    pub(crate) epoch: u64,
     pub(crate) calls: u64,
     pub(crate) outstanding: Option<Outstanding>,
     pub(crate) handles: Table<u64, ClientHandle>,
@@ -56,6 +57,7 @@ impl Model for Client {
       clock = c.clock;
       starts = c.starts;
       session = c.session;
+      epoch = c.epoch;
       calls = c.calls;
       outstanding = c.outstanding;
       handles = c.handles;
@@ -78,6 +80,7 @@ impl Client {
             clock: 0,
             starts: 0,
             session: Session::Unstarted,
+            epoch: 0,
             calls: 0,
             outstanding: None,
             handles: Table::new(alloc),
@@ -99,8 +102,10 @@ impl Client {
     {
         let moment = self.moment(now)?;
         match self.plan(asked) {
-            Ok(Plan::Send(epoch, call, target)) => self.send(moment, epoch, call, target),
-            Ok(Plan::Poison(number, bytes)) => self.poison(moment, number, bytes),
+            Ok(Plan::Send(call, target)) => self.send(moment, call, target),
+            Ok(Plan::Poison(number, handle)) => {
+                Ok(Asked::Answered(self.poison_at(moment, number, handle)?))
+            }
             Err(Fault::NoMemory) => Err(Fault::NoMemory),
             Err(fault) => {
                 self.clock = moment;
@@ -119,7 +124,7 @@ impl Client {
         let moment = self.moment(now)?;
         match self.session {
             Session::Unstarted => self.start(moment),
-            Session::Live(_) | Session::Lost | Session::TurnedAway => {
+            Session::Live | Session::Lost | Session::TurnedAway => {
                 self.clock = moment;
                 Ok(None)
             }
@@ -160,7 +165,7 @@ impl Client {
     }
 
     // The moment that is noted.
-    fn moment(&self, now: u64) -> Result<u64, Fault>
+    pub(crate) fn moment(&self, now: u64) -> Result<u64, Fault>
         ensures { result ≡ moment self.now.clock now }
     {
         if now < MOMENT_LIMIT {
@@ -171,14 +176,15 @@ impl Client {
     }
 
     // Numbers the call, and keeps its message.
-    fn send(&mut self, moment: u64, epoch: u64, call: Call, target: Target) -> Result<Asked, Fault>
-        ensures { Does self.old self.new result (send_step self.old moment epoch call target) }
+    fn send(&mut self, moment: u64, call: Call, target: Target) -> Result<Asked, Fault>
+        ensures { Does self.old self.new result (send_step self.old moment call target) }
     {
         let Some(number) = MessageNumber::new(self.calls + 1) else {
             drop(call);
             return Err(Fault::Exhausted);
         };
         let client = self.number;
+        let epoch = self.epoch;
         let request = Request::Call(CallMessage {
             client,
             epoch,
@@ -249,7 +255,8 @@ impl Client {
         ensures { self.new ≡ start_taken self.old started.now }
     {
         if self.session == Session::Unstarted && started.number.get() == self.starts {
-            self.session = Session::Live(started.epoch);
+            self.session = Session::Live;
+            self.epoch = started.epoch;
         }
     }
 
@@ -301,7 +308,7 @@ impl Client {
         ensures value { result ≡ awaited self.now reply.now }
         ensures some { IsSome result → IsSome self.now.outstanding }
     {
-        if self.session != Session::Live(reply.epoch) {
+        if self.session != Session::Live || reply.epoch != self.epoch {
             return None;
         }
         match &self.outstanding {
@@ -332,7 +339,7 @@ impl Client {
         ensures err { OnErr result (self.new ≡ self.old) }
     {
         match (outcome, target) {
-            (CallResult::Opened(bytes), _) => return self.end_open(bytes),
+            (CallResult::Opened(handle), _) => return self.end_open(handle),
             (CallResult::Closed, Target::Closing(number)) => {
                 self.handles.remove(&number);
             }
@@ -343,20 +350,32 @@ impl Client {
     }
 
     // Ends the outstanding Open, and keeps the new handle under the next number.
-    fn end_open(&mut self, bytes: &HandleBytes) -> Result<(), AllocError>
+    fn end_open(&mut self, handle: &NewHandle) -> Result<(), AllocError>
         requires { IsSome self.old.outstanding }
-        ensures ok { OnOk result (self.new ≡ ended self.old Target.NewHandle (CallResult.Opened bytes.now)) }
+        ensures ok { OnOk result (self.new ≡ ended self.old Target.NewHandle (CallResult.Opened handle.now)) }
         ensures err { OnErr result (self.new ≡ self.old) }
     {
         let opened = self.opened + 1;
-        let handle = ClientHandle {
-            bytes: bytes.clone()?,
-            poisoned: false,
-        };
-        self.handles.put(opened, handle)?;
+        self.keep_handle(opened, handle)?;
         let former = self.outstanding.take();
         self.opened = opened;
         drop(former);
+        Ok(())
+    }
+
+    // Keeps the new handle under a number, if the outstanding call is an Open.
+    fn keep_handle(&mut self, number: u64, handle: &NewHandle) -> Result<(), AllocError>
+        ensures ok { OnOk result (self.new ≡ record self.old { handles = handles_behind self.old.handles number handle.now self.old.outstanding }) }
+        ensures err { OnErr result (self.new ≡ self.old) }
+    {
+        let Some(call) = &self.outstanding else {
+            return Ok(());
+        };
+        let Some(opening) = call.opening() else {
+            return Ok(());
+        };
+        let kept = ClientHandle::of(handle, opening)?;
+        drop(self.handles.put(number, kept)?);
         Ok(())
     }
 
@@ -372,7 +391,7 @@ impl Client {
         ensures err { OnErr result (self.new ≡ self.old) }
     {
         let mut lines = Items::new(self.alloc);
-        let Some(session) = self.session.after(refused.epoch, refused.fault) else {
+        let Some(session) = self.session.after(self.epoch, refused.epoch, refused.fault) else {
             return Ok(lines);
         };
         lines.push(Line::Lost(self.number.get()))?;

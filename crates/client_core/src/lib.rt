@@ -13,7 +13,10 @@ mod targets;
 pub use asks::{Ask, Asked, NodeCall};
 pub use client::Client;
 pub use handles::ClientHandle;
-pub use laws::{handle_numbers_rise, handle_numbers_stay, repeated_reply_is_dropped};
+pub use laws::{
+    handle_numbers_rise, handle_numbers_stay, poison_is_asked, refused_call_changes_nothing,
+    repeated_reply_is_dropped,
+};
 pub use plans::Plan;
 pub use sessions::Session;
 pub use targets::{Outstanding, Target};

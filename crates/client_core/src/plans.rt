@@ -5,6 +5,7 @@ ghost use Rattle.client_core.specs.Asks.{plan_of, send_plan, open_bytes, usable_
 
 use crate::asks::Ask;
 use crate::client::Client;
+use crate::handles::ClientHandle;
 use crate::targets::Target;
 use node_core::Fault;
 use tags_cell::{Call, HandleBytes};
@@ -12,10 +13,10 @@ use tags_cell::{Call, HandleBytes};
 /// What a client does next.
 #[derive(Debug, Drop)]
 pub enum Plan {
-    /// It sends a call in this epoch.
-    Send(u64, Call, Target),
-    /// It poisons the handle of this number and these bytes.
-    Poison(u64, HandleBytes),
+    /// It sends a call.
+    Send(Call, Target),
+    /// It poisons this handle of this number.
+    Poison(u64, ClientHandle),
 }
 
 impl Client {
@@ -23,34 +24,34 @@ impl Client {
     pub(crate) fn plan(&self, asked: &Ask) -> Result<Plan, Fault>
         ensures { Gives Fault.NoMemory result (plan_of self.now asked.now) }
     {
-        let epoch = self.session.epoch()?;
+        if let Some(fault) = self.session.fault() {
+            return Err(fault);
+        }
         match asked {
-            Ask::Open(opening) => self.send_plan(
-                epoch,
-                Call::Open(opening.clone()?),
-                Target::NewHandle,
-            ),
+            Ask::Open(opening) => {
+                self.send_plan(Call::Open(opening.clone()?), Target::NewHandle)
+            }
             Ask::Close(number) => {
                 let handle = self.open_bytes(*number)?;
-                self.send_plan(epoch, Call::Close(handle), Target::Closing(*number))
+                self.send_plan(Call::Close(handle), Target::Closing(*number))
             }
-            Ask::Poison(number) => Ok(Plan::Poison(*number, self.usable_bytes(*number)?)),
+            Ask::Poison(number) => Ok(Plan::Poison(*number, self.usable_handle(*number)?)),
             Ask::Node(number, call) => {
                 let handle = self.usable_bytes(*number)?;
-                self.send_plan(epoch, call.on(handle)?, Target::Handle(*number))
+                self.send_plan(call.on(handle)?, Target::Handle(*number))
             }
         }
     }
 
     // One call at a time.
-    fn send_plan(&self, epoch: u64, call: Call, target: Target) -> Result<Plan, Fault>
-        ensures { result ≡ send_plan self.now epoch call target }
+    fn send_plan(&self, call: Call, target: Target) -> Result<Plan, Fault>
+        ensures { result ≡ send_plan self.now call target }
     {
         if self.outstanding.is_some() {
             drop(call);
             return Err(Fault::CallOutstanding);
         }
-        Ok(Plan::Send(epoch, call, target))
+        Ok(Plan::Send(call, target))
     }
 
     // The bytes of an open handle.

@@ -1,6 +1,6 @@
 //! How a client stands with its master.
 ghost use Rattle.std.specs.Prelude.{◌≡◌};
-ghost use Rattle.client_core.specs.Asks.{session_epoch};
+ghost use Rattle.client_core.specs.Asks.{session_fault};
 ghost use Rattle.client_core.specs.Gives.{session_after, session_without};
 
 use node_core::Fault;
@@ -10,8 +10,7 @@ use node_core::Fault;
 pub enum Session {
     /// It has had no session yet.
     Unstarted,
-    /// It has one, which began in this epoch.
-    Live(u64),
+    Live,
     /// It had one, and has lost it.
     Lost,
     /// It never had one, and was told that it gets none.
@@ -19,35 +18,35 @@ pub enum Session {
 }
 
 impl Session {
-    // The epoch in which a call may be sent.
-    pub(crate) fn epoch(self) -> Result<u64, Fault>
-        ensures { result ≡ session_epoch self }
+    // Why no call may be sent; None while there is a session.
+    pub(crate) fn fault(self) -> Option<Fault>
+        ensures { result ≡ session_fault self }
     {
         match self {
-            Session::Live(epoch) => Ok(epoch),
-            Session::Lost => Err(Fault::SessionExpired),
-            Session::Unstarted | Session::TurnedAway => Err(Fault::NoSession),
+            Session::Live => None,
+            Session::Lost => Some(Fault::SessionExpired),
+            Session::Unstarted | Session::TurnedAway => Some(Fault::NoSession),
         }
     }
 
-    // What a refusal of this epoch makes of it; None where it stays.
-    pub(crate) fn after(self, epoch: u64, fault: Fault) -> Option<Session>
-        ensures { result ≡ session_after self epoch fault }
+    // What a refusal of this epoch makes of it, in the client's present epoch; None where it stays.
+    pub(crate) fn after(self, present: u64, epoch: u64, fault: Fault) -> Option<Session>
+        ensures { result ≡ session_after self present epoch fault }
     {
         match fault {
-            Fault::NoSession => self.ended_in(epoch),
+            Fault::NoSession => self.ended_in(present, epoch),
             _ => None,
         }
     }
 
     // What it becomes where a master of this epoch knows no session of the client.
-    fn ended_in(self, epoch: u64) -> Option<Session>
-        ensures { result ≡ session_without self epoch }
+    fn ended_in(self, present: u64, epoch: u64) -> Option<Session>
+        ensures { result ≡ session_without self present epoch }
     {
         match self {
             Session::Unstarted => Some(Session::TurnedAway),
-            Session::Live(present) if present <= epoch => Some(Session::Lost),
-            Session::Live(_) | Session::Lost | Session::TurnedAway => None,
+            Session::Live if present <= epoch => Some(Session::Lost),
+            Session::Live | Session::Lost | Session::TurnedAway => None,
         }
     }
 }

@@ -1,8 +1,10 @@
 //! The call that has no reply yet.
 ghost use Rattle.std.specs.Prelude.{◌≡◌};
+ghost use Rattle.std.specs.Option.{option_copied};
 ghost use Rattle.client_core.specs.Poisons.{is_on};
+ghost use Rattle.client_core.specs.Gives.{opening_of};
 
-use tags_cell::Request;
+use tags_cell::{Call, Open, Request};
 
 /// What the reply to a call is for. Handles go by the client's own numbers for them.
 #[derive(Clone, Copy, Debug, PartialEq, Eq)]
@@ -35,4 +37,19 @@ pub struct Outstanding {
     /// The call's message, as it was sent.
     pub request: Request,
     pub target: Target,
+}
+
+impl Outstanding {
+    // What is opened, where it is an Open.
+    pub(crate) fn opening(&self) -> Option<&Open>
+        ensures { option_copied result ≡ opening_of self.now.request }
+    {
+        match &self.request {
+            Request::Start(_) => None,
+            Request::Call(message) => match &message.call {
+                Call::Open(opening) => Some(opening),
+                _ => None,
+            },
+        }
+    }
 }

@@ -10,6 +10,17 @@ pub record LeaseTerms : Type 0 where
 abbrev pub moment_limit : ℕ
 moment_limit = 2 ^ 53
 
+-- the shortest and the longest lease of a master, in milliseconds
+abbrev pub least_lease : ℕ
+least_lease = 1000
+
+abbrev pub longest_lease : ℕ
+longest_lease = 60000
+
+-- how long from its coming up on a new master lets every session live that the rows hold, in milliseconds
+abbrev pub recovery_timeout : ℕ
+recovery_timeout = 60002
+
 -- a number of milliseconds that a moment or a span may be
 abbrev pub IsMoment : ℕ → Type 0
 IsMoment moment = moment < moment_limit

@@ -6,7 +6,9 @@
 mod clock;
 mod laws;
 mod lease;
+mod limits;
 
 pub use clock::Clock;
 pub use laws::better_lasts_longer;
 pub use lease::{Lease, MOMENT_LIMIT};
+pub use limits::{LEAST_LEASE, LONGEST_LEASE, RECOVERY_TIMEOUT};

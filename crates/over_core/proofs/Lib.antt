@@ -1,3 +1,4 @@
-mod KeptByTakes
 mod FitsByEffects
 mod KeptBySweeps
+mod KeptByTakes
+pub mod SweepCases

@@ -4,20 +4,19 @@ use Rattle.std.specs.List.{list_all}
 use Rattle.rows_cell.specs.declared.tables.Rows.{Rows}
 use Rattle.rows_cell.specs.Rows.{map_of}
 use Rattle.rows_cell.specs.Sound.{sound, is_number}
-use Rattle.cell_core.specs.declared.pending.Pending.{Pending}
+use Rattle.rows_cell.specs.Stores.{Store}
+use Rattle.gate_core.specs.declared.pending.Waiting.{Waiting}
+use Rattle.cell_core.specs.declared.pending.Task.{Task}
 use Rattle.cell_core.specs.State.{MasterState}
 
--- a master, and its store: the name of its cell, the rows that stand, the rows that a crash may leave, and how often the store refused
+-- a master, and its store
 pub record CellState : Type 0 where
   pub master : MasterState
-  pub cell : List ℕ
-  pub rows : Rows
-  pub may_leave : List Rows
-  pub refusals : ℕ
+  pub store : Store
 
 -- each change that waits is of a client whose number a session can have
-abbrev pub queue_fits : List Pending → Bool
-queue_fits queue = list_all (λ pending. is_number pending.client) queue
+abbrev pub waiting_fits : List (Waiting Task) → Bool
+waiting_fits waiting = list_all (λ w. is_number w.change.body.client) waiting
 
 -- what the master knows of its rows is what they hold, and they are sound
 pub record IsKept (cell : List ℕ) (rows : Rows) (s : MasterState) : Type 0 where
@@ -28,4 +27,4 @@ pub record IsKept (cell : List ℕ) (rows : Rows) (s : MasterState) : Type 0 whe
   pub nodes : s.nodes ≡ map_of rows
   pub sessions : s.sessions ≡ rows.sessions
   pub sound_rows : sound cell rows ≡ true
-  pub queue : queue_fits s.queue ≡ true
+  pub waiting : waiting_fits s.gate.waiting ≡ true

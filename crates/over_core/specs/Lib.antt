@@ -3,9 +3,12 @@ pub use Rattle.names_cell.specs.Text
 pub use Rattle.node_core.specs.Nodes
 pub use Rattle.rows_cell.specs.Rows
 pub use Rattle.rows_cell.specs.Sound
+pub use Rattle.rows_cell.specs.Stores
 pub use Rattle.cell_core.specs.State
 pub use Rattle.cell_core.specs.Step
-pub use Rattle.cell_core.specs.Store
-pub use Rattle.cell_core.specs.Sweep
+pub use Rattle.cell_core.specs.Cases
+pub use Rattle.cell_core.specs.Deeds
 pub mod Kept
+pub mod Sweep
+pub mod SweepCase
 pub mod Up

@@ -10,7 +10,7 @@ use Rattle.rows_cell.specs.Sound.{sound}
 use Rattle.cell_core.specs.State.{MasterState, master_of}
 use Rattle.cell_core.specs.Step.{is_past_end}
 use Rattle.cell_core.specs.Effect.{is_last}
-use Rattle.cell_core.specs.Store.{StoreRefuses}
+use Rattle.rows_cell.specs.Stores.{Store, StoreRefuses, MayLeave}
 
 -- it commits the next epoch
 abbrev pub up_edits : Rows → List Edit
@@ -39,3 +39,9 @@ up_commit (Err fault) rows = []
 -- why the store lets no master come up: asked for its rows, or for the commit, it refuses; it isn't asked for a moment past the end
 abbrev pub MayRefuseUp : ℕ → Fault → ℕ → ℕ → Type 0
 MayRefuseUp now fault before after = (is_past_end now ≡ false) × StoreRefuses fault before after
+
+-- behind a master that doesn't come up: the rows stand, and a crash may perhaps leave those that were to be committed
+pub record IsLeft (edits : List Edit) (old new : Store) : Type 0 where
+  pub cell : new.cell ≡ old.cell
+  pub rows : new.rows ≡ old.rows
+  pub leave : MayLeave edits old.rows old.may_leave new.may_leave

@@ -1,6 +1,12 @@
-//! A master over its records: it comes up, takes messages, sweeps, and goes down.
+//! A master over its records: it comes up, takes messages, sweeps, and goes.
 #![tactic(auto)]
 
+mod actions;
 mod cells;
+mod plans;
+mod sweeps;
 
+pub use actions::Action;
 pub use cells::Cell;
+pub use plans::Plan;
+pub use sweeps::Swept;

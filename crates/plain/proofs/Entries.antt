@@ -20,15 +20,15 @@ eq_at Less h = cc
 eq_at Equal h = refl
 eq_at Greater h = cc
 
-twice : {X : Type 0} (b : Bool) (x y z : X) → cond b x z ≡ cond b x (cond b y z)
-twice true x y z = refl
-twice false x y z = refl
+pub cond_twice : {X : Type 0} (b : Bool) (x y z : X) → cond b x z ≡ cond b x (cond b y z)
+cond_twice true x y z = refl
+cond_twice false x y z = refl
 
-apart : {X : Type 0} (a b : Bool) (x y z : X) → (a ≡ true → b ≡ true → ⊥) → cond a x (cond b y z) ≡ cond b y (cond a x z)
-apart true true x y z h = absurd (h refl refl)
-apart true false x y z h = refl
-apart false true x y z h = refl
-apart false false x y z h = refl
+pub cond_apart : {X : Type 0} (a b : Bool) (x y z : X) → (a ≡ true → b ≡ true → ⊥) → cond a x (cond b y z) ≡ cond b y (cond a x z)
+cond_apart true true x y z h = absurd (h refl refl)
+cond_apart true false x y z h = refl
+cond_apart false true x y z h = refl
+cond_apart false false x y z h = refl
 
 pub lookup_put : {K V : Type 0} (cmp : K → K → Ordering) → CmpEqualImpliesEq cmp → ((x : K) → cmp x x ≡ Equal) → (es : List (K × V)) (k : K) (v : V) (q : K) → lookup (is_at (cmp q)) (insert_entry cmp es k v) ≡ cond (is_at (cmp q) k) (Some v) (lookup (is_at (cmp q)) es)
 lookup_put cmp exact same [] k v q = refl
@@ -36,10 +36,10 @@ lookup_put {K} {V} cmp exact same (e ∷ es) k v q =
     let t : K → Bool = is_at (cmp q) in
     (elim (cmp k e.0) as (λ o. cmp k e.0 ≡ o → lookup t (match_ordering o ((k, v) ∷ e ∷ es) ((e.0, v) ∷ es) (e ∷ insert_entry cmp es k v)) ≡ cond (t k) (Some v) (cond (t e.0) (Some e.1) (lookup t es))) [
       | Less ↦ (λ h. refl)
-      | Equal ↦ (λ h. let s : k ≡ e.0 = exact k e.0 h in rw s (twice (t e.0) (Some v) (Some e.1) (lookup t es)))
+      | Equal ↦ (λ h. let s : k ≡ e.0 = exact k e.0 h in rw s (cond_twice (t e.0) (Some v) (Some e.1) (lookup t es)))
       | Greater ↦ (λ h.
           rw (lookup_put cmp exact same es k v q)
-          (apart (t e.0) (t k) (Some e.1) (Some v) (lookup t es) (λ a b.
+          (cond_apart (t e.0) (t k) (Some e.1) (Some v) (lookup t es) (λ a b.
           let x : q ≡ e.0 = exact q e.0 (eq_at (cmp q e.0) a) in
           let y : q ≡ k = exact q k (eq_at (cmp q k) b) in
           let z = same q in cc)))

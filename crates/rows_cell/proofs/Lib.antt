@@ -5,3 +5,4 @@ pub mod RowViews
 pub mod SoundParts
 pub mod SoundChanges
 pub mod SoundRemovals
+pub mod StoreLemmas

@@ -4,5 +4,5 @@ pub use Rattle.node_core.specs.Nodes
 pub mod Keys
 pub mod Rows
 pub mod Sound
-pub mod Refused
+pub mod Stores
 pub mod Opening

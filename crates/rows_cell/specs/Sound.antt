@@ -1,4 +1,4 @@
--- The test that rows of a store must pass.
+-- The test that rows of a store must pass. `sound` is what their types leave to test, `is_typed` what the types say, `sound_values` both.
 use Rattle.std.specs.Prelude.{ℕ, Bool, true, false, not, ◌&&◌, ◌==◌, nat_lt, nat_le, List, [], ◌∷◌, length, map, filter}
 use Rattle.std.specs.Option.{option_map_or}
 use Rattle.std.specs.List.{list_all, list_any}
@@ -6,7 +6,7 @@ use Rattle.std.specs.Map.{lookup}
 use Rattle.std.specs.BTreeMap.{is_at}
 use Rattle.std.specs.Ordering.{nat_cmp}
 use Rattle.std.specs.Str.{bytes_eq}
-use Rattle.names_cell.specs.Text.{parent_of, cell_of, root_of}
+use Rattle.names_cell.specs.Text.{is_component, is_name, parent_of, cell_of, root_of}
 use Rattle.node_core.specs.Limits.{content_limit, number_limit, lock_delay_limit}
 use Rattle.node_core.specs.declared.kinds.Kind.{Kind}
 use Rattle.node_core.specs.declared.kinds.Kind.TheVariants.{File, Directory}
@@ -91,3 +91,15 @@ abbrev pub sound : List ℕ → Rows → Bool
 sound cell rows =
     bytes_eq rows.cell cell && is_number rows.epoch && is_number rows.next_instance && nodes_fit cell rows.next_instance rows.nodes
     && list_all (λ e. is_number e.0) rows.sessions && list_all (lock_fits rows) rows.locks
+
+abbrev pub is_typed_node : List ℕ × Node → Bool
+is_typed_node entry = is_name entry.0 && is_component entry.1.view.read && is_component entry.1.view.write && is_component entry.1.view.change
+
+-- names are names, ACL names components, principals principals, and the secret has its 32 bytes; rows as the program holds them can't be other
+abbrev pub is_typed : Rows → Bool
+is_typed rows =
+    is_component rows.cell && length rows.secret == 32 && list_all is_typed_node rows.nodes && list_all (λ e. is_component e.1.principal) rows.sessions
+
+-- the whole test, also of rows whose values have no type yet
+abbrev pub sound_values : List ℕ → Rows → Bool
+sound_values cell rows = is_typed rows && sound cell rows

@@ -37,13 +37,7 @@ impl ListRecords {
 impl Records for ListRecords {
     ghost use Rattle.std.specs.Prelude.{◌∷◌, []};
 
-    ghost cell = { λ s. s.rows.cell };
-
-    ghost rows = { λ s. s.rows };
-
-    ghost may_leave = { λ s. s.rows ∷ [] };
-
-    ghost refusals = { λ s. 0 };
+    ghost store = { λ s. record { cell = s.rows.cell; rows = s.rows; may_leave = s.rows ∷ []; refusals = 0 } };
 
     fn load(&mut self) -> Result<Rows, StoreFault> {
         Ok(self.rows.clone()?)

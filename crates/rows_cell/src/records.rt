@@ -33,7 +33,7 @@ impl From<AllocError> for StoreFault {
 
 impl From<StoreFault> for Fault {
     ghost use Rattle.std.specs.Prelude.{◌≡◌};
-    ghost use Rattle.rows_cell.specs.Refused.{store_fault};
+    ghost use Rattle.rows_cell.specs.Stores.{store_fault};
 
     ghost from_gives = { λ x e. e ≡ store_fault x };
 
@@ -49,45 +49,21 @@ impl From<StoreFault> for Fault {
 
 /// What keeps the rows of a cell, one change at a time.
 pub trait Records {
-    ghost use Rattle.std.specs.Prelude.{◌≡◌, ◌≢◌, ℕ, List, [], ◌∷◌, true, false, Err, IfOk, IfErr, OnOk, OnErr};
-    ghost use Rattle.rows_cell.specs.declared.tables.Rows.{Rows};
-    ghost use Rattle.rows_cell.specs.declared.records.StoreFault.TheVariants.{Damaged};
+    ghost use Rattle.std.specs.Prelude.{◌≡◌, true};
     ghost use Rattle.rows_cell.specs.Rows.{changed_rows};
     ghost use Rattle.rows_cell.specs.Sound.{sound};
-    ghost use Rattle.rows_cell.specs.Refused.{CountsRefusal, MayAlsoLeave};
+    ghost use Rattle.rows_cell.specs.Stores.{Store, Loads, Commits, told};
 
-    /// The cell that the settings name.
-    ghost cell: { Self → List ℕ };
-
-    /// The rows that stand.
-    ghost rows: { Self → Rows };
-
-    /// The rows that a crash may leave.
-    ghost may_leave: { Self → List Rows };
-
-    /// How often the store refused.
-    ghost refusals: { Self → ℕ };
+    /// What is kept: the cell that the settings name, the rows, what a crash may leave of them, and how often the
+    /// store refused.
+    ghost store: { Self → Store };
 
     /// Reads all rows.
     fn load(&mut self) -> Result<Rows, StoreFault>
-        ensures rows { IfOk result (λ r. r ≡ rows self.old) }
-        ensures sound { OnOk result (sound (cell self.old) (rows self.old) ≡ true) }
-        ensures damaged { result ≡ Err Damaged → sound (cell self.old) (rows self.old) ≡ false }
-        ensures cell { cell self.new ≡ cell self.old }
-        ensures stay { rows self.new ≡ rows self.old }
-        ensures leave { may_leave self.new ≡ may_leave self.old }
-        ensures counted { OnOk result (refusals self.new ≡ refusals self.old) }
-        ensures refused { IfErr result (λ e. CountsRefusal e (refusals self.old) (refusals self.new)) };
+        ensures { Loads (store self.old) (store self.new) (told result) };
 
     /// Does the edits in order, all of them or none.
     fn commit(&mut self, change: &Items<Edit>) -> Result<(), StoreFault>
-        requires { sound (cell self.old) (changed_rows (rows self.old) change.now) ≡ true }
-        ensures ok { OnOk result (rows self.new ≡ changed_rows (rows self.old) change.now) }
-        ensures kept { OnOk result (may_leave self.new ≡ rows self.new ∷ []) }
-        ensures err { OnErr result (rows self.new ≡ rows self.old) }
-        ensures left { OnErr result (MayAlsoLeave (changed_rows (rows self.old) change.now) (may_leave self.old) (may_leave self.new)) }
-        ensures whole { IfErr result (λ e. e ≢ Damaged) }
-        ensures cell { cell self.new ≡ cell self.old }
-        ensures counted { OnOk result (refusals self.new ≡ refusals self.old) }
-        ensures refused { IfErr result (λ e. CountsRefusal e (refusals self.old) (refusals self.new)) };
+        requires { sound (store self.old).cell (changed_rows (store self.old).rows change.now) ≡ true }
+        ensures { Commits change.now (store self.old) (store self.new) (told result) };
 }

@@ -1,6 +1,7 @@
 //! The messages between a client and its master.
 #![tactic(auto)]
 
+mod beats;
 mod calls;
 mod clients;
 mod delays;
@@ -16,17 +17,25 @@ mod ordinals;
 mod outs;
 mod places;
 mod requests;
+mod sequencer_faults;
+mod sequencers;
 
+pub use beats::{Alive, Beat, Invalidation, NumberedEvent};
 pub use calls::{AclNames, Call, Create, Disposition, NewNode, Open};
 pub use clients::ClientNumber;
 pub use delays::LockDelay;
 pub use handle_bytes::HandleBytes;
 pub use handle_faults::HandleFault;
 pub use handles::Handle;
-pub use laws::{bytes_tell_handles, read_was_written, written_is_read};
+pub use laws::{
+    bytes_tell_handles, bytes_tell_sequencers, read_sequencer_was_written, read_was_written,
+    written_is_read, written_sequencer_is_read,
+};
 pub use masks::Events;
 pub use modes::Mode;
 pub use numbers::MessageNumber;
 pub use ordinals::Ordinal;
-pub use outs::{CallResult, Out, Refused, Reply, Started};
+pub use outs::{CallResult, NewHandle, Out, Refused, Reply, Started};
 pub use requests::{CallMessage, Request, Start};
+pub use sequencer_faults::SequencerFault;
+pub use sequencers::Sequencer;

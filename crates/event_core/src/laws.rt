@@ -1,0 +1,22 @@
+//! What follows from the definitions.
+ghost use Rattle.event_core.specs.Laws.{QueuedGetsNext, GreaterNumbersWait, MissedIsTold, IsItsOwn};
+
+/// An event that is queued gets the next number, and all others keep theirs.
+pub fn queued_gets_next()
+    ensures { QueuedGetsNext }
+{}
+
+/// Behind an acknowledgement just the events with greater numbers wait, under the numbers that they had.
+pub fn greater_numbers_wait()
+    ensures { GreaterNumbersWait }
+{}
+
+/// As soon as there is room one event is queued for those that were missed.
+pub fn missed_is_told()
+    ensures { MissedIsTold }
+{}
+
+/// A step of one client changes its own queue alone.
+pub fn step_is_its_own()
+    ensures { IsItsOwn }
+{}

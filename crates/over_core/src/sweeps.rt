@@ -1,0 +1,173 @@
+//! What a master does by itself.
+ghost use Rattle.std.specs.Prelude.{◌≡◌, ◌⊎◌, true, false, Ok, Err, IfOk, IfErr, OnOk, OnErr};
+ghost use Rattle.rows_cell.specs.Rows.{changed_rows};
+ghost use Rattle.rows_cell.specs.Sound.{sound};
+ghost use Rattle.rows_cell.specs.Stores.{Commits, IsCommitted, IsRefused};
+ghost use Rattle.rows_cell.specs.declared.tables.Edit.TheVariants.{PutNode};
+ghost use Rattle.cell_core.specs.Deeds.{session_edits, edit_of, change_edits, edits_of, done};
+ghost use Rattle.over_core.specs.Sweep.{first_action, swept, action_edits, sweep_edits, sweep_step};
+
+use crate::actions::{Action, first_action};
+use crate::plans::{Plan, plan_for};
+use cell_core::{Cell as Master, Change, Deed, Grown, SessionPut, Taken};
+use lease_core::MOMENT_LIMIT;
+use names_cell::Name;
+use node_core::{Fault, Line, Mod, View};
+use plain::Items;
+use rows_cell::{Edit, Records};
+use std::alloc::{AllocError, Global};
+use tags_cell::Out;
+
+/// What a sweep prints and sends, and whether it found nothing to do.
+#[derive(Debug, Drop)]
+pub struct Swept {
+    pub lines: Items<Line>,
+    pub outs: Items<Out>,
+    pub quiet: bool,
+}
+
+impl Swept {
+    fn of(taken: Taken, quiet: bool) -> Swept
+        ensures { result ≡ record { lines = taken.lines; outs = taken.outs; quiet = quiet } }
+    {
+        let Taken { lines, outs } = taken;
+        Swept { lines, outs, quiet }
+    }
+}
+
+/// A sweep at a moment, in milliseconds; an earlier one than the last counts as that, and one of 2^53 or more is refused
+/// as Exhausted. A refusal leaves the master as it was.
+#[tactic(auto, unfolding(crate::specs::Sweep::sweep_step))]
+pub(crate) fn sweep_by<R: Records>(
+    master: &mut Master,
+    records: &mut R,
+    now: u64,
+) -> Result<Swept, Fault>
+    requires { sound (R.store records.old).cell (changed_rows (R.store records.old).rows (sweep_edits master.old now)) ≡ true }
+    ensures ok { IfOk result (λ swept. sweep_step master.old now ≡ Ok (master.new, swept)) }
+    ensures committed { OnOk result (IsCommitted (sweep_edits master.old now) (R.store records.old) (R.store records.new)) }
+    ensures err { OnErr result (master.new ≡ master.old) }
+    ensures fault { IfErr result (λ e. (sweep_step master.old now ≡ Err e × R.store records.new ≡ R.store records.old)
+        ⊎ IsRefused e (sweep_edits master.old now) (R.store records.old) (R.store records.new)) }
+{
+    if now >= MOMENT_LIMIT {
+        return Err(Fault::Exhausted);
+    }
+    let before = master.note_moment(now);
+    match sweep_at(master, records) {
+        Ok(swept) => Ok(swept),
+        Err(fault) => {
+            master.restore_moment(before);
+            Err(fault)
+        }
+    }
+}
+
+// Does the first action that there is, with at most one commit to the records, which comes before all that is printed
+// and sent. A refusal leaves the master as it was.
+fn sweep_at<R: Records>(master: &mut Master, records: &mut R) -> Result<Swept, Fault>
+    requires { sound (R.store records.old).cell (changed_rows (R.store records.old).rows (action_edits master.old (first_action master.old))) ≡ true }
+    ensures ok { IfOk result (λ done. swept master.old (first_action master.old) ≡ (master.new, done)) }
+    ensures store { Commits (action_edits master.old (first_action master.old)) (R.store records.old) (R.store records.new) result }
+    ensures err { OnErr result (master.new ≡ master.old) }
+{
+    match first_action(master) {
+        Action::Quiet => Ok(Swept::of(master.nothing(), true)),
+        Action::Apply(number) => {
+            let plan = plan_for(master, number)?;
+            carry_out(master, records, number, plan)
+        }
+    }
+}
+
+// Does what is planned for the change of a number: it grows first, then commits, and what can't fail comes last.
+fn carry_out<R: Records>(
+    master: &mut Master,
+    records: &mut R,
+    number: u64,
+    plan: Plan,
+) -> Result<Swept, Fault>
+    requires { sound (R.store records.old).cell (changed_rows (R.store records.old).rows (edits_of plan.deed)) ≡ true }
+    ensures ok { IfOk result (λ swept. swept ≡ record { lines = plan.taken.lines; outs = plan.taken.outs; quiet = false }) }
+    ensures done { OnOk result (master.new ≡ done master.old number plan.deed) }
+    ensures store { Commits (edits_of plan.deed) (R.store records.old) (R.store records.new) result }
+    ensures err { OnErr result (master.new ≡ master.old) }
+{
+    let Plan { deed, taken } = plan;
+    let edits = edits_of(master.alloc(), &deed)?;
+    commit_deed(master, records, number, deed, &edits)?;
+    Ok(Swept::of(taken, false))
+}
+
+// The deed is begun, committed, and finished; where the commit is refused it is taken back.
+fn commit_deed<R: Records>(
+    master: &mut Master,
+    records: &mut R,
+    number: u64,
+    deed: Deed,
+    edits: &Items<Edit>,
+) -> Result<(), Fault>
+    requires sound { sound (R.store records.old).cell (changed_rows (R.store records.old).rows edits.now) ≡ true }
+    ensures ok { OnOk result (master.new ≡ done master.old number deed) }
+    ensures store { Commits edits.now (R.store records.old) (R.store records.new) result }
+    ensures err { OnErr result (master.new ≡ master.old) }
+{
+    let Grown { former, rest } = master.grow(deed)?;
+    match records.commit(edits) {
+        Ok(()) => {
+            drop(former);
+            master.finish(rest, number);
+            Ok(())
+        }
+        Err(fault) => {
+            master.undo(former);
+            Err(fault.into())
+        }
+    }
+}
+
+// What is committed for a deed.
+fn edits_of(alloc: Global, deed: &Deed) -> Result<Items<Edit>, AllocError>
+    ensures { IfOk result (λ edits. edits ≡ edits_of deed.now) }
+{
+    let mut edits = session_edits(alloc, &deed.session)?;
+    edits.append(change_edits(alloc, &deed.change)?)?;
+    Ok(edits)
+}
+
+fn session_edits(alloc: Global, put: &Option<SessionPut>) -> Result<Items<Edit>, AllocError>
+    ensures { IfOk result (λ edits. edits ≡ session_edits put.now) }
+{
+    let mut edits = Items::new(alloc);
+    if let Some(put) = put {
+        edits.push(Edit::PutSession(put.client, put.session.clone()?))?;
+    }
+    Ok(edits)
+}
+
+fn change_edits(alloc: Global, change: &Option<Change>) -> Result<Items<Edit>, AllocError>
+    ensures { IfOk result (λ edits. edits ≡ change_edits change.now) }
+{
+    let mut edits = Items::new(alloc);
+    if let Some(change) = change {
+        edits.push(edit_of(&change.change)?)?;
+        edits.push(Edit::NextInstance(change.next_instance))?;
+    }
+    Ok(edits)
+}
+
+fn edit_of(change: &Mod) -> Result<Edit, AllocError>
+    ensures { IfOk result (λ edit. edit ≡ edit_of change.now) }
+{
+    match change {
+        Mod::Put(name, view) => put_edit(name, view),
+        Mod::Gone(name) => Ok(Edit::RemoveNode(name.clone()?)),
+    }
+}
+
+fn put_edit(name: &Name, view: &View) -> Result<Edit, AllocError>
+    ensures { IfOk result (λ edit. edit ≡ PutNode name.now view.now) }
+{
+    let name = name.clone()?;
+    Ok(Edit::PutNode(name, view.clone()?))
+}

@@ -1,0 +1,67 @@
+-- What holds of sessions over every step.
+use Rattle.std.specs.Prelude.{⊤, Bool, true, false, is_some, ◌≡◌, ◌≢◌, ℕ, ◌+◌, ◌≤◌, Some, None}
+use Rattle.std.specs.Option.{option_map}
+use Rattle.session_core.specs.declared.records.Issued.{Issued}
+use Rattle.tags_cell.specs.declared.beats.Beat.{Beat}
+use Rattle.session_core.specs.declared.records.Parked.{Parked}
+use Rattle.session_core.specs.declared.records.Kept.{Kept}
+use Rattle.session_core.specs.declared.records.Session.{Session}
+use Rattle.session_core.specs.Session.{prolonged, ended, issued_to, live_beat_fault, beaten, offered_span, answered, keeping}
+use Rattle.session_core.specs.Sessions.{SessionTable, session_of, kept_of, with_session, with_new}
+
+-- what a step makes of a session
+pub data Step (K : Type 0) : Type 0 where
+  Prolonged : ℕ → Step K
+  Ended : Step K
+  IssuedTo : Issued → Step K
+  Beaten : Beat → ℕ → Step K
+  Answered : ℕ → ℕ → Step K
+  Keeping : Kept K → Step K
+
+abbrev pub stepped : {K : Type 0} → Step K → Session K → Session K
+stepped (Prolonged moment) session = prolonged moment session
+stepped Ended session = ended session
+stepped (IssuedTo issued) session = issued_to issued session
+stepped (Beaten beat received) session = beaten beat received session
+stepped (Answered lease now) session = answered lease now session
+stepped (Keeping kept) session = keeping kept session
+
+-- no step takes a session's time away
+abbrev pub TimeoutNeverMovesBack : Type 0 → Type 0
+TimeoutNeverMovesBack K = (step : Step K) (session : Session K) → session.timeout ≤ (stepped step session).timeout
+
+-- an acknowledgement is of what was issued
+pub record IsWithin {K : Type 0} (session : Session K) : Type 0 where
+  pub invalidations : session.invalidations.acknowledged ≤ session.invalidations.issued
+  pub events : session.events.acknowledged ≤ session.events.issued
+
+-- a Beat that is taken isn't refused
+abbrev pub Allows : {K : Type 0} → Step K → Session K → Type 0
+Allows (Beaten beat received) session = live_beat_fault session beat ≡ None
+Allows _ session = ⊤
+
+-- nothing is acknowledged that wasn't issued
+abbrev pub AcknowledgedWasIssued : Type 0 → Type 0
+AcknowledgedWasIssued K = (step : Step K) (session : Session K) → IsWithin session → Allows step session → IsWithin (stepped step session)
+
+-- the session outlives what an answer offers, counted from the receipt
+abbrev pub OfferIsCovered : Type 0 → Type 0
+OfferIsCovered K =
+    (session : Session K) (beat : Parked) (lease now : ℕ) → session.parked ≡ Some beat → beat.received ≤ now + lease
+    → beat.received + offered_span lease beat.received now ≤ (answered lease now session).timeout
+
+abbrev pub is_keeping : {K : Type 0} → Step K → Bool
+is_keeping (Keeping kept) = true
+is_keeping _ = false
+
+-- what is kept of a client's calls is what `keep` last put
+pub record KeepsTheLastCall (K : Type 0) : Type 0 where
+  pub put : (s : SessionTable K) (client : ℕ) (kept : Kept K) → is_some (session_of s client) ≡ true → kept_of (with_session s client (keeping kept)) client ≡ Some kept
+  pub stays : (step : Step K) (session : Session K) → is_keeping step ≡ false → (stepped step session).kept ≡ session.kept
+
+-- a step of one client changes its own session alone
+pub record IsItsOwn (K : Type 0) : Type 0 where
+  pub own : (s : SessionTable K) (client : ℕ) (step : Session K → Session K) → session_of (with_session s client step) client ≡ option_map step (session_of s client)
+  pub other : (s : SessionTable K) (client : ℕ) (step : Session K → Session K) (q : ℕ) → q ≢ client → session_of (with_session s client step) q ≡ session_of s q
+  pub own_new : (s : SessionTable K) (client : ℕ) (session : Session K) → session_of (with_new s client session) client ≡ Some session
+  pub other_new : (s : SessionTable K) (client : ℕ) (session : Session K) (q : ℕ) → q ≢ client → session_of (with_new s client session) q ≡ session_of s q

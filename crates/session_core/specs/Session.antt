@@ -1,0 +1,156 @@
+-- One session, and what each step makes of it. Moments and spans are milliseconds of the master's clock.
+use Rattle.std.specs.Prelude.{ℕ, Bool, true, false, not, ◌&&◌, ◌||◌, ◌==◌, ◌+◌, ◌-◌, ◌/◌, ◌^◌, nat_lt, nat_le, max, List, Option, Some, None, Result, Ok, Err, if◌then◌else◌, is_none}
+use Rattle.std.specs.Option.{option_map_or}
+use Rattle.std.specs.Str.{bytes_eq}
+use Rattle.node_core.specs.Limits.{number_limit}
+use Rattle.node_core.specs.declared.refusals.Fault.{Fault}
+use Rattle.node_core.specs.declared.refusals.Fault.TheVariants as faults
+use Rattle.lease_core.specs.Lease.{recovery_timeout}
+use Rattle.tags_cell.specs.Numbers.{is_client_number}
+use Rattle.tags_cell.specs.declared.beats.Beat.{Beat}
+use Rattle.session_core.specs.declared.records.Tally.{Tally}
+use Rattle.session_core.specs.declared.records.Issued.{Issued}
+use Rattle.session_core.specs.declared.records.Issued.TheVariants as kinds
+use Rattle.session_core.specs.declared.records.Parked.{Parked}
+use Rattle.session_core.specs.declared.records.Offer.{Offer}
+use Rattle.session_core.specs.declared.records.Kept.{Kept}
+use Rattle.session_core.specs.declared.records.Session.{Session}
+
+-- ---- the beginning and the end of a session
+
+abbrev pub nothing_issued : Tally
+nothing_issued = record { issued = 0; acknowledged = 0 }
+
+-- a session of which this master knows no Beat and no call
+abbrev pub session_until : {K : Type 0} → List ℕ → Bool → ℕ → Session K
+session_until principal live timeout = record {
+  principal = principal;
+  live = live;
+  timeout = timeout;
+  newest_beat = 0;
+  invalidations = nothing_issued;
+  events = nothing_issued;
+  parked = None;
+  kept = None;
+}
+
+-- a session as a new master finds it in the rows
+abbrev pub recovered_session : {K : Type 0} → List ℕ → Bool → ℕ → Session K
+recovered_session principal live now = session_until principal live (now + recovery_timeout)
+
+-- a client without a session may start, and one with a live session of the same principal
+abbrev pub may_start : {K : Type 0} → Option (Session K) → List ℕ → Bool
+may_start found principal = option_map_or (λ session. session.live && bytes_eq session.principal principal) found true
+
+-- it lives until this moment at least
+abbrev pub prolonged : {K : Type 0} → ℕ → Session K → Session K
+prolonged moment session = record session { timeout = max session.timeout moment }
+
+-- the master may end a live session from its timeout on
+abbrev pub is_expired : {K : Type 0} → ℕ → Session K → Bool
+is_expired now session = session.live && nat_le session.timeout now
+
+abbrev pub is_client_expired : {K : Type 0} → ℕ → ℕ → Session K → Bool
+is_client_expired now client session = is_expired now session
+
+-- an ended session stays recorded
+abbrev pub ended : {K : Type 0} → Session K → Session K
+ended session = record session { live = false }
+
+-- ---- what was issued to it, and acknowledged
+
+abbrev pub is_owing : Tally → Bool
+is_owing tally = nat_lt tally.acknowledged tally.issued
+
+-- an older acknowledgement takes nothing back
+abbrev pub acknowledged_to : ℕ → Tally → Tally
+acknowledged_to count tally = record tally { acknowledged = max tally.acknowledged count }
+
+abbrev pub one_more : Tally → Tally
+one_more tally = record tally { issued = tally.issued + 1 }
+
+abbrev pub tally_of : {K : Type 0} → Issued → Session K → Tally
+tally_of kinds.Invalidation session = session.invalidations
+tally_of kinds.Event session = session.events
+
+abbrev pub issued_to : {K : Type 0} → Issued → Session K → Session K
+issued_to kinds.Invalidation session = record session { invalidations = one_more session.invalidations }
+issued_to kinds.Event session = record session { events = one_more session.events }
+
+-- the count stands at the last number
+abbrev pub is_count_full : {K : Type 0} → Issued → Session K → Bool
+is_count_full issued session = nat_le number_limit (tally_of issued session).issued
+
+-- it has acknowledged its first event, which tells that a new master is up
+abbrev pub has_heard : {K : Type 0} → Session K → Bool
+has_heard session = not session.live || nat_le 1 session.events.acknowledged
+
+-- ---- Beats
+
+-- why a Beat is refused: no live session, not newer, or more acknowledged than was issued, invalidations first
+abbrev pub live_beat_fault : {K : Type 0} → Session K → Beat → Option Fault
+live_beat_fault session beat =
+    if nat_le beat.number session.newest_beat then Some faults.Repeat
+    else if nat_lt session.invalidations.issued beat.invalidations then Some (faults.BadAck session.invalidations.issued)
+    else if nat_lt session.events.issued beat.events then Some (faults.BadAck session.events.issued)
+    else None
+
+abbrev pub beat_fault : {K : Type 0} → Option (Session K) → Beat → Option Fault
+beat_fault None beat = Some faults.NoSession
+beat_fault (Some session) beat = if session.live then live_beat_fault session beat else Some faults.NoSession
+
+-- it waits for its answer, in the place of an older one
+abbrev pub parked : Beat → ℕ → Parked
+parked beat received = record { number = beat.number; received = received }
+
+-- a Beat acknowledges, and is parked
+abbrev pub beaten : {K : Type 0} → Beat → ℕ → Session K → Session K
+beaten beat received session = record session {
+  newest_beat = beat.number;
+  invalidations = acknowledged_to beat.invalidations session.invalidations;
+  events = acknowledged_to beat.events session.events;
+  parked = Some (parked beat received);
+}
+
+-- something waits for the client's acknowledgement
+abbrev pub owes : {K : Type 0} → Session K → Bool
+owes session = is_owing session.invalidations || is_owing session.events
+
+-- the timeout is near: three seconds and a sixteenth of the lease
+abbrev pub nears_timeout : {K : Type 0} → ℕ → ℕ → Session K → Bool
+nears_timeout lease now session = nat_le (session.timeout - now) (3000 + lease / 16)
+
+-- a live session's parked Beat is to be answered
+abbrev pub is_due : {K : Type 0} → ℕ → ℕ → Session K → Bool
+is_due lease now session = option_map_or (λ beat. session.live && (owes session || nears_timeout lease now session)) session.parked false
+
+-- the rows may hold a session under a number that no client can have, and which never sends a Beat
+abbrev pub is_client_due : {K : Type 0} → ℕ → ℕ → ℕ → Session K → Bool
+is_client_due lease now client session = is_client_number client && is_due lease now session
+
+-- from the receipt of a message to a lease behind its answer
+abbrev pub offered_span : ℕ → ℕ → ℕ → ℕ
+offered_span lease received now = (now + lease) - received
+
+-- what the answer to a parked Beat offers
+abbrev pub offer_to : ℕ → ℕ → Parked → Offer
+offer_to lease now beat = record { number = beat.number; span = offered_span lease beat.received now }
+
+-- the parked Beat is answered: the session lives for a lease from now on
+abbrev pub answered : {K : Type 0} → ℕ → ℕ → Session K → Session K
+answered lease now session = option_map_or (λ beat. prolonged (now + lease) (record session { parked = None })) session.parked session
+
+-- ---- calls
+
+-- by the last call of the client: a new one comes, or the last one again, with its reply once there is one; an older one, and a new one while the last one
+-- waits, are refused
+abbrev pub kept_answer : {K : Type 0} → Option (Kept K) → ℕ → Result (Option (Kept K)) Fault
+kept_answer None number = Ok None
+kept_answer (Some kept) number =
+    if number == kept.number then Ok (Some kept)
+    else if nat_lt number kept.number then Err faults.Repeat
+    else if is_none kept.reply then Err faults.CallOutstanding
+    else Ok None
+
+abbrev pub keeping : {K : Type 0} → Kept K → Session K → Session K
+keeping kept session = record session { kept = Some kept }

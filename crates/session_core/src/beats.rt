@@ -1,0 +1,144 @@
+//! Beats.
+ghost use Rattle.std.specs.Prelude.{◌≡◌, ◌≤◌, if◌then◌else◌, Some, None, IfErr, OnOk, OnErr};
+ghost use Rattle.std.specs.Option.{option_map_or};
+ghost use Rattle.lease_core.specs.Lease.{IsMoment, longest_lease};
+ghost use Rattle.session_core.specs.Session.{live_beat_fault, beat_fault, beaten, is_client_due, prolonged, answered};
+
+use crate::records::{Offer, Parked, Session};
+use crate::sessions::Sessions;
+use node_core::Fault;
+use tags_cell::{Beat, ClientNumber};
+
+impl<K> Session<K> {
+    // Why a Beat of this live session is refused.
+    fn beat_fault(&self, beat: &Beat) -> Option<Fault>
+        ensures { result ≡ live_beat_fault self.now beat.now }
+    {
+        if beat.number.get() <= self.newest_beat {
+            return Some(Fault::Repeat);
+        }
+        if beat.invalidations > self.invalidations.issued {
+            return Some(Fault::BadAck(self.invalidations.issued));
+        }
+        if beat.events > self.events.issued {
+            return Some(Fault::BadAck(self.events.issued));
+        }
+        None
+    }
+
+    fn take_beat(&mut self, beat: &Beat, received: u64)
+        ensures { self.new ≡ beaten beat.now received self.old }
+    {
+        self.newest_beat = beat.number.get();
+        self.invalidations.acknowledged = self.invalidations.acknowledged.max(beat.invalidations);
+        self.events.acknowledged = self.events.acknowledged.max(beat.events);
+        self.parked = Some(Parked {
+            number: beat.number,
+            received,
+        });
+    }
+
+    // The parked Beat, if there is one, is answered.
+    fn end_beat(&mut self, until: u64)
+        ensures { self.new ≡ option_map_or (λ beat. prolonged until (record self.old { parked = None })) self.old.parked self.old }
+    {
+        if self.parked.is_some() {
+            self.parked = None;
+            self.timeout = self.timeout.max(until);
+        }
+    }
+}
+
+impl<K> Sessions<K> {
+    ghost use Rattle.session_core.specs.Sessions.{session_of, with_session, lowest, IsLowest, offer_of};
+
+    /// Why a Beat would be refused, if it would: the test that `beat` makes first. Takes no memory.
+    pub fn beat_fault(&self, beat: &Beat) -> Option<Fault>
+        ensures { result ≡ beat_fault (session_of self.now beat.now.client) beat.now }
+    {
+        match self.map.get(&beat.client.get()) {
+            None => Some(Fault::NoSession),
+            Some(session) => {
+                if session.live {
+                    session.beat_fault(beat)
+                } else {
+                    Some(Fault::NoSession)
+                }
+            }
+        }
+    }
+
+    /// A Beat that was received at `received` acknowledges what its client has processed, and waits for its answer in
+    /// the place of an older one. Takes no memory.
+    ///
+    /// Refused, in this order: NoSession where the client has no live session; Repeat where its number isn't above
+    /// that of the newest Beat taken in this epoch; BadAck, with the count issued, where a count is above what was
+    /// issued, invalidations first.
+    pub fn beat(&mut self, beat: &Beat, received: u64) -> Result<(), Fault>
+        ensures may { OnOk result (beat_fault (session_of self.old beat.now.client) beat.now ≡ None) }
+        ensures ok { OnOk result (self.new ≡ with_session self.old beat.now.client (beaten beat.now received)) }
+        ensures fault { IfErr result (λ e. beat_fault (session_of self.old beat.now.client) beat.now ≡ Some e) }
+        ensures err { OnErr result (self.new ≡ self.old) }
+    {
+        let client = beat.client.get();
+        if let Some(fault) = self.beat_fault(beat) {
+            return Err(fault);
+        }
+        if let Some(session) = self.map.get_mut(&client) {
+            session.take_beat(beat, received);
+        }
+        Ok(())
+    }
+
+    /// The lowest client whose parked Beat is to be answered: something waits for its acknowledgement, or its timeout
+    /// is near. Takes no memory.
+    pub fn due(&self, now: u64) -> Option<ClientNumber>
+        ensures value { result ≡ lowest self.now (is_client_due self.now.lease now) }
+        ensures lowest { IsLowest self.now (is_client_due self.now.lease now) result }
+    {
+        for (number, session) in self.map.iter() {
+            if let Some(client) = due_client(*number, session, self.lease, now) {
+                return Some(client);
+            }
+        }
+        None
+    }
+
+    /// What an answer at `now` to the client's parked Beat offers; None where none is parked. Takes no memory.
+    pub fn offer(&self, client: ClientNumber, now: u64) -> Option<Offer>
+        requires { IsMoment now }
+        ensures { result ≡ offer_of self.now client now }
+    {
+        let beat = self.map.get(&client.get())?.parked?;
+        Some(Offer {
+            number: beat.number,
+            span: (now + self.lease).saturating_sub(beat.received),
+        })
+    }
+
+    /// The client's parked Beat is answered at `now`: it waits no longer, and the session lives for a lease from now
+    /// on. Where none is parked nothing changes. Takes no memory.
+    pub fn answer(&mut self, client: ClientNumber, now: u64)
+        requires { IsMoment now }
+        ensures { self.new ≡ with_session self.old client (answered self.old.lease now) }
+    {
+        let until = now + self.lease;
+        let number = client.get();
+        if let Some(session) = self.map.get_mut(&number) {
+            session.end_beat(until);
+        }
+    }
+}
+
+// A client whose parked Beat is to be answered, by its number.
+fn due_client<K>(number: u64, session: &Session<K>, lease: u64, now: u64) -> Option<ClientNumber>
+    requires { lease ≤ longest_lease }
+    ensures { result ≡ (if is_client_due lease now number session.now then Some number else None) }
+{
+    let client = ClientNumber::new(number)?;
+    if session.is_due(lease, now) {
+        Some(client)
+    } else {
+        None
+    }
+}

@@ -1,0 +1,18 @@
+//! The sessions of a master: leases, Beats, what was issued and acknowledged, and the last call of each client.
+#![tactic(auto)]
+
+mod beats;
+mod calls;
+mod ends;
+mod issues;
+mod laws;
+mod records;
+mod sessions;
+mod starts;
+
+pub use laws::{
+    acknowledged_was_issued, last_call_is_kept, offer_is_covered, step_is_its_own,
+    timeout_never_moves_back,
+};
+pub use records::{Begun, Issued, Kept, Offer, Parked, Session, Tally};
+pub use sessions::Sessions;

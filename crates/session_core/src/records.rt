@@ -1,0 +1,124 @@
+//! What a master knows of a session.
+ghost use Rattle.std.specs.Prelude.{◌≡◌, ◌≤◌};
+ghost use Rattle.lease_core.specs.Lease.{longest_lease};
+ghost use Rattle.session_core.specs.Session.{is_owing, owes, nears_timeout, is_due, has_heard, is_expired};
+
+use names_cell::Principal;
+use tags_cell::MessageNumber;
+
+/// What a master issues to a session and the session acknowledges.
+#[derive(Clone, Copy, Debug, PartialEq, Eq)]
+pub enum Issued {
+    /// A name that the client is to let go of (Burrows 2006, section 2.7).
+    Invalidation,
+    /// A message about a handle (Burrows 2006, section 2.5).
+    Event,
+}
+
+/// How many were issued to a session in this epoch, numbered from 1, and up to which number it acknowledged them.
+#[derive(Clone, Copy, Debug, PartialEq, Eq)]
+pub struct Tally {
+    pub issued: u64,
+    pub acknowledged: u64,
+}
+
+impl Tally {
+    // Whether some are unacknowledged.
+    pub(crate) fn is_owing(self) -> bool
+        ensures { result ≡ is_owing self }
+    {
+        self.acknowledged < self.issued
+    }
+}
+
+/// A Beat that waits for its answer.
+#[derive(Clone, Copy, Debug)]
+pub struct Parked {
+    pub number: MessageNumber,
+    /// When the master received it, in milliseconds.
+    pub received: u64,
+}
+
+/// What the answer to a Beat offers its client.
+#[derive(Clone, Copy, Debug)]
+pub struct Offer {
+    /// The number of the Beat.
+    pub number: MessageNumber,
+    /// How long the client may count on its session, in milliseconds from when it sent the Beat (Gray and Cheriton
+    /// 1989, section 2).
+    pub span: u64,
+}
+
+/// What the answer to a Start offers its client.
+#[derive(Clone, Copy, Debug)]
+pub struct Begun {
+    /// Whether the session began with this Start, and so is to be committed.
+    pub is_new: bool,
+    /// How long the client may count on its session, in milliseconds from when it sent the Start.
+    pub span: u64,
+}
+
+/// The last call of a client, and its reply once there is one: the same call gets it again.
+#[derive(Debug, Drop)]
+pub struct Kept<K> {
+    pub number: MessageNumber,
+    /// None while the call waits.
+    pub reply: Option<K>,
+}
+
+/// A client's session as its master knows it (Burrows 2006, section 2.8). One that has ended stays recorded.
+#[derive(Debug, Drop)]
+pub struct Session<K> {
+    pub principal: Principal,
+    pub live: bool,
+    /// From then on the master may end it, in milliseconds by the master's clock.
+    pub timeout: u64,
+    /// The number of the newest Beat taken in this epoch; 0 before the first.
+    pub newest_beat: u64,
+    pub invalidations: Tally,
+    pub events: Tally,
+    pub parked: Option<Parked>,
+    pub kept: Option<Kept<K>>,
+}
+
+impl<K> Session<K> {
+    // Whether something waits for the client's acknowledgement.
+    pub(crate) fn owes(&self) -> bool
+        ensures { result ≡ owes self.now }
+    {
+        self.invalidations.is_owing() || self.events.is_owing()
+    }
+
+    // Whether the timeout is near, at which a Beat is answered even if nothing waits for the client.
+    fn nears_timeout(&self, lease: u64, now: u64) -> bool
+        requires { lease ≤ longest_lease }
+        ensures { result ≡ nears_timeout lease now self.now }
+    {
+        self.timeout.saturating_sub(now) <= 3000 + lease / 16
+    }
+
+    // Whether its Beat is to be answered.
+    pub(crate) fn is_due(&self, lease: u64, now: u64) -> bool
+        requires { lease ≤ longest_lease }
+        ensures { result ≡ is_due lease now self.now }
+    {
+        if self.parked.is_none() || !self.live {
+            return false;
+        }
+        self.owes() || self.nears_timeout(lease, now)
+    }
+
+    // Whether it has acknowledged its first event, or has ended.
+    pub(crate) fn has_heard(&self) -> bool
+        ensures { result ≡ has_heard self.now }
+    {
+        !self.live || self.events.acknowledged >= 1
+    }
+
+    // Whether the master may end it.
+    pub(crate) fn is_expired(&self, now: u64) -> bool
+        ensures { result ≡ is_expired now self.now }
+    {
+        self.live && now >= self.timeout
+    }
+}

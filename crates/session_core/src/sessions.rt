@@ -1,0 +1,125 @@
+//! All sessions of a master.
+ghost use Rattle.std.specs.Prelude.{◌≡◌, ◌≤◌, [], IfOk, OnOk, OnErr};
+ghost use Rattle.std.specs.Option.{option_copied};
+ghost use Rattle.lease_core.specs.Lease.{IsMoment, least_lease, longest_lease};
+ghost use Rattle.session_core.specs.Session.{session_until, recovered_session};
+
+use crate::records::{Session, Tally};
+use lease_core::RECOVERY_TIMEOUT;
+use names_cell::Principal;
+use std::alloc::{AllocError, Global};
+use std::collections::BTreeMap;
+use std::marker::Model;
+
+/// All sessions of a master, by the numbers of their clients, with the master's lease in milliseconds. `K` is what it
+/// keeps of a call's answer. To a contract, a lease and the list of the sessions in order of the numbers. Memory is
+/// taken where a session is added, and nowhere else.
+#[derive(Drop)]
+pub struct Sessions<K> {
+    pub(crate) lease: u64,
+    pub(crate) map: BTreeMap<u64, Session<K>>,
+}
+
+impl<K> Model for Sessions<K> {
+    ghost use Rattle.std.specs.Prelude.{◌≤◌};
+    ghost use Rattle.lease_core.specs.Lease.{longest_lease};
+    ghost use Rattle.session_core.specs.Sessions.{SessionTable};
+
+    ghost Value = { SessionTable K };
+
+    ghost view = { λ s. record { lease = s.lease; sessions = s.map.entries } };
+
+    ghost invariant = { λ s. s.lease ≤ longest_lease };
+}
+
+impl<K> Sessions<K> {
+    ghost use Rattle.session_core.specs.Sessions.{session_of, is_live, with_new};
+
+    /// No sessions. The lease is in milliseconds.
+    pub fn new(alloc: Global, lease: u64) -> Sessions<K>
+        requires { (least_lease ≤ lease) × (lease ≤ longest_lease) }
+        ensures { result ≡ record { lease = lease; sessions = [] } }
+    {
+        Sessions {
+            lease,
+            map: BTreeMap::new(alloc),
+        }
+    }
+
+    /// A client's session, also one that has ended. Takes no memory.
+    pub fn get(&self, client: u64) -> Option<&Session<K>>
+        ensures { option_copied result ≡ session_of self.now client }
+    {
+        self.map.get(&client)
+    }
+
+    /// The sessions in order of their clients' numbers, for loops and chains.
+    pub fn as_map(&self) -> &BTreeMap<u64, Session<K>>
+        ensures { result.now.entries ≡ self.now.sessions }
+    {
+        &self.map
+    }
+
+    /// Whether a client has a session that hasn't ended. Takes no memory.
+    pub fn is_live(&self, client: u64) -> bool
+        ensures { result ≡ is_live self.now client }
+    {
+        match self.map.get(&client) {
+            None => false,
+            Some(session) => session.live,
+        }
+    }
+}
+
+impl<K> Sessions<K> {
+    ghost use Rattle.session_core.specs.Sessions.{all_heard};
+
+    /// Whether each live session has acknowledged its first event, by which a new master tells of itself. Takes no
+    /// memory.
+    pub fn all_heard(&self) -> bool
+        ensures { result ≡ all_heard self.now }
+    {
+        self.map.iter().all(|(_, session)| session.has_heard())
+    }
+}
+
+impl<K: Drop> Sessions<K> {
+    ghost use Rattle.session_core.specs.Sessions.{with_new};
+
+    /// A new master, come up at `now`, takes over a session of the rows.
+    pub fn recover(
+        &mut self,
+        client: u64,
+        principal: Principal,
+        live: bool,
+        now: u64,
+    ) -> Result<(), AllocError>
+        requires { IsMoment now }
+        ensures ok { OnOk result (self.new ≡ with_new self.old client (recovered_session principal live now)) }
+        ensures err { OnErr result (self.new ≡ self.old) }
+    {
+        let session = session_until(principal, live, now + RECOVERY_TIMEOUT);
+        drop(self.map.insert(client, session)?);
+        Ok(())
+    }
+}
+
+// A session of which this master knows no Beat and no call.
+pub(crate) fn session_until<K>(principal: Principal, live: bool, timeout: u64) -> Session<K>
+    ensures { result ≡ session_until principal live timeout }
+{
+    let nothing = Tally {
+        issued: 0,
+        acknowledged: 0,
+    };
+    Session {
+        principal,
+        live,
+        timeout,
+        newest_beat: 0,
+        invalidations: nothing,
+        events: nothing,
+        parked: None,
+        kept: None,
+    }
+}
