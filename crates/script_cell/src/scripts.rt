@@ -30,7 +30,7 @@ pub fn script<R: Records + Drop, I: Read + Drop, W: Write>(
     mut errors: impl Write + Drop,
 ) -> u8
     ensures status { IsStatus result }
-    ensures written { result ≡ 0 → Wrote (IsOfScript (I.remaining reader) (opened (R.cell records) (R.rows records) (R.may_leave records) (R.refusals records) settings.now.lease)) (W.contents writer.old) (W.contents writer.new) }
+    ensures written { result ≡ 0 → Wrote (IsOfScript (I.remaining reader) (opened (R.store records) settings.now.lease)) (W.contents writer.old) (W.contents writer.new) }
 {
     match run(alloc, settings, records, reader, writer) {
         Ok(()) => 0,
@@ -57,7 +57,7 @@ fn run<R: Records + Drop, I: Read + Drop, W: Write>(
     reader: I,
     writer: &mut W,
 ) -> Result<(), Stop>
-    ensures { OnOk result (Wrote (IsOfScript (I.remaining reader) (opened (R.cell records) (R.rows records) (R.may_leave records) (R.refusals records) settings.now.lease)) (W.contents writer.old) (W.contents writer.new)) }
+    ensures { OnOk result (Wrote (IsOfScript (I.remaining reader) (opened (R.store records) settings.now.lease)) (W.contents writer.old) (W.contents writer.new)) }
 {
     let mut lines = ScriptLines::new(alloc, reader)?;
     let mut world = World::new(alloc, records, settings);

@@ -1,5 +1,5 @@
 -- Why each applied change is the effect of a call that was sent and taken.
-use Rattle.std.proofs.Common.{◌≡◌, ℕ, ◌+◌, List, [], ◌∷◌, ◌++◌, Option, Some, None, refl, sym, ap, ◌∙◌, inl, inr, append_assoc}
+use Rattle.std.proofs.Common.{◌≡◌, ℕ, ◌+◌, List, [], ◌∷◌, ◌++◌, Option, Some, None, refl, sym, ap, ◌∙◌, inl, inr, append_assoc, subst}
 use Rattle.std.specs.Prelude.{◌⊎◌}
 use Rattle.std.specs.Option.{option_map}
 use Rattle.std.proofs.lemmas.List.{append-nil}
@@ -14,25 +14,27 @@ use Rattle.tags_cell.specs.declared.requests.Request.TheVariants as requests
 use Rattle.tags_cell.specs.declared.requests.CallMessage.{CallMessage}
 use Rattle.tags_cell.specs.declared.outs.CallResult.{CallResult}
 use Rattle.cell_core.specs.declared.handles.Note.{Note}
-use Rattle.cell_core.specs.declared.pending.Pending.{Pending}
+use Rattle.gate_core.specs.declared.pending.Waiting.{Waiting}
+use Rattle.cell_core.specs.declared.pending.Task.{Task}
 use Rattle.cell_core.specs.declared.pending.Work.{Work}
 use Rattle.cell_core.specs.declared.pending.Work.TheVariants as works
 use Rattle.cell_core.specs.State.{MasterState}
 use Rattle.cell_core.specs.Step.{with_note, noted}
 use Rattle.cell_core.specs.Effect.{effect}
-use Rattle.cell_core.specs.Cases.{TakeCase, taken_by, SweepCase, swept_by, ended}
+use Rattle.cell_core.specs.Cases.{TakeCase, taken_by}
+use Rattle.over_core.specs.SweepCase.{IsTurn, SweepCase, swept_by, rest, ended, mapped}
 use Rattle.cell_core.specs.Cases.TakeCase.{StartQueued, Answered, Waits}
-use Rattle.cell_core.specs.Cases.SweepCase.{Quiet, TurnedAway, StartedAgain, Started as StartedFirst, Ended, Applied}
+use Rattle.over_core.specs.SweepCase.SweepCase.{Quiet, TurnedAway, StartedAgain, Started as StartedFirst, Ended, Applied}
 use Rattle.over_core.specs.Kept.{IsKept}
 use Rattle.world_cell.specs.declared.steps.Step.{Step}
 use Rattle.world_cell.specs.declared.steps.Step.TheVariants.{Take, Sweep}
 use Rattle.world_cell.specs.Messages.{call_of}
 use Rattle.world_cell.specs.World.{WorldState, WorldView}
-use Rattle.world_cell.specs.Consistent.{IsOfMessage, Agrees, IsConsistent}
+use Rattle.world_cell.specs.Consistent.{Agrees, IsConsistent}
 use Rattle.world_cell.specs.Runs.{IsMade, Does, Run, map_at, epoch_at, change_of, IsTaken, HasWaited, IsOfCall}
 use Rattle.world_cell.proofs.ClientCases.{IsSilent}
 use Rattle.world_cell.proofs.PartsOfRuns.{run_push}
-use Rattle.world_cell.proofs.MasterFits.{first_sent}
+use Rattle.world_cell.proofs.MasterFits.{waits_as, turn_sent}
 use Rattle.world_cell.proofs.WorldCases.{IsTake, IsSweep, WorldCase, world_case}
 use Rattle.world_cell.proofs.WorldCases.WorldCase.{ComesUp, Joins, Calls, Starts, Acts, Grants, Takes, Sweeps}
 use Rattle.world_cell.proofs.ConsistentSteps.{noted_fits}
@@ -91,13 +93,13 @@ abbrev IsCalled : Ground → ℕ → ℕ → ℕ → Work → Type 0
 IsCalled g epoch client number (works.Starts principal) = Unit {0}
 IsCalled g epoch client number (works.Calls call) = WasTaken g epoch client number call
 
-abbrev AreCalled : Ground → ℕ → List Pending → Type 0
+abbrev AreCalled : Ground → ℕ → List (Waiting Task) → Type 0
 AreCalled g epoch [] = Unit {0}
-AreCalled g epoch (p ∷ ps) = IsCalled g epoch p.client p.number p.work × AreCalled g epoch ps
+AreCalled g epoch (w ∷ ws) = IsCalled g epoch w.change.body.client w.change.body.number w.change.body.work × AreCalled g epoch ws
 
 abbrev Queued : Ground → Option MasterState → Type 0
 Queued g None = Unit {0}
-Queued g (Some s) = AreCalled g s.epoch s.queue
+Queued g (Some s) = AreCalled g s.epoch s.gate.waiting
 
 -- the steps of the past told these lines and led to this world
 record Stands (g : Ground) : Type 0 where
@@ -134,19 +136,19 @@ module _ (g : Ground) (step : Step) (printed : List Line) (new : WorldView) (doe
   work_later epoch client number (works.Calls call) (inl waited) = inl waited
   work_later epoch client number (works.Calls call) (inr taken) = inr (taken_later epoch client number call taken)
 
-  calls_later : (epoch : ℕ) (queue : List Pending) → AreCalled g epoch queue → AreCalled (ground_after g step printed new) epoch queue
+  calls_later : (epoch : ℕ) (queue : List (Waiting Task)) → AreCalled g epoch queue → AreCalled (ground_after g step printed new) epoch queue
   calls_later epoch [] called = tt
-  calls_later epoch (p ∷ ps) called = (work_later epoch p.client p.number p.work called.0, calls_later epoch ps called.1)
+  calls_later epoch (w ∷ ws) called = (work_later epoch w.change.body.client w.change.body.number w.change.body.work called.0, calls_later epoch ws called.1)
 
   queued_later : (m : Option MasterState) → Queued g m → Queued (ground_after g step printed new) m
   queued_later None called = tt
-  queued_later (Some s) called = calls_later s.epoch s.queue called
+  queued_later (Some s) called = calls_later s.epoch s.gate.waiting called
 
-calls_push : (g : Ground) (epoch : ℕ) (ps : List Pending) (p : Pending) → AreCalled g epoch ps → IsCalled g epoch p.client p.number p.work → AreCalled g epoch (ps ++ p ∷ [])
-calls_push g epoch [] p h k = (k, tt)
-calls_push g epoch (x ∷ xs) p h k = (h.0, calls_push g epoch xs p h.1 k)
+calls_push : (g : Ground) (epoch : ℕ) (ws : List (Waiting Task)) (w : Waiting Task) → AreCalled g epoch ws → IsCalled g epoch w.change.body.client w.change.body.number w.change.body.work → AreCalled g epoch (ws ++ w ∷ [])
+calls_push g epoch [] w h k = (k, tt)
+calls_push g epoch (x ∷ xs) w h k = (h.0, calls_push g epoch xs w h.1 k)
 
-note_calls : (g : Ground) (s : MasterState) (note : Option Note) → AreCalled g s.epoch s.queue → AreCalled g (with_note s note).epoch (with_note s note).queue
+note_calls : (g : Ground) (s : MasterState) (note : Option Note) → AreCalled g s.epoch s.gate.waiting → AreCalled g (with_note s note).epoch (with_note s note).gate.waiting
 note_calls g s None h = h
 note_calls g s (Some note) h = h
 
@@ -157,36 +159,42 @@ epoch_note s (Some note) = refl
 -- ---- a message is taken
 
 -- only a call of the master's own epoch may wait, and it was taken
-take_calls : (g : Ground) (s : MasterState) (request : Request) (c : TakeCase s request) → AreCalled g s.epoch s.queue → ((message : CallMessage) → request ≡ requests.Call message → message.epoch ≡ s.epoch → WasTaken g s.epoch message.client message.number message.call) → AreCalled g (taken_by s request c).0.epoch (taken_by s request c).0.queue
+take_calls : (g : Ground) (s : MasterState) (request : Request) (c : TakeCase s request) → AreCalled g s.epoch s.gate.waiting → ((message : CallMessage) → request ≡ requests.Call message → message.epoch ≡ s.epoch → WasTaken g s.epoch message.client message.number message.call) → AreCalled g (taken_by s request c).0.epoch (taken_by s request c).0.gate.waiting
 take_calls g s request (StartQueued start is may room) h k =
-    calls_push g s.epoch s.queue (record { client = start.client; number = start.number; work = works.Starts start.principal }) h tt
+    calls_push g s.epoch s.gate.waiting (waits_as (s.gate.pushed + 1) [] (record { client = start.client; number = start.number; work = works.Starts start.principal })) h tt
 take_calls g s request (Answered message note answer new answered) h k = note_calls g s note h
-take_calls g s request (Waits message note new admitted) h k =
+take_calls g s request (Waits message note touched new admitted) h k =
     let t = with_note s note in
     let taken : WasTaken g t.epoch message.client message.number message.call = rw (epoch_note s note) (k message new.heard.is_call new.heard.epoch) in
-    calls_push g t.epoch t.queue (record { client = message.client; number = message.number; work = works.Calls message.call }) (note_calls g s note h) taken
+    calls_push g t.epoch t.gate.waiting (waits_as (t.gate.pushed + 1) touched (record { client = message.client; number = message.number; work = works.Calls message.call })) (note_calls g s note h) taken
 take_calls g s request _ h k = h
 
 -- ---- a sweep
 
-rest_calls : (g : Ground) (epoch : ℕ) (queue : List Pending) (p : Pending) (rest : List Pending) → queue ≡ p ∷ rest → AreCalled g epoch queue → IsCalled g epoch p.client p.number p.work × AreCalled g epoch rest
-rest_calls g epoch queue p rest is h = rw is at h
+parted_calls : (g : Ground) (epoch : ℕ) (front : List (Waiting Task)) (w : Waiting Task) (back : List (Waiting Task)) → AreCalled g epoch (front ++ w ∷ back) → IsCalled g epoch w.change.body.client w.change.body.number w.change.body.work × AreCalled g epoch (front ++ back)
+parted_calls g epoch [] w back h = (h.0, h.1)
+parted_calls g epoch (x ∷ front) w back h = let t = parted_calls g epoch front w back h.1 in (t.0, (h.0, t.1))
 
-ended_calls : (g : Ground) (s : MasterState) (p : Pending) (rest : List Pending) (note : Option Note) (answer : CallResult) → AreCalled g s.epoch rest → AreCalled g (ended s p rest note answer).epoch (ended s p rest note answer).queue
-ended_calls g s p rest None answer h = h
-ended_calls g s p rest (Some note) answer h = h
+-- the change that has its turn, and the others
+turn_calls : (g : Ground) (s : MasterState) (front : List (Waiting Task)) (task : Task) (back : List (Waiting Task)) → IsTurn s front task back → AreCalled g s.epoch s.gate.waiting → IsCalled g s.epoch task.client task.number task.work × AreCalled g s.epoch (front ++ back)
+turn_calls g s front task back turn h = parted_calls g s.epoch front (waits_as turn.number turn.touched task) back (subst (λ ws. AreCalled g s.epoch ws) turn.waited h)
 
-sweep_calls : (g : Ground) (s : MasterState) (c : SweepCase s) → AreCalled g s.epoch s.queue → AreCalled g (swept_by s c).0.epoch (swept_by s c).0.queue
+ended_calls : (g : Ground) (s : MasterState) (task : Task) (note : Option Note) (answer : CallResult) → AreCalled g s.epoch s.gate.waiting → AreCalled g (ended s task note answer).epoch (ended s task note answer).gate.waiting
+ended_calls g s task None answer h = h
+ended_calls g s task (Some note) answer h = h
+
+sweep_calls : (g : Ground) (s : MasterState) (c : SweepCase s) → AreCalled g s.epoch s.gate.waiting → AreCalled g (swept_by s c).0.epoch (swept_by s c).0.gate.waiting
 sweep_calls g s (Quiet none) h = h
-sweep_calls g s (TurnedAway p rest principal is work may) h = (rest_calls g s.epoch s.queue p rest is h).1
-sweep_calls g s (StartedAgain p rest principal is work may live) h = (rest_calls g s.epoch s.queue p rest is h).1
-sweep_calls g s (StartedFirst p rest principal is work may live) h = (rest_calls g s.epoch s.queue p rest is h).1
-sweep_calls g s (Ended p rest call note answer is work made) h = ended_calls g s p rest note answer (rest_calls g s.epoch s.queue p rest is h).1
-sweep_calls g s (Applied p rest call note change answer is work made) h = ended_calls g s p rest note answer (rest_calls g s.epoch s.queue p rest is h).1
+sweep_calls g s (TurnedAway front back task principal turn work may) h = (turn_calls g s front task back turn h).1
+sweep_calls g s (StartedAgain front back task principal turn work may live) h = (turn_calls g s front task back turn h).1
+sweep_calls g s (StartedFirst front back task principal turn work may live) h = (turn_calls g s front task back turn h).1
+sweep_calls g s (Ended front back task call note answer turn work made) h = ended_calls g (rest s front back) task note answer (turn_calls g s front task back turn h).1
+sweep_calls g s (Applied front back task call note change answer turn work made) h =
+    ended_calls g (mapped (rest s front back) change) task note answer (turn_calls g s front task back turn h).1
 
 -- ---- a step
 
-queued_at : (g : Ground) (m : Option MasterState) (s : MasterState) → m ≡ Some s → Queued g m → AreCalled g s.epoch s.queue
+queued_at : (g : Ground) (m : Option MasterState) (s : MasterState) → m ≡ Some s → Queued g m → AreCalled g s.epoch s.gate.waiting
 queued_at g m s e h = rw e at h
 
 queued_as : (g : Ground) (m n : Option MasterState) → m ≡ n → Queued g n → Queued g m
@@ -221,8 +229,8 @@ module _ (g : Ground) (step : Step) (new : WorldView) (printed : List Line) (h :
   same_queue : new.world.master ≡ g.here.world.master → Queued next new.world.master
   same_queue e = queued_as next new.world.master g.here.world.master e (queued_later g step printed new does fits g.here.world.master h.queue)
 
-  calls_then : (s : MasterState) → g.here.world.master ≡ Some s → AreCalled next s.epoch s.queue
-  calls_then s up = calls_later g step printed new does fits s.epoch s.queue (queued_at g g.here.world.master s up h.queue)
+  calls_then : (s : MasterState) → g.here.world.master ≡ Some s → AreCalled next s.epoch s.gate.waiting
+  calls_then s up = calls_later g step printed new does fits s.epoch s.gate.waiting (queued_at g g.here.world.master s up h.queue)
 
   made_queue : IsMade g.here step new printed → WorldCase g.here.world step new.world printed → Queued next new.world.master
   made_queue made (ComesUp u) = queued_as next new.world.master _ (ap (λ (w : WorldState). w.master) u.is) tt
@@ -269,28 +277,37 @@ agreed w m s e h = rw e at h
 -- a change that a sweep tells of comes first, and is what the call whose turn it is does
 record IsOfTurn (s : MasterState) (before : List Line) (client number : ℕ) (change : Mod) : Type 0 where
   first : before ≡ []
+  front : List (Waiting Task)
+  back : List (Waiting Task)
+  task : Task
+  turn : IsTurn s front task back
   call : Call
-  rest : List Pending
-  is : s.queue ≡ record { client = client; number = number; work = works.Calls call } ∷ rest
+  work : task.work ≡ works.Calls call
+  own : task.client ≡ client
+  same : task.number ≡ number
   is_effect : change_of (effect s client number call) ≡ Some change
 
 of_turn : (s : MasterState) (c : SweepCase s) (before told : List Line) (client number : ℕ) (change : Mod) → (swept_by s c).1.lines ≡ before ++ lines.Applied client number change ∷ told → IsOfTurn s before client number change
-of_turn s (Applied p rest call note made answer is work does) before told client number change e =
-    let t = one_split (lines.Applied p.client p.number made.change) before told (lines.Applied client number change) e in
-    let line : lines.Applied p.client p.number made.change ≡ lines.Applied client number change = t.1 in
-    let c : p.client ≡ client = cc in
-    let n : p.number ≡ number = cc in
+of_turn s (Applied front back task call note made answer turn work does) before told client number change e =
+    let t = one_split (lines.Applied task.client task.number made.change) before told (lines.Applied client number change) e in
+    let line : lines.Applied task.client task.number made.change ≡ lines.Applied client number change = t.1 in
+    let c : task.client ≡ client = cc in
+    let n : task.number ≡ number = cc in
     let m : made.change ≡ change = cc in
-    let pending : p ≡ record { client = p.client; number = p.number; work = works.Calls call } = ap (λ w. record p { work = w }) work in
     record {
       first = t.0;
+      front = front;
+      back = back;
+      task = task;
+      turn = turn;
       call = call;
-      rest = rest;
-      is = rw (← c, ← n) (is ∙ ap (λ q. q ∷ rest) pending);
+      work = work;
+      own = c;
+      same = n;
       is_effect = rw (← c, ← n) (ap change_of does ∙ ap (λ x. Some x) m);
     }
-of_turn s (StartedFirst p rest principal is work may live) before told client number change e =
-    absurd (silent_split (lines.Started p.client ∷ []) before told client number change (tt, tt) e)
+of_turn s (StartedFirst front back task principal turn work may live) before told client number change e =
+    absurd (silent_split (lines.Started task.client ∷ []) before told client number change (tt, tt) e)
 of_turn s _ before told client number change e = absurd (no_split before told (lines.Applied client number change) e)
 
 of_sweep : (g : Ground) (step : Step) (next : WorldView) (printed before told later : List Line) (client number : ℕ) (change : Mod) (steps : List Step) (rest : List Line) (new : WorldView) → Stands g → (t : IsSweep g.here.world step next.world printed) → IsMade g.here step next printed → Run next steps later new → printed ≡ before ++ lines.Applied client number change ∷ told → rest ≡ told ++ later → IsOfCall g.old (g.past ++ step ∷ steps) (g.told ++ before) client number change rest new
@@ -317,8 +334,12 @@ of_sweep g step next printed before told later client number change steps rest n
       nodes = kept.nodes ∙ tells.is_map;
       epoch = kept.epoch ∙ tells.is_epoch;
       call = turn.call;
-      sent = (first_sent g.here.world.messages s (record { client = client; number = number; work = works.Calls turn.call }) turn.rest turn.is (noted_fits g.here.world h.consistent t.master t.is_up)).0;
-      taken = (rest_calls g t.master.epoch t.master.queue (record { client = client; number = number; work = works.Calls turn.call }) turn.rest turn.is (queued_at g g.here.world.master t.master t.is_up h.queue)).0;
+      sent = subst (λ k. call_of g.here.world.messages client k ≡ Some (record { client = client; epoch = t.master.epoch; number = k; call = turn.call })) turn.same
+          (subst (λ k. call_of g.here.world.messages k turn.task.number ≡ Some (record { client = k; epoch = t.master.epoch; number = turn.task.number; call = turn.call })) turn.own
+          (turn_sent g.here.world.messages s turn.front turn.task turn.back turn.turn (noted_fits g.here.world h.consistent t.master t.is_up) turn.call turn.work));
+      taken = subst (λ k. WasTaken g t.master.epoch client k turn.call) turn.same
+          (subst (λ k. WasTaken g t.master.epoch k turn.task.number turn.call) turn.own
+          (subst (λ x. IsCalled g t.master.epoch turn.task.client turn.task.number x) turn.work (turn_calls g s turn.front turn.task turn.back turn.turn (queued_at g g.here.world.master t.master t.is_up h.queue)).0));
       is_effect = ap change_of (sym (noted_effect t.master g.here.world.clock client number turn.call)) ∙ turn.is_effect;
     })
 
@@ -353,18 +374,27 @@ run_on g (step ∷ steps) printed new h run before rest client number change e =
     ])
 
 -- what waits in a master waited there from the beginning
-have_waited : (g : Ground) (s : MasterState) → g.old.world.master ≡ Some s → (front queue : List Pending) → s.queue ≡ front ++ queue → AreCalled g s.epoch queue
+have_waited : (g : Ground) (s : MasterState) → g.old.world.master ≡ Some s → (front queue : List (Waiting Task)) → s.gate.waiting ≡ front ++ queue → AreCalled g s.epoch queue
 have_waited g s up front [] is = tt
-have_waited g s up front (p ∷ ps) is = (it_waited g s up front p ps p.work refl is, have_waited g s up (front ++ p ∷ []) ps (is ∙ sym (append_assoc front (p ∷ []) ps)))
+have_waited g s up front (w ∷ ws) is = (it_waited g s up front w ws w.change.body.work refl is, have_waited g s up (front ++ w ∷ []) ws (is ∙ sym (append_assoc front (w ∷ []) ws)))
   where
-    it_waited : (g : Ground) (s : MasterState) → g.old.world.master ≡ Some s → (front : List Pending) (p : Pending) (ps : List Pending) (work : Work) → p.work ≡ work → s.queue ≡ front ++ p ∷ ps → IsCalled g s.epoch p.client p.number work
-    it_waited g s up front p ps (works.Starts principal) work is = tt
-    it_waited g s up front p ps (works.Calls call) work is =
-        inl (record { master = s; is_up = up; of_epoch = refl; front = front; back = ps; waits = is ∙ ap (λ w. front ++ record p { work = w } ∷ ps) work })
+    it_waited : (g : Ground) (s : MasterState) → g.old.world.master ≡ Some s → (front : List (Waiting Task)) (w : Waiting Task) (ws : List (Waiting Task)) (work : Work) → w.change.body.work ≡ work → s.gate.waiting ≡ front ++ w ∷ ws → IsCalled g s.epoch w.change.body.client w.change.body.number work
+    it_waited g s up front w ws (works.Starts principal) work is = tt
+    it_waited g s up front w ws (works.Calls call) work is =
+        inl (record {
+          master = s;
+          is_up = up;
+          of_epoch = refl;
+          front = front;
+          back = ws;
+          turn = w.number;
+          touched = w.change.touched;
+          waits = is ∙ ap (λ x. front ++ waits_as w.number w.change.touched (record w.change.body { work = x }) ∷ ws) work;
+        })
 
 first_queue : (g : Ground) (m : Option MasterState) → g.old.world.master ≡ m → Queued g m
 first_queue g None up = tt
-first_queue g (Some s) up = have_waited g s up [] s.queue refl
+first_queue g (Some s) up = have_waited g s up [] s.gate.waiting refl
 
 -- each change that the lines show is the effect of a call that was sent and taken
 pub run_calls : (old : WorldView) (steps : List Step) (printed : List Line) (new : WorldView) → Run old steps printed new → IsConsistent old.world → (before rest : List Line) (client number : ℕ) (change : Mod) → printed ≡ before ++ lines.Applied client number change ∷ rest → IsOfCall old steps before client number change rest new

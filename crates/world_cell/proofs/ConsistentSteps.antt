@@ -23,18 +23,17 @@ use Rattle.tags_cell.specs.declared.requests.CallMessage.{CallMessage}
 use Rattle.tags_cell.specs.declared.outs.Out.{Out}
 use Rattle.tags_cell.specs.declared.outs.Out.TheVariants as outs
 use Rattle.tags_cell.specs.declared.outs.Started.{Started}
-use Rattle.tags_cell.specs.declared.outs.CallResult.{CallResult}
+use Rattle.tags_cell.specs.declared.outs.Reply.{Reply}
 use Rattle.cell_core.specs.declared.pending.Kept.{Kept}
 use Rattle.cell_core.specs.State.{MasterState, master_of}
-use Rattle.cell_core.specs.Step.{kept_of, repeated_result, noted}
-use Rattle.cell_core.specs.Sweep.{edit_of}
-use Rattle.cell_core.specs.Cases.{TakeCase, taken_by, SweepCase, swept_by, swept_edits}
+use Rattle.cell_core.specs.Step.{kept_of, repeated_reply, noted}
+use Rattle.cell_core.specs.Deeds.{edit_of}
+use Rattle.cell_core.specs.Cases.{TakeCase, taken_by}
+use Rattle.over_core.specs.SweepCase.{SweepCase, swept_by, swept_edits}
 use Rattle.cell_core.specs.Cases.TakeCase.{Repeated, StartQueued, Waits}
-use Rattle.cell_core.specs.Cases.SweepCase.{Quiet, StartedAgain, Started as StartedFirst, Applied}
+use Rattle.over_core.specs.SweepCase.SweepCase.{Quiet, StartedAgain, Started as StartedFirst, Applied}
 use Rattle.over_core.specs.Kept.{IsKept}
 use Rattle.over_core.specs.Up.{up_edits}
-use Rattle.client_core.specs.declared.sessions.Session.{Session}
-use Rattle.client_core.specs.declared.sessions.Session.TheVariants as sessions
 use Rattle.client_core.specs.State.{ClientState}
 use Rattle.world_cell.specs.declared.steps.Step.{Step}
 use Rattle.world_cell.specs.declared.steps.Step.TheVariants as steps
@@ -45,7 +44,7 @@ use Rattle.world_cell.specs.declared.seats.Seat.{Seat}
 use Rattle.world_cell.specs.Seats.{Clients, new_seat}
 use Rattle.world_cell.specs.Messages.{request_at, out_at, call_of}
 use Rattle.world_cell.specs.World.{WorldState, WorldView, seat_of, with_client, sends, new_world, world_step, world_sweep, without_quiet, IsLeft}
-use Rattle.world_cell.specs.Consistent.{IsOfPast, IsSeated, HasSent, FitsMessages, Agrees, Fits, IsConsistent}
+use Rattle.world_cell.specs.Consistent.{IsSeated, HasSent, FitsMessages, Agrees, Fits, IsConsistent}
 use Rattle.world_cell.proofs.ClientCases.{Follows, SendsCall, IsGranted}
 use Rattle.world_cell.proofs.MessagesGrow.{none_sent, none_out, request_more, out_more, call_stays, call_more, call_new, no_call, no_request, one_call, its_call, one_request, one_no_out, out_among}
 use Rattle.world_cell.proofs.MasterFits.{same, other, fits_stays, take_fits, sweep_fits}
@@ -57,6 +56,9 @@ some_same a b h = cc
 
 least : (n : ℕ) → n ≤ n
 least n = omega arith
+
+zero_least : (n : ℕ) → 0 ≤ n
+zero_least n = omega arith
 
 -- ---- what only grows
 
@@ -169,10 +171,6 @@ outs_fresh old new sent e grants = record {
 
 -- ---- clients
 
-past_later : (session : Session) (old new : ℕ) → IsOfPast old session → old ≤ new → IsOfPast new session
-past_later (sessions.Live epoch) old new h k = omega arith
-past_later _ old new h k = tt
-
 same_clients : (old new : WorldState) → new.clients ≡ old.clients → old.rows.epoch ≤ new.rows.epoch → Later old new
 same_clients old new e epoch = record {
   clients = λ client seat is. record { seat = seat; there = subst (λ (c : Clients). lookup (is_at (nat_cmp client)) c ≡ Some seat) (sym e) is; more = least seat.client.calls };
@@ -183,7 +181,8 @@ same_seats : (old new : WorldState) → IsConsistent old → new.clients ≡ old
 same_seats old new h e epoch number seat is =
     let k : seat_of old number ≡ Some seat = subst (λ (c : Clients). lookup (is_at (nat_cmp number)) c ≡ Some seat) e is in
     let t = h.clients number seat k in
-    record { own = t.own; past = past_later seat.client.session old.rows.epoch new.rows.epoch t.past epoch }
+    let past = t.past in
+    record { own = t.own; past = omega arith }
 
 module _ (w : WorldState) (number : ℕ) (seat : Seat) (client : ClientState) (found : seat_of w number ≡ Some seat) where
   -- the client's own seat, and any other
@@ -252,7 +251,7 @@ module _ (w : WorldState) (h : IsConsistent w) where
             let n : q ≡ number = same q number e in
             let i : seat_of new number ≡ Some x = rw n at is in
             let y : new_seat number principal ≡ x = some_same (new_seat number principal) x (sym own ∙ i) in
-            rw (n, ← y) (record { own = refl; past = tt }))
+            rw (n, ← y) (record { own = refl; past = zero_least w.rows.epoch }))
         | false ↦ (λ e. h.clients q x (sym (apart q (other q number e)) ∙ is))
       ]) refl)
       (fits_more w new [] w.master (sym (append-nil w.messages)) h.fits) agrees
@@ -263,7 +262,7 @@ module _ (w : WorldState) (h : IsConsistent w) where
 
     follows_seated : Follows seat.client client → (q : ℕ) (x : Seat) → seat_of (with_client w number seat client) q ≡ Some x → IsSeated w.rows.epoch q x
     follows_seated f =
-        each_seat w number seat client found (λ q x. IsSeated w.rows.epoch q x) (record { own = f.own ∙ seated.own; past = f.past w.rows.epoch seated.past }) h.clients
+        each_seat w number seat client found (λ q x. IsSeated w.rows.epoch q x) (record { own = f.own ∙ seated.own; past = rw f.epoch seated.past }) h.clients
 
     pub follows_later : client.calls ≡ seat.client.calls → Later w (with_client w number seat client)
     follows_later e = record { clients = later_seat w number seat client found (omega arith); epoch = least w.rows.epoch }
@@ -282,7 +281,7 @@ module _ (w : WorldState) (h : IsConsistent w) where
     grant_holds : (at : ℕ) (started : Started) → out_at w.messages at ≡ Some (outs.Started started) → IsGranted seat.client client started → Becomes (with_client w number seat client)
     grant_holds at started sent g agrees =
         let new = with_client w number seat client in
-        let past : IsOfPast w.rows.epoch client.session = rw g.session (h.started at started sent) in
+        let past : client.epoch ≤ w.rows.epoch = rw g.epoch (h.started at started sent) in
         all_consistent w new [] h (follows_later g.calls) (none_fresh w new refl)
         (each_seat w number seat client found (λ q x. IsSeated w.rows.epoch q x) (record { own = g.own ∙ seated.own; past = past }) h.clients)
         (fits_more w new [] w.master (sym (append-nil w.messages)) h.fits) agrees
@@ -309,8 +308,8 @@ module _ (w : WorldState) (h : IsConsistent w) where
         let calls = m.calls in
         let is_next = m.number in
         let n : call.client ≡ number = m.client ∙ seated.own in
-        let past : call.epoch ≤ w.rows.epoch = let p = seated.past in rw m.epoch at p in
-        let session : IsOfPast w.rows.epoch client.session = rw (m.session ∙ m.epoch) past in
+        let past : call.epoch ≤ w.rows.epoch = rw m.of_epoch seated.past in
+        let epoch : client.epoch ≤ w.rows.epoch = rw m.epoch seated.past in
         let sent : HasSent new call.client call.number call = rw n (record { seat = record seat { client = client }; joined = own_seat w number seat client found; within = omega arith; past = past }) in
         all_consistent w new more h (later_as w (with_client w number seat client) new refl refl (call_later call m))
         (record {
@@ -322,7 +321,7 @@ module _ (w : WorldState) (h : IsConsistent w) where
           sent = λ q k other is. let t = one_call call other q k is in rw (t.0, ← t.1, ← t.2) sent;
           started = λ j started k. absurd (one_no_out (requests.Call call) (outs.Started started) j k);
         })
-        (each_seat w number seat client found (λ q x. IsSeated w.rows.epoch q x) (record { own = m.own ∙ seated.own; past = session }) h.clients)
+        (each_seat w number seat client found (λ q x. IsSeated w.rows.epoch q x) (record { own = m.own ∙ seated.own; past = epoch }) h.clients)
         (fits_more w new more w.master refl h.fits) agrees
 
   -- ---- the master takes and sweeps
@@ -336,20 +335,20 @@ module _ (w : WorldState) (h : IsConsistent w) where
   pub noted_fits : (s : MasterState) → w.master ≡ Some s → FitsMessages w.messages (noted s w.clock)
   noted_fits s up = let f = fits_at w.master s up h.fits in record { queue = f.queue; kept = f.kept; turns = f.turns }
 
-repeated_grants : (epoch : ℕ) (s : MasterState) (client number : ℕ) (result : Option CallResult) → AreGrantsIn epoch (repeated_result s client number result).outs
-repeated_grants epoch s client number None = tt
-repeated_grants epoch s client number (Some result) = (tt, tt)
+repeated_grants : (epoch : ℕ) (reply : Option Reply) → AreGrantsIn epoch (repeated_reply reply).outs
+repeated_grants epoch None = tt
+repeated_grants epoch (Some reply) = (tt, tt)
 
 taken_grants : (epoch : ℕ) (s : MasterState) (request : Request) (c : TakeCase s request) → AreGrantsIn epoch (taken_by s request c).1.outs
-taken_grants epoch s request (Repeated message kept heard is number) = repeated_grants epoch s message.client kept.number kept.result
+taken_grants epoch s request (Repeated message kept heard is number) = repeated_grants epoch kept.reply
 taken_grants epoch s request (StartQueued start is may room) = tt
-taken_grants epoch s request (Waits message note new admitted) = tt
+taken_grants epoch s request (Waits message note touched new admitted) = tt
 taken_grants epoch s request _ = (tt, tt)
 
 swept_grants : (s : MasterState) (c : SweepCase s) → AreGrantsIn s.epoch (swept_by s c).1.outs
 swept_grants s (Quiet none) = tt
-swept_grants s (StartedAgain p rest principal is work may live) = (omega arith, tt)
-swept_grants s (StartedFirst p rest principal is work may live) = (omega arith, tt)
+swept_grants s (StartedAgain front back task principal turn work may live) = (omega arith, tt)
+swept_grants s (StartedFirst front back task principal turn work may live) = (omega arith, tt)
 swept_grants s _ = (tt, tt)
 
 mod_epoch : (rows : Rows) (change : Mod) (next : ℕ) → (changed_rows rows (edit_of change ∷ NextInstance next ∷ [])).epoch ≡ rows.epoch
@@ -357,7 +356,7 @@ mod_epoch rows (Put name view) next = refl
 mod_epoch rows (Gone name) next = refl
 
 pub swept_epoch : (rows : Rows) (s : MasterState) (c : SweepCase s) → (changed_rows rows (swept_edits s c)).epoch ≡ rows.epoch
-swept_epoch rows s (Applied p rest call note change answer is work made) = mod_epoch rows change.change change.next_instance
+swept_epoch rows s (Applied front back task call note change answer turn work made) = mod_epoch rows change.change change.next_instance
 swept_epoch rows s _ = refl
 
 module _ (w : WorldState) (h : IsConsistent w) (s : MasterState) (up : w.master ≡ Some s) where

@@ -1,5 +1,5 @@
 -- What waits and what is kept fits the messages, whatever the master takes or sweeps.
-use Rattle.std.proofs.Common.{◌≡◌, ◌≢◌, ℕ, ◌<◌, List, [], ◌∷◌, ◌++◌, Bool, true, false, cond, Option, Some, None, refl, sym, ap, ◌∙◌, arith, eqb, subst}
+use Rattle.std.proofs.Common.{◌≡◌, ◌≢◌, ℕ, ◌+◌, ◌<◌, List, [], ◌∷◌, ◌++◌, Bool, true, false, cond, Option, Some, None, refl, sym, ap, ◌∙◌, arith, eqb, subst}
 use Rattle.std.specs.Prelude.{◌==◌, is_none}
 use Rattle.std.proofs.lemmas.Bool.Decides.{nat_tests}
 use Rattle.std.proofs.lemmas.List.{append-nil}
@@ -9,20 +9,27 @@ use Rattle.tags_cell.specs.declared.requests.Request.{Request}
 use Rattle.tags_cell.specs.declared.requests.Request.TheVariants as requests
 use Rattle.tags_cell.specs.declared.requests.CallMessage.{CallMessage}
 use Rattle.tags_cell.specs.declared.outs.CallResult.{CallResult}
+use Rattle.tags_cell.specs.declared.outs.Reply.{Reply}
+use Rattle.gate_core.specs.declared.pending.Waiting.{Waiting}
 use Rattle.cell_core.specs.declared.handles.Note.{Note}
 use Rattle.cell_core.specs.declared.pending.Kept.{Kept}
-use Rattle.cell_core.specs.declared.pending.Pending.{Pending}
+use Rattle.cell_core.specs.declared.pending.Task.{Task}
 use Rattle.cell_core.specs.declared.pending.Work.{Work}
 use Rattle.cell_core.specs.declared.pending.Work.TheVariants as works
 use Rattle.cell_core.specs.State.{MasterState}
-use Rattle.cell_core.specs.Step.{kept_of, recorded, queued, replied, waits, with_note}
-use Rattle.cell_core.specs.Cases.{IsBehind, IsHeard, IsNew, TakeCase, taken_by, SweepCase, swept_by, ended}
+use Rattle.cell_core.specs.Step.{kept_of, reply_of, answered_by, recorded, queued, replied, waits, with_note}
+use Rattle.cell_core.specs.Cases.{IsBehind, IsHeard, IsNew, TakeCase, taken_by}
 use Rattle.cell_core.specs.Cases.TakeCase.{StartQueued, Answered, Waits}
-use Rattle.cell_core.specs.Cases.SweepCase.{Quiet, TurnedAway, StartedAgain, Started as StartedFirst, Ended, Applied}
+use Rattle.over_core.specs.SweepCase.{IsTurn, SweepCase, swept_by, rest, ended, mapped}
+use Rattle.over_core.specs.SweepCase.SweepCase.{Quiet, TurnedAway, StartedAgain, Started as StartedFirst, Ended, Applied}
 use Rattle.world_cell.specs.declared.mail.Message.{Message}
 use Rattle.world_cell.specs.Messages.{call_of}
 use Rattle.world_cell.specs.Consistent.{put_waiting, waiting, IsInTurn, IsOfMessage, AreOfMessages, WasSent, FitsMessages}
 use Rattle.world_cell.proofs.MessagesGrow.{call_stays}
+
+-- a change that waits
+abbrev pub waits_as : ℕ → List (List ℕ) → Task → Waiting Task
+waits_as number touched task = record { number = number; change = record { touched = touched; body = task } }
 
 -- ---- more messages
 
@@ -30,13 +37,13 @@ work_stays : (xs ys : List Message) (epoch client number : ℕ) (work : Work) �
 work_stays xs ys epoch client number (works.Starts principal) h = tt
 work_stays xs ys epoch client number (works.Calls call) h = call_stays xs ys client number (record { client = client; epoch = epoch; number = number; call = call }) h
 
-queue_stays : (xs ys : List Message) (epoch : ℕ) (queue : List Pending) → AreOfMessages xs epoch queue → AreOfMessages (xs ++ ys) epoch queue
+queue_stays : (xs ys : List Message) (epoch : ℕ) (queue : List (Waiting Task)) → AreOfMessages xs epoch queue → AreOfMessages (xs ++ ys) epoch queue
 queue_stays xs ys epoch [] h = tt
-queue_stays xs ys epoch (p ∷ ps) h = (work_stays xs ys epoch p.client p.number p.work h.0, queue_stays xs ys epoch ps h.1)
+queue_stays xs ys epoch (w ∷ ws) h = (work_stays xs ys epoch w.change.body.client w.change.body.number w.change.body.work h.0, queue_stays xs ys epoch ws h.1)
 
 pub fits_stays : (xs ys : List Message) (s : MasterState) → FitsMessages xs s → FitsMessages (xs ++ ys) s
 fits_stays xs ys s h = record {
-  queue = queue_stays xs ys s.epoch s.queue h.queue;
+  queue = queue_stays xs ys s.epoch s.gate.waiting h.queue;
   kept = λ client kept is. let w = h.kept client kept is in record { call = w.call; found = call_stays xs ys client kept.number w.call w.found; same = w.same };
   turns = h.turns;
 }
@@ -71,10 +78,11 @@ put_push client whose number (works.Starts principal) xs ys = refl
 put_push client whose number (works.Calls call) xs ys =
     elim (whose == client) as (λ b. cond b (number ∷ (xs ++ ys)) (xs ++ ys) ≡ cond b (number ∷ xs) xs ++ ys) [ true ↦ refl | false ↦ refl ]
 
-waiting_push : (client : ℕ) (ps : List Pending) (p : Pending) → waiting client (ps ++ p ∷ []) ≡ waiting client ps ++ waiting client (p ∷ [])
-waiting_push client [] p = refl
-waiting_push client (x ∷ xs) p =
-    ap (put_waiting client x.client x.number x.work) (waiting_push client xs p) ∙ put_push client x.client x.number x.work (waiting client xs) (waiting client (p ∷ []))
+pub waiting_append : (client : ℕ) (xs ys : List (Waiting Task)) → waiting client (xs ++ ys) ≡ waiting client xs ++ waiting client ys
+waiting_append client [] ys = refl
+waiting_append client (x ∷ xs) ys =
+    let t = x.change.body in
+    ap (put_waiting client t.client t.number t.work) (waiting_append client xs ys) ∙ put_push client t.client t.number t.work (waiting client xs) (waiting client ys)
 
 itself : (n : ℕ) → (n == n) ≡ true
 itself n = grind (arith, nat_tests)
@@ -90,9 +98,9 @@ pub waits_other : (q client number : ℕ) (work : Work) (xs : List ℕ) → q �
 waits_other q client number (works.Starts principal) xs h = refl
 waits_other q client number (works.Calls call) xs h = rw (differs client q h) refl
 
-queue_push : (sent : List Message) (epoch : ℕ) (ps : List Pending) (p : Pending) → AreOfMessages sent epoch ps → IsOfMessage sent epoch p.client p.number p.work → AreOfMessages sent epoch (ps ++ p ∷ [])
-queue_push sent epoch [] p h k = (k, tt)
-queue_push sent epoch (x ∷ xs) p h k = (h.0, queue_push sent epoch xs p h.1 k)
+queue_push : (sent : List Message) (epoch : ℕ) (ws : List (Waiting Task)) (w : Waiting Task) → AreOfMessages sent epoch ws → IsOfMessage sent epoch w.change.body.client w.change.body.number w.change.body.work → AreOfMessages sent epoch (ws ++ w ∷ [])
+queue_push sent epoch [] w h k = (k, tt)
+queue_push sent epoch (x ∷ xs) w h k = (h.0, queue_push sent epoch xs w h.1 k)
 
 -- ---- a message is taken
 
@@ -114,44 +122,44 @@ none_waits None number xs h k = h
 none_waits (Some kept) number xs h k = rw k.1 at h
 
 -- the call is recorded
-is_recorded : (sent : List Message) (s : MasterState) (client number : ℕ) (result : Option CallResult) → FitsMessages sent s → WasSent sent s.epoch client number → (q : ℕ) (kept : Kept) → kept_of (recorded s client (record { number = number; result = result })) q ≡ Some kept → WasSent sent s.epoch q kept.number
-is_recorded sent s client number result h was =
+is_recorded : (sent : List Message) (s : MasterState) (client number : ℕ) (reply : Option Reply) → FitsMessages sent s → WasSent sent s.epoch client number → (q : ℕ) (kept : Kept) → kept_of (recorded s client (record { number = number; reply = reply })) q ≡ Some kept → WasSent sent s.epoch q kept.number
+is_recorded sent s client number reply h was =
     let P : ℕ → Option Kept → Type 0 = λ q o. (kept : Kept) → o ≡ Some kept → WasSent sent s.epoch q kept.number in
-    each_kept P s client (record { number = number; result = result })
+    each_kept P s client (record { number = number; reply = reply })
     (λ kept is. let e : number ≡ kept.number = cc in rw (← e) was)
     (λ q apart kept is. h.kept q kept is)
 
 module _ (sent : List Message) (s : MasterState) (client number : ℕ) (h : FitsMessages sent s) (behind : IsBehind (kept_of s client) number) where
-  free : waiting client s.queue ≡ []
-  free = none_waits (kept_of s client) number (waiting client s.queue) (h.turns client) behind
+  free : waiting client s.gate.waiting ≡ []
+  free = none_waits (kept_of s client) number (waiting client s.gate.waiting) (h.turns client) behind
 
   replied_fits : (result : CallResult) → WasSent sent s.epoch client number → FitsMessages sent (replied s client number result).0
   replied_fits result was = record {
     queue = h.queue;
-    kept = is_recorded sent s client number (Some result) h was;
-    turns = each_kept (λ q o. IsInTurn o (waiting q s.queue)) s client (record { number = number; result = Some result }) free (λ q apart. h.turns q);
+    kept = is_recorded sent s client number (Some (reply_of s client number result)) h was;
+    turns = each_kept (λ q o. IsInTurn o (waiting q s.gate.waiting)) s client (answered_by (reply_of s client number result)) free (λ q apart. h.turns q);
   }
 
-  waits_fits : (call : Call) → call_of sent client number ≡ Some (record { client = client; epoch = s.epoch; number = number; call = call }) → FitsMessages sent (waits s client number call).0
-  waits_fits call found =
-      let p : Pending = record { client = client; number = number; work = works.Calls call } in
+  waits_fits : (call : Call) (touched : List (List ℕ)) → call_of sent client number ≡ Some (record { client = client; epoch = s.epoch; number = number; call = call }) → FitsMessages sent (waits s client number call touched).0
+  waits_fits call touched found =
+      let w : Waiting Task = waits_as (s.gate.pushed + 1) touched (record { client = client; number = number; work = works.Calls call }) in
       record {
-        queue = queue_push sent s.epoch s.queue p h.queue found;
+        queue = queue_push sent s.epoch s.gate.waiting w h.queue found;
         kept = is_recorded sent s client number None h (record { call = record { client = client; epoch = s.epoch; number = number; call = call }; found = found; same = refl });
-        turns = each_kept (λ q o. IsInTurn o (waiting q (s.queue ++ p ∷ []))) s client (record { number = number; result = None })
-        (waiting_push client s.queue p ∙ ap (λ xs. xs ++ waiting client (p ∷ [])) free ∙ waits_own client number call [])
+        turns = each_kept (λ q o. IsInTurn o (waiting q (s.gate.waiting ++ w ∷ []))) s client (record { number = number; reply = None })
+        (waiting_append client s.gate.waiting (w ∷ []) ∙ ap (λ xs. xs ++ waiting client (w ∷ [])) free ∙ waits_own client number call [])
         (λ q apart.
-        let e : waiting q (s.queue ++ p ∷ []) ≡ waiting q s.queue = waiting_push q s.queue p ∙ ap (λ xs. waiting q s.queue ++ xs) (waits_other q client number (works.Calls call) [] apart) ∙ append-nil (waiting q s.queue) in
+        let e : waiting q (s.gate.waiting ++ w ∷ []) ≡ waiting q s.gate.waiting = waiting_append q s.gate.waiting (w ∷ []) ∙ ap (λ xs. waiting q s.gate.waiting ++ xs) (waits_other q client number (works.Calls call) [] apart) ∙ append-nil (waiting q s.gate.waiting) in
         subst (λ xs. IsInTurn (kept_of s q) xs) (sym e) (h.turns q));
       }
 
-start_fits : (sent : List Message) (s : MasterState) (client number : ℕ) (principal : List ℕ) → FitsMessages sent s → FitsMessages sent (queued s (record { client = client; number = number; work = works.Starts principal }))
+start_fits : (sent : List Message) (s : MasterState) (client number : ℕ) (principal : List ℕ) → FitsMessages sent s → FitsMessages sent (queued s [] (record { client = client; number = number; work = works.Starts principal }))
 start_fits sent s client number principal h =
-    let p : Pending = record { client = client; number = number; work = works.Starts principal } in
+    let w : Waiting Task = waits_as (s.gate.pushed + 1) [] (record { client = client; number = number; work = works.Starts principal }) in
     record {
-      queue = queue_push sent s.epoch s.queue p h.queue tt;
+      queue = queue_push sent s.epoch s.gate.waiting w h.queue tt;
       kept = h.kept;
-      turns = λ q. subst (λ xs. IsInTurn (kept_of s q) xs) (sym (waiting_push q s.queue p ∙ append-nil (waiting q s.queue))) (h.turns q);
+      turns = λ q. subst (λ xs. IsInTurn (kept_of s q) xs) (sym (waiting_append q s.gate.waiting (w ∷ []) ∙ append-nil (waiting q s.gate.waiting))) (h.turns q);
     }
 
 -- the request was sent, if it is a call
@@ -165,70 +173,95 @@ take_fits sent s request (Answered message note answer new answered) h asked =
     let epoch : message.epoch ≡ t.epoch = new.heard.epoch ∙ sym (epoch_note s note) in
     replied_fits sent t message.client message.number (fits_note sent s note h) (behind_note s note message.client message.number new.behind) answer
     (record { call = message; found = asked message new.heard.is_call; same = epoch })
-take_fits sent s request (Waits message note new admitted) h asked =
+take_fits sent s request (Waits message note touched new admitted) h asked =
     let t = with_note s note in
     let epoch : message.epoch ≡ t.epoch = new.heard.epoch ∙ sym (epoch_note s note) in
-    waits_fits sent t message.client message.number (fits_note sent s note h) (behind_note s note message.client message.number new.behind) message.call
+    waits_fits sent t message.client message.number (fits_note sent s note h) (behind_note s note message.client message.number new.behind) message.call touched
     (rw (← epoch) (asked message new.heard.is_call))
 take_fits sent s request _ h asked = h
 
 -- ---- a sweep
 
--- the call whose turn it is has no result yet, and none waits behind it
-pub record IsItsTurn (o : Option Kept) (number : ℕ) (others : List ℕ) : Type 0 where
-  pub rest : others ≡ []
+-- the call whose turn it is has no reply yet, and none waits beside it
+pub record IsItsTurn (o : Option Kept) (number : ℕ) (before behind : List ℕ) : Type 0 where
+  pub front : before ≡ []
+  pub back : behind ≡ []
   pub kept : Kept
   pub is_kept : o ≡ Some kept
-  pub no_result : kept.result ≡ None
+  pub no_reply : kept.reply ≡ None
   pub same : kept.number ≡ number
 
-kept_turn : (kept : Kept) (number : ℕ) (xs : List ℕ) (o : Option CallResult) → kept.result ≡ o → number ∷ xs ≡ cond (is_none o) (kept.number ∷ []) [] → IsItsTurn (Some kept) number xs
-kept_turn kept number xs None is h =
-    let e : xs ≡ [] = cc in let n : kept.number ≡ number = cc in record { rest = e; kept = kept; is_kept = refl; no_result = is; same = n }
-kept_turn kept number xs (Some result) is h = cc
+none_but : (xs ys : List ℕ) (n : ℕ) → xs ++ n ∷ ys ≡ [] → ⊥
+none_but [] ys n h = cc
+none_but (x ∷ xs) ys n h = cc
 
-pub its_turn : (o : Option Kept) (number : ℕ) (xs : List ℕ) → IsInTurn o (number ∷ xs) → IsItsTurn o number xs
-its_turn None number xs h = cc
-its_turn (Some kept) number xs h = kept_turn kept number xs kept.result refl h
+one_but : (xs ys : List ℕ) (n m : ℕ) → xs ++ n ∷ ys ≡ m ∷ [] → (xs ≡ []) × (ys ≡ []) × (m ≡ n)
+one_but [] ys n m h = (refl, cc, cc)
+one_but (x ∷ xs) ys n m h = let t : xs ++ n ∷ ys ≡ [] = cc in absurd (none_but xs ys n t)
 
--- the first change leaves the queue
-module _ (sent : List Message) (s : MasterState) (p : Pending) (rest : List Pending) (is : s.queue ≡ p ∷ rest) (h : FitsMessages sent s) where
-  pub first_sent : IsOfMessage sent s.epoch p.client p.number p.work × AreOfMessages sent s.epoch rest
-  first_sent = let q = h.queue in rw is at q
+kept_turn : (kept : Kept) (number : ℕ) (xs ys : List ℕ) (o : Option Reply) → kept.reply ≡ o → xs ++ number ∷ ys ≡ cond (is_none o) (kept.number ∷ []) [] → IsItsTurn (Some kept) number xs ys
+kept_turn kept number xs ys None is h =
+    let t = one_but xs ys number kept.number h in record { front = t.0; back = t.1; kept = kept; is_kept = refl; no_reply = is; same = t.2 }
+kept_turn kept number xs ys (Some reply) is h = absurd (none_but xs ys number h)
 
-  turn : (q : ℕ) → IsInTurn (kept_of s q) (put_waiting q p.client p.number p.work (waiting q rest))
-  turn q = let t = h.turns q in rw is at t
+its_turn : (o : Option Kept) (number : ℕ) (xs ys : List ℕ) → IsInTurn o (xs ++ number ∷ ys) → IsItsTurn o number xs ys
+its_turn None number xs ys h = absurd (none_but xs ys number h)
+its_turn (Some kept) number xs ys h = kept_turn kept number xs ys kept.reply refl h
 
-  start_left : (principal : List ℕ) → p.work ≡ works.Starts principal → FitsMessages sent (record s { queue = rest })
+-- the one that has its turn, and the others
+queue_at : (sent : List Message) (epoch : ℕ) (front : List (Waiting Task)) (w : Waiting Task) (back : List (Waiting Task)) → AreOfMessages sent epoch (front ++ w ∷ back) → IsOfMessage sent epoch w.change.body.client w.change.body.number w.change.body.work × AreOfMessages sent epoch (front ++ back)
+queue_at sent epoch [] w back h = (h.0, h.1)
+queue_at sent epoch (x ∷ front) w back h = let t = queue_at sent epoch front w back h.1 in (t.0, (h.0, t.1))
+
+-- a change leaves the gate
+module _ (sent : List Message) (s : MasterState) (front : List (Waiting Task)) (task : Task) (back : List (Waiting Task)) (turn : IsTurn s front task back) (h : FitsMessages sent s) where
+  abbrev w : Waiting Task
+  w = waits_as turn.number turn.touched task
+
+  at_turn : IsOfMessage sent s.epoch task.client task.number task.work × AreOfMessages sent s.epoch (front ++ back)
+  at_turn = queue_at sent s.epoch front w back (subst (λ ws. AreOfMessages sent s.epoch ws) turn.waited h.queue)
+
+  -- the call was sent
+  pub turn_sent : (call : Call) → task.work ≡ works.Calls call → call_of sent task.client task.number ≡ Some (record { client = task.client; epoch = s.epoch; number = task.number; call = call })
+  turn_sent call work = subst (λ x. IsOfMessage sent s.epoch task.client task.number x) work at_turn.0
+
+  in_turn : (q : ℕ) → IsInTurn (kept_of s q) (waiting q front ++ put_waiting q task.client task.number task.work (waiting q back))
+  in_turn q = subst (λ xs. IsInTurn (kept_of s q) xs) (ap (waiting q) turn.waited ∙ waiting_append q front (w ∷ back)) (h.turns q)
+
+  -- what is not the client's waits as before
+  others : (q : ℕ) → put_waiting q task.client task.number task.work (waiting q back) ≡ waiting q back → IsInTurn (kept_of s q) (waiting q (front ++ back))
+  others q same = subst (λ xs. IsInTurn (kept_of s q) xs) (ap (λ ys. waiting q front ++ ys) same ∙ sym (waiting_append q front back)) (in_turn q)
+
+  start_left : (principal : List ℕ) → task.work ≡ works.Starts principal → FitsMessages sent (rest s front back)
   start_left principal work = record {
-    queue = first_sent.1;
+    queue = at_turn.1;
     kept = h.kept;
-    turns = λ q. let t = turn q in rw work at t;
+    turns = λ q. others q (ap (λ x. put_waiting q task.client task.number x (waiting q back)) work);
   }
 
-  pub call_turn : (call : Call) → p.work ≡ works.Calls call → IsInTurn (kept_of s p.client) (p.number ∷ waiting p.client rest)
+  pub call_turn : (call : Call) → task.work ≡ works.Calls call → IsItsTurn (kept_of s task.client) task.number (waiting task.client front) (waiting task.client back)
   call_turn call work =
-      let t = turn p.client in
-      let e : put_waiting p.client p.client p.number p.work (waiting p.client rest) ≡ p.number ∷ waiting p.client rest = ap (λ w. put_waiting p.client p.client p.number w (waiting p.client rest)) work ∙ waits_own p.client p.number call (waiting p.client rest) in
-      subst (λ xs. IsInTurn (kept_of s p.client) xs) e t
+      its_turn (kept_of s task.client) task.number (waiting task.client front) (waiting task.client back)
+      (subst (λ xs. IsInTurn (kept_of s task.client) (waiting task.client front ++ xs)) (ap (λ x. put_waiting task.client task.client task.number x (waiting task.client back)) work ∙ waits_own task.client task.number call (waiting task.client back)) (in_turn task.client))
 
-  call_left : (call : Call) (answer : CallResult) (note : Option Note) → p.work ≡ works.Calls call → FitsMessages sent (ended s p rest note answer)
+  call_left : (call : Call) (answer : CallResult) (note : Option Note) → task.work ≡ works.Calls call → FitsMessages sent (ended (rest s front back) task note answer)
   call_left call answer note work =
-      let was : IsOfMessage sent s.epoch p.client p.number (works.Calls call) = let q = first_sent.0 in rw work at q in
-      let kept : Kept = record { number = p.number; result = Some answer } in
-      fits_note sent (record (recorded s p.client kept) { queue = rest }) note (record {
-        queue = first_sent.1;
-        kept = is_recorded sent s p.client p.number (Some answer) h (record { call = record { client = p.client; epoch = s.epoch; number = p.number; call = call }; found = was; same = refl });
-        turns = each_kept (λ q o. IsInTurn o (waiting q rest)) s p.client kept (its_turn (kept_of s p.client) p.number (waiting p.client rest) (call_turn call work)).rest
-        (λ q apart. subst (λ xs. IsInTurn (kept_of s q) xs) (waits_other q p.client p.number p.work (waiting q rest) apart) (turn q));
+      let kept : Kept = answered_by (reply_of s task.client task.number answer) in
+      let t = call_turn call work in
+      fits_note sent (recorded (rest s front back) task.client kept) note (record {
+        queue = at_turn.1;
+        kept = is_recorded sent s task.client task.number (Some (reply_of s task.client task.number answer)) h (record { call = record { client = task.client; epoch = s.epoch; number = task.number; call = call }; found = turn_sent call work; same = refl });
+        turns = each_kept (λ q o. IsInTurn o (waiting q (front ++ back))) s task.client kept (waiting_append task.client front back ∙ ap (λ xs. xs ++ waiting task.client back) t.front ∙ t.back)
+        (λ q apart. others q (waits_other q task.client task.number task.work (waiting q back) apart));
       })
 
 pub sweep_fits : (sent : List Message) (s : MasterState) (c : SweepCase s) → FitsMessages sent s → FitsMessages sent (swept_by s c).0
 sweep_fits sent s (Quiet none) h = h
-sweep_fits sent s (TurnedAway p rest principal is work may) h = start_left sent s p rest is h principal work
-sweep_fits sent s (StartedAgain p rest principal is work may live) h = start_left sent s p rest is h principal work
-sweep_fits sent s (StartedFirst p rest principal is work may live) h =
-    let f = start_left sent s p rest is h principal work in record { queue = f.queue; kept = f.kept; turns = f.turns }
-sweep_fits sent s (Ended p rest call note answer is work made) h = call_left sent s p rest is h call answer note work
-sweep_fits sent s (Applied p rest call note change answer is work made) h =
-    let f = call_left sent s p rest is h call answer note work in record { queue = f.queue; kept = f.kept; turns = f.turns }
+sweep_fits sent s (TurnedAway front back task principal turn work may) h = start_left sent s front task back turn h principal work
+sweep_fits sent s (StartedAgain front back task principal turn work may live) h = start_left sent s front task back turn h principal work
+sweep_fits sent s (StartedFirst front back task principal turn work may live) h =
+    let f = start_left sent s front task back turn h principal work in record { queue = f.queue; kept = f.kept; turns = f.turns }
+sweep_fits sent s (Ended front back task call note answer turn work made) h = call_left sent s front task back turn h call answer note work
+sweep_fits sent s (Applied front back task call note change answer turn work made) h =
+    let f = call_left sent s front task back turn h call answer None work in
+    fits_note sent (recorded (mapped (rest s front back) change) task.client (answered_by (reply_of s task.client task.number answer))) note (record { queue = f.queue; kept = f.kept; turns = f.turns })

@@ -1,6 +1,9 @@
 -- Why each call is applied at most once.
 use Rattle.std.proofs.Common.{◌≡◌, ℕ, ◌+◌, ◌<◌, ◌≤◌, List, [], ◌∷◌, ◌++◌, Bool, true, false, cond, Option, Some, None, refl, sym, ap, ◌∙◌, inl, inr, arith, eqb, subst, map}
 use Rattle.std.specs.Prelude.{◌==◌}
+use Rattle.std.specs.Map.{lookup}
+use Rattle.std.specs.BTreeMap.{is_at}
+use Rattle.std.specs.Ordering.{nat_cmp}
 use Rattle.std.proofs.lemmas.Bool.Decides.{nat_tests}
 use Rattle.std.proofs.lemmas.List.{append-nil}
 use Rattle.node_core.specs.declared.lines.Line.{Line}
@@ -11,15 +14,18 @@ use Rattle.tags_cell.specs.declared.requests.CallMessage.{CallMessage}
 use Rattle.tags_cell.specs.declared.calls.Call.{Call}
 use Rattle.tags_cell.specs.declared.outs.Out.{Out}
 use Rattle.tags_cell.specs.declared.outs.CallResult.{CallResult}
+use Rattle.tags_cell.specs.declared.outs.Reply.{Reply}
 use Rattle.cell_core.specs.declared.handles.Note.{Note}
 use Rattle.cell_core.specs.declared.pending.Kept.{Kept}
-use Rattle.cell_core.specs.declared.pending.Pending.{Pending}
+use Rattle.gate_core.specs.declared.pending.Waiting.{Waiting}
+use Rattle.cell_core.specs.declared.pending.Task.{Task}
 use Rattle.cell_core.specs.declared.pending.Work.TheVariants as works
 use Rattle.cell_core.specs.State.{MasterState}
-use Rattle.cell_core.specs.Step.{kept_of, recorded, repeated_result, with_note, noted}
-use Rattle.cell_core.specs.Cases.{IsBehind, TakeCase, taken_by, SweepCase, swept_by, ended}
+use Rattle.cell_core.specs.Step.{kept_of, reply_of, answered_by, recorded, repeated_reply, with_note, noted}
+use Rattle.cell_core.specs.Cases.{IsBehind, TakeCase, taken_by}
+use Rattle.over_core.specs.SweepCase.{IsTurn, SweepCase, swept_by, rest, ended, mapped}
 use Rattle.cell_core.specs.Cases.TakeCase.{Answered, Waits, StartRefused, OldEpoch, NoSession, Repeated, OlderCall, Outstanding}
-use Rattle.cell_core.specs.Cases.SweepCase.{Ended, Applied, Quiet, TurnedAway, StartedAgain, Started as StartedFirst}
+use Rattle.over_core.specs.SweepCase.SweepCase.{Ended, Applied, Quiet, TurnedAway, StartedAgain, Started as StartedFirst}
 use Rattle.world_cell.specs.declared.steps.Step.{Step}
 use Rattle.client_core.specs.State.{ClientState}
 use Rattle.world_cell.specs.declared.seats.Seat.{Seat}
@@ -27,11 +33,11 @@ use Rattle.world_cell.specs.declared.mail.Message.{Message}
 use Rattle.world_cell.specs.declared.mail.Message.TheVariants.{ToMaster, ToClient}
 use Rattle.world_cell.specs.Messages.{call_of}
 use Rattle.world_cell.specs.World.{WorldState, WorldView, seat_of}
-use Rattle.world_cell.specs.Consistent.{IsOfMessage, FitsMessages, Agrees, Fits, IsConsistent}
+use Rattle.world_cell.specs.Consistent.{FitsMessages, Agrees, Fits, IsConsistent}
 use Rattle.world_cell.specs.Runs.{Does, Run, applied, put_number, IsAbove, RisesFrom, Rises}
 use Rattle.world_cell.proofs.ClientCases.{IsSilentLine, IsSilent, SendsCall}
 use Rattle.world_cell.proofs.MessagesGrow.{call_more, no_call, one_call}
-use Rattle.world_cell.proofs.MasterFits.{same, kept_own, kept_other, first_sent, call_turn, its_turn, WasAsked}
+use Rattle.world_cell.proofs.MasterFits.{same, kept_own, kept_other, turn_sent, call_turn, WasAsked}
 use Rattle.world_cell.proofs.WorldCases.{IsCall, WorldCase, world_case}
 use Rattle.world_cell.proofs.WorldCases.WorldCase.{ComesUp, Joins, Calls, Starts, Acts, Grants, Takes, Sweeps}
 use Rattle.world_cell.proofs.ConsistentSteps.{HasLater, Later, case_later, noted_fits, agrees_at}
@@ -50,14 +56,14 @@ above_from (Some l) number h = omega arith
 
 -- ---- what may still be applied is above the last number
 
-abbrev PastResult : ℕ → Option CallResult → Option ℕ → Type 0
+abbrev PastResult : ℕ → Option Reply → Option ℕ → Type 0
 PastResult number None last = IsAbove last number
-PastResult number (Some result) last = IsFrom last number
+PastResult number (Some reply) last = IsFrom last number
 
 -- the call that waits, or else each one that the master may still take
 abbrev PastKept : List Message → ℕ → ℕ → Option Kept → Option ℕ → Type 0
 PastKept sent epoch client None last = (number : ℕ) (call : CallMessage) → call_of sent client number ≡ Some call → call.epoch ≡ epoch → IsAbove last number
-PastKept sent epoch client (Some kept) last = PastResult kept.number kept.result last
+PastKept sent epoch client (Some kept) last = PastResult kept.number kept.reply last
 
 abbrev PastMaster : List Message → ℕ → MasterState → Option ℕ → Type 0
 PastMaster sent client s last = PastKept sent s.epoch client (kept_of s client) last
@@ -111,7 +117,7 @@ new_above sent epoch client number (Some kept) (Some l) call behind found of h =
     let k : PastResult kept.number (Some behind.0) (Some l) = rw e at h in omega arith
 
 -- what is kept of one client is the new entry, or as it was
-put_past : (sent : List Message) (s : MasterState) (whose client : ℕ) (kept : Kept) (last : Option ℕ) → (whose ≡ client → PastResult kept.number kept.result last) → PastMaster sent client s last → PastKept sent s.epoch client (kept_of (recorded s whose kept) client) last
+put_past : (sent : List Message) (s : MasterState) (whose client : ℕ) (kept : Kept) (last : Option ℕ) → (whose ≡ client → PastResult kept.number kept.reply last) → PastMaster sent client s last → PastKept sent s.epoch client (kept_of (recorded s whose kept) client) last
 put_past sent s whose client kept last own h =
     (elim (eqb client whose) as (λ b. eqb client whose ≡ b → PastKept sent s.epoch client (kept_of (recorded s whose kept) client) last) [
       | true ↦ (λ e. let n : client ≡ whose = same client whose e in rw (n, kept_own s whose kept) (own (sym n)))
@@ -140,27 +146,27 @@ take_past : (sent : List Message) (s : MasterState) (request : Request) (c : Tak
 take_past sent s request (Answered message note answer new answered) client last asked h =
     let t = with_note s note in
     let past : PastMaster sent client t last = note_past sent s note client last h in
-    put_past sent t message.client client (record { number = message.number; result = Some answer }) last
+    put_past sent t message.client client (answered_by (reply_of t message.client message.number answer)) last
     (λ is. above_from last message.number (call_above sent t client last message (behind_note s note message.client message.number new.behind) (asked message new.heard.is_call) (new.heard.epoch ∙ sym (epoch_note s note)) past is))
     past
-take_past sent s request (Waits message note new admitted) client last asked h =
+take_past sent s request (Waits message note touched new admitted) client last asked h =
     let t = with_note s note in
     let past : PastMaster sent client t last = note_past sent s note client last h in
-    put_past sent t message.client client (record { number = message.number; result = None }) last
+    put_past sent t message.client client (record { number = message.number; reply = None }) last
     (λ is. call_above sent t client last message (behind_note s note message.client message.number new.behind) (asked message new.heard.is_call) (new.heard.epoch ∙ sym (epoch_note s note)) past is)
     past
 take_past sent s request _ client last asked h = h
 
-repeated_silent : (s : MasterState) (client number : ℕ) (result : Option CallResult) → IsSilent (repeated_result s client number result).lines
-repeated_silent s client number None = tt
-repeated_silent s client number (Some result) = tt
+repeated_silent : (reply : Option Reply) → IsSilent (repeated_reply reply).lines
+repeated_silent None = tt
+repeated_silent (Some reply) = tt
 
 -- taking a message applies nothing
 pub taken_silent : (s : MasterState) (request : Request) (c : TakeCase s request) → IsSilent (taken_by s request c).1.lines
 taken_silent s request (StartRefused start is may) = (tt, tt)
 taken_silent s request (OldEpoch message is apart) = (tt, tt)
 taken_silent s request (NoSession message is of dead) = (tt, tt)
-taken_silent s request (Repeated message kept heard is number) = repeated_silent s message.client kept.number kept.result
+taken_silent s request (Repeated message kept heard is number) = repeated_silent kept.reply
 taken_silent s request (OlderCall message kept heard is less) = (tt, tt)
 taken_silent s request (Outstanding message kept heard is more none) = (tt, tt)
 taken_silent s request _ = tt
@@ -174,42 +180,45 @@ record SweptOn (sent : List Message) (client : ℕ) (last : Option ℕ) (printed
 
 module _ (sent : List Message) (s : MasterState) (client : ℕ) (last : Option ℕ) (fits : FitsMessages sent s) (h : PastMaster sent client s last) where
   -- the call whose turn it is is above the last one
-  turn_above : (p : Pending) (rest : List Pending) (call : Call) → s.queue ≡ p ∷ rest → p.work ≡ works.Calls call → p.client ≡ client → IsAbove last p.number
-  turn_above p rest call is work own =
-      let t = its_turn (kept_of s p.client) p.number _ (call_turn sent s p rest is fits call work) in
-      let k : PastMaster sent p.client s last = rw (← own) at h in
-      let w : PastResult t.kept.number t.kept.result last = rw t.is_kept at k in
-      rw (t.no_result, t.same) at w
+  turn_above : (front back : List (Waiting Task)) (task : Task) (call : Call) → IsTurn s front task back → task.work ≡ works.Calls call → task.client ≡ client → IsAbove last task.number
+  turn_above front back task call turn work own =
+      let t = call_turn sent s front task back turn fits call work in
+      let k : PastMaster sent task.client s last = rw (← own) at h in
+      let w : PastResult t.kept.number t.kept.reply last = subst (λ o. PastKept sent s.epoch task.client o last) t.is_kept k in
+      let v : PastResult t.kept.number None last = subst (λ o. PastResult t.kept.number o last) t.no_reply w in
+      subst (λ n. PastResult n None last) t.same v
 
-  end_past : (p : Pending) (rest : List Pending) (note : Option Note) (answer : CallResult) (next : Option ℕ) → (p.client ≡ client → IsFrom next p.number) → (eqb client p.client ≡ false → next ≡ last) → PastMaster sent client (ended s p rest note answer) next
-  end_past p rest note answer next own apart =
-      let kept : Kept = record { number = p.number; result = Some answer } in
-      note_past sent (record (recorded s p.client kept) { queue = rest }) note client next
-      ((elim (eqb client p.client) as (λ b. eqb client p.client ≡ b → PastKept sent s.epoch client (kept_of (recorded s p.client kept) client) next) [
-        | true ↦ (λ e. let n : client ≡ p.client = same client p.client e in rw (n, kept_own s p.client kept) (own (sym n)))
-        | false ↦ (λ e. rw (kept_other s p.client client kept e, apart e) h)
+  -- t: the master behind the change, without what is noted of a handle
+  end_past : (t : MasterState) (task : Task) (note : Option Note) (answer : CallResult) (next : Option ℕ) → t.kept ≡ s.kept → t.epoch ≡ s.epoch → (task.client ≡ client → IsFrom next task.number) → (eqb client task.client ≡ false → next ≡ last) → PastMaster sent client (ended t task note answer) next
+  end_past t task note answer next same_kept same_epoch own apart =
+      let kept : Kept = answered_by (reply_of t task.client task.number answer) in
+      let before : PastKept sent t.epoch client (lookup (is_at (nat_cmp client)) t.kept) last = rw (same_kept, same_epoch) h in
+      note_past sent (recorded t task.client kept) note client next
+      ((elim (eqb client task.client) as (λ b. eqb client task.client ≡ b → PastKept sent t.epoch client (kept_of (recorded t task.client kept) client) next) [
+        | true ↦ (λ e. let n : client ≡ task.client = same client task.client e in rw (n, kept_own t task.client kept) (own (sym n)))
+        | false ↦ (λ e. rw (kept_other t task.client client kept e, apart e) before)
       ]) refl)
 
   differ : (n m : ℕ) → eqb n m ≡ false → (m == n) ≡ false
   differ n m e = grind (arith, nat_tests)
 
-  applied_past : (p : Pending) (rest : List Pending) (call : Call) (note : Option Note) (answer : CallResult) → s.queue ≡ p ∷ rest → p.work ≡ works.Calls call → (b : Bool) → (p.client == client) ≡ b → RisesFrom last (cond b (p.number ∷ []) []) × PastMaster sent client (ended s p rest note answer) (last_after last (cond b (p.number ∷ []) []))
-  applied_past p rest call note answer is work true e =
-      let n : p.client ≡ client = same p.client client e in
-      ((turn_above p rest call is work n, tt), end_past p rest note answer (Some p.number) (λ own. omega arith) (λ apart. let d = differ client p.client apart in cc))
-  applied_past p rest call note answer is work false e =
-      (tt, end_past p rest note answer last (λ own. above_from last p.number (turn_above p rest call is work own)) (λ apart. refl))
+  applied_past : (t : MasterState) (front back : List (Waiting Task)) (task : Task) (call : Call) (note : Option Note) (answer : CallResult) → t.kept ≡ s.kept → t.epoch ≡ s.epoch → IsTurn s front task back → task.work ≡ works.Calls call → (b : Bool) → (task.client == client) ≡ b → RisesFrom last (cond b (task.number ∷ []) []) × PastMaster sent client (ended t task note answer) (last_after last (cond b (task.number ∷ []) []))
+  applied_past t front back task call note answer same_kept same_epoch turn work true e =
+      let n : task.client ≡ client = same task.client client e in
+      ((turn_above front back task call turn work n, tt), end_past t task note answer (Some task.number) same_kept same_epoch (λ own. omega arith) (λ apart. let d = differ client task.client apart in cc))
+  applied_past t front back task call note answer same_kept same_epoch turn work false e =
+      (tt, end_past t task note answer last same_kept same_epoch (λ own. above_from last task.number (turn_above front back task call turn work own)) (λ apart. refl))
 
   sweep_past : (c : SweepCase s) → SweptOn sent client last (swept_by s c).1.lines (swept_by s c).0
-  sweep_past (Ended p rest call note answer is work made) =
-      record { rises = tt; past = end_past p rest note answer last (λ own. above_from last p.number (turn_above p rest call is work own)) (λ apart. refl) }
-  sweep_past (Applied p rest call note change answer is work made) =
-      let t = applied_past p rest call note answer is work (p.client == client) refl in
+  sweep_past (Ended front back task call note answer turn work made) =
+      record { rises = tt; past = end_past (rest s front back) task note answer last refl refl (λ own. above_from last task.number (turn_above front back task call turn work own)) (λ apart. refl) }
+  sweep_past (Applied front back task call note change answer turn work made) =
+      let t = applied_past (mapped (rest s front back) change) front back task call note answer refl refl turn work (task.client == client) refl in
       record { rises = t.0; past = t.1 }
   sweep_past (Quiet none) = record { rises = tt; past = h }
-  sweep_past (TurnedAway p rest principal is work may) = record { rises = tt; past = h }
-  sweep_past (StartedAgain p rest principal is work may live) = record { rises = tt; past = h }
-  sweep_past (StartedFirst p rest principal is work may live) = record { rises = tt; past = h }
+  sweep_past (TurnedAway front back task principal turn work may) = record { rises = tt; past = h }
+  sweep_past (StartedAgain front back task principal turn work may live) = record { rises = tt; past = h }
+  sweep_past (StartedFirst front back task principal turn work may live) = record { rises = tt; past = h }
 
 -- ---- a step
 
@@ -231,11 +240,10 @@ silent_on client new printed last silent h =
 
 -- what a sweep applied was sent
 applied_counted : (w : WorldState) (h : IsConsistent w) (s : MasterState) (c : SweepCase s) (client : ℕ) (last : Option ℕ) → FitsMessages w.messages s → IsCounted w client last → IsCounted w client (last_after last (applied client (swept_by s c).1.lines))
-applied_counted w h s (Applied p rest call note change answer is work made) client last fits counted =
-    let q : IsOfMessage w.messages s.epoch p.client p.number (works.Calls call) = let f = (first_sent w.messages s p rest is fits).0 in rw work at f in
-    let sent = h.sent p.client p.number (record { client = p.client; epoch = s.epoch; number = p.number; call = call }) q in
-    (elim (p.client == client) as (λ b. (p.client == client) ≡ b → IsCounted w client (last_after last (cond b (p.number ∷ []) []))) [
-      | true ↦ (λ e. let n : p.client ≡ client = same p.client client e in rw (← n) (record { seat = sent.seat; there = sent.joined; more = sent.within }))
+applied_counted w h s (Applied front back task call note change answer turn work made) client last fits counted =
+    let sent = h.sent task.client task.number (record { client = task.client; epoch = s.epoch; number = task.number; call = call }) (turn_sent w.messages s front task back turn fits call work) in
+    (elim (task.client == client) as (λ b. (task.client == client) ≡ b → IsCounted w client (last_after last (cond b (task.number ∷ []) []))) [
+      | true ↦ (λ e. let n : task.client ≡ client = same task.client client e in rw (← n) (record { seat = sent.seat; there = sent.joined; more = sent.within }))
       | false ↦ (λ e. counted)
     ]) refl
 applied_counted w h s _ client last fits counted = counted
@@ -337,13 +345,13 @@ run_on client old (step ∷ steps) printed new last run h p =
     let then = run_on client run.0 steps run.2 new (last_after last (applied client run.1)) run.5 run.4 first.past in
     rw (run.6, applied_more client run.1 run.2) (rises_more last (applied client run.1) (applied client run.2) first.rises then)
 
-first_result : (number : ℕ) (o : Option CallResult) → PastResult number o None
+first_result : (number : ℕ) (o : Option Reply) → PastResult number o None
 first_result number None = tt
-first_result number (Some result) = tt
+first_result number (Some reply) = tt
 
 first_kept : (sent : List Message) (epoch client : ℕ) (o : Option Kept) → PastKept sent epoch client o None
 first_kept sent epoch client None = λ number call is of. tt
-first_kept sent epoch client (Some kept) = first_result kept.number kept.result
+first_kept sent epoch client (Some kept) = first_result kept.number kept.reply
 
 first_in : (sent : List Message) (client : ℕ) (m : Option MasterState) → PastIn sent client m None
 first_in sent client None = tt

@@ -1,23 +1,24 @@
 -- A step of a master sends one message at most.
 use Rattle.std.proofs.Common.{◌≡◌, ℕ, ◌≤◌, length, Ok, Option, Some, None, rules, ap, sym, ◌∙◌}
-use Rattle.tags_cell.specs.declared.outs.CallResult.{CallResult}
+use Rattle.tags_cell.specs.declared.outs.Reply.{Reply}
 use Rattle.tags_cell.specs.declared.requests.Request.{Request}
 use Rattle.cell_core.specs.declared.pending.Taken.{Taken}
-use Rattle.cell_core.specs.declared.sweeps.Swept.{Swept}
+use Rattle.over_core.specs.declared.sweeps.Swept.{Swept}
 use Rattle.cell_core.specs.State.{MasterState}
-use Rattle.cell_core.specs.Step.{take_step, repeated_result, noted}
-use Rattle.cell_core.specs.Sweep.{sweep_step}
-use Rattle.cell_core.specs.Cases.{TakeCase, taken_by, SweepCase, swept_by}
+use Rattle.cell_core.specs.Step.{take_step, repeated_reply, noted}
+use Rattle.over_core.specs.Sweep.{sweep_step}
+use Rattle.cell_core.specs.Cases.{TakeCase, taken_by}
+use Rattle.over_core.specs.SweepCase.{SweepCase, swept_by}
 use Rattle.cell_core.specs.Cases.TakeCase.{Repeated}
 use Rattle.cell_core.proofs.TakeCases.{taken_case}
-use Rattle.cell_core.proofs.SweepCases.{swept_case}
+use Rattle.over_core.proofs.SweepCases.{swept_case}
 
-repeated_few : (s : MasterState) (client number : ℕ) (result : Option CallResult) → length (repeated_result s client number result).outs ≤ 1
-repeated_few s client number None = search rules
-repeated_few s client number (Some result) = search rules
+repeated_few : (reply : Option Reply) → length (repeated_reply reply).outs ≤ 1
+repeated_few None = search rules
+repeated_few (Some reply) = search rules
 
 taken_few : (s : MasterState) (request : Request) (c : TakeCase s request) → length (taken_by s request c).1.outs ≤ 1
-taken_few s request (Repeated message kept heard is same) = repeated_few s message.client kept.number kept.result
+taken_few s request (Repeated message kept heard is same) = repeated_few kept.reply
 taken_few s request _ = search rules
 
 swept_few : (s : MasterState) (c : SweepCase s) → length (swept_by s c).1.outs ≤ 1
@@ -26,11 +27,11 @@ swept_few s _ = search rules
 pub take_few : (s : MasterState) (now : ℕ) (request : Request) (new : MasterState) (taken : Taken) → take_step s now request ≡ Ok (new, taken) → length taken.outs ≤ 1
 take_few s now request new taken h =
     let t = taken_case s new now request taken h in
-    let is : taken ≡ (taken_by (noted s now) request t.1.0).1 = ap (λ p. p.1) t.1.1 in
-    rw is (taken_few (noted s now) request t.1.0)
+    let is : taken ≡ (taken_by (noted s now) request t.0).1 = ap (λ p. p.1) t.1 in
+    rw is (taken_few (noted s now) request t.0)
 
 pub sweep_few : (s : MasterState) (now : ℕ) (new : MasterState) (swept : Swept) → sweep_step s now ≡ Ok (new, swept) → length swept.outs ≤ 1
 sweep_few s now new swept h =
     let t = swept_case s new now swept h in
-    let is : swept ≡ (swept_by (noted s now) t.1.0).1 = ap (λ p. p.1) t.1.1 in
-    rw is (swept_few (noted s now) t.1.0)
+    let is : swept ≡ (swept_by (noted s now) t.0).1 = ap (λ p. p.1) t.1 in
+    rw is (swept_few (noted s now) t.0)

@@ -11,9 +11,9 @@ use Rattle.rows_cell.specs.Rows.{changed_rows, map_of}
 use Rattle.rows_cell.proofs.RowViews.{views_put, views_gone}
 use Rattle.cell_core.specs.State.{MasterState}
 use Rattle.cell_core.specs.Step.{noted}
-use Rattle.cell_core.specs.Sweep.{edit_of}
-use Rattle.cell_core.specs.Cases.{SweepCase, swept_by, swept_edits}
-use Rattle.cell_core.specs.Cases.SweepCase.{Applied}
+use Rattle.cell_core.specs.Deeds.{edit_of}
+use Rattle.over_core.specs.SweepCase.{SweepCase, swept_by, swept_edits}
+use Rattle.over_core.specs.SweepCase.SweepCase.{Applied}
 use Rattle.world_cell.specs.declared.steps.Step.{Step}
 use Rattle.world_cell.specs.World.{WorldState, WorldView}
 use Rattle.world_cell.specs.Runs.{Does, Run, map_by, map_at, epoch_by, epoch_at}
@@ -59,7 +59,7 @@ mod_tells rows client number (Gone name) next = record { is_map = views_gone row
 
 -- what a sweep commits is what it prints
 swept_tells : (rows : Rows) (s : MasterState) (c : SweepCase s) → Tells rows (changed_rows rows (swept_edits s c)) (swept_by s c).1.lines
-swept_tells rows s (Applied p rest call note change answer is work made) = mod_tells rows p.client p.number change.change change.next_instance
+swept_tells rows s (Applied front back task call note change answer turn work made) = mod_tells rows task.client task.number change.change change.next_instance
 swept_tells rows s _ = record { is_map = refl; is_epoch = refl }
 
 case_tells : (old : WorldState) (step : Step) (new : WorldState) (printed : List Line) → WorldCase old step new printed → Tells old.rows new.rows printed

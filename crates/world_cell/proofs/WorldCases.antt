@@ -21,14 +21,15 @@ use Rattle.tags_cell.specs.declared.outs.Out.TheVariants as outs
 use Rattle.tags_cell.specs.declared.outs.Started.{Started}
 use Rattle.tags_cell.specs.Messages.{out_client}
 use Rattle.cell_core.specs.declared.pending.Taken.{Taken}
-use Rattle.cell_core.specs.declared.sweeps.Swept.{Swept}
+use Rattle.over_core.specs.declared.sweeps.Swept.{Swept}
 use Rattle.cell_core.specs.State.{MasterState, master_of}
 use Rattle.cell_core.specs.Step.{take_step, is_past_end, noted}
 use Rattle.cell_core.specs.Effect.{is_last}
-use Rattle.cell_core.specs.Sweep.{sweep_step, sweep_edits}
-use Rattle.cell_core.specs.Cases.{TakeCase, taken_by, SweepCase, swept_by, swept_edits}
+use Rattle.over_core.specs.Sweep.{sweep_step, sweep_edits}
+use Rattle.cell_core.specs.Cases.{TakeCase, taken_by}
+use Rattle.over_core.specs.SweepCase.{SweepCase, swept_by, swept_edits}
 use Rattle.cell_core.proofs.TakeCases.{taken_case}
-use Rattle.cell_core.proofs.SweepCases.{swept_case}
+use Rattle.over_core.proofs.SweepCases.{swept_case}
 use Rattle.over_core.specs.Up.{up_edits, master_by}
 use Rattle.client_core.specs.declared.asks.Ask.{Ask}
 use Rattle.client_core.specs.declared.asks.Asked.{Asked}
@@ -44,10 +45,10 @@ use Rattle.world_cell.specs.declared.seats.Seat.{Seat}
 use Rattle.world_cell.specs.Seats.{new_seat}
 use Rattle.world_cell.specs.Messages.{request_at, out_at}
 use Rattle.world_cell.specs.World.{WorldState, Outcome, world_step, world_up, came_up, world_join, seat_of, with_client, sends, own_refusal, asked_by, asked, beaten_by, beaten, took, world_take, gave_by, gave, given_to, swept, world_sweep, without_quiet}
-use Rattle.world_cell.proofs.ClientCases.{IsSilent, Follows, SendsCall, IsGranted, AskCase, BeatCase, GiveCase, ask_case, beat_case, give_case}
-use Rattle.world_cell.proofs.ClientCases.AskCase.{AskCalls, AskTells, AskRefuses}
-use Rattle.world_cell.proofs.ClientCases.BeatCase.{BeatStarts, BeatRests, BeatFails}
-use Rattle.world_cell.proofs.ClientCases.GiveCase.{GiveGrants, GiveTakes, GiveFails}
+use Rattle.world_cell.proofs.ClientCases.{IsSilent, Follows, SendsCall, IsGranted, AskedAs, BeatenAs, GivenAs, asked_as, beaten_as, given_as}
+use Rattle.world_cell.proofs.ClientCases.AskedAs.{AskCalls, AskTells, AskRefuses}
+use Rattle.world_cell.proofs.ClientCases.BeatenAs.{BeatStarts, BeatRests, BeatFails}
+use Rattle.world_cell.proofs.ClientCases.GivenAs.{GiveGrants, GiveTakes, GiveFails}
 
 -- ---- the rows
 
@@ -188,7 +189,7 @@ module _ (w : WorldState) (step : Step) (new : WorldState) (printed : List Line)
       let p = ok_pair (with_client w number seat client, told) new printed h in
       Acts (record { number = number; seat = seat; found = found; client = client; made = made; is = sym p.0; silent = rw (← p.1) silent })
 
-  asked_case : (number : ℕ) (seat : Seat) (s : ClientState × Result Asked Fault) → seat_of w number ≡ Some seat → AskCase seat.client s → asked w number seat s ≡ Ok (new, printed) → WorldCase w step new printed
+  asked_case : (number : ℕ) (seat : Seat) (s : ClientState × Result Asked Fault) → seat_of w number ≡ Some seat → AskedAs seat.client s → asked w number seat s ≡ Ok (new, printed) → WorldCase w step new printed
   asked_case number seat s found (AskCalls client call made is) h =
       let k : asked w number seat (client, Ok (Sent (requests.Call call))) ≡ Ok (new, printed) = rw is at h in
       let p = ok_pair (sends (with_client w number seat client) (requests.Call call), []) new printed k in
@@ -202,11 +203,11 @@ module _ (w : WorldState) (step : Step) (new : WorldState) (printed : List Line)
 
   ask_row : (number : ℕ) (ask : Ask) (o : Option Seat) → seat_of w number ≡ o → option_map_or (λ seat. asked w number seat (ask_step seat.client seat.clock ask)) o (Err faults.NoSession) ≡ Ok (new, printed) → WorldCase w step new printed
   ask_row number ask None found h = cc
-  ask_row number ask (Some seat) found h = asked_case number seat (ask_step seat.client seat.clock ask) found (ask_case seat.client seat.clock ask) h
+  ask_row number ask (Some seat) found h = asked_case number seat (ask_step seat.client seat.clock ask) found (asked_as seat.client seat.clock ask) h
 
   -- ---- a client beats
 
-  beaten_case : (number : ℕ) (seat : Seat) (s : ClientState × Result (Option Request) Fault) → seat_of w number ≡ Some seat → BeatCase seat.client s → beaten w number seat s ≡ Ok (new, printed) → WorldCase w step new printed
+  beaten_case : (number : ℕ) (seat : Seat) (s : ClientState × Result (Option Request) Fault) → seat_of w number ≡ Some seat → BeatenAs seat.client s → beaten w number seat s ≡ Ok (new, printed) → WorldCase w step new printed
   beaten_case number seat s found (BeatStarts client start made is) h =
       let k : beaten w number seat (client, Ok (Some (requests.Start start))) ≡ Ok (new, printed) = rw is at h in
       let p = ok_pair (sends (with_client w number seat client) (requests.Start start), []) new printed k in
@@ -219,11 +220,11 @@ module _ (w : WorldState) (step : Step) (new : WorldState) (printed : List Line)
 
   beat_row : (number : ℕ) (o : Option Seat) → seat_of w number ≡ o → option_map_or (λ seat. beaten w number seat (beat_step seat.client seat.clock)) o (Err faults.NoSession) ≡ Ok (new, printed) → WorldCase w step new printed
   beat_row number None found h = cc
-  beat_row number (Some seat) found h = beaten_case number seat (beat_step seat.client seat.clock) found (beat_case seat.client seat.clock) h
+  beat_row number (Some seat) found h = beaten_case number seat (beat_step seat.client seat.clock) found (beaten_as seat.client seat.clock) h
 
   -- ---- a client is given a message
 
-  gave_case : (at : ℕ) (out : Out) (seat : Seat) (s : ClientState × Result (List Line) Fault) → out_at w.messages at ≡ Some out → seat_of w (out_client out) ≡ Some seat → GiveCase seat.client out s → gave w (out_client out) seat s ≡ Ok (new, printed) → WorldCase w step new printed
+  gave_case : (at : ℕ) (out : Out) (seat : Seat) (s : ClientState × Result (List Line) Fault) → out_at w.messages at ≡ Some out → seat_of w (out_client out) ≡ Some seat → GivenAs seat.client out s → gave w (out_client out) seat s ≡ Ok (new, printed) → WorldCase w step new printed
   gave_case at out seat s sent found (GiveGrants client started is_out made is) h =
       let k : gave w (out_client out) seat (client, Ok []) ≡ Ok (new, printed) = rw is at h in
       let p = ok_pair (with_client w (out_client out) seat client, []) new printed k in
@@ -236,7 +237,7 @@ module _ (w : WorldState) (step : Step) (new : WorldState) (printed : List Line)
 
   given_case : (at : ℕ) (out : Out) (o : Option Seat) → out_at w.messages at ≡ Some out → seat_of w (out_client out) ≡ o → option_map_or (λ seat. gave w (out_client out) seat (give_step seat.client seat.clock out)) o (Err faults.NoSession) ≡ Ok (new, printed) → WorldCase w step new printed
   given_case at out None sent found h = cc
-  given_case at out (Some seat) sent found h = gave_case at out seat (give_step seat.client seat.clock out) sent found (give_case seat.client seat.clock out) h
+  given_case at out (Some seat) sent found h = gave_case at out seat (give_step seat.client seat.clock out) sent found (given_as seat.client seat.clock out) h
 
   give_row : (at : ℕ) (o : Option Out) → out_at w.messages at ≡ o → option_map_or (λ out. given_to w out) o (Err faults.NoSuchMessage) ≡ Ok (new, printed) → WorldCase w step new printed
   give_row at None sent h = cc
@@ -248,7 +249,7 @@ module _ (w : WorldState) (step : Step) (new : WorldState) (printed : List Line)
   took_case at master request (Err fault) is up sent step_is h = cc
   took_case at master request (Ok p) is up sent step_is h =
       let t = taken_case master p.0 w.clock request p.1 step_is in
-      let made : p ≡ taken_by (noted master w.clock) request t.1.0 = t.1.1 in
+      let made : p ≡ taken_by (noted master w.clock) request t.0 = t.1 in
       let q = ok_pair (record w { master = Some p.0; messages = w.messages ++ map ToClient p.1.outs }, p.1.lines) new printed h in
       Takes (record {
         at = at;
@@ -257,7 +258,7 @@ module _ (w : WorldState) (step : Step) (new : WorldState) (printed : List Line)
         is_up = up;
         request = request;
         was_sent = sent;
-        case = t.1.0;
+        case = t.0;
         is = sym q.0 ∙ ap (λ (x : MasterState × Taken). record w { master = Some x.0; messages = w.messages ++ map ToClient x.1.outs }) made;
         tells = sym q.1 ∙ ap (λ (x : MasterState × Taken). x.1.lines) made;
       })
@@ -276,15 +277,15 @@ module _ (w : WorldState) (step : Step) (new : WorldState) (printed : List Line)
   swept_row master (Err fault) is up step_is h = cc
   swept_row master (Ok p) is up step_is h =
       let t = swept_case master p.0 w.clock p.1 step_is in
-      let made : p ≡ swept_by (noted master w.clock) t.1.0 = t.1.1 in
+      let made : p ≡ swept_by (noted master w.clock) t.0 = t.1 in
       let q = ok_pair (record w { rows = changed_rows w.rows (sweep_edits master w.clock); master = Some p.0; messages = w.messages ++ map ToClient p.1.outs }, p.1.lines) new printed h in
       Sweeps (record {
         is_step = is;
         master = master;
         is_up = up;
-        case = t.1.0;
+        case = t.0;
         is = sym q.0 ∙ ap (λ (x : MasterState × Swept). record w { rows = changed_rows w.rows (sweep_edits master w.clock); master = Some x.0; messages = w.messages ++ map ToClient x.1.outs }) made
-            ∙ ap (λ (e : List Edit). record w { rows = changed_rows w.rows e; master = Some (swept_by (noted master w.clock) t.1.0).0; messages = w.messages ++ map ToClient (swept_by (noted master w.clock) t.1.0).1.outs }) t.1.2;
+            ∙ ap (λ (e : List Edit). record w { rows = changed_rows w.rows e; master = Some (swept_by (noted master w.clock) t.0).0; messages = w.messages ++ map ToClient (swept_by (noted master w.clock) t.0).1.outs }) t.2;
         tells = sym q.1 ∙ ap (λ (x : MasterState × Swept). x.1.lines) made;
       })
 

@@ -6,14 +6,13 @@ use Rattle.tags_cell.specs.declared.requests.CallMessage.{CallMessage}
 use Rattle.tags_cell.specs.declared.outs.Out.TheVariants as outs
 use Rattle.tags_cell.specs.declared.outs.Started.{Started}
 use Rattle.cell_core.specs.declared.pending.Kept.{Kept}
-use Rattle.cell_core.specs.declared.pending.Pending.{Pending}
+use Rattle.gate_core.specs.declared.pending.Waiting.{Waiting}
+use Rattle.cell_core.specs.declared.pending.Task.{Task}
 use Rattle.cell_core.specs.declared.pending.Work.{Work}
 use Rattle.cell_core.specs.declared.pending.Work.TheVariants as works
 use Rattle.cell_core.specs.State.{MasterState}
 use Rattle.cell_core.specs.Step.{kept_of}
 use Rattle.over_core.specs.Kept.{IsKept}
-use Rattle.client_core.specs.declared.sessions.Session.{Session}
-use Rattle.client_core.specs.declared.sessions.Session.TheVariants as sessions
 use Rattle.world_cell.specs.declared.mail.Message.{Message}
 use Rattle.world_cell.specs.declared.seats.Seat.{Seat}
 use Rattle.world_cell.specs.Messages.{request_at, out_at, call_of}
@@ -21,15 +20,10 @@ use Rattle.world_cell.specs.World.{WorldState, seat_of}
 
 -- ---- clients
 
--- a session is of no epoch to come
-abbrev pub IsOfPast : ℕ → Session → Type 0
-IsOfPast epoch (sessions.Live present) = present ≤ epoch
-IsOfPast epoch _ = Unit {0}
-
 -- the client of a number has it, and its session is of an epoch that was
 pub record IsSeated (epoch number : ℕ) (seat : Seat) : Type 0 where
   pub own : seat.client.number ≡ number
-  pub past : IsOfPast epoch seat.client.session
+  pub past : seat.client.epoch ≤ epoch
 
 -- ---- messages
 
@@ -47,25 +41,25 @@ abbrev pub put_waiting : ℕ → ℕ → ℕ → Work → List ℕ → List ℕ
 put_waiting client whose number (works.Calls call) numbers = if whose == client then number ∷ numbers else numbers
 put_waiting client whose number (works.Starts principal) numbers = numbers
 
-abbrev pub waiting : ℕ → List Pending → List ℕ
+abbrev pub waiting : ℕ → List (Waiting Task) → List ℕ
 waiting client [] = []
-waiting client (p ∷ ps) = put_waiting client p.client p.number p.work (waiting client ps)
+waiting client (w ∷ ws) = put_waiting client w.change.body.client w.change.body.number w.change.body.work (waiting client ws)
 
--- of a client's calls the last one waits until it has its result, and no other does
+-- of a client's calls the last one waits until it has its reply, and no other does
 abbrev pub IsInTurn : Option Kept → List ℕ → Type 0
 IsInTurn None numbers = numbers ≡ []
-IsInTurn (Some kept) numbers = numbers ≡ (if is_none kept.result then kept.number ∷ [] else [])
+IsInTurn (Some kept) numbers = numbers ≡ (if is_none kept.reply then kept.number ∷ [] else [])
 
 -- a call that waits was sent in the master's epoch
 abbrev pub IsOfMessage : List Message → ℕ → ℕ → ℕ → Work → Type 0
 IsOfMessage sent epoch client number (works.Starts principal) = Unit {0}
 IsOfMessage sent epoch client number (works.Calls call) = call_of sent client number ≡ Some (record { client = client; epoch = epoch; number = number; call = call })
 
-abbrev pub AreOfMessages : List Message → ℕ → List Pending → Type 0
+abbrev pub AreOfMessages : List Message → ℕ → List (Waiting Task) → Type 0
 AreOfMessages sent epoch [] = Unit {0}
-AreOfMessages sent epoch (p ∷ ps) = IsOfMessage sent epoch p.client p.number p.work × AreOfMessages sent epoch ps
+AreOfMessages sent epoch (w ∷ ws) = IsOfMessage sent epoch w.change.body.client w.change.body.number w.change.body.work × AreOfMessages sent epoch ws
 
--- the call whose result is kept was sent in the master's epoch
+-- the call whose reply is kept was sent in the master's epoch
 pub record WasSent (sent : List Message) (epoch client number : ℕ) : Type 0 where
   pub call : CallMessage
   pub found : call_of sent client number ≡ Some call
@@ -73,9 +67,9 @@ pub record WasSent (sent : List Message) (epoch client number : ℕ) : Type 0 wh
 
 -- what waits and what is kept fits the messages
 pub record FitsMessages (sent : List Message) (s : MasterState) : Type 0 where
-  pub queue : AreOfMessages sent s.epoch s.queue
+  pub queue : AreOfMessages sent s.epoch s.gate.waiting
   pub kept : (client : ℕ) (kept : Kept) → kept_of s client ≡ Some kept → WasSent sent s.epoch client kept.number
-  pub turns : (client : ℕ) → IsInTurn (kept_of s client) (waiting client s.queue)
+  pub turns : (client : ℕ) → IsInTurn (kept_of s client) (waiting client s.gate.waiting)
 
 -- what it knows of the rows is what they hold
 abbrev pub Agrees : WorldState → Option MasterState → Type 0

@@ -10,7 +10,8 @@ use Rattle.tags_cell.specs.declared.calls.Call.{Call}
 use Rattle.tags_cell.specs.declared.requests.Request.TheVariants as requests
 use Rattle.rows_cell.specs.Rows.{map_of}
 use Rattle.cell_core.specs.declared.effects.Effect.{Effect}
-use Rattle.cell_core.specs.declared.pending.Pending.{Pending}
+use Rattle.gate_core.specs.declared.pending.Waiting.{Waiting}
+use Rattle.cell_core.specs.declared.pending.Task.{Task}
 use Rattle.cell_core.specs.declared.pending.Work.TheVariants as works
 use Rattle.cell_core.specs.State.{MasterState}
 use Rattle.cell_core.specs.Effect.{effect}
@@ -115,9 +116,11 @@ pub record HasWaited (before : Option MasterState) (epoch client number : ℕ) (
   pub master : MasterState
   pub is_up : before ≡ Some master
   pub of_epoch : master.epoch ≡ epoch
-  pub front : List Pending
-  pub back : List Pending
-  pub waits : master.queue ≡ front ++ record { client = client; number = number; work = works.Calls call } ∷ back
+  pub front : List (Waiting Task)
+  pub back : List (Waiting Task)
+  pub turn : ℕ
+  pub touched : List (List ℕ)
+  pub waits : master.gate.waiting ≡ front ++ record { number = turn; change = record { touched = touched; body = record { client = client; number = number; work = works.Calls call } } } ∷ back
 
 -- a change that a line shows: behind a first part of the steps, with the lines before it, the master was up with the map and the epoch that these lines tell; the next
 -- step swept and was made; and the change is what a call does there, which its client had sent in that epoch, and which that master had taken

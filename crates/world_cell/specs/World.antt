@@ -11,15 +11,15 @@ use Rattle.node_core.specs.declared.lines.Line.TheVariants as lines
 use Rattle.rows_cell.specs.declared.tables.Rows.{Rows}
 use Rattle.rows_cell.specs.declared.tables.Edit.{Edit}
 use Rattle.rows_cell.specs.Rows.{changed_rows}
+use Rattle.rows_cell.specs.Stores.{Store, left_by, IsWant, MayLeave, MayRefuse}
 use Rattle.tags_cell.specs.declared.requests.Request.{Request}
 use Rattle.tags_cell.specs.declared.outs.Out.{Out}
 use Rattle.tags_cell.specs.Messages.{out_client}
 use Rattle.cell_core.specs.declared.pending.Taken.{Taken}
-use Rattle.cell_core.specs.declared.sweeps.Swept.{Swept}
 use Rattle.cell_core.specs.State.{MasterState}
 use Rattle.cell_core.specs.Step.{take_step}
-use Rattle.cell_core.specs.Store.{left_by, IsWant, MayLeave, MayRefuse}
-use Rattle.cell_core.specs.Sweep.{sweep_step, sweep_edits}
+use Rattle.over_core.specs.declared.sweeps.Swept.{Swept}
+use Rattle.over_core.specs.Sweep.{sweep_step, sweep_edits}
 use Rattle.over_core.specs.Up.{up_step, up_edits, up_commit, MayRefuseUp}
 use Rattle.client_core.specs.declared.asks.Ask.{Ask}
 use Rattle.client_core.specs.declared.asks.Asked.{Asked}
@@ -59,29 +59,28 @@ abbrev pub new_world : List ℕ → Rows → ℕ → WorldState
 new_world cell rows lease = record { cell = cell; rows = rows; master = None; clock = 0; clients = []; messages = []; lease = lease }
 
 -- a new world over a store
-abbrev pub opened : List ℕ → Rows → List Rows → ℕ → ℕ → WorldView
-opened cell rows may_leave refusals lease = record { world = new_world cell rows lease; may_leave = may_leave; refusals = refusals }
+abbrev pub opened : Store → ℕ → WorldView
+opened store lease = record { world = new_world store.cell store.rows lease; may_leave = store.may_leave; refusals = store.refusals }
 
--- what a master's store holds while one is up, and else the records by themselves
-abbrev pub store_of : {X : Type 0} → X → Option X → Option X → X
-store_of none (Some x) records = x
-store_of none None (Some x) = x
-store_of none None None = none
+-- the store of a world
+abbrev pub store_in : WorldView → Store
+store_in w = record { cell = w.world.cell; rows = w.world.rows; may_leave = w.may_leave; refusals = w.refusals }
 
-abbrev pub no_rows : Rows
-no_rows = record { cell = []; secret = []; epoch = 0; next_instance = 0; nodes = []; sessions = []; locks = [] }
+abbrev pub no_store : Store
+no_store = record { cell = []; rows = record { cell = []; secret = []; epoch = 0; next_instance = 0; nodes = []; sessions = []; locks = [] }; may_leave = []; refusals = 0 }
 
-abbrev pub rows_of : Option Rows → Option Rows → Rows
-rows_of master records = store_of no_rows master records
+-- the store is with a master while one is up, and else with the records by themselves
+abbrev pub held : Option Store → Option Store → Store
+held (Some store) records = store
+held None (Some store) = store
+held None None = no_store
 
-abbrev pub cell_of : Option (List ℕ) → Option (List ℕ) → List ℕ
-cell_of master records = store_of [] master records
-
-abbrev pub leave_of : Option (List Rows) → Option (List Rows) → List Rows
-leave_of master records = store_of [] master records
-
-abbrev pub refusals_of : Option ℕ → Option ℕ → ℕ
-refusals_of master records = store_of 0 master records
+abbrev pub view_of : Store → Option MasterState → ℕ → Clients → List Message → ℕ → WorldView
+view_of store master clock clients messages lease = record {
+  world = record { cell = store.cell; rows = store.rows; master = master; clock = clock; clients = clients; messages = messages; lease = lease };
+  may_leave = store.may_leave;
+  refusals = store.refusals;
+}
 
 -- a step's new state and lines, or why it is refused
 abbrev pub Outcome : Type 0

@@ -1,6 +1,6 @@
 //! The parts of a world, and what each step does to them.
 ghost use Rattle.std.specs.Prelude.{◌≡◌, [], ◌∷◌, Some, None, Ok, Err, IfOk, IfErr, OnOk, OnErr, is_some};
-ghost use Rattle.world_cell.specs.World.{opened, world_step, world_up, world_join, world_ask, world_beat, world_take, world_give, world_sweep, step_edits, IsStored, IsLeft, MayRefuseStep};
+ghost use Rattle.world_cell.specs.World.{opened, store_in, world_step, world_up, world_join, world_ask, world_beat, world_take, world_give, world_sweep, step_edits, IsStored, IsLeft, MayRefuseStep};
 ghost use Rattle.world_cell.specs.Consistent.{Agrees};
 
 use crate::mail::{self, Message};
@@ -35,30 +35,18 @@ pub(crate) struct Stage<R: Records> {
 impl<R: Records> Model for Stage<R> {
     ghost use Rattle.std.specs.Prelude.{◌≡◌, ◌≤◌, not, is_some};
     ghost use Rattle.std.specs.Option.{option_map};
-    ghost use Rattle.world_cell.specs.World.{WorldView, rows_of, cell_of, leave_of, refusals_of};
+    ghost use Rattle.world_cell.specs.World.{WorldView, held, view_of};
 
     ghost Value = { WorldView };
 
-    ghost view = { λ w. record {
-      world = record {
-        cell = cell_of (option_map (λ c. c.cell) w.master) (option_map R.cell w.records);
-        rows = rows_of (option_map (λ c. c.rows) w.master) (option_map R.rows w.records);
-        master = option_map (λ c. c.master) w.master;
-        clock = w.clock;
-        clients = w.clients;
-        messages = w.messages.items;
-        lease = w.lease;
-      };
-      may_leave = leave_of (option_map (λ c. c.may_leave) w.master) (option_map R.may_leave w.records);
-      refusals = refusals_of (option_map (λ c. c.refusals) w.master) (option_map R.refusals w.records);
-    } };
+    ghost view = { λ w. view_of (held (option_map (λ c. c.store) w.master) (option_map R.store w.records)) (option_map (λ c. c.master) w.master) w.clock w.clients w.messages.items w.lease };
 
     ghost invariant = { λ w. (is_some w.records ≡ not (is_some w.master)) × (1000 ≤ w.lease) × (w.lease ≤ 60000) };
 }
 
 impl<R: Records + Drop> Stage<R> {
     pub(crate) fn new(alloc: Global, records: R, settings: &Settings) -> Stage<R>
-        ensures { result ≡ opened (R.cell records) (R.rows records) (R.may_leave records) (R.refusals records) settings.now.lease }
+        ensures { result ≡ opened (R.store records) settings.now.lease }
     {
         Stage {
             alloc,
@@ -121,10 +109,7 @@ impl<R: Records + Drop> Stage<R> {
     }
 
     pub(crate) fn close(self) -> R
-        ensures rows { R.rows result ≡ self.world.rows }
-        ensures leave { R.may_leave result ≡ self.may_leave }
-        ensures refusals { R.refusals result ≡ self.refusals }
-        ensures cell { R.cell result ≡ self.world.cell }
+        ensures { R.store result ≡ store_in self }
     {
         let Stage {
             alloc: _,

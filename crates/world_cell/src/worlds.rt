@@ -1,6 +1,6 @@
 //! A world.
 ghost use Rattle.std.specs.Prelude.{◌≡◌, Ok, IfOk, IfErr, OnOk, OnErr, is_some};
-ghost use Rattle.world_cell.specs.World.{opened, world_step, world_sweep, step_edits, IsStored, IsLeft, MayRefuseStep};
+ghost use Rattle.world_cell.specs.World.{opened, store_in, world_step, world_sweep, step_edits, IsStored, IsLeft, MayRefuseStep};
 
 use crate::mail::Message;
 use crate::stages::Stage;
@@ -39,7 +39,7 @@ impl<R: Records> Model for World<R> {
 impl<R: Records + Drop> World<R> {
     /// No master is up, no client has joined, nothing was sent. Takes no memory yet.
     pub fn new(alloc: Global, records: R, settings: &Settings) -> World<R>
-        ensures { result ≡ opened (R.cell records) (R.rows records) (R.may_leave records) (R.refusals records) settings.now.lease }
+        ensures { result ≡ opened (R.store records) settings.now.lease }
     {
         World {
             stage: Stage::new(alloc, records, settings),
@@ -91,10 +91,7 @@ impl<R: Records + Drop> World<R> {
 
     /// The records, with the rows that stand. A master that is up is gone.
     pub fn close(self) -> R
-        ensures rows { R.rows result ≡ self.world.rows }
-        ensures leave { R.may_leave result ≡ self.may_leave }
-        ensures refusals { R.refusals result ≡ self.refusals }
-        ensures cell { R.cell result ≡ self.world.cell }
+        ensures { R.store result ≡ store_in self }
     {
         let World { stage } = self;
         stage.close()
