@@ -5,6 +5,7 @@ ghost use Rattle.rows_cell.specs.Sound.{sound};
 ghost use Rattle.cell_core.specs.Step.{take_step};
 ghost use Rattle.rows_cell.specs.Stores.{Commits, IsCommitted, IsRefused, StoreRefuses};
 ghost use Rattle.over_core.specs.Sweep.{sweep_step, sweep_edits};
+ghost use Rattle.over_core.specs.Kept.{IsKept};
 ghost use Rattle.over_core.specs.Up.{up_edits, up_step, up_commit, next_epoch, MayRefuseUp, IsLeft};
 
 use crate::sweeps::{Swept, sweep_by};
@@ -87,6 +88,13 @@ impl<R: Records> Cell<R> {
         ensures { result ≡ self.now.master.epoch }
     {
         self.master.epoch()
+    }
+
+    /// What holds of every master: what it knows of its rows is what they hold, and they are sound.
+    pub fn kept(&self)
+        ensures { IsKept self.now.store.cell self.now.store.rows self.now.master }
+    {
+        let _master = &self.master;
     }
 
     /// The master is gone, and the records come back. What waited is lost.

@@ -11,13 +11,12 @@ use Rattle.node_core.specs.declared.lines.Line.TheVariants as lines
 use Rattle.node_core.specs.Texts.{line_text}
 use Rattle.world_cell.specs.declared.worlds.Turn.{Turn}
 use Rattle.world_cell.specs.declared.steps.Step.{Step}
-use Rattle.world_cell.specs.World.{WorldView, world_step, step_edits, IsStored, IsLeft, MayRefuseStep}
-use Rattle.world_cell.specs.Runs.{IsMade, IsRefused}
+use Rattle.world_cell.specs.World.{WorldView}
 use Rattle.world_cell.proofs.PartsOfRuns.{take_more}
 use Rattle.script_cell.specs.declared.steps.Parsed.{Parsed}
 use Rattle.script_cell.specs.declared.steps.Parsed.TheVariants as parsed
 use Rattle.script_cell.specs.Readings.{IsParsed}
-use Rattle.script_cell.specs.Settling.{turn_step, is_waiting, is_idle, Turns, TakesTurn, SettlesBy, Settles}
+use Rattle.script_cell.specs.Settling.{Played, played, PlaysMade, PlaysRefused, turn_step, is_waiting, is_idle, Turns, TakesTurn, SettlesBy, Settles}
 use Rattle.script_cell.specs.Texts.{Reading, Advances}
 use Rattle.script_cell.specs.Scripts.{lines_text, told, DoesParsed, DoesLine, DoesLines, IsOfPart, IsOfScript, Wrote}
 use Rattle.script_cell.proofs.FirstLines.{passes_none, passes_more, passes_all}
@@ -58,86 +57,86 @@ wrote_as P Q a b gives h = (h.0, gives h.0 h.1, h.2)
 
 -- ---- settle
 
-turns_more : (count : ℕ) (old mid new : WorldView) (front back : List Line) → Turns count old front mid → TakesTurn true mid back new → Turns (suc count) old (front ++ back) new
+turns_more : (count : ℕ) (old mid new : Played) (front back : List Line) → Turns count old front mid → TakesTurn true mid back new → Turns (suc count) old (front ++ back) new
 turns_more zero old mid new front back h k =
     let none : front ++ back ≡ back ++ [] = ap (λ xs. xs ++ back) h.0 ∙ sym (append-nil back) in
     (new, back, [], subst (λ w. TakesTurn true w back new) h.1 k, (refl, refl), none)
 turns_more (suc count) old mid new front back h k =
     (h.0, h.1, h.2 ++ back, h.3, turns_more count h.0 mid new h.2 back h.4 k, ap (λ xs. xs ++ back) h.5 ∙ append_assoc h.1 h.2 back)
 
-pub no_turns : (w : WorldView) → (count : ℕ) × Turns count w [] w
+pub no_turns : (w : Played) → (count : ℕ) × Turns count w [] w
 no_turns w = (0, (refl, refl))
 
-pub more_turns : (more : Bool) (old mid new : WorldView) (a b c : Option (List ℕ)) → more ≡ true → Wrote (λ printed. (count : ℕ) × Turns count old printed mid) a b → Wrote (λ printed. TakesTurn more mid printed new) b c → Wrote (λ printed. (count : ℕ) × Turns count old printed new) a c
+pub more_turns : (more : Bool) (old mid new : Played) (a b c : Option (List ℕ)) → more ≡ true → Wrote (λ printed. (count : ℕ) × Turns count old printed mid) a b → Wrote (λ printed. TakesTurn more mid printed new) b c → Wrote (λ printed. (count : ℕ) × Turns count old printed new) a c
 more_turns more old mid new a b c is h k =
     wrote_then (λ p. (count : ℕ) × Turns count old p mid) (λ p. TakesTurn more mid p new) (λ p. (count : ℕ) × Turns count old p new) a b c
     (λ front back f g. (suc f.0, turns_more f.0 old mid new front back f.1 (subst (λ m. TakesTurn m mid back new) is g))) h k
 
-pub all_turns : (up more : Bool) (old mid new : WorldView) (a b c : Option (List ℕ)) → up ≡ is_some old.world.master → up ≡ true → more ≡ false → Wrote (λ printed. (count : ℕ) × Turns count old printed mid) a b → Wrote (λ printed. TakesTurn more mid printed new) b c → Wrote (λ printed. Settles old printed new) a c
+pub all_turns : (up more : Bool) (old mid new : Played) (a b c : Option (List ℕ)) → up ≡ is_some old.view.world.master → up ≡ true → more ≡ false → Wrote (λ printed. (count : ℕ) × Turns count old printed mid) a b → Wrote (λ printed. TakesTurn more mid printed new) b c → Wrote (λ printed. Settles old printed new) a c
 all_turns up more old mid new a b c is on last h k =
     wrote_then (λ p. (count : ℕ) × Turns count old p mid) (λ p. TakesTurn more mid p new) (λ p. Settles old p new) a b c
     (λ front back f g. subst (λ up. SettlesBy up old (front ++ back) new) (sym on ∙ is) (record { count = f.0; mid = mid; here = front; later = back; first = f.1; last = subst (λ m. TakesTurn m mid back new) last g; tells = refl })) h k
 
-turn_by : (more waits quiet : Bool) (old new : WorldView) (printed : List Line) → IsMade old (turn_step old.world) new printed → quiet ≡ is_idle old.world → waits ≡ is_waiting new.world → more ≡ waits → quiet ≡ true → TakesTurn more old printed new
+turn_by : (more waits quiet : Bool) (old new : Played) (printed : List Line) → PlaysMade old (turn_step old) new printed → quiet ≡ is_idle old → waits ≡ is_waiting new → more ≡ waits → quiet ≡ true → TakesTurn more old printed new
 turn_by true waits quiet old new printed made idle is e q =
-    record { made = made; ends = ap (λ b. b && not (is_waiting new.world)) (sym idle ∙ q) ∙ ap not (sym is ∙ sym e) }
+    record { made = made; ends = ap (λ b. b && not (is_waiting new)) (sym idle ∙ q) ∙ ap not (sym is ∙ sym e) }
 turn_by false waits quiet old new printed made idle is e q =
-    inl (record { made = made; ends = ap (λ b. b && not (is_waiting new.world)) (sym idle ∙ q) ∙ ap not (sym is ∙ sym e) })
+    inl (record { made = made; ends = ap (λ b. b && not (is_waiting new)) (sym idle ∙ q) ∙ ap not (sym is ∙ sym e) })
 
 -- a sweep that found nothing to do
-pub turn_quiet : (more waits : Bool) (old new : WorldView) (turn : Turn) (texts : List Line) (a b : Option (List ℕ)) → texts ≡ turn.lines → IsMade old (turn_step old.world) new turn.lines → turn.quiet ≡ is_idle old.world → waits ≡ is_waiting new.world → more ≡ waits → turn.quiet ≡ true → Appends a b (lines_text texts) → Wrote (λ printed. TakesTurn more old printed new) a b
+pub turn_quiet : (more waits : Bool) (old new : Played) (turn : Turn) (texts : List Line) (a b : Option (List ℕ)) → texts ≡ turn.lines → PlaysMade old (turn_step old) new turn.lines → turn.quiet ≡ is_idle old → waits ≡ is_waiting new → more ≡ waits → turn.quiet ≡ true → Appends a b (lines_text texts) → Wrote (λ printed. TakesTurn more old printed new) a b
 turn_quiet more waits old new turn texts a b same made idle is e quiet h =
     (turn.lines, turn_by more waits turn.quiet old new turn.lines made idle is e quiet, subst (λ xs. Appends a b (lines_text xs)) same h)
 
 -- any other turn
-pub turn_loud : (more : Bool) (old new : WorldView) (turn : Turn) (texts : List Line) (a b : Option (List ℕ)) → texts ≡ turn.lines → IsMade old (turn_step old.world) new turn.lines → turn.quiet ≡ is_idle old.world → more ≡ not turn.quiet → turn.quiet ≡ false → Appends a b (lines_text texts) → Wrote (λ printed. TakesTurn more old printed new) a b
+pub turn_loud : (more : Bool) (old new : Played) (turn : Turn) (texts : List Line) (a b : Option (List ℕ)) → texts ≡ turn.lines → PlaysMade old (turn_step old) new turn.lines → turn.quiet ≡ is_idle old → more ≡ not turn.quiet → turn.quiet ≡ false → Appends a b (lines_text texts) → Wrote (λ printed. TakesTurn more old printed new) a b
 turn_loud more old new turn texts a b same made idle e loud h =
-    (turn.lines, subst (λ more. TakesTurn more old turn.lines new) (sym (e ∙ ap not loud)) (record { made = made; ends = ap (λ b. b && not (is_waiting new.world)) (sym idle ∙ loud) }), subst (λ xs. Appends a b (lines_text xs)) same h)
+    (turn.lines, subst (λ more. TakesTurn more old turn.lines new) (sym (e ∙ ap not loud)) (record { made = made; ends = ap (λ b. b && not (is_waiting new)) (sym idle ∙ loud) }), subst (λ xs. Appends a b (lines_text xs)) same h)
 
-pub turn_refused : (old new : WorldView) (fault : Fault) (a b : Option (List ℕ)) → IsRefused old (turn_step old.world) new (lines.Refused fault ∷ []) → Appends a b (lines_text (lines.Refused fault ∷ [])) → Wrote (λ printed. TakesTurn false old printed new) a b
+pub turn_refused : (old new : Played) (fault : Fault) (a b : Option (List ℕ)) → PlaysRefused old (turn_step old) new (lines.Refused fault ∷ []) → Appends a b (lines_text (lines.Refused fault ∷ [])) → Wrote (λ printed. TakesTurn false old printed new) a b
 turn_refused old new fault a b refused h = (lines.Refused fault ∷ [], inr refused, h)
 
-pub settles_down : {E : Type 0} (w : WorldView) (up : Bool) (a b : Option (List ℕ)) (r : Result (Unit {0}) E) → up ≡ is_some w.world.master → up ≡ false → OnOk r (Appends a b (lines_text (lines.Refused MasterDown ∷ []))) → OnOk r (Wrote (λ printed. Settles w printed w) a b)
+pub settles_down : {E : Type 0} (w : Played) (up : Bool) (a b : Option (List ℕ)) (r : Result (Unit {0}) E) → up ≡ is_some w.view.world.master → up ≡ false → OnOk r (Appends a b (lines_text (lines.Refused MasterDown ∷ []))) → OnOk r (Wrote (λ printed. Settles w printed w) a b)
 settles_down w up a b (Ok x) is down h = (lines.Refused MasterDown ∷ [], subst (λ up. SettlesBy up w (lines.Refused MasterDown ∷ []) w) (sym down ∙ is) (refl, refl), h)
 settles_down w up a b (Err e) is down h = tt
 
 -- ---- lines
 
-lines_more : (old mid new : WorldView) (texts : List (List ℕ)) (line : List ℕ) (front back : List Line) → DoesLines old texts front mid → DoesLine mid line back new → DoesLines old (texts ++ line ∷ []) (front ++ back) new
+lines_more : (old mid new : Played) (texts : List (List ℕ)) (line : List ℕ) (front back : List Line) → DoesLines old texts front mid → DoesLine mid line back new → DoesLines old (texts ++ line ∷ []) (front ++ back) new
 lines_more old mid new [] line front back h k =
     let none : front ++ back ≡ back ++ [] = ap (λ xs. xs ++ back) h.0 ∙ sym (append-nil back) in
     (new, back, [], subst (λ w. DoesLine w line back new) h.1 k, (refl, refl), none)
 lines_more old mid new (text ∷ texts) line front back h k =
     (h.0, h.1, h.2 ++ back, h.3, lines_more h.0 mid new texts line h.2 back h.4 k, ap (λ xs. xs ++ back) h.5 ∙ append_assoc h.1 h.2 back)
 
-pub part_none : (reading : Reading) (w : WorldView) (a : Option (List ℕ)) → reading.number ≡ 0 → Wrote (λ printed. IsOfPart reading.rest reading.rest reading.number w printed w) a a
-part_none reading w a none =
-    wrote_none (λ printed. IsOfPart reading.rest reading.rest reading.number w printed w) a
-    (record { texts = []; first = passes_none reading.rest; counted = sym none; few = omega arith; does = (refl, refl) })
+pub part_none : (reading : Reading) (w : WorldView) (marks : List Bool) (a : Option (List ℕ)) → reading.number ≡ 0 → marks ≡ [] → Wrote (λ printed. IsOfPart reading.rest reading.rest reading.number w printed (played w marks)) a a
+part_none reading w marks a none unmarked =
+    wrote_none (λ printed. IsOfPart reading.rest reading.rest reading.number w printed (played w marks)) a
+    (record { texts = []; first = passes_none reading.rest; counted = sym none; few = omega arith; does = (refl, ap (played w) unmarked) })
 
 one_more : (xs : List (List ℕ)) (x : List ℕ) → length (xs ++ x ∷ []) ≡ length xs + 1
 one_more xs x = length-append xs (x ∷ [])
 
-part_then : (text : Option (List ℕ)) (mid after : Reading) (old w new : WorldView) (front back : List Line) → Advances true mid after → IsOfPart text mid.rest mid.number old front w → DoesLine w after.line back new → IsOfPart text after.rest after.number old (front ++ back) new
+part_then : (text : Option (List ℕ)) (mid after : Reading) (old : WorldView) (w new : Played) (front back : List Line) → Advances true mid after → IsOfPart text mid.rest mid.number old front w → DoesLine w after.line back new → IsOfPart text after.rest after.number old (front ++ back) new
 part_then text mid after old w new front back next h k = record {
   texts = h.texts ++ after.line ∷ [];
   first = passes_more text mid.rest after.rest h.texts (after.line ∷ []) h.first next.0;
   counted = one_more h.texts after.line ∙ ap (λ n. n + 1) h.counted ∙ sym next.1.0;
   few = next.1.1.0;
-  does = lines_more old w new h.texts after.line front back h.does k;
+  does = lines_more (played old []) w new h.texts after.line front back h.does k;
 }
 
-pub part_more : (there : Bool) (text : Option (List ℕ)) (mid after : Reading) (old w new : WorldView) (a b c : Option (List ℕ)) → there ≡ true → Advances there mid after → Wrote (λ printed. IsOfPart text mid.rest mid.number old printed w) a b → Wrote (λ printed. DoesLine w after.line printed new) b c → Wrote (λ printed. IsOfPart text after.rest after.number old printed new) a c
+pub part_more : (there : Bool) (text : Option (List ℕ)) (mid after : Reading) (old : WorldView) (w new : Played) (a b c : Option (List ℕ)) → there ≡ true → Advances there mid after → Wrote (λ printed. IsOfPart text mid.rest mid.number old printed w) a b → Wrote (λ printed. DoesLine w after.line printed new) b c → Wrote (λ printed. IsOfPart text after.rest after.number old printed new) a c
 part_more there text mid after old w new a b c is next h k =
     wrote_then (λ p. IsOfPart text mid.rest mid.number old p w) (λ p. DoesLine w after.line p new) (λ p. IsOfPart text after.rest after.number old p new) a b c
     (λ front back f g. part_then text mid after old w new front back (subst (λ b. Advances b mid after) is next) f g) h k
 
-part_whole : (text : Option (List ℕ)) (rest : Option (List ℕ)) (count : ℕ) (old new : WorldView) (printed : List Line) → IsAtEnd rest → IsOfPart text rest count old printed new → IsOfScript text old printed
+part_whole : (text : Option (List ℕ)) (rest : Option (List ℕ)) (count : ℕ) (old : WorldView) (new : Played) (printed : List Line) → IsAtEnd rest → IsOfPart text rest count old printed new → IsOfScript text old printed
 part_whole text rest count old new printed ended h =
     let few : length h.texts ≤ 1000000 = rw h.counted h.few in
     record { texts = h.texts; whole = passes_all text rest h.texts h.first ended; few = few; new = new; does = h.does }
 
-pub part_all : (there : Bool) (text : Option (List ℕ)) (mid after : Reading) (old new : WorldView) (a b : Option (List ℕ)) → there ≡ false → Advances there mid after → Wrote (λ printed. IsOfPart text mid.rest mid.number old printed new) a b → Wrote (IsOfScript text old) a b
+pub part_all : (there : Bool) (text : Option (List ℕ)) (mid after : Reading) (old : WorldView) (new : Played) (a b : Option (List ℕ)) → there ≡ false → Advances there mid after → Wrote (λ printed. IsOfPart text mid.rest mid.number old printed new) a b → Wrote (IsOfScript text old) a b
 part_all there text mid after old new a b none next h =
     let ended : IsAtEnd mid.rest = subst (λ b. Advances b mid after) none next in
     wrote_as (λ printed. IsOfPart text mid.rest mid.number old printed new) (IsOfScript text old) a b (λ printed f. part_whole text mid.rest mid.number old new printed ended f) h
@@ -146,17 +145,17 @@ part_all there text mid after old new a b none next h =
 pub line_fits : (there : Bool) (mid after : Reading) → there ≡ true → Advances there mid after → length after.line ≤ 1048576
 line_fits there mid after is next = let h = subst (λ b. Advances b mid after) is next in h.1.1.1
 
-pub wrote_line : (old new : WorldView) (line text : List ℕ) (meant : Parsed) (a b : Option (List ℕ)) → text ≡ line → length line ≤ 1048576 → IsParsed (utf8_lossy text) meant → Wrote (λ printed. DoesParsed old meant printed new) a b → Wrote (λ printed. DoesLine old line printed new) a b
+pub wrote_line : (old new : Played) (line text : List ℕ) (meant : Parsed) (a b : Option (List ℕ)) → text ≡ line → length line ≤ 1048576 → IsParsed (utf8_lossy text) meant → Wrote (λ printed. DoesParsed old meant printed new) a b → Wrote (λ printed. DoesLine old line printed new) a b
 wrote_line old new line text meant a b same fits is h = (h.0, (fits, (meant, subst (λ t. IsParsed (utf8_lossy t) meant) same is, h.1)), h.2)
 
 -- a step as a line asked for it
-pub wrote_step : (old new : WorldView) (meant : Parsed) (step : Step) (r : Result (List Line) Fault) (a b : Option (List ℕ)) → meant ≡ parsed.Step step → IfOk r (λ printed. world_step old.world step ≡ Ok (new.world, printed)) → OnOk r (IsStored (step_edits old.world step) old new) → IfErr r (λ e. MayRefuseStep (world_step old.world step) step e old new) → OnErr r (IsLeft (step_edits old.world step) old new) → Appends a b (lines_text (told r)) → Wrote (λ printed. DoesParsed old meant printed new) a b
-wrote_step old new meant step (Ok printed) a b is made stored why left h =
-    subst (λ x. Wrote (λ printed. DoesParsed old x printed new) a b) (sym is) (printed, inl (record { is_step = made; stored = stored }), h)
-wrote_step old new meant step (Err fault) a b is made stored why left h =
-    subst (λ x. Wrote (λ printed. DoesParsed old x printed new) a b) (sym is) (lines.Refused fault ∷ [], inr (record { fault = fault; why = why; left = left; line = refl }), h)
+pub wrote_step : (old new : Played) (meant : Parsed) (step : Step) (r : Result (List Line) Fault) (a b : Option (List ℕ)) → meant ≡ parsed.Step step → IfOk r (λ printed. PlaysMade old step new printed) → IfErr r (λ e. PlaysRefused old step new (lines.Refused e ∷ [])) → Appends a b (lines_text (told r)) → Wrote (λ printed. DoesParsed old meant printed new) a b
+wrote_step old new meant step (Ok printed) a b is made refused h =
+    subst (λ x. Wrote (λ printed. DoesParsed old x printed new) a b) (sym is) (printed, inl made, h)
+wrote_step old new meant step (Err fault) a b is made refused h =
+    subst (λ x. Wrote (λ printed. DoesParsed old x printed new) a b) (sym is) (lines.Refused fault ∷ [], inr refused, h)
 
-pub wrote_refusal : (w : WorldView) (meant : Parsed) (fault : Fault) (a b : Option (List ℕ)) → meant ≡ parsed.Refused fault → Appends a b (lines_text (lines.Refused fault ∷ [])) → Wrote (λ printed. DoesParsed w meant printed w) a b
+pub wrote_refusal : (w : Played) (meant : Parsed) (fault : Fault) (a b : Option (List ℕ)) → meant ≡ parsed.Refused fault → Appends a b (lines_text (lines.Refused fault ∷ [])) → Wrote (λ printed. DoesParsed w meant printed w) a b
 wrote_refusal w meant fault a b is h = subst (λ x. Wrote (λ printed. DoesParsed w x printed w) a b) (sym is) (lines.Refused fault ∷ [], (refl, refl), h)
 
 appends_kept : (a b c : Option (List ℕ)) (bytes : List ℕ) → Appends a b bytes → Keeps b c → Appends a c bytes

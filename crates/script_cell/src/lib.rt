@@ -1,6 +1,7 @@
 //! Scripts: their lines, words and steps, and how they are run on a world.
 #![tactic(auto)]
 
+mod deliveries;
 mod lines;
 mod scripts;
 mod steps;

@@ -1,14 +1,13 @@
 //! Runs a script.
 ghost use Rattle.std.specs.Prelude.{◌≡◌, ◌≤◌, ◌∷◌, [], Some, length, true, OnOk, IfOk, IfErr};
 ghost use Rattle.std.specs.Io.KnownBytes.{Appends, Keeps};
-ghost use Rattle.world_cell.specs.Messages.{first_waiting, AreDelivered};
 ghost use Rattle.world_cell.specs.World.{opened};
-ghost use Rattle.world_cell.specs.Runs.{IsMade, IsRefused};
 ghost use Rattle.script_cell.specs.Scripts.{Wrote, IsOfScript, DoesLine, DoesParsed, lines_text, told};
-ghost use Rattle.script_cell.specs.Settling.{Settles, TakesTurn, turn_step, is_waiting, is_idle, before_message};
+ghost use Rattle.script_cell.specs.Settling.{played, Settles, TakesTurn, PlaysMade, PlaysRefused, turn_step, is_waiting, is_idle};
 ghost use Rattle.script_cell.specs.Stops.{IsStatus};
 ghost use Rattle.script_cell.specs.Texts.{Advances};
 
+use crate::deliveries::Deliveries;
 use crate::lines::{LINE_COUNT_LIMIT, ScriptLines};
 use crate::steps::{Parsed, read_line};
 use crate::stops::Stop;
@@ -17,7 +16,7 @@ use plain::Items;
 use rows_cell::{Records, Settings};
 use std::alloc::Global;
 use std::io::{self, Read, Write};
-use world_cell::{Step, Turn, World};
+use world_cell::{Turn, World};
 
 /// Runs a script on a new world over the records: reads its steps, one a line, and writes the lines that they print.
 /// Answers the exit status: 0; 1 at a line that is no step, where the steps before it stand, and where a line can't be
@@ -33,7 +32,7 @@ pub fn script<R: Records + Drop, I: Read + Drop, W: Write>(
     mut errors: impl Write + Drop,
 ) -> u8
     ensures status { IsStatus result }
-    ensures written { result ≡ 0 → Wrote (IsOfScript (I.remaining reader) (opened (R.cell records) (R.rows records) (R.may_leave records) (R.refusals records) settings.now.lease)) (W.contents writer.old) (W.contents writer.new) }
+    ensures written { result ≡ 0 → Wrote (IsOfScript (I.remaining reader) (opened (R.store records) settings.now.lease)) (W.contents writer.old) (W.contents writer.new) }
 {
     match run(alloc, settings, records, reader, writer) {
         Ok(()) => 0,
@@ -60,7 +59,7 @@ fn run<R: Records + Drop, I: Read + Drop, W: Write>(
     reader: I,
     writer: &mut W,
 ) -> Result<(), Stop>
-    ensures { OnOk result (Wrote (IsOfScript (I.remaining reader) (opened (R.cell records) (R.rows records) (R.may_leave records) (R.refusals records) settings.now.lease)) (W.contents writer.old) (W.contents writer.new)) }
+    ensures { OnOk result (Wrote (IsOfScript (I.remaining reader) (opened (R.store records) settings.now.lease)) (W.contents writer.old) (W.contents writer.new)) }
 {
     let mut lines = ScriptLines::new(alloc, reader)?;
     let mut world = World::new(alloc, records, settings);
@@ -79,7 +78,7 @@ fn run_lines<R: Records + Drop, I: Read + Drop, W: Write>(
     requires { lines.old.number ≡ 0 }
     ensures { OnOk result (Wrote (IsOfScript lines.old.rest world.old) (W.contents output.old) (W.contents output.new)) }
 {
-    let mut delivered = 0;
+    let mut delivered = Deliveries::new(alloc);
     for _ in 0..=LINE_COUNT_LIMIT {
         if !advance(lines, output)? {
             return Ok(());
@@ -108,13 +107,11 @@ fn run_line<R: Records + Drop, I: Read + Drop, W: Write>(
     alloc: Global,
     world: &mut World<R>,
     lines: &ScriptLines<I>,
-    delivered: &mut usize,
+    delivered: &mut Deliveries,
     output: &mut W,
 ) -> Result<(), Stop>
-    requires delivered { AreDelivered delivered.old world.old.world.messages }
-    requires fits { length lines.now.line ≤ 1048576 }
-    ensures wrote { OnOk result (Wrote (λ printed. DoesLine world.old lines.now.line printed world.new) (W.contents output.old) (W.contents output.new)) }
-    ensures delivered { OnOk result (AreDelivered delivered.new world.new.world.messages) }
+    requires { length lines.now.line ≤ 1048576 }
+    ensures { OnOk result (Wrote (λ printed. DoesLine (played world.old delivered.old) lines.now.line printed (played world.new delivered.new)) (W.contents output.old) (W.contents output.new)) }
 {
     let parsed = read_line(alloc, lines.line())?;
     if !obey(world, &parsed, delivered, output)? {
@@ -123,20 +120,18 @@ fn run_line<R: Records + Drop, I: Read + Drop, W: Write>(
     Ok(())
 }
 
-// Does what a line asks for; false where it is no step. The first `delivered` messages came to their receivers.
+// Does what a line asks for; false where it is no step.
 fn obey<R: Records + Drop, W: Write>(
     world: &mut World<R>,
     parsed: &Parsed,
-    delivered: &mut usize,
+    delivered: &mut Deliveries,
     output: &mut W,
 ) -> Result<bool, Stop>
-    requires delivered { AreDelivered delivered.old world.old.world.messages }
-    ensures wrote { IfOk result (λ done. done ≡ true → Wrote (λ printed. DoesParsed world.old parsed.now printed world.new) (W.contents output.old) (W.contents output.new)) }
-    ensures delivered { IfOk result (λ _. AreDelivered delivered.new world.new.world.messages) }
+    ensures { IfOk result (λ done. done ≡ true → Wrote (λ printed. DoesParsed (played world.old delivered.old) parsed.now printed (played world.new delivered.new)) (W.contents output.old) (W.contents output.new)) }
 {
     match parsed {
         Parsed::Nothing => {}
-        Parsed::Step(step) => write_answer(output, &world.step(step))?,
+        Parsed::Step(step) => write_answer(output, &delivered.play(world, step))?,
         Parsed::Settle => settle(world, delivered, output)?,
         Parsed::Refused(fault) => write_refusal(output, *fault)?,
         Parsed::Bad => return Ok(false),
@@ -148,12 +143,10 @@ fn obey<R: Records + Drop, W: Write>(
 // finds nothing to do and no message is left. A refusal of one of these ends it.
 fn settle<R: Records + Drop, W: Write>(
     world: &mut World<R>,
-    delivered: &mut usize,
+    delivered: &mut Deliveries,
     output: &mut W,
 ) -> Result<(), Stop>
-    requires delivered { AreDelivered delivered.old world.old.world.messages }
-    ensures wrote { OnOk result (Wrote (λ printed. Settles world.old printed world.new) (W.contents output.old) (W.contents output.new)) }
-    ensures delivered { OnOk result (AreDelivered delivered.new world.new.world.messages) }
+    ensures { OnOk result (Wrote (λ printed. Settles (played world.old delivered.old) printed (played world.new delivered.new)) (W.contents output.old) (W.contents output.new)) }
 {
     if !world.is_up() {
         return write_refusal(output, Fault::MasterDown);
@@ -170,17 +163,15 @@ fn settle<R: Records + Drop, W: Write>(
 // One turn; false where it was the last.
 fn settle_on<R: Records + Drop, W: Write>(
     world: &mut World<R>,
-    delivered: &mut usize,
+    delivered: &mut Deliveries,
     output: &mut W,
 ) -> Result<bool, Stop>
-    requires delivered { AreDelivered delivered.old world.old.world.messages }
-    ensures wrote { IfOk result (λ more. Wrote (λ printed. TakesTurn more world.old printed world.new) (W.contents output.old) (W.contents output.new)) }
-    ensures delivered { IfOk result (λ _. AreDelivered delivered.new world.new.world.messages) }
+    ensures { IfOk result (λ more. Wrote (λ printed. TakesTurn more (played world.old delivered.old) printed (played world.new delivered.new)) (W.contents output.old) (W.contents output.new)) }
 {
     match settle_turn(world, delivered) {
         Ok(turn) => {
             write_lines(output, turn.lines.as_slice())?;
-            Ok(!turn.quiet || has_waiting(world, *delivered))
+            Ok(!turn.quiet || has_waiting(world, delivered))
         }
         Err(fault) => {
             write_refusal(output, fault)?;
@@ -192,41 +183,16 @@ fn settle_on<R: Records + Drop, W: Write>(
 // The turn itself. It is quiet where it is a sweep that found nothing to do.
 fn settle_turn<R: Records + Drop>(
     world: &mut World<R>,
-    delivered: &mut usize,
+    delivered: &mut Deliveries,
 ) -> Result<Turn, Fault>
-    requires delivered { AreDelivered delivered.old world.old.world.messages }
-    ensures made { IfOk result (λ turn. IsMade world.old (turn_step world.old.world) world.new turn.lines) }
-    ensures quiet { IfOk result (λ turn. turn.quiet ≡ is_idle world.old.world) }
-    ensures refused { IfErr result (λ e. IsRefused world.old (turn_step world.old.world) world.new (Line.Refused e ∷ [])) }
-    ensures delivered { AreDelivered delivered.new world.new.world.messages }
+    ensures made { IfOk result (λ turn. PlaysMade (played world.old delivered.old) (turn_step (played world.old delivered.old)) (played world.new delivered.new) turn.lines) }
+    ensures quiet { IfOk result (λ turn. turn.quiet ≡ is_idle (played world.old delivered.old)) }
+    ensures refused { IfErr result (λ e. PlaysRefused (played world.old delivered.old) (turn_step (played world.old delivered.old)) (played world.new delivered.new) (Line.Refused e ∷ [])) }
 {
-    match world.waiting_behind(*delivered) {
-        None => {
-            *delivered = world.message_count();
-            world.sweep()
-        }
-        Some(step) => {
-            let turn = deliver(world, &step, delivered);
-            drop(step);
-            turn
-        }
-    }
-}
-
-// By this step the first message is delivered that came to nobody.
-fn deliver<R: Records + Drop>(
-    world: &mut World<R>,
-    step: &Step,
-    delivered: &mut usize,
-) -> Result<Turn, Fault>
-    requires { first_waiting world.old.world.messages 1 ≡ Some step.now }
-    ensures made { IfOk result (λ turn. IsMade world.old (turn_step world.old.world) world.new turn.lines) }
-    ensures quiet { IfOk result (λ turn. turn.quiet ≡ is_idle world.old.world) }
-    ensures refused { IfErr result (λ e. IsRefused world.old (turn_step world.old.world) world.new (Line.Refused e ∷ [])) }
-    ensures delivered { AreDelivered delivered.new world.new.world.messages }
-{
-    *delivered = before_message(step);
-    let lines = world.step(step)?;
+    let Some(step) = delivered.next(world.messages()) else {
+        return world.sweep();
+    };
+    let lines = delivered.play(world, &step)?;
     Ok(Turn {
         lines,
         quiet: false,
@@ -234,24 +200,13 @@ fn deliver<R: Records + Drop>(
 }
 
 // Whether a message came to nobody.
-fn has_waiting<R: Records + Drop>(world: &World<R>, delivered: usize) -> bool
-    requires { AreDelivered delivered world.now.world.messages }
-    ensures { result ≡ is_waiting world.now.world }
+fn has_waiting<R: Records + Drop>(world: &World<R>, delivered: &Deliveries) -> bool
+    ensures { result ≡ is_waiting (played world.now delivered.now) }
 {
-    let waiting = world.waiting_behind(delivered);
+    let waiting = delivered.next(world.messages());
     let is_there = waiting.is_some();
     drop(waiting);
     is_there
-}
-
-// How many messages come before the one that a step delivers.
-fn before_message(step: &Step) -> usize
-    ensures { result ≡ before_message step.now }
-{
-    match step {
-        Step::Take(number) | Step::Give(number) => number.saturating_sub(1) as usize,
-        _ => 0,
-    }
 }
 
 // Writes what a step printed, or its refusal.

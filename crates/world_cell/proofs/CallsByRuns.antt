@@ -1,95 +1,263 @@
--- Why each applied change is the effect of a call that was taken.
-use Rattle.std.proofs.Common.{◌≡◌, ℕ, ◌+◌, List, [], ◌∷◌, ◌++◌, Option, Some, None, drop, refl, sym, ap, ◌∙◌, inl, inr, append_assoc}
+-- Why each applied change is the effect of a call that was sent and taken.
+use Rattle.std.proofs.Common.{◌≡◌, ℕ, ◌+◌, List, [], ◌∷◌, ◌++◌, Option, Some, None, refl, sym, ap, ◌∙◌, inl, inr, append_assoc, subst}
+use Rattle.std.specs.Prelude.{◌⊎◌}
+use Rattle.std.specs.Option.{option_map}
 use Rattle.std.proofs.lemmas.List.{append-nil}
 use Rattle.node_core.specs.declared.lines.Line.{Line}
 use Rattle.node_core.specs.declared.lines.Line.TheVariants as lines
 use Rattle.node_core.specs.declared.views.Mod.{Mod}
-use Rattle.rows_cell.specs.Rows.{map_of, changed_rows}
-use Rattle.over_core.specs.Up.{up_edits}
+use Rattle.rows_cell.specs.Rows.{map_of}
 use Rattle.tags_cell.specs.declared.calls.Call.{Call}
 use Rattle.tags_cell.specs.declared.calls.Call.TheVariants as calls
-use Rattle.tags_cell.specs.declared.requests.CallMessage.{CallMessage}
+use Rattle.tags_cell.specs.declared.requests.Request.{Request}
 use Rattle.tags_cell.specs.declared.requests.Request.TheVariants as requests
-use Rattle.cell_core.specs.declared.pending.Pending.{Pending}
+use Rattle.tags_cell.specs.declared.requests.CallMessage.{CallMessage}
+use Rattle.tags_cell.specs.declared.outs.CallResult.{CallResult}
+use Rattle.cell_core.specs.declared.handles.Note.{Note}
+use Rattle.gate_core.specs.declared.pending.Waiting.{Waiting}
+use Rattle.cell_core.specs.declared.pending.Task.{Task}
 use Rattle.cell_core.specs.declared.pending.Work.{Work}
 use Rattle.cell_core.specs.declared.pending.Work.TheVariants as works
-use Rattle.cell_core.specs.State.{MasterState, master_of}
-use Rattle.cell_core.specs.Step.{take_at, noted}
-use Rattle.cell_core.specs.Effect.{effect}
-use Rattle.cell_core.specs.Sweep.{sweep_by}
+use Rattle.cell_core.specs.State.{MasterState}
+use Rattle.cell_core.specs.Step.{with_note, noted}
+use Rattle.over_core.specs.Effect.{effect}
+use Rattle.cell_core.specs.Cases.{TakeCase, taken_by}
+use Rattle.over_core.specs.SweepCase.{IsTurn, SweepCase, swept_by, rest, ended, mapped}
+use Rattle.cell_core.specs.Cases.TakeCase.{StartQueued, Answered, Waits}
+use Rattle.over_core.specs.SweepCase.SweepCase.{Quiet, TurnedAway, StartedAgain, Started as StartedFirst, Ended, Applied}
+use Rattle.over_core.specs.Kept.{IsKept}
 use Rattle.world_cell.specs.declared.steps.Step.{Step}
-use Rattle.world_cell.specs.World.{WorldView}
-use Rattle.world_cell.specs.Runs.{IsMade, Does, Run, map_at, epoch_at, change_of, IsTaken, IsOfCall}
-use Rattle.world_cell.proofs.StepKinds.{IsSilent, IsUp, IsTake, IsSweep, Made, is_quiet, is_up, is_take, is_sweep, made}
-use Rattle.world_cell.proofs.TakesAreSilent.{take_silent}
-use Rattle.world_cell.proofs.RowsByRuns.{Tells, silent_map, silent_epoch, map_more, epoch_more, tells_more, step_tells}
-use Rattle.world_cell.proofs.CallsByTakes.{Ground, nodes_on, epoch_on, ground_after, WasTaken, IsCalled, AreCalled, IsMaster, run_push, calls_later, take_stands}
-use Rattle.world_cell.proofs.CallsBySweeps.{split, no_split, one_split, silent_split, work_planned}
+use Rattle.world_cell.specs.declared.steps.Step.TheVariants.{Take, Sweep}
+use Rattle.world_cell.specs.Messages.{call_of}
+use Rattle.world_cell.specs.World.{WorldState, WorldView}
+use Rattle.world_cell.specs.Consistent.{Agrees, IsConsistent}
+use Rattle.world_cell.specs.Runs.{IsMade, Does, Run, map_at, epoch_at, change_of, IsTaken, HasWaited, IsOfCall}
+use Rattle.world_cell.proofs.ClientCases.{IsSilent}
+use Rattle.world_cell.proofs.PartsOfRuns.{run_push}
+use Rattle.world_cell.proofs.MasterFits.{waits_as, turn_sent}
+use Rattle.world_cell.proofs.WorldCases.{IsTake, IsSweep, WorldCase, world_case}
+use Rattle.world_cell.proofs.WorldCases.WorldCase.{ComesUp, Joins, Calls, Starts, Acts, Grants, Takes, Sweeps}
+use Rattle.world_cell.proofs.ConsistentSteps.{noted_fits}
+use Rattle.world_cell.proofs.OnceByRuns.{taken_silent}
+use Rattle.world_cell.proofs.RowsByRuns.{run_tells}
 
--- ---- the ground that a master stands on
+-- ---- lists
 
-nodes_after : (g : Ground) (step : Step) (printed : List Line) (new : WorldView) → nodes_on (ground_after g step printed new) ≡ map_at (nodes_on g) printed
-nodes_after g step printed new = map_more (map_of g.old.world.rows) g.told printed
+-- what stands in two lists together stands in one of them
+split : {X : Type 0} (xs ys before rest : List X) (x : X) → xs ++ ys ≡ before ++ x ∷ rest → ((mid : List X) × (xs ≡ before ++ x ∷ mid) × (rest ≡ mid ++ ys)) ⊎ ((mid : List X) × (before ≡ xs ++ mid) × (ys ≡ mid ++ x ∷ rest))
+split [] ys before rest x h = inr (before, refl, h)
+split (a ∷ xs) ys [] rest x h =
+    let e : a ≡ x = cc in
+    let t : rest ≡ xs ++ ys = cc in
+    inl (xs, rw e refl, t)
+split {X} (a ∷ xs) ys (b ∷ before) rest x h =
+    let e : a ≡ b = cc in
+    let t : xs ++ ys ≡ before ++ x ∷ rest = cc in
+    (elim (split xs ys before rest x t) as (λ s. ((mid : List X) × (a ∷ xs ≡ b ∷ before ++ x ∷ mid) × (rest ≡ mid ++ ys)) ⊎ ((mid : List X) × (b ∷ before ≡ a ∷ xs ++ mid) × (ys ≡ mid ++ x ∷ rest))) [
+      | inl k ↦ inl (k.0, rw (e, k.1) refl, k.2)
+      | inr k ↦ inr (k.0, rw (e, k.1) refl, k.2)
+    ])
 
-epoch_after : (g : Ground) (step : Step) (printed : List Line) (new : WorldView) → epoch_on (ground_after g step printed new) ≡ epoch_at (epoch_on g) printed
-epoch_after g step printed new = epoch_more g.old.world.rows.epoch g.told printed
+no_split : {X : Type 0} (before rest : List X) (x : X) → [] ≡ before ++ x ∷ rest → ⊥
+no_split [] rest x h = cc
+no_split (b ∷ before) rest x h = cc
 
-master_later : (g : Ground) (step : Step) (printed : List Line) (new : WorldView) (s : MasterState) → Does g.here step new printed → IsSilent printed → IsMaster g s → IsMaster (ground_after g step printed new) s
-master_later g step printed new s does silent m =
-    let epoch : epoch_on (ground_after g step printed new) ≡ epoch_on g = epoch_after g step printed new ∙ silent_epoch (epoch_on g) printed silent in
-    record {
-      nodes = m.nodes ∙ sym (nodes_after g step printed new ∙ silent_map (nodes_on g) printed silent);
-      epoch = m.epoch ∙ sym epoch;
-      queue = calls_later g step printed new s.queue does epoch m.queue;
-    }
+one_split : {X : Type 0} (a : X) (before rest : List X) (x : X) → a ∷ [] ≡ before ++ x ∷ rest → (before ≡ []) × (a ≡ x)
+one_split a [] rest x h = (refl, cc)
+one_split a (b ∷ before) rest x h = let t : [] ≡ before ++ x ∷ rest = cc in absurd (no_split before rest x t)
 
-noted_stands : (g : Ground) (s : MasterState) (now : ℕ) → IsMaster g s → IsMaster g (noted s now)
-noted_stands g s now m = record { nodes = m.nodes; epoch = m.epoch; queue = m.queue }
+silent_split : (printed before rest : List Line) (client number : ℕ) (change : Mod) → IsSilent printed → printed ≡ before ++ lines.Applied client number change ∷ rest → ⊥
+silent_split [] before rest client number change h e = no_split before rest (lines.Applied client number change) e
+silent_split (line ∷ printed) [] rest client number change h e =
+    let same : line ≡ lines.Applied client number change = cc in rw same at h.0
+silent_split (line ∷ printed) (b ∷ before) rest client number change h e =
+    let t : printed ≡ before ++ lines.Applied client number change ∷ rest = cc in silent_split printed before rest client number change h.1 t
+
+-- ---- where the calls that wait come from
+
+-- the steps made so far from a former world, the lines that they told, and the world that they led to
+record Ground : Type 0 where
+  old : WorldView
+  past : List Step
+  told : List Line
+  here : WorldView
+
+abbrev ground_after : Ground → Step → List Line → WorldView → Ground
+ground_after g step printed new = record { old = g.old; past = g.past ++ step ∷ []; told = g.told ++ printed; here = new }
+
+-- the call waited from the beginning, or one of the steps took it
+abbrev WasTaken : Ground → ℕ → ℕ → ℕ → Call → Type 0
+WasTaken g epoch client number call = HasWaited g.old.world.master epoch client number call ⊎ IsTaken g.old g.past g.told g.here epoch client number call
+
+abbrev IsCalled : Ground → ℕ → ℕ → ℕ → Work → Type 0
+IsCalled g epoch client number (works.Starts principal) = Unit {0}
+IsCalled g epoch client number (works.Calls call) = WasTaken g epoch client number call
+
+abbrev AreCalled : Ground → ℕ → List (Waiting Task) → Type 0
+AreCalled g epoch [] = Unit {0}
+AreCalled g epoch (w ∷ ws) = IsCalled g epoch w.change.body.client w.change.body.number w.change.body.work × AreCalled g epoch ws
+
+abbrev Queued : Ground → Option MasterState → Type 0
+Queued g None = Unit {0}
+Queued g (Some s) = AreCalled g s.epoch s.gate.waiting
+
+-- the steps of the past told these lines and led to this world
+record Stands (g : Ground) : Type 0 where
+  run : Run g.old g.past g.told g.here
+  consistent : IsConsistent g.here.world
+  queue : Queued g g.here.world.master
+
+-- ---- later on
+
+module _ (g : Ground) (step : Step) (printed : List Line) (new : WorldView) (does : Does g.here step new printed) (fits : IsConsistent new.world) where
+  taken_later : (epoch client number : ℕ) (call : Call) → IsTaken g.old g.past g.told g.here epoch client number call → IsTaken g.old (g.past ++ step ∷ []) (g.told ++ printed) new epoch client number call
+  taken_later epoch client number call t = record {
+    front = t.front;
+    at = t.at;
+    back = t.back ++ step ∷ [];
+    is_split = ap (λ l. l ++ step ∷ []) t.is_split ∙ append_assoc t.front (Take t.at ∷ t.back) (step ∷ []);
+    before = t.before;
+    told = t.told;
+    after = t.after ++ printed;
+    are_lines = ap (λ l. l ++ printed) t.are_lines ∙ append_assoc (t.before ++ t.told) t.after printed;
+    here = t.here;
+    next = t.next;
+    first = t.first;
+    is_made = t.is_made;
+    last = run_push t.next g.here new t.back t.after step printed t.last does fits;
+    sent = t.sent;
+    master = t.master;
+    is_up = t.is_up;
+    of_epoch = t.of_epoch;
+  }
+
+  work_later : (epoch client number : ℕ) (work : Work) → IsCalled g epoch client number work → IsCalled (ground_after g step printed new) epoch client number work
+  work_later epoch client number (works.Starts principal) called = tt
+  work_later epoch client number (works.Calls call) (inl waited) = inl waited
+  work_later epoch client number (works.Calls call) (inr taken) = inr (taken_later epoch client number call taken)
+
+  calls_later : (epoch : ℕ) (queue : List (Waiting Task)) → AreCalled g epoch queue → AreCalled (ground_after g step printed new) epoch queue
+  calls_later epoch [] called = tt
+  calls_later epoch (w ∷ ws) called = (work_later epoch w.change.body.client w.change.body.number w.change.body.work called.0, calls_later epoch ws called.1)
+
+  queued_later : (m : Option MasterState) → Queued g m → Queued (ground_after g step printed new) m
+  queued_later None called = tt
+  queued_later (Some s) called = calls_later s.epoch s.gate.waiting called
+
+calls_push : (g : Ground) (epoch : ℕ) (ws : List (Waiting Task)) (w : Waiting Task) → AreCalled g epoch ws → IsCalled g epoch w.change.body.client w.change.body.number w.change.body.work → AreCalled g epoch (ws ++ w ∷ [])
+calls_push g epoch [] w h k = (k, tt)
+calls_push g epoch (x ∷ xs) w h k = (h.0, calls_push g epoch xs w h.1 k)
+
+note_calls : (g : Ground) (s : MasterState) (note : Option Note) → AreCalled g s.epoch s.gate.waiting → AreCalled g (with_note s note).epoch (with_note s note).gate.waiting
+note_calls g s None h = h
+note_calls g s (Some note) h = h
+
+epoch_note : (s : MasterState) (note : Option Note) → (with_note s note).epoch ≡ s.epoch
+epoch_note s None = refl
+epoch_note s (Some note) = refl
+
+-- ---- a message is taken
+
+-- only a call of the master's own epoch may wait, and it was taken
+take_calls : (g : Ground) (s : MasterState) (request : Request) (c : TakeCase s request) → AreCalled g s.epoch s.gate.waiting → ((message : CallMessage) → request ≡ requests.Call message → message.epoch ≡ s.epoch → WasTaken g s.epoch message.client message.number message.call) → AreCalled g (taken_by s request c).0.epoch (taken_by s request c).0.gate.waiting
+take_calls g s request (StartQueued start is may room) h k =
+    calls_push g s.epoch s.gate.waiting (waits_as (s.gate.pushed + 1) [] (record { client = start.client; number = start.number; work = works.Starts start.principal })) h tt
+take_calls g s request (Answered message note answer new answered) h k = note_calls g s note h
+take_calls g s request (Waits message note touched new admitted) h k =
+    let t = with_note s note in
+    let taken : WasTaken g t.epoch message.client message.number message.call = rw (epoch_note s note) (k message new.heard.is_call new.heard.epoch) in
+    calls_push g t.epoch t.gate.waiting (waits_as (t.gate.pushed + 1) touched (record { client = message.client; number = message.number; work = works.Calls message.call })) (note_calls g s note h) taken
+take_calls g s request _ h k = h
 
 -- ---- a sweep
 
-tail_called : (g : Ground) (s : MasterState) (p : Pending) (rest : List Pending) → s.queue ≡ p ∷ rest → IsMaster g s → IsCalled g p.client p.number p.work × AreCalled g rest
-tail_called g s p rest q m = rw q at m.queue
+parted_calls : (g : Ground) (epoch : ℕ) (front : List (Waiting Task)) (w : Waiting Task) (back : List (Waiting Task)) → AreCalled g epoch (front ++ w ∷ back) → IsCalled g epoch w.change.body.client w.change.body.number w.change.body.work × AreCalled g epoch (front ++ back)
+parted_calls g epoch [] w back h = (h.0, h.1)
+parted_calls g epoch (x ∷ front) w back h = let t = parted_calls g epoch front w back h.1 in (t.0, (h.0, t.1))
 
-rest_called : (g : Ground) (queue : List Pending) (p : Pending) (rest : List Pending) → queue ≡ p ∷ rest → AreCalled g rest → AreCalled g (drop 1 queue)
-rest_called g queue p rest q h = rw q h
+-- the change that has its turn, and the others
+turn_calls : (g : Ground) (s : MasterState) (front : List (Waiting Task)) (task : Task) (back : List (Waiting Task)) → IsTurn s front task back → AreCalled g s.epoch s.gate.waiting → IsCalled g s.epoch task.client task.number task.work × AreCalled g s.epoch (front ++ back)
+turn_calls g s front task back turn h = parted_calls g s.epoch front (waits_as turn.number turn.touched task) back (subst (λ ws. AreCalled g s.epoch ws) turn.waited h)
 
-sweep_stands : (g : Ground) (step : Step) (new : WorldView) (s : MasterState) (queue : List Pending) → s.queue ≡ queue → IsMaster g s → Does g.here step new (sweep_by s queue).1.lines → IsMaster (ground_after g step (sweep_by s queue).1.lines new) (sweep_by s queue).0
-sweep_stands g step new s [] q m does = master_later g step [] new s does tt m
-sweep_stands g step new s (p ∷ rest) q m does =
-    let plan = work_planned s p p.work refl in
-    let told : List Line = (sweep_by s (p ∷ rest)).1.lines in
-    let epoch : epoch_on (ground_after g step told new) ≡ epoch_on g = epoch_after g step told new ∙ plan.same_epoch (epoch_on g) in
-    record {
-      nodes = plan.nodes ∙ ap (λ n. map_at n told) m.nodes ∙ sym (nodes_after g step told new);
-      epoch = plan.epoch ∙ m.epoch ∙ sym epoch;
-      queue = rest_called (ground_after g step told new) s.queue p rest q (calls_later g step told new rest does epoch (tail_called g s p rest q m).1);
-    }
+ended_calls : (g : Ground) (s : MasterState) (task : Task) (note : Option Note) (answer : CallResult) → AreCalled g s.epoch s.gate.waiting → AreCalled g (ended s task note answer).epoch (ended s task note answer).gate.waiting
+ended_calls g s task None answer h = h
+ended_calls g s task (Some note) answer h = h
 
--- a change that a sweep tells of comes first, and is the effect of a call that was taken
-record IsHere (g : Ground) (s : MasterState) (before : List Line) (client number : ℕ) (change : Mod) : Type 0 where
-  first : before ≡ []
-  call : Call
-  was : WasTaken g client number call
-  is_effect : change_of (effect s client number call) ≡ Some change
+sweep_calls : (g : Ground) (s : MasterState) (c : SweepCase s) → AreCalled g s.epoch s.gate.waiting → AreCalled g (swept_by s c).0.epoch (swept_by s c).0.gate.waiting
+sweep_calls g s (Quiet none) h = h
+sweep_calls g s (TurnedAway front back task principal turn work may) h = (turn_calls g s front task back turn h).1
+sweep_calls g s (StartedAgain front back task principal turn work may live) h = (turn_calls g s front task back turn h).1
+sweep_calls g s (StartedFirst front back task principal turn work may live) h = (turn_calls g s front task back turn h).1
+sweep_calls g s (Ended front back task call note answer turn work made) h = ended_calls g (rest s front back) task note answer (turn_calls g s front task back turn h).1
+sweep_calls g s (Applied front back task call note change answer turn work made) h =
+    ended_calls g (mapped (rest s front back) change) task note answer (turn_calls g s front task back turn h).1
 
-call_taken : (g : Ground) (client number : ℕ) (work : Work) (call : Call) → work ≡ works.Calls call → IsCalled g client number work → WasTaken g client number call
-call_taken g client number work call e h = rw e at h
+-- ---- a step
 
-sweep_here : (g : Ground) (s : MasterState) (queue : List Pending) (before rest : List Line) (client number : ℕ) (change : Mod) → s.queue ≡ queue → IsMaster g s → (sweep_by s queue).1.lines ≡ before ++ lines.Applied client number change ∷ rest → IsHere g s before client number change
-sweep_here g s [] before rest client number change q m e = absurd (no_split before rest (lines.Applied client number change) e)
-sweep_here g s (p ∷ ps) before rest client number change q m e =
-    let turn = (work_planned s p p.work refl).tells before rest client number change e in
-    let called : IsCalled g client number p.work = rw (← turn.same_client, ← turn.same_number) (tail_called g s p ps q m).0 in
-    record {
-      first = turn.first;
-      call = turn.call;
-      was = call_taken g client number p.work turn.call turn.is_call called;
-      is_effect = turn.is_effect;
-    }
+queued_at : (g : Ground) (m : Option MasterState) (s : MasterState) → m ≡ Some s → Queued g m → AreCalled g s.epoch s.gate.waiting
+queued_at g m s e h = rw e at h
 
-in_epoch : (g : Ground) (epoch client number : ℕ) (call : Call) → epoch ≡ epoch_on g → WasTaken g client number call → IsTaken g.old g.past g.told g.here epoch client number call
-in_epoch g epoch client number call e h = rw e h
+queued_as : (g : Ground) (m n : Option MasterState) → m ≡ n → Queued g n → Queued g m
+queued_as g m n e h = rw e h
+
+-- the step that delivered the call's message
+taken_now : (g : Ground) (step : Step) (printed : List Line) (new : WorldView) (t : IsTake g.here.world step new.world printed) → Stands g → IsMade g.here step new printed → (message : CallMessage) → t.request ≡ requests.Call message → message.epoch ≡ t.master.epoch → IsTaken g.old (g.past ++ step ∷ []) (g.told ++ printed) new t.master.epoch message.client message.number message.call
+taken_now g step printed new t h made message is_call same = record {
+  front = g.past;
+  at = t.at;
+  back = [];
+  is_split = ap (λ s. g.past ++ s ∷ []) t.is_step;
+  before = g.told;
+  told = printed;
+  after = [];
+  are_lines = sym (append-nil (g.told ++ printed));
+  here = g.here;
+  next = new;
+  first = h.run;
+  is_made = let m = made in rw t.is_step at m;
+  last = (refl, refl);
+  sent = rw (← same) (t.was_sent ∙ ap (λ r. Some r) is_call);
+  master = t.master;
+  is_up = t.is_up;
+  of_epoch = refl;
+}
+
+module _ (g : Ground) (step : Step) (new : WorldView) (printed : List Line) (h : Stands g) (does : Does g.here step new printed) (fits : IsConsistent new.world) where
+  abbrev next : Ground
+  next = ground_after g step printed new
+
+  same_queue : new.world.master ≡ g.here.world.master → Queued next new.world.master
+  same_queue e = queued_as next new.world.master g.here.world.master e (queued_later g step printed new does fits g.here.world.master h.queue)
+
+  calls_then : (s : MasterState) → g.here.world.master ≡ Some s → AreCalled next s.epoch s.gate.waiting
+  calls_then s up = calls_later g step printed new does fits s.epoch s.gate.waiting (queued_at g g.here.world.master s up h.queue)
+
+  made_queue : IsMade g.here step new printed → WorldCase g.here.world step new.world printed → Queued next new.world.master
+  made_queue made (ComesUp u) = queued_as next new.world.master _ (ap (λ (w : WorldState). w.master) u.is) tt
+  made_queue made (Joins j) = same_queue (ap (λ (w : WorldState). w.master) j.is)
+  made_queue made (Calls c) = same_queue (ap (λ (w : WorldState). w.master) c.is)
+  made_queue made (Starts c) = same_queue (ap (λ (w : WorldState). w.master) c.is)
+  made_queue made (Acts c) = same_queue (ap (λ (w : WorldState). w.master) c.is)
+  made_queue made (Grants c) = same_queue (ap (λ (w : WorldState). w.master) c.is)
+  made_queue made (Takes t) =
+      queued_as next new.world.master _ (ap (λ (w : WorldState). w.master) t.is)
+      (take_calls next (noted t.master g.here.world.clock) t.request t.case (calls_then t.master t.is_up) (λ message is_call same. inr (taken_now g step printed new t h made message is_call same)))
+  made_queue made (Sweeps t) =
+      queued_as next new.world.master _ (ap (λ (w : WorldState). w.master) t.is) (sweep_calls next (noted t.master g.here.world.clock) t.case (calls_then t.master t.is_up))
+
+step_stands : (g : Ground) (step : Step) (new : WorldView) (printed : List Line) → Stands g → Does g.here step new printed → IsConsistent new.world → Stands (ground_after g step printed new)
+step_stands g step new printed h (inl m) fits = record {
+  run = run_push g.old g.here new g.past g.told step printed h.run (inl m) fits;
+  consistent = fits;
+  queue = made_queue g step new printed h (inl m) fits m (world_case g.here.world step new.world printed m.is_step);
+}
+step_stands g step new printed h (inr r) fits = record {
+  run = run_push g.old g.here new g.past g.told step printed h.run (inr r) fits;
+  consistent = fits;
+  queue = same_queue g step new printed h (inr r) fits (ap (λ (w : WorldState). w.master) r.left.same);
+}
+
+-- ---- the step that tells of a change
 
 -- the moment doesn't matter to what a call does
 noted_effect : (s : MasterState) (now client number : ℕ) (call : Call) → effect (noted s now) client number call ≡ effect s client number call
@@ -103,93 +271,53 @@ noted_effect s now client number (calls.Set bytes content generation) = refl
 noted_effect s now client number (calls.SetAcl bytes acls generation) = refl
 noted_effect s now client number (calls.Delete bytes) = refl
 
--- ---- a step
+agreed : (w : WorldState) (m : Option MasterState) (s : MasterState) → m ≡ Some s → Agrees w m → IsKept w.cell w.rows s
+agreed w m s e h = rw e at h
 
-abbrev MasterStands : Ground → Option MasterState → Type 0
-MasterStands g None = Unit {0}
-MasterStands g (Some s) = IsMaster g s
+-- a change that a sweep tells of comes first, and is what the call whose turn it is does
+record IsOfTurn (s : MasterState) (before : List Line) (client number : ℕ) (change : Mod) : Type 0 where
+  first : before ≡ []
+  front : List (Waiting Task)
+  back : List (Waiting Task)
+  task : Task
+  turn : IsTurn s front task back
+  call : Call
+  work : task.work ≡ works.Calls call
+  own : task.client ≡ client
+  same : task.number ≡ number
+  is_effect : change_of (effect s client number call) ≡ Some change
 
-master_at : (g : Ground) (o : Option MasterState) (s : MasterState) → o ≡ Some s → MasterStands g o → IsMaster g s
-master_at g o s e h = rw e at h
-
-stands_as : (g : Ground) (o p : Option MasterState) → o ≡ p → MasterStands g p → MasterStands g o
-stands_as g o p e h = rw e h
-
--- the steps of the past told these lines and led to this world
-record Stands (g : Ground) : Type 0 where
-  run : Run g.old g.past g.told g.here
-  tells : Tells g.old.world.rows g.here.world.rows g.told
-  master : MasterStands g g.here.world.master
-
-option_later : (g : Ground) (step : Step) (printed : List Line) (new : WorldView) (o : Option MasterState) → Does g.here step new printed → IsSilent printed → MasterStands g o → MasterStands (ground_after g step printed new) o
-option_later g step printed new None does silent m = tt
-option_later g step printed new (Some s) does silent m = master_later g step printed new s does silent m
-
--- the step that delivered the call's message
-taken_now : (g : Ground) (step : Step) (printed : List Line) (new : WorldView) (t : IsTake g.here.world step new.world printed) (epoch : ℕ) → Run g.old g.past g.told g.here → IsMade g.here step new printed → t.master.epoch ≡ epoch → (message : CallMessage) → t.request ≡ requests.Call message → message.epoch ≡ epoch → IsTaken g.old (g.past ++ step ∷ []) (g.told ++ printed) new epoch message.client message.number message.call
-taken_now g step printed new t epoch run ok of_epoch message is_call same = record {
-  front = g.past;
-  at = t.number;
-  back = [];
-  is_split = ap (λ s. g.past ++ s ∷ []) t.is_step;
-  before = g.told;
-  told = printed;
-  after = [];
-  are_lines = sym (append-nil (g.told ++ printed));
-  here = g.here;
-  next = new;
-  first = run;
-  is_made = rw t.is_step at ok;
-  last = (refl, refl);
-  sent = rw (← same) (t.found ∙ ap (λ r. Some r) is_call);
-  master = t.master;
-  is_up = t.was;
-  of_epoch = of_epoch;
-}
-
-take_on : (g : Ground) (step : Step) (new : WorldView) (printed : List Line) (t : IsTake g.here.world step new.world printed) → Stands g → Does g.here step new printed → IsMade g.here step new printed → MasterStands (ground_after g step printed new) new.world.master
-take_on g step new printed t h does ok =
-    let s = noted t.master g.here.world.clock in
-    let was : IsMaster g t.master = master_at g g.here.world.master t.master t.was h.master in
-    let silent : IsSilent printed = rw t.tells (take_silent s t.request) in
-    let next = ground_after g step printed new in
-    let later : IsMaster next t.master = master_later g step printed new t.master does silent was in
-    stands_as next new.world.master (Some (take_at s t.request).0) t.is (take_stands next s t.request (noted_stands next t.master g.here.world.clock later) (taken_now g step printed new t (epoch_on next) h.run ok later.epoch))
-
-sweep_on : (g : Ground) (step : Step) (new : WorldView) (printed : List Line) → IsSweep g.here.world step new.world printed → Stands g → Does g.here step new printed → MasterStands (ground_after g step printed new) new.world.master
-sweep_on g step new printed t h does =
-    let was : IsMaster g t.master = master_at g g.here.world.master t.master t.was h.master in
-    stands_as (ground_after g step printed new) new.world.master (Some (sweep_by (noted t.master g.here.world.clock) t.master.queue).0) t.is (rw t.tells (sweep_stands g step new (noted t.master g.here.world.clock) t.master.queue refl (noted_stands g t.master g.here.world.clock was) (rw (← t.tells) does)))
-
--- a master that comes up has the map and the epoch of its rows, and nothing waits
-up_on : (h : Ground) (w new : WorldView) (printed : List Line) → map_of new.world.rows ≡ nodes_on h → new.world.rows.epoch ≡ epoch_on h → IsUp w.world new.world printed → MasterStands h new.world.master
-up_on h w new printed nodes epoch u =
-    stands_as h new.world.master (Some (master_of (changed_rows w.world.rows (up_edits w.world.rows)) w.world.lease u.now)) u.master (record { nodes = ap (λ r. map_of r) (sym u.rows) ∙ nodes; epoch = ap (λ r. r.epoch) (sym u.rows) ∙ epoch; queue = tt })
-
-made_on : (g : Ground) (step : Step) (new : WorldView) (printed : List Line) → Stands g → Does g.here step new printed → Tells g.old.world.rows new.world.rows (g.told ++ printed) → Made g.here step new printed → MasterStands (ground_after g step printed new) new.world.master
-made_on g step new printed h does tells (is_quiet q) = stands_as (ground_after g step printed new) new.world.master g.here.world.master q.master (option_later g step printed new g.here.world.master does q.silent h.master)
-made_on g step new printed h does tells (is_up u) = up_on (ground_after g step printed new) g.here new printed tells.is_map tells.is_epoch u
-made_on g step new printed h does tells (is_take t ok) = take_on g step new printed t h does ok
-made_on g step new printed h does tells (is_sweep t ok) = sweep_on g step new printed t h does
-
-step_stands : (g : Ground) (step : Step) (new : WorldView) (printed : List Line) → Stands g → Does g.here step new printed → Stands (ground_after g step printed new)
-step_stands g step new printed h does =
-    let tells = tells_more g.old.world.rows g.here.world.rows new.world.rows g.told printed h.tells (step_tells g.here step new printed does) in
+of_turn : (s : MasterState) (c : SweepCase s) (before told : List Line) (client number : ℕ) (change : Mod) → (swept_by s c).1.lines ≡ before ++ lines.Applied client number change ∷ told → IsOfTurn s before client number change
+of_turn s (Applied front back task call note made answer turn work does) before told client number change e =
+    let t = one_split (lines.Applied task.client task.number made.change) before told (lines.Applied client number change) e in
+    let line : lines.Applied task.client task.number made.change ≡ lines.Applied client number change = t.1 in
+    let c : task.client ≡ client = cc in
+    let n : task.number ≡ number = cc in
+    let m : made.change ≡ change = cc in
     record {
-      run = run_push g.old g.here new g.past g.told step printed h.run does;
-      tells = tells;
-      master = made_on g step new printed h does tells (made g.here step new printed does);
+      first = t.0;
+      front = front;
+      back = back;
+      task = task;
+      turn = turn;
+      call = call;
+      work = work;
+      own = c;
+      same = n;
+      is_effect = rw (← c, ← n) (ap change_of does ∙ ap (λ x. Some x) m);
     }
-
--- ---- the step that tells of a change
+of_turn s (StartedFirst front back task principal turn work may live) before told client number change e =
+    absurd (silent_split (lines.Started task.client ∷ []) before told client number change (tt, tt) e)
+of_turn s _ before told client number change e = absurd (no_split before told (lines.Applied client number change) e)
 
 of_sweep : (g : Ground) (step : Step) (next : WorldView) (printed before told later : List Line) (client number : ℕ) (change : Mod) (steps : List Step) (rest : List Line) (new : WorldView) → Stands g → (t : IsSweep g.here.world step next.world printed) → IsMade g.here step next printed → Run next steps later new → printed ≡ before ++ lines.Applied client number change ∷ told → rest ≡ told ++ later → IsOfCall g.old (g.past ++ step ∷ steps) (g.told ++ before) client number change rest new
-of_sweep g step next printed before told later client number change steps rest new h t ok run e r =
-    let was : IsMaster g t.master = master_at g g.here.world.master t.master t.was h.master in
+of_sweep g step next printed before told later client number change steps rest new h t made run e r =
     let s = noted t.master g.here.world.clock in
-    let here = sweep_here g s t.master.queue before told client number change refl (noted_stands g t.master g.here.world.clock was) (sym t.tells ∙ e) in
-    let is_line : printed ≡ lines.Applied client number change ∷ told = e ∙ ap (λ l. l ++ lines.Applied client number change ∷ told) here.first in
-    rw (here.first, append-nil g.told) (record {
+    let turn = of_turn s t.case before told client number change (sym t.tells ∙ e) in
+    let kept = agreed g.here.world g.here.world.master t.master t.is_up h.consistent.master in
+    let tells = run_tells g.old g.past g.told g.here h.run in
+    let is_line : printed ≡ lines.Applied client number change ∷ told = e ∙ ap (λ l. l ++ lines.Applied client number change ∷ told) turn.first in
+    rw (turn.first, append-nil g.told) (record {
       front = g.past;
       back = steps;
       is_split = ap (λ s. g.past ++ s ∷ steps) t.is_step;
@@ -199,27 +327,38 @@ of_sweep g step next printed before told later client number change steps rest n
       here = g.here;
       next = next;
       first = h.run;
-      is_made = rw (t.is_step, is_line) at ok;
+      is_made = let m = made in rw (t.is_step, is_line) at m;
       last = run;
       master = t.master;
-      is_up = t.was;
-      nodes = was.nodes;
-      epoch = was.epoch;
-      call = here.call;
-      taken = in_epoch g t.master.epoch client number here.call was.epoch here.was;
-      is_effect = ap change_of (sym (noted_effect t.master g.here.world.clock client number here.call)) ∙ here.is_effect;
+      is_up = t.is_up;
+      nodes = kept.nodes ∙ tells.is_map;
+      epoch = kept.epoch ∙ tells.is_epoch;
+      call = turn.call;
+      sent = subst (λ k. call_of g.here.world.messages client k ≡ Some (record { client = client; epoch = t.master.epoch; number = k; call = turn.call })) turn.same
+          (subst (λ k. call_of g.here.world.messages k turn.task.number ≡ Some (record { client = k; epoch = t.master.epoch; number = turn.task.number; call = turn.call })) turn.own
+          (turn_sent g.here.world.messages s turn.front turn.task turn.back turn.turn (noted_fits g.here.world h.consistent t.master t.is_up) turn.call turn.work));
+      taken = subst (λ k. WasTaken g t.master.epoch client k turn.call) turn.same
+          (subst (λ k. WasTaken g t.master.epoch k turn.task.number turn.call) turn.own
+          (subst (λ x. IsCalled g t.master.epoch turn.task.client turn.task.number x) turn.work (turn_calls g s turn.front turn.task turn.back turn.turn (queued_at g g.here.world.master t.master t.is_up h.queue)).0));
+      is_effect = ap change_of (sym (noted_effect t.master g.here.world.clock client number turn.call)) ∙ turn.is_effect;
     })
 
-made_here : (g : Ground) (step : Step) (next : WorldView) (printed before told later : List Line) (client number : ℕ) (change : Mod) (steps : List Step) (rest : List Line) (new : WorldView) → Stands g → Made g.here step next printed → Run next steps later new → printed ≡ before ++ lines.Applied client number change ∷ told → rest ≡ told ++ later → IsOfCall g.old (g.past ++ step ∷ steps) (g.told ++ before) client number change rest new
-made_here g step next printed before told later client number change steps rest new h (is_quiet q) run e r =
-    absurd (silent_split printed before told client number change q.silent e)
-made_here g step next printed before told later client number change steps rest new h (is_up u) run e r =
-    let t = one_split (lines.Up (g.here.world.rows.epoch + 1)) before told (lines.Applied client number change) (sym u.tells ∙ e) in
-    let line : lines.Up (g.here.world.rows.epoch + 1) ≡ lines.Applied client number change = t.1 in cc
-made_here g step next printed before told later client number change steps rest new h (is_take t ok) run e r =
-    absurd (silent_split printed before told client number change (rw t.tells (take_silent (noted t.master g.here.world.clock) t.request)) e)
-made_here g step next printed before told later client number change steps rest new h (is_sweep t ok) run e r =
-    of_sweep g step next printed before told later client number change steps rest new h t ok run e r
+made_here : (g : Ground) (step : Step) (next : WorldView) (printed before told later : List Line) (client number : ℕ) (change : Mod) (steps : List Step) (rest : List Line) (new : WorldView) → Stands g → Does g.here step next printed → Run next steps later new → printed ≡ before ++ lines.Applied client number change ∷ told → rest ≡ told ++ later → IsOfCall g.old (g.past ++ step ∷ steps) (g.told ++ before) client number change rest new
+made_here g step next printed before told later client number change steps rest new h (inr refused) run e r =
+    absurd (silent_split printed before told client number change (rw refused.line (tt, tt)) e)
+made_here g step next printed before told later client number change steps rest new h (inl made) run e r =
+    elim (world_case g.here.world step next.world printed made.is_step) [
+      | ComesUp u ↦
+          (let t = one_split (lines.Up (g.here.world.rows.epoch + 1)) before told (lines.Applied client number change) (sym u.tells ∙ e) in
+          let line : lines.Up (g.here.world.rows.epoch + 1) ≡ lines.Applied client number change = t.1 in cc)
+      | Joins j ↦ absurd (silent_split printed before told client number change (rw j.tells tt) e)
+      | Calls c ↦ absurd (silent_split printed before told client number change (rw c.tells tt) e)
+      | Starts c ↦ absurd (silent_split printed before told client number change (rw c.tells tt) e)
+      | Acts c ↦ absurd (silent_split printed before told client number change c.silent e)
+      | Grants c ↦ absurd (silent_split printed before told client number change (rw c.tells tt) e)
+      | Takes t ↦ absurd (silent_split printed before told client number change (rw t.tells (taken_silent (noted t.master g.here.world.clock) t.request t.case)) e)
+      | Sweeps t ↦ of_sweep g step next printed before told later client number change steps rest new h t made run e r
+    ]
 
 -- ---- a run
 
@@ -227,17 +366,38 @@ run_on : (g : Ground) (steps : List Step) (printed : List Line) (new : WorldView
 run_on g [] printed new h run before rest client number change e =
     absurd (no_split before rest (lines.Applied client number change) (sym run.0 ∙ e))
 run_on g (step ∷ steps) printed new h run before rest client number change e =
-    (elim (split run.1 run.2 before rest (lines.Applied client number change) (sym run.5 ∙ e)) as (λ s. IsOfCall g.old (g.past ++ step ∷ steps) (g.told ++ before) client number change rest new) [
-      | inl k ↦ made_here g step run.0 run.1 before k.0 run.2 client number change steps rest new h (made g.here step run.0 run.1 run.3) run.4 k.1 k.2
+    (elim (split run.1 run.2 before rest (lines.Applied client number change) (sym run.6 ∙ e)) as (λ s. IsOfCall g.old (g.past ++ step ∷ steps) (g.told ++ before) client number change rest new) [
+      | inl k ↦ made_here g step run.0 run.1 before k.0 run.2 client number change steps rest new h run.3 run.5 k.1 k.2
       | inr k ↦
-          let there = run_on (ground_after g step run.1 run.0) steps run.2 new (step_stands g step run.0 run.1 h run.3) run.4 k.0 rest client number change k.2 in
+          let there = run_on (ground_after g step run.1 run.0) steps run.2 new (step_stands g step run.0 run.1 h run.3 run.4) run.5 k.0 rest client number change k.2 in
           rw (k.1, ← append_assoc g.told run.1 k.0, ← append_assoc g.past (step ∷ []) steps) there
     ])
 
-start_stands : (old : WorldView) → old.world.master ≡ None → Stands (record { old = old; past = []; told = []; here = old })
-start_stands old none = record { run = (refl, refl); tells = record { is_map = refl; is_epoch = refl }; master = rw none tt }
+-- what waits in a master waited there from the beginning
+have_waited : (g : Ground) (s : MasterState) → g.old.world.master ≡ Some s → (front queue : List (Waiting Task)) → s.gate.waiting ≡ front ++ queue → AreCalled g s.epoch queue
+have_waited g s up front [] is = tt
+have_waited g s up front (w ∷ ws) is = (it_waited g s up front w ws w.change.body.work refl is, have_waited g s up (front ++ w ∷ []) ws (is ∙ sym (append_assoc front (w ∷ []) ws)))
+  where
+    it_waited : (g : Ground) (s : MasterState) → g.old.world.master ≡ Some s → (front : List (Waiting Task)) (w : Waiting Task) (ws : List (Waiting Task)) (work : Work) → w.change.body.work ≡ work → s.gate.waiting ≡ front ++ w ∷ ws → IsCalled g s.epoch w.change.body.client w.change.body.number work
+    it_waited g s up front w ws (works.Starts principal) work is = tt
+    it_waited g s up front w ws (works.Calls call) work is =
+        inl (record {
+          master = s;
+          is_up = up;
+          of_epoch = refl;
+          front = front;
+          back = ws;
+          turn = w.number;
+          touched = w.change.touched;
+          waits = is ∙ ap (λ x. front ++ waits_as w.number w.change.touched (record w.change.body { work = x }) ∷ ws) work;
+        })
 
--- from a world where no master is up, each change that the lines show is the effect of a call that was taken
-pub run_calls : (old : WorldView) (steps : List Step) (printed : List Line) (new : WorldView) → Run old steps printed new → old.world.master ≡ None → (before rest : List Line) (client number : ℕ) (change : Mod) → printed ≡ before ++ lines.Applied client number change ∷ rest → IsOfCall old steps before client number change rest new
-run_calls old steps printed new run none before rest client number change e =
-    run_on (record { old = old; past = []; told = []; here = old }) steps printed new (start_stands old none) run before rest client number change e
+first_queue : (g : Ground) (m : Option MasterState) → g.old.world.master ≡ m → Queued g m
+first_queue g None up = tt
+first_queue g (Some s) up = have_waited g s up [] s.gate.waiting refl
+
+-- each change that the lines show is the effect of a call that was sent and taken
+pub run_calls : (old : WorldView) (steps : List Step) (printed : List Line) (new : WorldView) → Run old steps printed new → IsConsistent old.world → (before rest : List Line) (client number : ℕ) (change : Mod) → printed ≡ before ++ lines.Applied client number change ∷ rest → IsOfCall old steps before client number change rest new
+run_calls old steps printed new run h before rest client number change e =
+    let g : Ground = record { old = old; past = []; told = []; here = old } in
+    run_on g steps printed new (record { run = (refl, refl); consistent = h; queue = first_queue g old.world.master refl }) run before rest client number change e

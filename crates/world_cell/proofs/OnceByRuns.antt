@@ -1,130 +1,230 @@
 -- Why each call is applied at most once.
-use Rattle.std.proofs.Common.{◌≡◌, ℕ, List, [], ◌∷◌, ◌++◌, Bool, true, false, cond, Option, Some, None, drop, refl, ap, ◌∙◌, arith, eqb}
+use Rattle.std.proofs.Common.{◌≡◌, ℕ, ◌+◌, ◌<◌, ◌≤◌, List, [], ◌∷◌, ◌++◌, Bool, true, false, cond, Option, Some, None, refl, sym, ap, ◌∙◌, inl, inr, arith, eqb, subst, map}
 use Rattle.std.specs.Prelude.{◌==◌}
+use Rattle.std.specs.Map.{lookup}
+use Rattle.std.specs.BTreeMap.{is_at}
+use Rattle.std.specs.Ordering.{nat_cmp}
 use Rattle.std.proofs.lemmas.Bool.Decides.{nat_tests}
-use Rattle.node_core.specs.declared.refusals.Fault.TheVariants as faults
+use Rattle.std.proofs.lemmas.List.{append-nil}
 use Rattle.node_core.specs.declared.lines.Line.{Line}
 use Rattle.node_core.specs.declared.lines.Line.TheVariants as lines
+use Rattle.tags_cell.specs.declared.requests.Request.{Request}
+use Rattle.tags_cell.specs.declared.requests.Request.TheVariants as requests
+use Rattle.tags_cell.specs.declared.requests.CallMessage.{CallMessage}
 use Rattle.tags_cell.specs.declared.calls.Call.{Call}
+use Rattle.tags_cell.specs.declared.outs.Out.{Out}
 use Rattle.tags_cell.specs.declared.outs.CallResult.{CallResult}
-use Rattle.cell_core.specs.declared.effects.Effect.{Effect}
-use Rattle.cell_core.specs.declared.effects.Change.{Change}
+use Rattle.tags_cell.specs.declared.outs.Reply.{Reply}
 use Rattle.cell_core.specs.declared.handles.Note.{Note}
 use Rattle.cell_core.specs.declared.pending.Kept.{Kept}
-use Rattle.cell_core.specs.declared.pending.Pending.{Pending}
-use Rattle.cell_core.specs.declared.pending.Work.{Work}
+use Rattle.gate_core.specs.declared.pending.Waiting.{Waiting}
+use Rattle.cell_core.specs.declared.pending.Task.{Task}
 use Rattle.cell_core.specs.declared.pending.Work.TheVariants as works
-use Rattle.cell_core.specs.declared.plans.Deed.TheVariants as deeds
-use Rattle.cell_core.specs.declared.plans.Plan.{Plan}
 use Rattle.cell_core.specs.State.{MasterState}
-use Rattle.cell_core.specs.Step.{kept_of, reply_of, answered_by, recorded, with_note, is_live, may_start, turned_away, noted}
-use Rattle.cell_core.specs.Effect.{effect}
-use Rattle.cell_core.specs.Sweep.{applied_lines, with_change, started_out, plan_session, plan_start, plan_effect, plan_work, carried, sweep_by}
+use Rattle.cell_core.specs.Step.{kept_of, reply_of, answered_by, recorded, repeated_reply, with_note, noted}
+use Rattle.cell_core.specs.Cases.{IsBehind, TakeCase, taken_by}
+use Rattle.over_core.specs.SweepCase.{IsTurn, SweepCase, swept_by, rest, ended, mapped}
+use Rattle.cell_core.specs.Cases.TakeCase.{Answered, Waits, StartRefused, OldEpoch, NoSession, Repeated, OlderCall, Outstanding}
+use Rattle.over_core.specs.SweepCase.SweepCase.{Ended, Applied, Quiet, TurnedAway, StartedAgain, Started as StartedFirst}
 use Rattle.world_cell.specs.declared.steps.Step.{Step}
-use Rattle.world_cell.specs.World.{WorldState, WorldView}
-use Rattle.world_cell.specs.Runs.{Run, applied, put_number, IsAbove, RisesFrom, Rises}
-use Rattle.world_cell.proofs.StepKinds.{IsSilentLine, IsSilent, Made, is_quiet, is_up, is_take, is_sweep, made}
-use Rattle.world_cell.proofs.TakesAreSilent.{take_silent}
-use Rattle.world_cell.proofs.OnceByTakes.{put_waiting, waiting, IsFrom, FitsReply, FitsKept, Once, call_of, kept_other, kept_own, take_once}
+use Rattle.client_core.specs.State.{ClientState}
+use Rattle.world_cell.specs.declared.seats.Seat.{Seat}
+use Rattle.world_cell.specs.declared.mail.Message.{Message}
+use Rattle.world_cell.specs.declared.mail.Message.TheVariants.{ToMaster, ToClient}
+use Rattle.world_cell.specs.Messages.{call_of}
+use Rattle.world_cell.specs.World.{WorldState, WorldView, seat_of}
+use Rattle.world_cell.specs.Consistent.{FitsMessages, Agrees, Fits, IsConsistent}
+use Rattle.world_cell.specs.Runs.{Does, Run, applied, put_number, IsAbove, RisesFrom, Rises}
+use Rattle.world_cell.proofs.ClientCases.{IsSilentLine, IsSilent, SendsCall}
+use Rattle.world_cell.proofs.MessagesGrow.{call_more, no_call, one_call}
+use Rattle.world_cell.proofs.MasterFits.{same, kept_own, kept_other, turn_sent, call_turn, WasAsked}
+use Rattle.world_cell.proofs.WorldCases.{IsCall, WorldCase, world_case}
+use Rattle.world_cell.proofs.WorldCases.WorldCase.{ComesUp, Joins, Calls, Starts, Acts, Grants, Takes, Sweeps}
+use Rattle.world_cell.proofs.ConsistentSteps.{HasLater, Later, case_later, noted_fits, agrees_at}
 
 abbrev last_after : Option ℕ → List ℕ → Option ℕ
 last_after last [] = last
 last_after last (number ∷ numbers) = last_after (Some number) numbers
 
--- what is applied rises, and the rest goes on
-record GoesOn (client : ℕ) (last : Option ℕ) (printed : List Line) (new : MasterState) : Type 0 where
-  rises : RisesFrom last (applied client printed)
-  once : Once client new (last_after last (applied client printed))
+abbrev IsFrom : Option ℕ → ℕ → Type 0
+IsFrom None number = Unit {0}
+IsFrom (Some last) number = last ≤ number
+
+above_from : (last : Option ℕ) (number : ℕ) → IsAbove last number → IsFrom last number
+above_from None number h = tt
+above_from (Some l) number h = omega arith
+
+-- ---- what may still be applied is above the last number
+
+abbrev PastResult : ℕ → Option Reply → Option ℕ → Type 0
+PastResult number None last = IsAbove last number
+PastResult number (Some reply) last = IsFrom last number
+
+-- the call that waits, or else each one that the master may still take
+abbrev PastKept : List Message → ℕ → ℕ → Option Kept → Option ℕ → Type 0
+PastKept sent epoch client None last = (number : ℕ) (call : CallMessage) → call_of sent client number ≡ Some call → call.epoch ≡ epoch → IsAbove last number
+PastKept sent epoch client (Some kept) last = PastResult kept.number kept.reply last
+
+abbrev PastMaster : List Message → ℕ → MasterState → Option ℕ → Type 0
+PastMaster sent client s last = PastKept sent s.epoch client (kept_of s client) last
+
+abbrev PastIn : List Message → ℕ → Option MasterState → Option ℕ → Type 0
+PastIn sent client None last = Unit {0}
+PastIn sent client (Some s) last = PastMaster sent client s last
+
+-- the client numbered that far
+abbrev IsCounted : WorldState → ℕ → Option ℕ → Type 0
+IsCounted w client None = Unit {0}
+IsCounted w client (Some last) = HasLater w client last
+
+-- last: the number of the client's call that was applied last
+record Past (w : WorldState) (client : ℕ) (last : Option ℕ) : Type 0 where
+  counted : IsCounted w client last
+  master : PastIn w.messages client w.master last
+
+-- ---- later on
+
+counted_later : (old new : WorldState) (client : ℕ) (last : Option ℕ) → Later old new → IsCounted old client last → IsCounted new client last
+counted_later old new client None l h = tt
+counted_later old new client (Some last) l h =
+    let y = l.clients client h.seat h.there in
+    let a = h.more in
+    let b = y.more in
+    record { seat = y.seat; there = y.there; more = omega arith }
+
+kept_later : (xs ys : List Message) (epoch client : ℕ) (o : Option Kept) (last : Option ℕ) → ((number : ℕ) (call : CallMessage) → call_of ys client number ≡ Some call → IsAbove last number) → PastKept xs epoch client o last → PastKept (xs ++ ys) epoch client o last
+kept_later xs ys epoch client (Some kept) last fresh h = h
+kept_later xs ys epoch client None last fresh h = λ number call is of.
+    elim (call_more xs ys client number call is) [ | inl a ↦ h number call a of | inr b ↦ fresh number call b ]
+
+in_later : (xs ys : List Message) (client : ℕ) (m : Option MasterState) (last : Option ℕ) → ((number : ℕ) (call : CallMessage) → call_of ys client number ≡ Some call → IsAbove last number) → PastIn xs client m last → PastIn (xs ++ ys) client m last
+in_later xs ys client None last fresh h = tt
+in_later xs ys client (Some s) last fresh h = kept_later xs ys s.epoch client (kept_of s client) last fresh h
+
+outs_later : (xs : List Message) (sent : List Out) (client : ℕ) (s : MasterState) (last : Option ℕ) → PastMaster xs client s last → PastMaster (xs ++ map ToClient sent) client s last
+outs_later xs sent client s last h =
+    kept_later xs (map ToClient sent) s.epoch client (kept_of s client) last (λ number call is. let none = no_call sent client number in cc) h
+
+-- ---- a message is taken
+
+-- a new call is above the last one
+new_above : (sent : List Message) (epoch client number : ℕ) (o : Option Kept) (last : Option ℕ) (call : CallMessage) → IsBehind o number → call_of sent client number ≡ Some call → call.epoch ≡ epoch → PastKept sent epoch client o last → IsAbove last number
+new_above sent epoch client number None last call behind found of h = h number call found of
+new_above sent epoch client number (Some kept) None call behind found of h = tt
+new_above sent epoch client number (Some kept) (Some l) call behind found of h =
+    let e = behind.1 in
+    let less = behind.2 in
+    let k : PastResult kept.number (Some behind.0) (Some l) = rw e at h in omega arith
+
+-- what is kept of one client is the new entry, or as it was
+put_past : (sent : List Message) (s : MasterState) (whose client : ℕ) (kept : Kept) (last : Option ℕ) → (whose ≡ client → PastResult kept.number kept.reply last) → PastMaster sent client s last → PastKept sent s.epoch client (kept_of (recorded s whose kept) client) last
+put_past sent s whose client kept last own h =
+    (elim (eqb client whose) as (λ b. eqb client whose ≡ b → PastKept sent s.epoch client (kept_of (recorded s whose kept) client) last) [
+      | true ↦ (λ e. let n : client ≡ whose = same client whose e in rw (n, kept_own s whose kept) (own (sym n)))
+      | false ↦ (λ e. rw (kept_other s whose client kept e) h)
+    ]) refl
+
+note_past : (sent : List Message) (s : MasterState) (note : Option Note) (client : ℕ) (last : Option ℕ) → PastMaster sent client s last → PastMaster sent client (with_note s note) last
+note_past sent s None client last h = h
+note_past sent s (Some note) client last h = h
+
+epoch_note : (s : MasterState) (note : Option Note) → (with_note s note).epoch ≡ s.epoch
+epoch_note s None = refl
+epoch_note s (Some note) = refl
+
+behind_note : (s : MasterState) (note : Option Note) (client number : ℕ) → IsBehind (kept_of s client) number → IsBehind (kept_of (with_note s note) client) number
+behind_note s None client number h = h
+behind_note s (Some note) client number h = h
+
+-- a new call of whichever client
+call_above : (sent : List Message) (t : MasterState) (client : ℕ) (last : Option ℕ) (message : CallMessage) → IsBehind (kept_of t message.client) message.number → call_of sent message.client message.number ≡ Some message → message.epoch ≡ t.epoch → PastMaster sent client t last → message.client ≡ client → IsAbove last message.number
+call_above sent t client last message behind found of h is =
+    let k : PastMaster sent message.client t last = rw (← is) at h in
+    new_above sent t.epoch message.client message.number (kept_of t message.client) last message behind found of k
+
+take_past : (sent : List Message) (s : MasterState) (request : Request) (c : TakeCase s request) (client : ℕ) (last : Option ℕ) → WasAsked sent request → PastMaster sent client s last → PastMaster sent client (taken_by s request c).0 last
+take_past sent s request (Answered message note answer new answered) client last asked h =
+    let t = with_note s note in
+    let past : PastMaster sent client t last = note_past sent s note client last h in
+    put_past sent t message.client client (answered_by (reply_of t message.client message.number answer)) last
+    (λ is. above_from last message.number (call_above sent t client last message (behind_note s note message.client message.number new.behind) (asked message new.heard.is_call) (new.heard.epoch ∙ sym (epoch_note s note)) past is))
+    past
+take_past sent s request (Waits message note touched new admitted) client last asked h =
+    let t = with_note s note in
+    let past : PastMaster sent client t last = note_past sent s note client last h in
+    put_past sent t message.client client (record { number = message.number; reply = None }) last
+    (λ is. call_above sent t client last message (behind_note s note message.client message.number new.behind) (asked message new.heard.is_call) (new.heard.epoch ∙ sym (epoch_note s note)) past is)
+    past
+take_past sent s request _ client last asked h = h
+
+repeated_silent : (reply : Option Reply) → IsSilent (repeated_reply reply).lines
+repeated_silent None = tt
+repeated_silent (Some reply) = tt
+
+-- taking a message applies nothing
+pub taken_silent : (s : MasterState) (request : Request) (c : TakeCase s request) → IsSilent (taken_by s request c).1.lines
+taken_silent s request (StartRefused start is may) = (tt, tt)
+taken_silent s request (OldEpoch message is apart) = (tt, tt)
+taken_silent s request (NoSession message is of dead) = (tt, tt)
+taken_silent s request (Repeated message kept heard is number) = repeated_silent kept.reply
+taken_silent s request (OlderCall message kept heard is less) = (tt, tt)
+taken_silent s request (Outstanding message kept heard is more none) = (tt, tt)
+taken_silent s request _ = tt
 
 -- ---- a sweep
 
-head_own : (o : Option Kept) (number : ℕ) (ws : List ℕ) (last : Option ℕ) → FitsKept o (number ∷ ws) last → (ws ≡ []) × IsAbove last number
-head_own None number ws last h = let e = h.0 in cc
-head_own (Some kept) number ws last h =
-    (elim kept.reply as (λ r. FitsReply kept.number r (number ∷ ws) last → (ws ≡ []) × IsAbove last number) [
-      | None ↦ (λ k. let e = k.0 in let a : ws ≡ [] = cc in let b : number ≡ kept.number = cc in (a, rw b k.1))
-      | Some reply ↦ (λ k. let e = k.0 in cc)
-    ]) h
+-- what is applied rises, and the rest goes on
+record SweptOn (sent : List Message) (client : ℕ) (last : Option ℕ) (printed : List Line) (new : MasterState) : Type 0 where
+  rises : RisesFrom last (applied client printed)
+  past : PastMaster sent client new (last_after last (applied client printed))
 
-from_above : (last : Option ℕ) (number : ℕ) → IsAbove last number → IsFrom last number
-from_above None number h = tt
-from_above (Some l) number h = omega arith
+module _ (sent : List Message) (s : MasterState) (client : ℕ) (last : Option ℕ) (fits : FitsMessages sent s) (h : PastMaster sent client s last) where
+  -- the call whose turn it is is above the last one
+  turn_above : (front back : List (Waiting Task)) (task : Task) (call : Call) → IsTurn s front task back → task.work ≡ works.Calls call → task.client ≡ client → IsAbove last task.number
+  turn_above front back task call turn work own =
+      let t = call_turn sent s front task back turn fits call work in
+      let k : PastMaster sent task.client s last = rw (← own) at h in
+      let w : PastResult t.kept.number t.kept.reply last = subst (λ o. PastKept sent s.epoch task.client o last) t.is_kept k in
+      let v : PastResult t.kept.number None last = subst (λ o. PastResult t.kept.number o last) t.no_reply w in
+      subst (λ n. PastResult n None last) t.same v
 
-wait_at : (client : ℕ) (s : MasterState) (p : Pending) (rest : List Pending) (last : Option ℕ) → s.queue ≡ p ∷ rest → Once client s last → FitsKept (kept_of s client) (put_waiting client p.client p.number p.work (waiting client rest)) last
-wait_at client s p rest last q h = rw q at h
+  -- t: the master behind the change, without what is noted of a handle
+  end_past : (t : MasterState) (task : Task) (note : Option Note) (answer : CallResult) (next : Option ℕ) → t.kept ≡ s.kept → t.epoch ≡ s.epoch → (task.client ≡ client → IsFrom next task.number) → (eqb client task.client ≡ false → next ≡ last) → PastMaster sent client (ended t task note answer) next
+  end_past t task note answer next same_kept same_epoch own apart =
+      let kept : Kept = answered_by (reply_of t task.client task.number answer) in
+      let before : PastKept sent t.epoch client (lookup (is_at (nat_cmp client)) t.kept) last = rw (same_kept, same_epoch) h in
+      note_past sent (recorded t task.client kept) note client next
+      ((elim (eqb client task.client) as (λ b. eqb client task.client ≡ b → PastKept sent t.epoch client (kept_of (recorded t task.client kept) client) next) [
+        | true ↦ (λ e. let n : client ≡ task.client = same client task.client e in rw (n, kept_own t task.client kept) (own (sym n)))
+        | false ↦ (λ e. rw (kept_other t task.client client kept e, apart e) before)
+      ]) refl)
 
--- a call that is answered and changes nothing
-answers_on : (client : ℕ) (s : MasterState) (whose number : ℕ) (call : Call) (rest : List Pending) (result : CallResult) (last : Option ℕ) → FitsKept (kept_of s client) (put_waiting client whose number (works.Calls call) (waiting client rest)) last → FitsKept (kept_of (recorded s whose (answered_by (reply_of s whose number result))) client) (waiting client rest) last
-answers_on client s whose number call rest result last h =
-    (elim (eqb whose client) as (λ b. eqb whose client ≡ b → FitsKept (kept_of s client) (cond b (number ∷ waiting client rest) (waiting client rest)) last → FitsKept (kept_of (recorded s whose (answered_by (reply_of s whose number result))) client) (waiting client rest) last) [
-      | true ↦ (λ e k.
-          let same : whose ≡ client = grind (arith, nat_tests) in
-          let t = head_own (kept_of s client) number (waiting client rest) last k in
-          rw (same, kept_own s client (answered_by (reply_of s client number result))) (t.0, from_above last number t.1))
-      | false ↦ (λ e k. rw (kept_other s client whose (answered_by (reply_of s whose number result)) e) k)
-    ]) refl h
+  differ : (n m : ℕ) → eqb n m ≡ false → (m == n) ≡ false
+  differ n m e = grind (arith, nat_tests)
 
--- a call that is applied
-changes_on : (client : ℕ) (s : MasterState) (whose number : ℕ) (call : Call) (rest : List Pending) (result : CallResult) (last : Option ℕ) → FitsKept (kept_of s client) (put_waiting client whose number (works.Calls call) (waiting client rest)) last → RisesFrom last (cond (whose == client) (number ∷ []) []) × FitsKept (kept_of (recorded s whose (answered_by (reply_of s whose number result))) client) (waiting client rest) (last_after last (cond (whose == client) (number ∷ []) []))
-changes_on client s whose number call rest result last h =
-    (elim (eqb whose client) as (λ b. eqb whose client ≡ b → FitsKept (kept_of s client) (cond b (number ∷ waiting client rest) (waiting client rest)) last → RisesFrom last (cond b (number ∷ []) []) × FitsKept (kept_of (recorded s whose (answered_by (reply_of s whose number result))) client) (waiting client rest) (last_after last (cond b (number ∷ []) []))) [
-      | true ↦ (λ e k.
-          let same : whose ≡ client = grind (arith, nat_tests) in
-          let t = head_own (kept_of s client) number (waiting client rest) last k in
-          ((t.1, tt), rw (same, kept_own s client (answered_by (reply_of s client number result))) (t.0, omega arith)))
-      | false ↦ (λ e k. (tt, rw (kept_other s client whose (answered_by (reply_of s whose number result)) e) k))
-    ]) refl h
+  applied_past : (t : MasterState) (front back : List (Waiting Task)) (task : Task) (call : Call) (note : Option Note) (answer : CallResult) → t.kept ≡ s.kept → t.epoch ≡ s.epoch → IsTurn s front task back → task.work ≡ works.Calls call → (b : Bool) → (task.client == client) ≡ b → RisesFrom last (cond b (task.number ∷ []) []) × PastMaster sent client (ended t task note answer) (last_after last (cond b (task.number ∷ []) []))
+  applied_past t front back task call note answer same_kept same_epoch turn work true e =
+      let n : task.client ≡ client = same task.client client e in
+      ((turn_above front back task call turn work n, tt), end_past t task note answer (Some task.number) same_kept same_epoch (λ own. omega arith) (λ apart. let d = differ client task.client apart in cc))
+  applied_past t front back task call note answer same_kept same_epoch turn work false e =
+      (tt, end_past t task note answer last same_kept same_epoch (λ own. above_from last task.number (turn_above front back task call turn work own)) (λ apart. refl))
 
-effect_on : (client : ℕ) (s : MasterState) (whose number : ℕ) (call : Call) (rest : List Pending) (note : Option Note) (change : Option Change) (result : CallResult) (last : Option ℕ) → s.queue ≡ call_of whose number call ∷ rest → Once client s last → GoesOn client last (applied_lines whose number change) (record (with_change (with_note (recorded s whose (answered_by (reply_of s whose number result))) note) change) { queue = drop 1 s.queue })
-effect_on client s whose number call rest None None result last q h =
-    record { rises = tt; once = rw q (answers_on client s whose number call rest result last (wait_at client s (call_of whose number call) rest last q h)) }
-effect_on client s whose number call rest (Some note) None result last q h =
-    record { rises = tt; once = rw q (answers_on client s whose number call rest result last (wait_at client s (call_of whose number call) rest last q h)) }
-effect_on client s whose number call rest None (Some change) result last q h =
-    let t = changes_on client s whose number call rest result last (wait_at client s (call_of whose number call) rest last q h) in
-    record { rises = t.0; once = rw q t.1 }
-effect_on client s whose number call rest (Some note) (Some change) result last q h =
-    let t = changes_on client s whose number call rest result last (wait_at client s (call_of whose number call) rest last q h) in
-    record { rises = t.0; once = rw q t.1 }
-
-call_on : (client : ℕ) (s : MasterState) (whose number : ℕ) (call : Call) (rest : List Pending) (done : Effect) (last : Option ℕ) → s.queue ≡ call_of whose number call ∷ rest → Once client s last → GoesOn client last (plan_effect s whose number done).taken.lines (carried s (plan_effect s whose number done)).0
-call_on client s whose number call rest done last q h = effect_on client s whose number call rest done.note done.change done.answer last q h
-
-either : (client : ℕ) (s : MasterState) (last : Option ℕ) (b : Bool) (x y : Plan) → GoesOn client last x.taken.lines (carried s x).0 → GoesOn client last y.taken.lines (carried s y).0 → GoesOn client last (cond b x y).taken.lines (carried s (cond b x y)).0
-either client s last true x y h k = h
-either client s last false x y h k = k
-
--- a Start applies nothing and leaves what is kept
-start_on : (client : ℕ) (s : MasterState) (whose number : ℕ) (principal : List ℕ) (rest : List Pending) (last : Option ℕ) → s.queue ≡ record { client = whose; number = number; work = works.Starts principal } ∷ rest → Once client s last → GoesOn client last (plan_start s whose number principal).taken.lines (carried s (plan_start s whose number principal)).0
-start_on client s whose number principal rest last q h =
-    let w : FitsKept (kept_of s client) (waiting client rest) last = wait_at client s (record { client = whose; number = number; work = works.Starts principal }) rest last q h in
-    let live : Plan = record { deed = deeds.Nothing; taken = started_out s whose number } in
-    let fresh : Plan = record {
-      deed = deeds.Starts whose (record { principal = principal; live = true });
-      taken = record { lines = lines.Started whose ∷ []; outs = (started_out s whose number).outs };
-    } in
-    let other : Plan = record { deed = deeds.Nothing; taken = turned_away s whose number faults.NoSession } in
-    either client s last (may_start s whose principal) (plan_session s whose number principal) other
-    (either client s last (is_live s whose) live fresh (record { rises = tt; once = rw q w }) (record { rises = tt; once = rw q w })) (record { rises = tt; once = rw q w })
-
-work_on : (client : ℕ) (s : MasterState) (whose number : ℕ) (work : Work) (rest : List Pending) (last : Option ℕ) → s.queue ≡ record { client = whose; number = number; work = work } ∷ rest → Once client s last → GoesOn client last (plan_work s whose number work).taken.lines (carried s (plan_work s whose number work)).0
-work_on client s whose number (works.Starts principal) rest last q h = start_on client s whose number principal rest last q h
-work_on client s whose number (works.Calls call) rest last q h = call_on client s whose number call rest (effect s whose number call) last q h
-
-sweep_on : (client : ℕ) (s : MasterState) (queue : List Pending) (last : Option ℕ) → s.queue ≡ queue → Once client s last → GoesOn client last (sweep_by s queue).1.lines (sweep_by s queue).0
-sweep_on client s [] last q h = record { rises = tt; once = h }
-sweep_on client s (p ∷ rest) last q h = work_on client s p.client p.number p.work rest last q h
+  sweep_past : (c : SweepCase s) → SweptOn sent client last (swept_by s c).1.lines (swept_by s c).0
+  sweep_past (Ended front back task call note answer turn work made) =
+      record { rises = tt; past = end_past (rest s front back) task note answer last refl refl (λ own. above_from last task.number (turn_above front back task call turn work own)) (λ apart. refl) }
+  sweep_past (Applied front back task call note change answer turn work made) =
+      let t = applied_past (mapped (rest s front back) change) front back task call note answer refl refl turn work (task.client == client) refl in
+      record { rises = t.0; past = t.1 }
+  sweep_past (Quiet none) = record { rises = tt; past = h }
+  sweep_past (TurnedAway front back task principal turn work may) = record { rises = tt; past = h }
+  sweep_past (StartedAgain front back task principal turn work may live) = record { rises = tt; past = h }
+  sweep_past (StartedFirst front back task principal turn work may live) = record { rises = tt; past = h }
 
 -- ---- a step
 
--- before a master is up, nothing was applied
-abbrev OnceIn : ℕ → Option MasterState → Option ℕ → Type 0
-OnceIn client None last = last ≡ None
-OnceIn client (Some s) last = Once client s last
-
 record StepsOn (client : ℕ) (last : Option ℕ) (printed : List Line) (new : WorldState) : Type 0 where
   rises : RisesFrom last (applied client printed)
-  once : OnceIn client new.master (last_after last (applied client printed))
+  past : Past new client (last_after last (applied client printed))
 
 line_silent : (client : ℕ) (line : Line) (numbers : List ℕ) → IsSilentLine line → put_number client line numbers ≡ numbers
 line_silent client (lines.Applied whose number change) numbers h = absurd h
@@ -134,22 +234,94 @@ none_applied : (client : ℕ) (printed : List Line) → IsSilent printed → app
 none_applied client [] h = refl
 none_applied client (line ∷ rest) h = line_silent client line (applied client rest) h.0 ∙ none_applied client rest h.1
 
-silent_on : (client : ℕ) (new : WorldState) (printed : List Line) (last : Option ℕ) → IsSilent printed → OnceIn client new.master last → StepsOn client last printed new
+silent_on : (client : ℕ) (new : WorldState) (printed : List Line) (last : Option ℕ) → IsSilent printed → Past new client last → StepsOn client last printed new
 silent_on client new printed last silent h =
-    let e = none_applied client printed silent in record { rises = rw e tt; once = rw e h }
+    let e = none_applied client printed silent in record { rises = rw e tt; past = rw e h }
 
-step_on : (client : ℕ) (old : WorldView) (step : Step) (new : WorldView) (printed : List Line) (last : Option ℕ) → OnceIn client old.world.master last → Made old step new printed → StepsOn client last printed new.world
-step_on client old step new printed last h (is_quiet q) = silent_on client new.world printed last q.silent (rw q.master h)
-step_on client old step new printed last h (is_up u) =
-    let none : last ≡ None = rw u.none at h in
-    record { rises = rw u.tells tt; once = rw (u.tells, u.master) (refl, none) }
-step_on client old step new printed last h (is_take t ok) =
-    let once : Once client t.master last = rw t.was at h in
-    silent_on client new.world printed last (rw t.tells (take_silent (noted t.master old.world.clock) t.request)) (rw t.is (take_once client (noted t.master old.world.clock) t.request last once))
-step_on client old step new printed last h (is_sweep w ok) =
-    let once : Once client w.master last = rw w.was at h in
-    let on = sweep_on client (noted w.master old.world.clock) w.master.queue last refl once in
-    record { rises = rw w.tells on.rises; once = rw (w.tells, w.is) on.once }
+-- what a sweep applied was sent
+applied_counted : (w : WorldState) (h : IsConsistent w) (s : MasterState) (c : SweepCase s) (client : ℕ) (last : Option ℕ) → FitsMessages w.messages s → IsCounted w client last → IsCounted w client (last_after last (applied client (swept_by s c).1.lines))
+applied_counted w h s (Applied front back task call note change answer turn work made) client last fits counted =
+    let sent = h.sent task.client task.number (record { client = task.client; epoch = s.epoch; number = task.number; call = call }) (turn_sent w.messages s front task back turn fits call work) in
+    (elim (task.client == client) as (λ b. (task.client == client) ≡ b → IsCounted w client (last_after last (cond b (task.number ∷ []) []))) [
+      | true ↦ (λ e. let n : task.client ≡ client = same task.client client e in rw (← n) (record { seat = sent.seat; there = sent.joined; more = sent.within }))
+      | false ↦ (λ e. counted)
+    ]) refl
+applied_counted w h s _ client last fits counted = counted
+
+past_master : (sent : List Message) (client : ℕ) (last : Option ℕ) (m : Option MasterState) (s : MasterState) → m ≡ Some s → PastIn sent client m last → PastMaster sent client s last
+past_master sent client last m s e k = rw e at k
+
+some_same : {X : Type 0} (a b : X) → ◌≡◌ {A = Option X} (Some a) (Some b) → a ≡ b
+some_same a b h = cc
+
+-- a call that is sent now is above all that were
+sent_above : (w : WorldState) → IsConsistent w → (number client : ℕ) (seat : Seat) (next : ClientState) (call : CallMessage) (last : Option ℕ) → seat_of w number ≡ Some seat → SendsCall seat.client next call → IsCounted w client last → call.client ≡ client → IsAbove last call.number
+sent_above w h number client seat next call None found made counted of = tt
+sent_above w h number client seat next call (Some l) found made counted of =
+    let n : client ≡ number = sym of ∙ made.client ∙ (h.clients number seat found).own in
+    let there = counted.there in
+    let i : seat_of w number ≡ Some counted.seat = rw n at there in
+    let y : seat ≡ counted.seat = some_same seat counted.seat (sym found ∙ i) in
+    let more = counted.more in
+    let k : l ≤ seat.client.calls = rw (← y) at more in
+    let is_next = made.number in
+    omega arith
+
+module _ (client : ℕ) (last : Option ℕ) (old : WorldState) (step : Step) (new : WorldState) (printed : List Line) (h : IsConsistent old) (p : Past old client last) where
+  counted_on : WorldCase old step new printed → IsCounted new client last
+  counted_on c = counted_later old new client last (case_later old step new printed h c) p.counted
+
+  -- the master is as it was
+  same_master : (more : List Message) → new.messages ≡ old.messages ++ more → new.master ≡ old.master → ((number : ℕ) (call : CallMessage) → call_of more client number ≡ Some call → IsAbove last number) → PastIn new.messages client new.master last
+  same_master more messages master fresh = rw (messages, master) (in_later old.messages more client old.master last fresh p.master)
+
+  step_on : WorldCase old step new printed → StepsOn client last printed new
+  step_on (ComesUp u) =
+      let past : PastIn new.messages client new.master last = subst (λ (x : WorldState). PastIn x.messages client x.master last) (sym u.is)
+        (λ number call is of. let before = (h.sent client number call is).past in absurd (omega arith)) in
+      record { rises = rw u.tells tt; past = rw u.tells (record { counted = counted_on (ComesUp u); master = past }) }
+  step_on (Joins j) =
+      silent_on client new printed last (rw j.tells tt) (record { counted = counted_on (Joins j); master = same_master [] (rw j.is (sym (append-nil old.messages))) (rw j.is refl) (λ number call is. cc) })
+  step_on (Calls c) =
+      silent_on client new printed last (rw c.tells tt) (record {
+        counted = counted_on (Calls c);
+        master = same_master (ToMaster (requests.Call c.call) ∷ []) (rw c.is refl) (rw c.is refl) (λ number call is.
+          let t = one_call c.call call client number is in
+          rw (← t.2) (sent_above old h c.number client c.seat c.client c.call last c.found c.made p.counted t.1));
+      })
+  step_on (Starts c) =
+      silent_on client new printed last (rw c.tells tt) (record { counted = counted_on (Starts c); master = same_master (ToMaster (requests.Start c.start) ∷ []) (rw c.is refl) (rw c.is refl) (λ number call is. cc) })
+  step_on (Acts c) =
+      silent_on client new printed last c.silent (record { counted = counted_on (Acts c); master = same_master [] (rw c.is (sym (append-nil old.messages))) (rw c.is refl) (λ number call is. cc) })
+  step_on (Grants c) =
+      silent_on client new printed last (rw c.tells tt) (record { counted = counted_on (Grants c); master = same_master [] (rw c.is (sym (append-nil old.messages))) (rw c.is refl) (λ number call is. cc) })
+  step_on (Takes t) =
+      let s = noted t.master old.clock in
+      let asked = λ (call : CallMessage) (e : t.request ≡ requests.Call call). h.named t.at call (t.was_sent ∙ ap (λ r. Some r) e) in
+      let past = take_past old.messages s t.request t.case client last asked (past_master old.messages client last old.master t.master t.is_up p.master) in
+      let later = outs_later old.messages (taken_by s t.request t.case).1.outs client (taken_by s t.request t.case).0 last past in
+      silent_on client new printed last (rw t.tells (taken_silent s t.request t.case)) (record {
+        counted = counted_on (Takes t);
+        master = subst (λ (x : WorldState). PastIn x.messages client x.master last) (sym t.is) later;
+      })
+  step_on (Sweeps t) =
+      let s = noted t.master old.clock in
+      let fits = noted_fits old h t.master t.is_up in
+      let on = sweep_past old.messages s client last fits (past_master old.messages client last old.master t.master t.is_up p.master) t.case in
+      let next : Option ℕ = last_after last (applied client (swept_by s t.case).1.lines) in
+      let later = outs_later old.messages (swept_by s t.case).1.outs client (swept_by s t.case).0 next on.past in
+      rw t.tells (record {
+        rises = on.rises;
+        past = record {
+          counted = counted_later old new client next (case_later old step new printed h (Sweeps t)) (applied_counted old h s t.case client last fits p.counted);
+          master = subst (λ (x : WorldState). PastIn x.messages client x.master next) (sym t.is) later;
+        };
+      })
+
+does_on : (client : ℕ) (last : Option ℕ) (old : WorldView) (step : Step) (new : WorldView) (printed : List Line) → IsConsistent old.world → Past old.world client last → Does old step new printed → StepsOn client last printed new.world
+does_on client last old step new printed h p (inl m) = step_on client last old.world step new.world printed h p (world_case old.world step new.world printed m.is_step)
+does_on client last old step new printed h p (inr r) =
+    silent_on client new.world printed last (rw r.line (tt, tt)) (subst (λ (x : WorldState). Past x client last) (sym r.left.same) p)
 
 -- ---- a run
 
@@ -166,13 +338,26 @@ rises_more : (last : Option ℕ) (xs ys : List ℕ) → RisesFrom last xs → Ri
 rises_more last [] ys h k = k
 rises_more last (x ∷ xs) ys h k = (h.0, rises_more (Some x) xs ys h.1 k)
 
-run_on : (client : ℕ) (old : WorldView) (steps : List Step) (printed : List Line) (new : WorldView) (last : Option ℕ) → Run old steps printed new → OnceIn client old.world.master last → RisesFrom last (applied client printed)
-run_on client old [] printed new last h once = rw h.0 tt
-run_on client old (step ∷ steps) printed new last h once =
-    let first = step_on client old step h.0 h.1 last once (made old step h.0 h.1 h.3) in
-    let then = run_on client h.0 steps h.2 new (last_after last (applied client h.1)) h.4 first.once in
-    rw (h.5, applied_more client h.1 h.2) (rises_more last (applied client h.1) (applied client h.2) first.rises then)
+run_on : (client : ℕ) (old : WorldView) (steps : List Step) (printed : List Line) (new : WorldView) (last : Option ℕ) → Run old steps printed new → IsConsistent old.world → Past old.world client last → RisesFrom last (applied client printed)
+run_on client old [] printed new last run h p = rw run.0 tt
+run_on client old (step ∷ steps) printed new last run h p =
+    let first = does_on client last old step run.0 run.1 h p run.3 in
+    let then = run_on client run.0 steps run.2 new (last_after last (applied client run.1)) run.5 run.4 first.past in
+    rw (run.6, applied_more client run.1 run.2) (rises_more last (applied client run.1) (applied client run.2) first.rises then)
 
--- from a world where no master is up, the numbers of a client's applied calls rise
-pub run_once : (client : ℕ) (old : WorldView) (steps : List Step) (printed : List Line) (new : WorldView) → Run old steps printed new → old.world.master ≡ None → Rises (applied client printed)
-run_once client old steps printed new h none = run_on client old steps printed new None h (rw none refl)
+first_result : (number : ℕ) (o : Option Reply) → PastResult number o None
+first_result number None = tt
+first_result number (Some reply) = tt
+
+first_kept : (sent : List Message) (epoch client : ℕ) (o : Option Kept) → PastKept sent epoch client o None
+first_kept sent epoch client None = λ number call is of. tt
+first_kept sent epoch client (Some kept) = first_result kept.number kept.reply
+
+first_in : (sent : List Message) (client : ℕ) (m : Option MasterState) → PastIn sent client m None
+first_in sent client None = tt
+first_in sent client (Some s) = first_kept sent s.epoch client (kept_of s client)
+
+-- the numbers of a client's applied calls rise
+pub run_once : (client : ℕ) (old : WorldView) (steps : List Step) (printed : List Line) (new : WorldView) → Run old steps printed new → IsConsistent old.world → Rises (applied client printed)
+run_once client old steps printed new run h =
+    run_on client old steps printed new None run h (record { counted = tt; master = first_in old.world.messages client old.world.master })

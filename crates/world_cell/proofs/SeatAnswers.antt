@@ -13,6 +13,7 @@ use Rattle.client_core.specs.Asks.{ask_step}
 use Rattle.client_core.specs.Beats.{beat_step}
 use Rattle.client_core.specs.Gives.{give_step}
 use Rattle.tags_cell.specs.declared.outs.Out.{Out}
+use Rattle.world_cell.specs.declared.seats.Seat.{Seat}
 use Rattle.world_cell.specs.Seats.{Clients, seated, Answers, AnswersOrLeaves}
 
 -- a number at its end leaves the client
@@ -25,30 +26,30 @@ pair_first p a b h = ap (λ q. q.0) h
 pair_second : {A B : Type 0} (p : A × B) (a : A) (b : B) → p ≡ (a, b) → p.1 ≡ b
 pair_second p a b h = ap (λ q. q.1) h
 
-pub seat_answers : {X : Type 0} (old new : Clients) (number : ℕ) (client next : ClientState) (r : Result X Fault) (step : ClientState × Result X Fault) → lookup (is_at (nat_cmp number)) old ≡ Some client → new ≡ seated old number next → Does client next r step → EndLeaves client step → Answers old new number r step
-seat_answers {X} old new number client next (Ok x) step found is h end =
-    (pair_second step next (Ok x) h, is ∙ ap (seated old number) (sym (pair_first step next (Ok x) h)))
-seat_answers {X} old new number client next (Err NoMemory) step found is h end =
-    is ∙ ap (seated old number) (h.1 refl) ∙ set_value_same (is_at (nat_cmp number)) old client found
-seat_answers {X} old new number client next (Err Exhausted) step found is h end =
+pub seat_answers : {X : Type 0} (old new : Clients) (number : ℕ) (seat : Seat) (next : ClientState) (r : Result X Fault) (step : ClientState × Result X Fault) → lookup (is_at (nat_cmp number)) old ≡ Some seat → new ≡ seated old number seat next → Does seat.client next r step → EndLeaves seat.client step → Answers old new number seat r step
+seat_answers {X} old new number seat next (Ok x) step found is h end =
+    (pair_second step next (Ok x) h, is ∙ ap (seated old number seat) (sym (pair_first step next (Ok x) h)))
+seat_answers {X} old new number seat next (Err NoMemory) step found is h end =
+    is ∙ ap (seated old number seat) (h.1 refl) ∙ set_value_same (is_at (nat_cmp number)) old seat found
+seat_answers {X} old new number seat next (Err Exhausted) step found is h end =
     let e = h.0 (λ k. cc) in
-    (pair_second step next (Err Exhausted) e, is ∙ ap (seated old number) (end Exhausted next e refl) ∙ set_value_same (is_at (nat_cmp number)) old client found)
-seat_answers {X} old new number client next (Err fault) step found is h end =
+    (pair_second step next (Err Exhausted) e, is ∙ ap (seated old number seat) (end Exhausted next e refl) ∙ set_value_same (is_at (nat_cmp number)) old seat found)
+seat_answers {X} old new number seat next (Err fault) step found is h end =
     let e = h.0 (λ k. cc) in
-    (pair_second step next (Err fault) e, is ∙ ap (seated old number) (sym (pair_first step next (Err fault) e)))
+    (pair_second step next (Err fault) e, is ∙ ap (seated old number seat) (sym (pair_first step next (Err fault) e)))
 
 -- every refusal leaves the client
 abbrev pub AllLeave : {X : Type 0} → ClientState → ClientState × Result X Fault → Type 0
 AllLeave {X} client step = (fault : Fault) (new : ClientState) → step ≡ (new, Err fault) → new ≡ client
 
-pub seat_leaves : {X : Type 0} (old new : Clients) (number : ℕ) (client next : ClientState) (r : Result X Fault) (step : ClientState × Result X Fault) → lookup (is_at (nat_cmp number)) old ≡ Some client → new ≡ seated old number next → Does client next r step → AllLeave client step → AnswersOrLeaves old new number r step
-seat_leaves {X} old new number client next (Ok x) step found is h all =
-    (pair_second step next (Ok x) h, is ∙ ap (seated old number) (sym (pair_first step next (Ok x) h)))
-seat_leaves {X} old new number client next (Err NoMemory) step found is h all =
-    is ∙ ap (seated old number) (h.1 refl) ∙ set_value_same (is_at (nat_cmp number)) old client found
-seat_leaves {X} old new number client next (Err fault) step found is h all =
+pub seat_leaves : {X : Type 0} (old new : Clients) (number : ℕ) (seat : Seat) (next : ClientState) (r : Result X Fault) (step : ClientState × Result X Fault) → lookup (is_at (nat_cmp number)) old ≡ Some seat → new ≡ seated old number seat next → Does seat.client next r step → AllLeave seat.client step → AnswersOrLeaves old new number seat r step
+seat_leaves {X} old new number seat next (Ok x) step found is h all =
+    (pair_second step next (Ok x) h, is ∙ ap (seated old number seat) (sym (pair_first step next (Ok x) h)))
+seat_leaves {X} old new number seat next (Err NoMemory) step found is h all =
+    is ∙ ap (seated old number seat) (h.1 refl) ∙ set_value_same (is_at (nat_cmp number)) old seat found
+seat_leaves {X} old new number seat next (Err fault) step found is h all =
     let e = h.0 (λ k. cc) in
-    (pair_second step next (Err fault) e, is ∙ ap (seated old number) (all fault next e) ∙ set_value_same (is_at (nat_cmp number)) old client found)
+    (pair_second step next (Err fault) e, is ∙ ap (seated old number seat) (all fault next e) ∙ set_value_same (is_at (nat_cmp number)) old seat found)
 
 -- ---- refusals that leave the client
 

@@ -5,9 +5,11 @@ pub use Rattle.rows_cell.specs.Rows
 pub use Rattle.rows_cell.specs.Sound
 pub use Rattle.cell_core.specs.State
 pub use Rattle.cell_core.specs.Step
-pub use Rattle.cell_core.specs.Effect
-pub use Rattle.cell_core.specs.Sweep
-pub use Rattle.cell_core.specs.Store
+pub use Rattle.over_core.specs.Effect
+pub use Rattle.rows_cell.specs.Stores
+pub use Rattle.cell_core.specs.Cases
+pub use Rattle.over_core.specs.Sweep
+pub use Rattle.over_core.specs.SweepCase
 pub use Rattle.over_core.specs.Kept
 pub use Rattle.over_core.specs.Up
 pub use Rattle.client_core.specs.State as Clients
@@ -17,4 +19,5 @@ pub use Rattle.client_core.specs.Gives
 pub mod Messages
 pub mod Seats
 pub mod World
+pub mod Consistent
 pub mod Runs

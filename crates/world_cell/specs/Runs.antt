@@ -9,13 +9,17 @@ use Rattle.node_core.specs.Nodes.{Nodes, changed}
 use Rattle.tags_cell.specs.declared.calls.Call.{Call}
 use Rattle.tags_cell.specs.declared.requests.Request.TheVariants as requests
 use Rattle.rows_cell.specs.Rows.{map_of}
-use Rattle.cell_core.specs.declared.effects.Effect.{Effect}
+use Rattle.over_core.specs.declared.effects.Effect.{Effect}
+use Rattle.gate_core.specs.declared.pending.Waiting.{Waiting}
+use Rattle.cell_core.specs.declared.pending.Task.{Task}
+use Rattle.cell_core.specs.declared.pending.Work.TheVariants as works
 use Rattle.cell_core.specs.State.{MasterState}
-use Rattle.cell_core.specs.Effect.{effect}
+use Rattle.over_core.specs.Effect.{effect}
 use Rattle.world_cell.specs.declared.steps.Step.{Step}
 use Rattle.world_cell.specs.declared.steps.Step.TheVariants.{Take, Sweep}
-use Rattle.world_cell.specs.Messages.{request_at}
+use Rattle.world_cell.specs.Messages.{request_at, call_of}
 use Rattle.world_cell.specs.World.{WorldView, world_step, step_edits, IsStored, IsLeft, MayRefuseStep}
+use Rattle.world_cell.specs.Consistent.{IsConsistent}
 
 -- ---- runs
 
@@ -34,11 +38,11 @@ pub record IsRefused (old : WorldView) (step : Step) (new : WorldView) (printed 
 abbrev pub Does : WorldView → Step → WorldView → List Line → Type 0
 Does old step new printed = IsMade old step new printed ⊎ IsRefused old step new printed
 
--- one step behind the other, and their lines in order
+-- one step behind the other, through consistent worlds, and their lines in order
 abbrev pub Run : WorldView → List Step → List Line → WorldView → Type 0
 Run old [] printed new = (printed ≡ []) × (new ≡ old)
 Run old (step ∷ steps) printed new =
-    (mid : WorldView) × (here : List Line) × (rest : List Line) × Does old step mid here × Run mid steps rest new × (printed ≡ here ++ rest)
+    (mid : WorldView) × (here : List Line) × (rest : List Line) × Does old step mid here × IsConsistent mid.world × Run mid steps rest new × (printed ≡ here ++ rest)
 
 -- ---- what lines tell
 
@@ -107,8 +111,19 @@ pub record IsTaken (old : WorldView) (steps : List Step) (printed : List Line) (
   pub is_up : here.world.master ≡ Some master
   pub of_epoch : master.epoch ≡ epoch
 
+-- the call waited already in the master of this epoch that was up before the run
+pub record HasWaited (before : Option MasterState) (epoch client number : ℕ) (call : Call) : Type 0 where
+  pub master : MasterState
+  pub is_up : before ≡ Some master
+  pub of_epoch : master.epoch ≡ epoch
+  pub front : List (Waiting Task)
+  pub back : List (Waiting Task)
+  pub turn : ℕ
+  pub touched : List (List ℕ)
+  pub waits : master.gate.waiting ≡ front ++ record { number = turn; change = record { touched = touched; body = record { client = client; number = number; work = works.Calls call } } } ∷ back
+
 -- a change that a line shows: behind a first part of the steps, with the lines before it, the master was up with the map and the epoch that these lines tell; the next
--- step swept and was made; and the change is what a call does there, which that master, or one of its epoch, took before
+-- step swept and was made; and the change is what a call does there, which its client had sent in that epoch, and which that master had taken
 pub record IsOfCall (old : WorldView) (steps : List Step) (before : List Line) (client number : ℕ) (change : Mod) (rest : List Line) (new : WorldView) : Type 0 where
   pub front : List Step
   pub back : List Step
@@ -126,5 +141,6 @@ pub record IsOfCall (old : WorldView) (steps : List Step) (before : List Line) (
   pub nodes : master.nodes ≡ map_at (map_of old.world.rows) before
   pub epoch : master.epoch ≡ epoch_at old.world.rows.epoch before
   pub call : Call
-  pub taken : IsTaken old front before here master.epoch client number call
+  pub sent : call_of here.world.messages client number ≡ Some (record { client = client; epoch = master.epoch; number = number; call = call })
+  pub taken : HasWaited old.world.master master.epoch client number call ⊎ IsTaken old front before here master.epoch client number call
   pub is_effect : change_of (effect master client number call) ≡ Some change

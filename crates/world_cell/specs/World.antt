@@ -1,7 +1,7 @@
 -- A world: the rows, the master while one is up, the clients, and all messages; and what each step does.
 use Rattle.std.specs.Prelude.{◌≡◌, ◌⊎◌, ℕ, List, [], ◌∷◌, ◌++◌, map, Option, Some, None, Result, Ok, Err, if◌then◌else◌, is_some}
 use Rattle.std.specs.Option.{option_map_or}
-use Rattle.std.specs.Map.{lookup, set_value}
+use Rattle.std.specs.Map.{lookup}
 use Rattle.std.specs.BTreeMap.{is_at, insert_entry}
 use Rattle.std.specs.Ordering.{nat_cmp}
 use Rattle.node_core.specs.declared.refusals.Fault.{Fault}
@@ -11,37 +11,41 @@ use Rattle.node_core.specs.declared.lines.Line.TheVariants as lines
 use Rattle.rows_cell.specs.declared.tables.Rows.{Rows}
 use Rattle.rows_cell.specs.declared.tables.Edit.{Edit}
 use Rattle.rows_cell.specs.Rows.{changed_rows}
+use Rattle.rows_cell.specs.Stores.{Store, left_by, IsWant, MayLeave, MayRefuse}
 use Rattle.tags_cell.specs.declared.requests.Request.{Request}
 use Rattle.tags_cell.specs.declared.outs.Out.{Out}
 use Rattle.tags_cell.specs.Messages.{out_client}
 use Rattle.cell_core.specs.declared.pending.Taken.{Taken}
-use Rattle.cell_core.specs.declared.sweeps.Swept.{Swept}
 use Rattle.cell_core.specs.State.{MasterState}
 use Rattle.cell_core.specs.Step.{take_step}
-use Rattle.cell_core.specs.Store.{left_by, IsWant, MayLeave, MayRefuse}
-use Rattle.cell_core.specs.Sweep.{sweep_step, sweep_edits}
+use Rattle.over_core.specs.declared.sweeps.Swept.{Swept}
+use Rattle.over_core.specs.Sweep.{sweep_step, sweep_edits}
 use Rattle.over_core.specs.Up.{up_step, up_edits, up_commit, MayRefuseUp}
 use Rattle.client_core.specs.declared.asks.Ask.{Ask}
 use Rattle.client_core.specs.declared.asks.Asked.{Asked}
 use Rattle.client_core.specs.declared.asks.Asked.TheVariants.{Sent, Answered}
-use Rattle.client_core.specs.State.{ClientState, new_client}
+use Rattle.client_core.specs.State.{ClientState}
 use Rattle.client_core.specs.Asks.{ask_step}
 use Rattle.client_core.specs.Beats.{beat_step}
 use Rattle.client_core.specs.Gives.{give_step}
-use Rattle.world_cell.specs.declared.mail.Sent.{Sent as SentMessage}
+use Rattle.world_cell.specs.declared.mail.Message.{Message}
+use Rattle.world_cell.specs.declared.mail.Message.TheVariants.{ToMaster, ToClient}
+use Rattle.world_cell.specs.declared.seats.Seat.{Seat}
 use Rattle.world_cell.specs.declared.steps.Step.{Step}
 use Rattle.world_cell.specs.declared.steps.Step.TheVariants as steps
 use Rattle.world_cell.specs.declared.worlds.Turn.{Turn}
-use Rattle.world_cell.specs.Messages.{new_out, new_request, request_at, out_at, delivered}
+use Rattle.world_cell.specs.Seats.{Clients, new_seat, seated}
+use Rattle.world_cell.specs.Messages.{request_at, out_at}
 
--- cell: its name, by the settings of its store. rows: those that stand. clock: the master's, in milliseconds. clients: by number. messages: all that were sent, in order. lease: in milliseconds
+-- cell: its name, by the settings of its store. rows: those that stand. clock: the master's, in milliseconds. clients: by number, each with its own clock. messages: all that were sent, in
+-- order; they only grow. lease: in milliseconds
 pub record WorldState : Type 0 where
   pub cell : List ℕ
   pub rows : Rows
   pub master : Option MasterState
   pub clock : ℕ
-  pub clients : List (ℕ × ClientState)
-  pub messages : List SentMessage
+  pub clients : Clients
+  pub messages : List Message
   pub lease : ℕ
 
 -- a world, and of its store the rows that a crash may leave, and how often it refused
@@ -55,29 +59,28 @@ abbrev pub new_world : List ℕ → Rows → ℕ → WorldState
 new_world cell rows lease = record { cell = cell; rows = rows; master = None; clock = 0; clients = []; messages = []; lease = lease }
 
 -- a new world over a store
-abbrev pub opened : List ℕ → Rows → List Rows → ℕ → ℕ → WorldView
-opened cell rows may_leave refusals lease = record { world = new_world cell rows lease; may_leave = may_leave; refusals = refusals }
+abbrev pub opened : Store → ℕ → WorldView
+opened store lease = record { world = new_world store.cell store.rows lease; may_leave = store.may_leave; refusals = store.refusals }
 
--- what a master's store holds while one is up, and else the records by themselves
-abbrev pub store_of : {X : Type 0} → X → Option X → Option X → X
-store_of none (Some x) records = x
-store_of none None (Some x) = x
-store_of none None None = none
+-- the store of a world
+abbrev pub store_in : WorldView → Store
+store_in w = record { cell = w.world.cell; rows = w.world.rows; may_leave = w.may_leave; refusals = w.refusals }
 
-abbrev pub no_rows : Rows
-no_rows = record { cell = []; secret = []; epoch = 0; next_instance = 0; nodes = []; sessions = []; locks = [] }
+abbrev pub no_store : Store
+no_store = record { cell = []; rows = record { cell = []; secret = []; epoch = 0; next_instance = 0; nodes = []; sessions = []; locks = [] }; may_leave = []; refusals = 0 }
 
-abbrev pub rows_of : Option Rows → Option Rows → Rows
-rows_of master records = store_of no_rows master records
+-- the store is with a master while one is up, and else with the records by themselves
+abbrev pub held : Option Store → Option Store → Store
+held (Some store) records = store
+held None (Some store) = store
+held None None = no_store
 
-abbrev pub cell_of : Option (List ℕ) → Option (List ℕ) → List ℕ
-cell_of master records = store_of [] master records
-
-abbrev pub leave_of : Option (List Rows) → Option (List Rows) → List Rows
-leave_of master records = store_of [] master records
-
-abbrev pub refusals_of : Option ℕ → Option ℕ → ℕ
-refusals_of master records = store_of 0 master records
+abbrev pub view_of : Store → Option MasterState → ℕ → Clients → List Message → ℕ → WorldView
+view_of store master clock clients messages lease = record {
+  world = record { cell = store.cell; rows = store.rows; master = master; clock = clock; clients = clients; messages = messages; lease = lease };
+  may_leave = store.may_leave;
+  refusals = store.refusals;
+}
 
 -- a step's new state and lines, or why it is refused
 abbrev pub Outcome : Type 0
@@ -97,20 +100,20 @@ world_up w now None = came_up w now (up_step w.cell w.rows w.lease now)
 
 -- ---- clients
 
-abbrev pub client_of : WorldState → ℕ → Option ClientState
-client_of w number = lookup (is_at (nat_cmp number)) w.clients
+abbrev pub seat_of : WorldState → ℕ → Option Seat
+seat_of w number = lookup (is_at (nat_cmp number)) w.clients
 
 -- a number is used once
 abbrev pub world_join : WorldState → ℕ → List ℕ → Outcome
 world_join w number principal =
-    if is_some (client_of w number) then Err faults.Exists
-    else Ok (record w { clients = insert_entry nat_cmp w.clients number (new_client number principal) }, [])
+    if is_some (seat_of w number) then Err faults.Exists
+    else Ok (record w { clients = insert_entry nat_cmp w.clients number (new_seat number principal) }, [])
 
-abbrev pub with_client : WorldState → ℕ → ClientState → WorldState
-with_client w number client = record w { clients = set_value (is_at (nat_cmp number)) w.clients client }
+abbrev pub with_client : WorldState → ℕ → Seat → ClientState → WorldState
+with_client w number seat client = record w { clients = seated w.clients number seat client }
 
 abbrev pub sends : WorldState → Request → WorldState
-sends w request = record w { messages = w.messages ++ new_request request ∷ [] }
+sends w request = record w { messages = w.messages ++ ToMaster request ∷ [] }
 
 -- a number at its end refuses the step; any other refusal is the client's own, and a line
 abbrev pub own_refusal : WorldState → Fault → Outcome
@@ -122,46 +125,46 @@ asked_by w (Ok (Sent request)) = Ok (sends w request, [])
 asked_by w (Ok (Answered told)) = Ok (w, told)
 asked_by w (Err fault) = own_refusal w fault
 
-abbrev pub asked : WorldState → ℕ → ClientState × Result Asked Fault → Outcome
-asked w number step = asked_by (with_client w number step.0) step.1
+abbrev pub asked : WorldState → ℕ → Seat → ClientState × Result Asked Fault → Outcome
+asked w number seat step = asked_by (with_client w number seat step.0) step.1
 
--- a client's own clock stands at 0
+-- by the client's own clock
 abbrev pub world_ask : WorldState → ℕ → Ask → Outcome
-world_ask w number ask = option_map_or (λ client. asked w number (ask_step client 0 ask)) (client_of w number) (Err faults.NoSession)
+world_ask w number ask = option_map_or (λ seat. asked w number seat (ask_step seat.client seat.clock ask)) (seat_of w number) (Err faults.NoSession)
 
 abbrev pub beaten_by : WorldState → Result (Option Request) Fault → Outcome
 beaten_by w (Ok (Some request)) = Ok (sends w request, [])
 beaten_by w (Ok None) = Ok (w, [])
 beaten_by w (Err fault) = Err fault
 
-abbrev pub beaten : WorldState → ℕ → ClientState × Result (Option Request) Fault → Outcome
-beaten w number step = beaten_by (with_client w number step.0) step.1
+abbrev pub beaten : WorldState → ℕ → Seat → ClientState × Result (Option Request) Fault → Outcome
+beaten w number seat step = beaten_by (with_client w number seat step.0) step.1
 
 abbrev pub world_beat : WorldState → ℕ → Outcome
-world_beat w number = option_map_or (λ client. beaten w number (beat_step client 0)) (client_of w number) (Err faults.NoSession)
+world_beat w number = option_map_or (λ seat. beaten w number seat (beat_step seat.client seat.clock)) (seat_of w number) (Err faults.NoSession)
 
 -- ---- messages are delivered
 
-abbrev pub took : WorldState → ℕ → Result (MasterState × Taken) Fault → Outcome
-took w number (Err fault) = Err fault
-took w number (Ok step) = Ok (record w { master = Some step.0; messages = delivered w.messages number ++ map new_out step.1.outs }, step.1.lines)
+abbrev pub took : WorldState → Result (MasterState × Taken) Fault → Outcome
+took w (Err fault) = Err fault
+took w (Ok step) = Ok (record w { master = Some step.0; messages = w.messages ++ map ToClient step.1.outs }, step.1.lines)
 
 abbrev pub world_take : WorldState → ℕ → Option MasterState → Outcome
 world_take w number None = Err faults.MasterDown
-world_take w number (Some master) = option_map_or (λ request. took w number (take_step master w.clock request)) (request_at w.messages number) (Err faults.NoSuchMessage)
+world_take w number (Some master) = option_map_or (λ request. took w (take_step master w.clock request)) (request_at w.messages number) (Err faults.NoSuchMessage)
 
 abbrev pub gave_by : WorldState → Result (List Line) Fault → Outcome
 gave_by w (Ok printed) = Ok (w, printed)
 gave_by w (Err fault) = Err fault
 
-abbrev pub gave : WorldState → ℕ → ℕ → ClientState × Result (List Line) Fault → Outcome
-gave w number client step = gave_by (record (with_client w client step.0) { messages = delivered w.messages number }) step.1
+abbrev pub gave : WorldState → ℕ → Seat → ClientState × Result (List Line) Fault → Outcome
+gave w number seat step = gave_by (with_client w number seat step.0) step.1
 
-abbrev pub given_to : WorldState → ℕ → Out → Outcome
-given_to w number out = option_map_or (λ client. gave w number (out_client out) (give_step client 0 out)) (client_of w (out_client out)) (Err faults.NoSession)
+abbrev pub given_to : WorldState → Out → Outcome
+given_to w out = option_map_or (λ seat. gave w (out_client out) seat (give_step seat.client seat.clock out)) (seat_of w (out_client out)) (Err faults.NoSession)
 
 abbrev pub world_give : WorldState → ℕ → Outcome
-world_give w number = option_map_or (λ out. given_to w number out) (out_at w.messages number) (Err faults.NoSuchMessage)
+world_give w number = option_map_or (λ out. given_to w out) (out_at w.messages number) (Err faults.NoSuchMessage)
 
 -- ---- the master sweeps
 
@@ -171,7 +174,7 @@ swept w master (Ok step) = Ok (
   record w {
     rows = changed_rows w.rows (sweep_edits master w.clock);
     master = Some step.0;
-    messages = w.messages ++ map new_out step.1.outs;
+    messages = w.messages ++ map ToClient step.1.outs;
   },
   record { lines = step.1.lines; quiet = step.1.quiet },
 )

@@ -4,9 +4,11 @@
 mod mail;
 mod runs;
 mod seats;
+mod stages;
 mod steps;
 mod worlds;
 
-pub use mail::{Message, Sent};
+pub use mail::Message;
+pub use seats::Seat;
 pub use steps::Step;
 pub use worlds::{Turn, World};

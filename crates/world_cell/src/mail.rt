@@ -1,50 +1,41 @@
 //! The messages that were sent.
-ghost use Rattle.std.specs.Prelude.{◌≡◌, ◌≤◌, ◌<◌, ◌+◌, ◌++◌, ◌∷◌, [], false, map, length};
+ghost use Rattle.std.specs.Prelude.{◌≡◌, ◌≤◌, ◌<◌, ◌+◌, ◌++◌, ◌∷◌, [], map, length};
 ghost use Rattle.std.specs.Option.{option_copied};
 ghost use Rattle.std.specs.Vec.{vec_len, vec_capacity};
-ghost use Rattle.world_cell.specs.Messages.{new_out, new_request, sent_at, request_at, out_at, delivered, step_of, waiting_behind};
+ghost use Rattle.world_cell.specs.Messages.{message_at, request_at, out_at};
 
-use crate::steps::Step;
 use plain::Items;
 use tags_cell::{Out, Request};
 
-/// A message, by its direction.
+/// A message that was sent, by its direction.
 #[derive(Debug, Drop)]
 pub enum Message {
     ToMaster(Request),
     ToClient(Out),
 }
 
-/// A message that was sent.
-#[derive(Debug, Drop)]
-pub struct Sent {
-    pub message: Message,
-    /// Whether it came to its receiver once at least.
-    pub delivered: bool,
-}
-
 // The request of a number, where the message of that number is one.
-pub(crate) fn request_at(sent: &[Sent], number: u64) -> Option<&Request>
+pub(crate) fn request_at(sent: &[Message], number: u64) -> Option<&Request>
     ensures { option_copied result ≡ request_at sent.now number }
 {
-    match &sent_at(sent, number)?.message {
+    match message_at(sent, number)? {
         Message::ToMaster(request) => Some(request),
         Message::ToClient(_) => None,
     }
 }
 
 // The message to a client of a number, where the message of that number is one.
-pub(crate) fn out_at(sent: &[Sent], number: u64) -> Option<&Out>
+pub(crate) fn out_at(sent: &[Message], number: u64) -> Option<&Out>
     ensures { option_copied result ≡ out_at sent.now number }
 {
-    match &sent_at(sent, number)?.message {
+    match message_at(sent, number)? {
         Message::ToMaster(_) => None,
         Message::ToClient(out) => Some(out),
     }
 }
 
-fn sent_at(sent: &[Sent], number: u64) -> Option<&Sent>
-    ensures { option_copied result ≡ sent_at sent.now number }
+fn message_at(sent: &[Message], number: u64) -> Option<&Message>
+    ensures { option_copied result ≡ message_at sent.now number }
 {
     if number == 0 {
         return None;
@@ -52,69 +43,20 @@ fn sent_at(sent: &[Sent], number: u64) -> Option<&Sent>
     sent.get((number - 1) as usize)
 }
 
-// Notes that the message of a number came to its receiver.
-pub(crate) fn deliver(sent: &mut Vec<Sent>, number: u64)
-    ensures items { sent.new.items ≡ delivered sent.old.items number }
-    ensures capacity { vec_capacity sent.new ≡ vec_capacity sent.old }
-    ensures len { vec_len sent.new ≡ vec_len sent.old }
-{
-    if number == 0 {
-        return;
-    }
-    if let Some(message) = sent.get_mut((number - 1) as usize) {
-        message.delivered = true;
-    }
-}
-
-// Adds a message, where there is room.
-fn push(sent: &mut Vec<Sent>, message: Message)
-    requires { vec_len sent.old < vec_capacity sent.old }
-    ensures items { sent.new.items ≡ sent.old.items ++ record { message = message; delivered = false } ∷ [] }
-    ensures capacity { vec_capacity sent.old ≤ vec_capacity sent.new }
-    ensures len { vec_len sent.new ≡ vec_len sent.old + 1 }
-{
-    sent.push_reserved(Sent {
-        message,
-        delivered: false,
-    });
-}
-
 // Adds a request, where there is room.
-pub(crate) fn send(sent: &mut Vec<Sent>, request: Request)
+pub(crate) fn send(sent: &mut Vec<Message>, request: Request)
     requires { vec_len sent.old < vec_capacity sent.old }
-    ensures items { sent.new.items ≡ sent.old.items ++ new_request request ∷ [] }
+    ensures items { sent.new.items ≡ sent.old.items ++ Message.ToMaster request ∷ [] }
 {
-    push(sent, Message::ToMaster(request));
+    sent.push_reserved(Message::ToMaster(request));
 }
 
 // Adds messages to clients, where there is room.
-pub(crate) fn send_all(sent: &mut Vec<Sent>, outs: Items<Out>)
+pub(crate) fn send_all(sent: &mut Vec<Message>, outs: Items<Out>)
     requires { vec_len sent.old + length outs ≤ vec_capacity sent.old }
-    ensures items { sent.new.items ≡ sent.old.items ++ map new_out outs }
+    ensures items { sent.new.items ≡ sent.old.items ++ map Message.ToClient outs }
 {
     for out in outs.into_vec() {
-        push(sent, Message::ToClient(out));
-    }
-}
-
-// The step that delivers the first message that came to nobody, behind a count of messages.
-pub(crate) fn waiting_behind(sent: &[Sent], count: usize) -> Option<Step>
-    ensures { result ≡ waiting_behind sent.now count }
-{
-    for index in count..sent.len() {
-        let waiting = &sent[index];
-        if !waiting.delivered {
-            return Some(step_of(&waiting.message, index as u64 + 1));
-        }
-    }
-    None
-}
-
-fn step_of(message: &Message, number: u64) -> Step
-    ensures { result ≡ step_of message.now number }
-{
-    match message {
-        Message::ToMaster(_) => Step::Take(number),
-        Message::ToClient(_) => Step::Give(number),
+        sent.push_reserved(Message::ToClient(out));
     }
 }

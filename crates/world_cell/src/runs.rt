@@ -3,6 +3,7 @@ ghost use Rattle.std.specs.Prelude.{◌≡◌, ◌++◌, ◌∷◌, [], None, If
 ghost use Rattle.rows_cell.specs.Rows.{map_of};
 ghost use Rattle.node_core.specs.declared.lines.Line.{Line as PrintedLine};
 ghost use Rattle.node_core.specs.declared.views.Mod.{Mod};
+ghost use Rattle.world_cell.specs.Consistent.{IsConsistent};
 ghost use Rattle.world_cell.specs.Runs.{Does, Run, map_at, epoch_at, applied, Rises, IsOfCall};
 
 use crate::steps::Step;
@@ -23,11 +24,13 @@ impl<R: Records + Drop> World<R> {
         // The epoch is that of the last master that came up.
         ensures epoch { IfOk result (λ lines. self.new.world.rows.epoch ≡ epoch_at self.old.world.rows.epoch lines) }
         // Each call is applied at most once: the numbers of a client's applied calls rise.
-        ensures once { IfOk result (λ lines. self.old.world.master ≡ None → (client : ℕ) → Rises (applied client lines)) }
-        // Each applied change is what a call does to the map just before it; a master of that epoch took the call before.
-        ensures calls { IfOk result (λ lines. self.old.world.master ≡ None → (before rest : List PrintedLine) (client number : ℕ) (change : Mod) →
+        ensures once { IfOk result (λ lines. (client : ℕ) → Rises (applied client lines)) }
+        // Each applied change is what a call does to the map just before it; its client sent the call in that epoch, and the
+        // master took it before.
+        ensures calls { IfOk result (λ lines. (before rest : List PrintedLine) (client number : ℕ) (change : Mod) →
             lines ≡ before ++ Line.Applied client number change ∷ rest → IsOfCall self.old steps.now before client number change rest self.new) }
     {
+        self.consistent();
         let mut lines = Items::new(self.alloc());
         for step in steps {
             let here = self.line_step(step)?;
@@ -40,11 +43,21 @@ impl<R: Records + Drop> World<R> {
     fn line_step(&mut self, step: &Step) -> Result<Items<Line>, AllocError>
         ensures ok { IfOk result (λ lines. Does self.old step.now self.new lines) }
         ensures err { OnErr result ((lines : List PrintedLine) × Does self.old step.now self.new lines) }
+        ensures consistent { IsConsistent self.new.world }
     {
-        match self.step(step) {
+        let told = self.step(step);
+        self.consistent();
+        match told {
             Ok(lines) => Ok(lines),
             Err(fault) => refused(self.alloc(), fault),
         }
+    }
+
+    // What holds of every world.
+    fn consistent(&self)
+        ensures { IsConsistent self.now.world }
+    {
+        let _stage = &self.stage;
     }
 }
 

@@ -3,11 +3,11 @@ ghost use Rattle.std.specs.Prelude.{◌≡◌, [], Some, None, IfSome, OnErr, Is
 ghost use Rattle.std.specs.Map.{lookup};
 ghost use Rattle.std.specs.BTreeMap.{is_at, insert_entry};
 ghost use Rattle.std.specs.Ordering.{nat_cmp};
-ghost use Rattle.client_core.specs.State.{ClientState, new_client};
 ghost use Rattle.client_core.specs.Asks.{ask_step};
 ghost use Rattle.client_core.specs.Beats.{beat_step};
 ghost use Rattle.client_core.specs.Gives.{give_step};
-ghost use Rattle.world_cell.specs.Seats.{Answers, AnswersOrLeaves};
+ghost use Rattle.world_cell.specs.declared.seats.Seat.{Seat as SeatState};
+ghost use Rattle.world_cell.specs.Seats.{new_seat, Answers, AnswersOrLeaves};
 
 use client_core::{Ask, Asked, Client};
 use names_cell::Principal;
@@ -18,14 +18,24 @@ use std::collections::BTreeMap;
 use std::marker::Model;
 use tags_cell::{ClientNumber, Out, Request};
 
-/// A client's own clock stands here, in milliseconds.
-const FIRST_MOMENT: u64 = 0;
+/// A client with its own clock. All clocks stand still so far.
+#[derive(Drop)]
+pub struct Seat {
+    pub client: Client,
+    /// Its own clock, in milliseconds.
+    pub clock: u64,
+    /// The master's clock where 16 times that was least ahead of 17 times the client's, since the master came up: the
+    /// client's least lead.
+    pub least_now: u64,
+    /// The client's clock at that point.
+    pub least_clock: u64,
+}
 
 /// The clients of a world, by their numbers.
 #[derive(Drop)]
 pub(crate) struct Seats {
     alloc: Global,
-    clients: BTreeMap<u64, Client>,
+    clients: BTreeMap<u64, Seat>,
 }
 
 impl Model for Seats {
@@ -58,11 +68,17 @@ impl Seats {
         number: ClientNumber,
         principal: &Principal,
     ) -> Result<(), AllocError>
-        ensures ok { OnOk result (self.new ≡ insert_entry nat_cmp self.old number (new_client number principal.now)) }
+        ensures ok { OnOk result (self.new ≡ insert_entry nat_cmp self.old number (new_seat number principal.now)) }
         ensures err { OnErr result (self.new ≡ self.old) }
     {
         let client = Client::new(self.alloc, number, principal.clone()?);
-        drop(self.clients.insert(number.get(), client)?);
+        let seat = Seat {
+            client,
+            clock: 0,
+            least_now: 0,
+            least_clock: 0,
+        };
+        drop(self.clients.insert(number.get(), seat)?);
         Ok(())
     }
 
@@ -70,23 +86,23 @@ impl Seats {
     pub(crate) fn ask(&mut self, number: u64, ask: &Ask) -> Option<Result<Asked, Fault>>
         ensures none { IsNone result → lookup (is_at (nat_cmp number)) self.old ≡ None }
         ensures stay { IsNone result → self.new ≡ self.old }
-        ensures some { IfSome result (λ r. (client : ClientState) × (lookup (is_at (nat_cmp number)) self.old ≡ Some client) × Answers self.old self.new number r (ask_step client 0 ask.now)) }
+        ensures some { IfSome result (λ r. (seat : SeatState) × (lookup (is_at (nat_cmp number)) self.old ≡ Some seat) × Answers self.old self.new number seat r (ask_step seat.client seat.clock ask.now)) }
     {
-        let Some(client) = self.clients.get_mut(&number) else {
+        let Some(seat) = self.clients.get_mut(&number) else {
             return None;
         };
-        Some(client.ask(FIRST_MOMENT, ask))
+        Some(seat.client.ask(seat.clock, ask))
     }
 
     pub(crate) fn beat(&mut self, number: u64) -> Option<Result<Option<Request>, Fault>>
         ensures none { IsNone result → lookup (is_at (nat_cmp number)) self.old ≡ None }
         ensures stay { IsNone result → self.new ≡ self.old }
-        ensures some { IfSome result (λ r. (client : ClientState) × (lookup (is_at (nat_cmp number)) self.old ≡ Some client) × AnswersOrLeaves self.old self.new number r (beat_step client 0)) }
+        ensures some { IfSome result (λ r. (seat : SeatState) × (lookup (is_at (nat_cmp number)) self.old ≡ Some seat) × AnswersOrLeaves self.old self.new number seat r (beat_step seat.client seat.clock)) }
     {
-        let Some(client) = self.clients.get_mut(&number) else {
+        let Some(seat) = self.clients.get_mut(&number) else {
             return None;
         };
-        Some(client.beat(FIRST_MOMENT))
+        Some(seat.client.beat(seat.clock))
     }
 
     pub(crate) fn give(
@@ -96,11 +112,11 @@ impl Seats {
     ) -> Option<Result<Items<Line>, Fault>>
         ensures none { IsNone result → lookup (is_at (nat_cmp number)) self.old ≡ None }
         ensures stay { IsNone result → self.new ≡ self.old }
-        ensures some { IfSome result (λ r. (client : ClientState) × (lookup (is_at (nat_cmp number)) self.old ≡ Some client) × AnswersOrLeaves self.old self.new number r (give_step client 0 out.now)) }
+        ensures some { IfSome result (λ r. (seat : SeatState) × (lookup (is_at (nat_cmp number)) self.old ≡ Some seat) × AnswersOrLeaves self.old self.new number seat r (give_step seat.client seat.clock out.now)) }
     {
-        let Some(client) = self.clients.get_mut(&number.get()) else {
+        let Some(seat) = self.clients.get_mut(&number.get()) else {
             return None;
         };
-        Some(client.give(FIRST_MOMENT, out))
+        Some(seat.client.give(seat.clock, out))
     }
 }

@@ -1,23 +1,15 @@
 //! A world.
-ghost use Rattle.std.specs.Prelude.{◌≡◌, [], ◌∷◌, Some, None, Ok, Err, IfOk, IfErr, OnOk, OnErr, is_some, length};
-ghost use Rattle.world_cell.specs.World.{opened, world_step, world_up, world_join, world_ask, world_beat, world_take, world_give, world_sweep, step_edits, IsStored, IsLeft, MayRefuseStep};
-ghost use Rattle.world_cell.specs.Messages.{waiting_behind};
+ghost use Rattle.std.specs.Prelude.{◌≡◌, Ok, IfOk, IfErr, OnOk, OnErr, is_some};
+ghost use Rattle.world_cell.specs.World.{opened, store_in, world_step, world_sweep, step_edits, IsStored, IsLeft, MayRefuseStep};
 
-use crate::mail::{self, Sent};
-use crate::seats::Seats;
+use crate::mail::Message;
+use crate::stages::Stage;
 use crate::steps::Step;
-use client_core::{Ask, Asked};
-use names_cell::Principal;
 use node_core::{Fault, Line};
-use over_core::Cell;
 use plain::Items;
 use rows_cell::{Records, Settings};
-use std::alloc::{AllocError, Global};
+use std::alloc::Global;
 use std::marker::Model;
-use tags_cell::ClientNumber;
-
-/// The most messages that one step of a master sends.
-const MESSAGES_A_STEP: usize = 1;
 
 /// What a sweep prints, and whether it found nothing to do.
 #[derive(Debug, Drop)]
@@ -27,55 +19,30 @@ pub struct Turn {
 }
 
 /// A cell with all that happens around it: records, at most one master, clients, and every message that was sent. To a
-/// contract, plain lists of these.
+/// contract, plain lists of these. They fit one another always (`IsConsistent`).
 #[derive(Drop)]
 pub struct World<R: Records> {
-    alloc: Global,
-    master: Option<Cell<R>>,
-    records: Option<R>,
-    clock: u64,
-    clients: Seats,
-    messages: Vec<Sent>,
-    lease: u64,
+    pub(crate) stage: Stage<R>,
 }
 
 impl<R: Records> Model for World<R> {
-    ghost use Rattle.std.specs.Prelude.{◌≡◌, ◌≤◌, not, is_some};
-    ghost use Rattle.std.specs.Option.{option_map};
-    ghost use Rattle.world_cell.specs.World.{WorldView, rows_of, cell_of, leave_of, refusals_of};
+    ghost use Rattle.world_cell.specs.World.{WorldView};
+    ghost use Rattle.world_cell.specs.Consistent.{IsConsistent};
 
     ghost Value = { WorldView };
 
-    ghost view = { λ w. record {
-      world = record {
-        cell = cell_of (option_map (λ c. c.cell) w.master) (option_map R.cell w.records);
-        rows = rows_of (option_map (λ c. c.rows) w.master) (option_map R.rows w.records);
-        master = option_map (λ c. c.master) w.master;
-        clock = w.clock;
-        clients = w.clients;
-        messages = w.messages.items;
-        lease = w.lease;
-      };
-      may_leave = leave_of (option_map (λ c. c.may_leave) w.master) (option_map R.may_leave w.records);
-      refusals = refusals_of (option_map (λ c. c.refusals) w.master) (option_map R.refusals w.records);
-    } };
+    ghost view = { λ w. w.stage };
 
-    ghost invariant = { λ w. (is_some w.records ≡ not (is_some w.master)) × (1000 ≤ w.lease) × (w.lease ≤ 60000) };
+    ghost invariant = { λ w. IsConsistent w.stage.world };
 }
 
 impl<R: Records + Drop> World<R> {
     /// No master is up, no client has joined, nothing was sent. Takes no memory yet.
     pub fn new(alloc: Global, records: R, settings: &Settings) -> World<R>
-        ensures { result ≡ opened (R.cell records) (R.rows records) (R.may_leave records) (R.refusals records) settings.now.lease }
+        ensures { result ≡ opened (R.store records) settings.now.lease }
     {
         World {
-            alloc,
-            master: None,
-            records: Some(records),
-            clock: 0,
-            clients: Seats::new(alloc),
-            messages: Vec::new(alloc),
-            lease: settings.lease(),
+            stage: Stage::new(alloc, records, settings),
         }
     }
 
@@ -85,220 +52,52 @@ impl<R: Records + Drop> World<R> {
     /// one is up; a message for a master while none is up; a number that a client joined with before; a client that
     /// hasn't joined; a message that was never sent, or of the other direction; a moment or a number at its end; where
     /// the store refuses or its rows aren't sound; and for want of memory.
-    #[tactic(auto, unfolding(crate::specs::World::world_step))]
     pub fn step(&mut self, step: &Step) -> Result<Items<Line>, Fault>
         ensures ok { IfOk result (λ lines. world_step self.old.world step.now ≡ Ok (self.new.world, lines)) }
         ensures stored { OnOk result (IsStored (step_edits self.old.world step.now) self.old self.new) }
         ensures fault { IfErr result (λ e. MayRefuseStep (world_step self.old.world step.now) step.now e self.old self.new) }
         ensures left { OnErr result (IsLeft (step_edits self.old.world step.now) self.old self.new) }
     {
-        match step {
-            Step::Up(now) => self.up(*now),
-            Step::Join(number, principal) => self.join(*number, principal),
-            Step::Ask(number, ask) => self.ask(*number, ask),
-            Step::Beat(number) => self.beat(*number),
-            Step::Take(number) => self.take(*number),
-            Step::Give(number) => self.give(*number),
-            Step::Sweep => Ok(self.sweep()?.lines),
-        }
+        let told = self.stage.step(step);
+        self.stage.kept();
+        told
     }
 
     /// The step by which the master sweeps, with word of whether it found nothing to do.
-    #[tactic(auto, using(crate::proofs::OneMessage::sweep_few))]
     pub fn sweep(&mut self) -> Result<Turn, Fault>
         ensures ok { IfOk result (λ turn. world_sweep self.old.world self.old.world.master ≡ Ok (self.new.world, turn)) }
         ensures stored { OnOk result (IsStored (step_edits self.old.world Step.Sweep) self.old self.new) }
         ensures fault { IfErr result (λ e. MayRefuseStep (world_sweep self.old.world self.old.world.master) Step.Sweep e self.old self.new) }
         ensures left { OnErr result (IsLeft (step_edits self.old.world Step.Sweep) self.old self.new) }
     {
-        let Some(cell) = &mut self.master else {
-            return Err(Fault::MasterDown);
-        };
-        self.messages.reserve(MESSAGES_A_STEP)?;
-        let swept = cell.sweep(self.clock)?;
-        mail::send_all(&mut self.messages, swept.outs);
-        Ok(Turn {
-            lines: swept.lines,
-            quiet: swept.quiet,
-        })
+        let turn = self.stage.sweep();
+        self.stage.kept();
+        turn
     }
 
-    /// The step that delivers the first message that came to nobody, behind a count of messages; None where each of
-    /// them came to its receiver.
-    pub fn waiting_behind(&self, count: usize) -> Option<Step>
-        ensures { result ≡ waiting_behind self.now.world.messages count }
+    /// All messages that were sent, in order.
+    pub fn messages(&self) -> &[Message]
+        ensures { result.now ≡ self.now.world.messages }
     {
-        mail::waiting_behind(self.messages.as_slice(), count)
-    }
-
-    /// How many messages were sent so far.
-    pub fn message_count(&self) -> usize
-        ensures { result ≡ length self.now.world.messages }
-    {
-        self.messages.len()
+        self.stage.messages()
     }
 
     /// Whether a master is up.
     pub fn is_up(&self) -> bool
         ensures { result ≡ is_some self.now.world.master }
     {
-        self.master.is_some()
+        self.stage.is_up()
     }
 
     /// The records, with the rows that stand. A master that is up is gone.
     pub fn close(self) -> R
-        ensures rows { R.rows result ≡ self.world.rows }
-        ensures leave { R.may_leave result ≡ self.may_leave }
-        ensures refusals { R.refusals result ≡ self.refusals }
-        ensures cell { R.cell result ≡ self.world.cell }
+        ensures { R.store result ≡ store_in self }
     {
-        let World {
-            alloc: _,
-            master,
-            records,
-            clock: _,
-            clients: _,
-            messages: _,
-            lease: _,
-        } = self;
-        match master {
-            Some(cell) => cell.down(),
-            None => records.unwrap(),
-        }
+        let World { stage } = self;
+        stage.close()
     }
 
     pub(crate) fn alloc(&self) -> Global {
-        self.alloc
+        self.stage.alloc()
     }
-
-    fn up(&mut self, now: u64) -> Result<Items<Line>, Fault>
-        ensures ok { IfOk result (λ lines. world_up self.old.world now self.old.world.master ≡ Ok (self.new.world, lines)) }
-        ensures stored { OnOk result (IsStored (step_edits self.old.world (Step.Up now)) self.old self.new) }
-        ensures fault { IfErr result (λ e. MayRefuseStep (world_up self.old.world now self.old.world.master) (Step.Up now) e self.old self.new) }
-        ensures left { OnErr result (IsLeft (step_edits self.old.world (Step.Up now)) self.old self.new) }
-    {
-        let mut lines = Items::new(self.alloc);
-        lines.push(Line::Down)?;
-        match self.records.take() {
-            None => Err(Fault::MasterUp),
-            Some(records) => match Cell::up(self.alloc, records, self.lease, now) {
-                Ok(cell) => {
-                    lines.set(0, Line::Up(cell.epoch()));
-                    drop(self.master.replace(cell));
-                    self.clock = now;
-                    Ok(lines)
-                }
-                Err((fault, records)) => {
-                    drop(self.records.replace(records));
-                    Err(fault)
-                }
-            },
-        }
-    }
-
-    fn join(&mut self, number: ClientNumber, principal: &Principal) -> Result<Items<Line>, Fault>
-        ensures ok { IfOk result (λ lines. world_join self.old.world number principal.now ≡ Ok (self.new.world, lines)) }
-        ensures stored { OnOk result (IsStored [] self.old self.new) }
-        ensures fault { IfErr result (λ e. MayRefuseStep (world_join self.old.world number principal.now) (Step.Join number principal.now) e self.old self.new) }
-        ensures left { OnErr result (IsLeft [] self.old self.new) }
-    {
-        if self.clients.is_taken(number) {
-            return Err(Fault::Exists);
-        }
-        self.clients.join(number, principal)?;
-        Ok(Items::new(self.alloc))
-    }
-
-    fn ask(&mut self, number: u64, ask: &Ask) -> Result<Items<Line>, Fault>
-        ensures ok { IfOk result (λ lines. world_ask self.old.world number ask.now ≡ Ok (self.new.world, lines)) }
-        ensures stored { OnOk result (IsStored [] self.old self.new) }
-        ensures fault { IfErr result (λ e. MayRefuseStep (world_ask self.old.world number ask.now) (Step.Ask number ask.now) e self.old self.new) }
-        ensures left { OnErr result (IsLeft [] self.old self.new) }
-    {
-        let mut lines = room(self.alloc)?;
-        self.messages.reserve(1)?;
-        match self.clients.ask(number, ask) {
-            None => Err(Fault::NoSession),
-            Some(Ok(Asked::Sent(request))) => {
-                mail::send(&mut self.messages, request);
-                Ok(Items::new(self.alloc))
-            }
-            Some(Ok(Asked::Answered(told))) => Ok(told),
-            Some(Err(Fault::NoMemory)) => Err(Fault::NoMemory),
-            Some(Err(Fault::Exhausted)) => Err(Fault::Exhausted),
-            Some(Err(fault)) => {
-                lines.set(0, Line::Refused(fault));
-                Ok(lines)
-            }
-        }
-    }
-
-    fn beat(&mut self, number: u64) -> Result<Items<Line>, Fault>
-        ensures ok { IfOk result (λ lines. world_beat self.old.world number ≡ Ok (self.new.world, lines)) }
-        ensures stored { OnOk result (IsStored [] self.old self.new) }
-        ensures fault { IfErr result (λ e. MayRefuseStep (world_beat self.old.world number) (Step.Beat number) e self.old self.new) }
-        ensures left { OnErr result (IsLeft [] self.old self.new) }
-    {
-        self.messages.reserve(1)?;
-        match self.clients.beat(number) {
-            None => Err(Fault::NoSession),
-            Some(Ok(request)) => {
-                if let Some(request) = request {
-                    mail::send(&mut self.messages, request);
-                }
-                Ok(Items::new(self.alloc))
-            }
-            Some(Err(fault)) => Err(fault),
-        }
-    }
-
-    #[tactic(auto, using(crate::proofs::OneMessage::take_few))]
-    fn take(&mut self, number: u64) -> Result<Items<Line>, Fault>
-        ensures ok { IfOk result (λ lines. world_take self.old.world number self.old.world.master ≡ Ok (self.new.world, lines)) }
-        ensures stored { OnOk result (IsStored [] self.old self.new) }
-        ensures fault { IfErr result (λ e. MayRefuseStep (world_take self.old.world number self.old.world.master) (Step.Take number) e self.old self.new) }
-        ensures left { OnErr result (IsLeft [] self.old self.new) }
-    {
-        match &mut self.master {
-            None => Err(Fault::MasterDown),
-            Some(cell) => {
-                self.messages.reserve(MESSAGES_A_STEP)?;
-                let Some(request) = mail::request_at(self.messages.as_slice(), number) else {
-                    return Err(Fault::NoSuchMessage);
-                };
-                let taken = cell.take(self.clock, request)?;
-                mail::deliver(&mut self.messages, number);
-                mail::send_all(&mut self.messages, taken.outs);
-                Ok(taken.lines)
-            }
-        }
-    }
-
-    fn give(&mut self, number: u64) -> Result<Items<Line>, Fault>
-        ensures ok { IfOk result (λ lines. world_give self.old.world number ≡ Ok (self.new.world, lines)) }
-        ensures stored { OnOk result (IsStored [] self.old self.new) }
-        ensures fault { IfErr result (λ e. MayRefuseStep (world_give self.old.world number) (Step.Give number) e self.old self.new) }
-        ensures left { OnErr result (IsLeft [] self.old self.new) }
-    {
-        let Some(out) = mail::out_at(self.messages.as_slice(), number) else {
-            return Err(Fault::NoSuchMessage);
-        };
-        match self.clients.give(out.client(), out) {
-            None => Err(Fault::NoSession),
-            Some(Ok(lines)) => {
-                mail::deliver(&mut self.messages, number);
-                Ok(lines)
-            }
-            Some(Err(fault)) => Err(fault),
-        }
-    }
-}
-
-// One line, whose place is kept.
-fn room(alloc: Global) -> Result<Items<Line>, AllocError>
-    ensures { IfOk result (λ lines. lines ≡ Line.Down ∷ []) }
-{
-    let mut lines = Items::new(alloc);
-    lines.push(Line::Down)?;
-    Ok(lines)
 }

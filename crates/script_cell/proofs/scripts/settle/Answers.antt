@@ -1,16 +1,17 @@
+use Rattle.script_cell.specs.Settling.{played}
 use Rattle.script_cell.proofs.Doings.{settles_down, wrote_none, no_turns, more_turns, all_turns}
 use Rattle.script_cell.proofs.scripts.settle.Goals as goal
 
-pub returns-then-not-is_up-clause-wrote : goal.returns-then-not-is_up-clause-wrote
-returns-then-not-is_up-clause-wrote g c =
-    settles_down c.args.world.now c.is_up.result _ _ c.write_refusal.result c.is_up.ensures c.if-not-is_up.true c.write_refusal.ensures
+pub returns-then-not-is_up : goal.returns-then-not-is_up
+returns-then-not-is_up g c =
+    settles_down (played c.args.world.now c.args.delivered.now) c.is_up.result _ _ c.write_refusal.result c.is_up.ensures c.if-not-is_up.true c.write_refusal.ensures
 
 pub loop-init : goal.loop-init
-loop-init g c = (c.requires.delivered, wrote_none _ _ (no_turns c.args.world.now))
+loop-init g c = wrote_none _ _ (no_turns (played c.args.world.now c.args.delivered.now))
 
-pub returns-then-not-branch-clause-wrote : goal.returns-then-not-branch-clause-wrote
-returns-then-not-branch-clause-wrote g c =
-    all_turns c.is_up.result _ _ _ _ _ _ _ c.is_up.ensures c.if-not-is_up.false c.if-not-branch.true c.loop.invariant.1 c.in_ok-settle_on.ensures.wrote
+pub returns-then-not-branch : goal.returns-then-not-branch
+returns-then-not-branch g c =
+    all_turns c.is_up.result _ _ _ _ _ _ _ c.is_up.ensures c.if-not-is_up.false c.if-not-branch.true c.loop.invariant c.in_ok-settle_on.ensures
 
 pub loop-preserved : goal.loop-preserved
-loop-preserved g c = (c.in_ok-settle_on.ensures.delivered, more_turns _ _ _ _ _ _ _ c.if-not-branch.false c.loop.invariant.1 c.in_ok-settle_on.ensures.wrote)
+loop-preserved g c = more_turns _ _ _ _ _ _ _ c.if-not-branch.false c.loop.invariant c.in_ok-settle_on.ensures

@@ -8,6 +8,6 @@ use Rattle.world_cell.proofs.seats.Seats.beat.Goals as goal
 
 pub returns-clause-some : goal.returns-clause-some
 returns-clause-some c =
-    let found : lookup (is_at (nat_cmp c.args.number)) c.self.inside.clients.entries ≡ Some c.in-Some.client.now = sym c.in-Some.ensures.value in
-    let is : (c.get_mut.follows.lender c.beat.new.self).entries ≡ set_value (is_at (nat_cmp c.args.number)) c.self.inside.clients.entries c.beat.new.self = search rules in
-    rw (← c.self.view_is) (c.in-Some.client.now, found, seat_leaves c.self.inside.clients.entries _ c.args.number c.in-Some.client.now c.beat.new.self c.beat.result (beat_step c.in-Some.client.now 0) found is c.beat.ensures (beat_end c.in-Some.client.now 0))
+    let found : lookup (is_at (nat_cmp c.args.number)) c.self.inside.clients.entries ≡ Some c.in-Some.seat.now = sym c.in-Some.ensures.value in
+    let is : (c.get_mut.follows.lender (record c.in-Some.seat.now { client = c.beat.new.self })).entries ≡ set_value (is_at (nat_cmp c.args.number)) c.self.inside.clients.entries (record c.in-Some.seat.now { client = c.beat.new.self }) = search rules in
+    rw (← c.self.view_is) (c.in-Some.seat.now, found, seat_leaves c.self.inside.clients.entries _ c.args.number c.in-Some.seat.now c.beat.new.self c.beat.result (beat_step c.in-Some.seat.now.client c.in-Some.seat.now.clock) found is c.beat.ensures (beat_end c.in-Some.seat.now.client c.in-Some.seat.now.clock))

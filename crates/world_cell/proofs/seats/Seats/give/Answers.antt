@@ -8,6 +8,6 @@ use Rattle.world_cell.proofs.seats.Seats.give.Goals as goal
 
 pub returns-clause-some : goal.returns-clause-some
 returns-clause-some c =
-    let found : lookup (is_at (nat_cmp c.args.number)) c.self.inside.clients.entries ≡ Some c.in-Some.client.now = search rules in
-    let is : (c.get_mut.follows.lender c.give.new.self).entries ≡ set_value (is_at (nat_cmp c.args.number)) c.self.inside.clients.entries c.give.new.self = search rules in
-    rw (← c.self.view_is) (c.in-Some.client.now, found, seat_leaves c.self.inside.clients.entries _ c.args.number c.in-Some.client.now c.give.new.self c.give.result (give_step c.in-Some.client.now 0 c.args.out.now) found is c.give.ensures (give_end c.in-Some.client.now 0 c.args.out.now))
+    let found : lookup (is_at (nat_cmp c.args.number)) c.self.inside.clients.entries ≡ Some c.in-Some.seat.now = search rules in
+    let is : (c.get_mut.follows.lender (record c.in-Some.seat.now { client = c.give.new.self })).entries ≡ set_value (is_at (nat_cmp c.args.number)) c.self.inside.clients.entries (record c.in-Some.seat.now { client = c.give.new.self }) = search rules in
+    rw (← c.self.view_is) (c.in-Some.seat.now, found, seat_leaves c.self.inside.clients.entries _ c.args.number c.in-Some.seat.now c.give.new.self c.give.result (give_step c.in-Some.seat.now.client c.in-Some.seat.now.clock c.args.out.now) found is c.give.ensures (give_end c.in-Some.seat.now.client c.in-Some.seat.now.clock c.args.out.now))

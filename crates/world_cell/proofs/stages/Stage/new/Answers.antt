@@ -1,5 +1,5 @@
 use Rattle.std.proofs.Common.{rules}
-use Rattle.world_cell.proofs.worlds.World.is_up.Goals as goal
+use Rattle.world_cell.proofs.stages.Stage.new.Goals as goal
 
 pub returns : goal.returns
 returns g c = search rules

@@ -1,0 +1,97 @@
+-- What holds of every world: how its clients, its messages and its master fit one another.
+use Rattle.std.specs.Prelude.{◌≡◌, ℕ, ◌≤◌, ◌==◌, List, [], ◌∷◌, Option, Some, None, if◌then◌else◌, is_none}
+use Rattle.tags_cell.specs.declared.calls.Call.{Call}
+use Rattle.tags_cell.specs.declared.requests.Request.TheVariants as requests
+use Rattle.tags_cell.specs.declared.requests.CallMessage.{CallMessage}
+use Rattle.tags_cell.specs.declared.outs.Out.TheVariants as outs
+use Rattle.tags_cell.specs.declared.outs.Started.{Started}
+use Rattle.cell_core.specs.declared.pending.Kept.{Kept}
+use Rattle.gate_core.specs.declared.pending.Waiting.{Waiting}
+use Rattle.cell_core.specs.declared.pending.Task.{Task}
+use Rattle.cell_core.specs.declared.pending.Work.{Work}
+use Rattle.cell_core.specs.declared.pending.Work.TheVariants as works
+use Rattle.cell_core.specs.State.{MasterState}
+use Rattle.cell_core.specs.Step.{kept_of}
+use Rattle.over_core.specs.Kept.{IsKept}
+use Rattle.world_cell.specs.declared.mail.Message.{Message}
+use Rattle.world_cell.specs.declared.seats.Seat.{Seat}
+use Rattle.world_cell.specs.Messages.{request_at, out_at, call_of}
+use Rattle.world_cell.specs.World.{WorldState, seat_of}
+
+-- ---- clients
+
+-- the client of a number has it, and its session is of an epoch that was
+pub record IsSeated (epoch number : ℕ) (seat : Seat) : Type 0 where
+  pub own : seat.client.number ≡ number
+  pub past : seat.client.epoch ≤ epoch
+
+-- ---- messages
+
+-- a client that joined sent the call, under one of its numbers so far, in an epoch that was
+pub record HasSent (w : WorldState) (client number : ℕ) (call : CallMessage) : Type 0 where
+  pub seat : Seat
+  pub joined : seat_of w client ≡ Some seat
+  pub within : number ≤ seat.client.calls
+  pub past : call.epoch ≤ w.rows.epoch
+
+-- ---- the master
+
+-- the numbers of a client's calls that wait; the number of a Start is of another count
+abbrev pub put_waiting : ℕ → ℕ → ℕ → Work → List ℕ → List ℕ
+put_waiting client whose number (works.Calls call) numbers = if whose == client then number ∷ numbers else numbers
+put_waiting client whose number (works.Starts principal) numbers = numbers
+
+abbrev pub waiting : ℕ → List (Waiting Task) → List ℕ
+waiting client [] = []
+waiting client (w ∷ ws) = put_waiting client w.change.body.client w.change.body.number w.change.body.work (waiting client ws)
+
+-- of a client's calls the last one waits until it has its reply, and no other does
+abbrev pub IsInTurn : Option Kept → List ℕ → Type 0
+IsInTurn None numbers = numbers ≡ []
+IsInTurn (Some kept) numbers = numbers ≡ (if is_none kept.reply then kept.number ∷ [] else [])
+
+-- a call that waits was sent in the master's epoch
+abbrev pub IsOfMessage : List Message → ℕ → ℕ → ℕ → Work → Type 0
+IsOfMessage sent epoch client number (works.Starts principal) = Unit {0}
+IsOfMessage sent epoch client number (works.Calls call) = call_of sent client number ≡ Some (record { client = client; epoch = epoch; number = number; call = call })
+
+abbrev pub AreOfMessages : List Message → ℕ → List (Waiting Task) → Type 0
+AreOfMessages sent epoch [] = Unit {0}
+AreOfMessages sent epoch (w ∷ ws) = IsOfMessage sent epoch w.change.body.client w.change.body.number w.change.body.work × AreOfMessages sent epoch ws
+
+-- the call whose reply is kept was sent in the master's epoch
+pub record WasSent (sent : List Message) (epoch client number : ℕ) : Type 0 where
+  pub call : CallMessage
+  pub found : call_of sent client number ≡ Some call
+  pub same : call.epoch ≡ epoch
+
+-- what waits and what is kept fits the messages
+pub record FitsMessages (sent : List Message) (s : MasterState) : Type 0 where
+  pub queue : AreOfMessages sent s.epoch s.gate.waiting
+  pub kept : (client : ℕ) (kept : Kept) → kept_of s client ≡ Some kept → WasSent sent s.epoch client kept.number
+  pub turns : (client : ℕ) → IsInTurn (kept_of s client) (waiting client s.gate.waiting)
+
+-- what it knows of the rows is what they hold
+abbrev pub Agrees : WorldState → Option MasterState → Type 0
+Agrees w None = Unit {0}
+Agrees w (Some s) = IsKept w.cell w.rows s
+
+abbrev pub Fits : WorldState → Option MasterState → Type 0
+Fits w None = Unit {0}
+Fits w (Some s) = FitsMessages w.messages s
+
+-- ---- all of it
+
+pub record IsConsistent (w : WorldState) : Type 0 where
+  -- each client is the one of its number
+  pub clients : (number : ℕ) (seat : Seat) → seat_of w number ≡ Some seat → IsSeated w.rows.epoch number seat
+  -- client and number name one call
+  pub named : (at : ℕ) (call : CallMessage) → request_at w.messages at ≡ Some (requests.Call call) → call_of w.messages call.client call.number ≡ Some call
+  -- each call is of a client that joined
+  pub sent : (client number : ℕ) (call : CallMessage) → call_of w.messages client number ≡ Some call → HasSent w client number call
+  -- no session was granted in an epoch to come
+  pub started : (at : ℕ) (started : Started) → out_at w.messages at ≡ Some (outs.Started started) → started.epoch ≤ w.rows.epoch
+  -- the master, where one is up, agrees with the rows
+  pub master : Agrees w w.master
+  -- and with the messages
+  pub fits : Fits w w.master
