@@ -147,10 +147,10 @@ module _ (sent : List Message) (s : MasterState) (client number : ℕ) (h : Fits
         queue = queue_push sent s.epoch s.gate.waiting w h.queue found;
         kept = is_recorded sent s client number None h (record { call = record { client = client; epoch = s.epoch; number = number; call = call }; found = found; same = refl });
         turns = each_kept (λ q o. IsInTurn o (waiting q (s.gate.waiting ++ w ∷ []))) s client (record { number = number; reply = None })
-        (waiting_append client s.gate.waiting (w ∷ []) ∙ ap (λ xs. xs ++ waiting client (w ∷ [])) free ∙ waits_own client number call [])
-        (λ q apart.
-        let e : waiting q (s.gate.waiting ++ w ∷ []) ≡ waiting q s.gate.waiting = waiting_append q s.gate.waiting (w ∷ []) ∙ ap (λ xs. waiting q s.gate.waiting ++ xs) (waits_other q client number (works.Calls call) [] apart) ∙ append-nil (waiting q s.gate.waiting) in
-        subst (λ xs. IsInTurn (kept_of s q) xs) (sym e) (h.turns q));
+            (waiting_append client s.gate.waiting (w ∷ []) ∙ ap (λ xs. xs ++ waiting client (w ∷ [])) free ∙ waits_own client number call [])
+            (λ q apart.
+            let e : waiting q (s.gate.waiting ++ w ∷ []) ≡ waiting q s.gate.waiting = waiting_append q s.gate.waiting (w ∷ []) ∙ ap (λ xs. waiting q s.gate.waiting ++ xs) (waits_other q client number (works.Calls call) [] apart) ∙ append-nil (waiting q s.gate.waiting) in
+            subst (λ xs. IsInTurn (kept_of s q) xs) (sym e) (h.turns q));
       }
 
 start_fits : (sent : List Message) (s : MasterState) (client number : ℕ) (principal : List ℕ) → FitsMessages sent s → FitsMessages sent (queued s [] (record { client = client; number = number; work = works.Starts principal }))
@@ -252,7 +252,7 @@ module _ (sent : List Message) (s : MasterState) (front : List (Waiting Task)) (
         queue = at_turn.1;
         kept = is_recorded sent s task.client task.number (Some (reply_of s task.client task.number answer)) h (record { call = record { client = task.client; epoch = s.epoch; number = task.number; call = call }; found = turn_sent call work; same = refl });
         turns = each_kept (λ q o. IsInTurn o (waiting q (front ++ back))) s task.client kept (waiting_append task.client front back ∙ ap (λ xs. xs ++ waiting task.client back) t.front ∙ t.back)
-        (λ q apart. others q (waits_other q task.client task.number task.work (waiting q back) apart));
+            (λ q apart. others q (waits_other q task.client task.number task.work (waiting q back) apart));
       })
 
 pub sweep_fits : (sent : List Message) (s : MasterState) (c : SweepCase s) → FitsMessages sent s → FitsMessages sent (swept_by s c).0

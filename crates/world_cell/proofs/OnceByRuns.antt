@@ -95,7 +95,7 @@ counted_later old new client (Some last) l h =
 kept_later : (xs ys : List Message) (epoch client : ℕ) (o : Option Kept) (last : Option ℕ) → ((number : ℕ) (call : CallMessage) → call_of ys client number ≡ Some call → IsAbove last number) → PastKept xs epoch client o last → PastKept (xs ++ ys) epoch client o last
 kept_later xs ys epoch client (Some kept) last fresh h = h
 kept_later xs ys epoch client None last fresh h = λ number call is of.
-    elim (call_more xs ys client number call is) [ | inl a ↦ h number call a of | inr b ↦ fresh number call b ]
+    elim (call_more xs ys client number call is) [ inl a ↦ h number call a of | inr b ↦ fresh number call b ]
 
 in_later : (xs ys : List Message) (client : ℕ) (m : Option MasterState) (last : Option ℕ) → ((number : ℕ) (call : CallMessage) → call_of ys client number ≡ Some call → IsAbove last number) → PastIn xs client m last → PastIn (xs ++ ys) client m last
 in_later xs ys client None last fresh h = tt
@@ -278,7 +278,7 @@ module _ (client : ℕ) (last : Option ℕ) (old : WorldState) (step : Step) (ne
   step_on : WorldCase old step new printed → StepsOn client last printed new
   step_on (ComesUp u) =
       let past : PastIn new.messages client new.master last = subst (λ (x : WorldState). PastIn x.messages client x.master last) (sym u.is)
-        (λ number call is of. let before = (h.sent client number call is).past in absurd (omega arith)) in
+      (λ number call is of. let before = (h.sent client number call is).past in absurd (omega arith)) in
       record { rises = rw u.tells tt; past = rw u.tells (record { counted = counted_on (ComesUp u); master = past }) }
   step_on (Joins j) =
       silent_on client new printed last (rw j.tells tt) (record { counted = counted_on (Joins j); master = same_master [] (rw j.is (sym (append-nil old.messages))) (rw j.is refl) (λ number call is. cc) })
@@ -286,8 +286,8 @@ module _ (client : ℕ) (last : Option ℕ) (old : WorldState) (step : Step) (ne
       silent_on client new printed last (rw c.tells tt) (record {
         counted = counted_on (Calls c);
         master = same_master (ToMaster (requests.Call c.call) ∷ []) (rw c.is refl) (rw c.is refl) (λ number call is.
-          let t = one_call c.call call client number is in
-          rw (← t.2) (sent_above old h c.number client c.seat c.client c.call last c.found c.made p.counted t.1));
+            let t = one_call c.call call client number is in
+            rw (← t.2) (sent_above old h c.number client c.seat c.client c.call last c.found c.made p.counted t.1));
       })
   step_on (Starts c) =
       silent_on client new printed last (rw c.tells tt) (record { counted = counted_on (Starts c); master = same_master (ToMaster (requests.Start c.start) ∷ []) (rw c.is refl) (rw c.is refl) (λ number call is. cc) })
