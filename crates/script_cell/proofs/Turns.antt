@@ -90,8 +90,8 @@ all_first marks place h past =
     let same : place ≡ length marks = omega arith in
     subst (λ n. IsFirst n marks) same (record { before = h; here = λ e. let k = slice_get_within marks place true e in absurd (omega arith) })
 
-pub still_delivered : (old mid new : List Bool) (count place : ℕ) → AreDelivered count old → mid ≡ old → new ≡ marked mid place → AreDelivered count new
-still_delivered old mid new count place h same is = subst (λ m. AreDelivered count m) (sym (is ∙ ap (λ m. marked m place) same)) (delivered_marked old count place h)
+pub still_delivered : (old new : List Bool) (count place : ℕ) → AreDelivered count old → new ≡ marked old place → AreDelivered count new
+still_delivered old new count place h is = subst (λ m. AreDelivered count m) (sym is) (delivered_marked old count place h)
 
 -- ---- a step
 

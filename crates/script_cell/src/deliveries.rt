@@ -1,5 +1,7 @@
 //! Which messages came to their receivers.
 ghost use Rattle.std.specs.Prelude.{◌≡◌, ◌<◌, ◌≤◌, ◌∷◌, [], Some, length, IfOk, IfErr, OnOk};
+ghost use Rattle.std.specs.List.{slice_get};
+ghost use Rattle.std.specs.Option.{option_copied};
 ghost use Rattle.std.specs.Vec.{vec_capacity};
 ghost use Rattle.script_cell.specs.Settling.{played, first_waiting, step_of, place_of, marked, AreDelivered, IsFirst, PlaysMade, PlaysRefused};
 
@@ -44,8 +46,10 @@ impl Deliveries {
     pub(crate) fn next(&self, messages: &[Message]) -> Option<Step>
         ensures { result ≡ first_waiting messages.now self.now 1 }
     {
-        let message = messages.get(self.first)?;
-        Some(step_of(message, self.first as u64 + 1))
+        match message_at(messages, self.first) {
+            None => None,
+            Some(message) => Some(step_of(message, self.first as u64 + 1)),
+        }
     }
 
     // Does a step, and notes the message that it delivers.
@@ -84,6 +88,12 @@ impl Deliveries {
         self.first = first_unmarked(self.marks.as_slice(), self.first);
         Ok(lines)
     }
+}
+
+fn message_at(messages: &[Message], place: usize) -> Option<&Message>
+    ensures { option_copied result ≡ slice_get messages.now place }
+{
+    messages.get(place)
 }
 
 // The first place from this one on that isn't marked.

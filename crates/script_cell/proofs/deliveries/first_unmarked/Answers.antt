@@ -1,6 +1,7 @@
 use Rattle.std.proofs.Common.{◌≡◌, true, Some, arith}
 use Rattle.std.specs.List.{slice_get}
-use Rattle.std.proofs.lemmas.Grind.{common_steps, gets}
+use Rattle.std.proofs.lemmas.Grind.{common_steps}
+use Rattle.std.proofs.lemmas.Option.{gets}
 use Rattle.script_cell.proofs.Turns.{delivered_more, all_first}
 use Rattle.script_cell.proofs.deliveries.first_unmarked.Goals as goal
 
