@@ -1,6 +1,6 @@
 mod Contents
 mod Decimals
-mod Deliveries
+pub mod Turns
 mod Doings
 mod FirstLines
 mod Lifts

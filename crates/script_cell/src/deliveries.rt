@@ -1,5 +1,7 @@
 //! Which messages came to their receivers.
-ghost use Rattle.std.specs.Prelude.{◌≡◌, ◌<◌, ◌∷◌, [], IfOk, IfErr, OnOk};
+ghost use Rattle.std.specs.Prelude.{◌≡◌, ◌<◌, ◌≤◌, ◌∷◌, [], Some, length, IfOk, IfErr, OnOk};
+ghost use Rattle.std.specs.List.{slice_get};
+ghost use Rattle.std.specs.Option.{option_copied};
 ghost use Rattle.std.specs.Vec.{vec_capacity};
 ghost use Rattle.script_cell.specs.Settling.{played, first_waiting, step_of, place_of, marked, AreDelivered, IsFirst, PlaysMade, PlaysRefused};
 
@@ -44,8 +46,10 @@ impl Deliveries {
     pub(crate) fn next(&self, messages: &[Message]) -> Option<Step>
         ensures { result ≡ first_waiting messages.now self.now 1 }
     {
-        let message = messages.get(self.first)?;
-        Some(step_of(message, self.first as u64 + 1))
+        match message_at(messages, self.first) {
+            None => None,
+            Some(message) => Some(step_of(message, self.first as u64 + 1)),
+        }
     }
 
     // Does a step, and notes the message that it delivers.
@@ -60,17 +64,36 @@ impl Deliveries {
         let Some(place) = place_of(step) else {
             return world.step(step);
         };
-        let is_sent = place < world.messages().len();
-        if is_sent {
-            reserve(&mut self.marks, place)?;
+        if place >= world.messages().len() {
+            return world.step(step);
         }
+        self.deliver(world, step, place)
+    }
+
+    // Does a step that delivers the message at a place.
+    fn deliver<R: Records + Drop>(
+        &mut self,
+        world: &mut World<R>,
+        step: &Step,
+        place: usize,
+    ) -> Result<Items<Line>, Fault>
+        requires place { place_of step.now ≡ Some place }
+        requires sent { place < length world.old.world.messages }
+        ensures made { IfOk result (λ lines. PlaysMade (played world.old self.old) step.now (played world.new self.new) lines) }
+        ensures refused { IfErr result (λ e. PlaysRefused (played world.old self.old) step.now (played world.new self.new) (Line.Refused e ∷ [])) }
+    {
+        reserve(&mut self.marks, world.messages().len())?;
         let lines = world.step(step)?;
-        if is_sent {
-            mark(&mut self.marks, place);
-            self.first = first_unmarked(self.marks.as_slice(), self.first);
-        }
+        mark(&mut self.marks, place);
+        self.first = first_unmarked(self.marks.as_slice(), self.first);
         Ok(lines)
     }
+}
+
+fn message_at(messages: &[Message], place: usize) -> Option<&Message>
+    ensures { option_copied result ≡ slice_get messages.now place }
+{
+    messages.get(place)
 }
 
 // The first place from this one on that isn't marked.
@@ -105,26 +128,30 @@ fn step_of(message: &Message, number: u64) -> Step
     }
 }
 
-// Room for a mark at a place.
-fn reserve(marks: &mut Vec<bool>, place: usize) -> Result<(), AllocError>
-    ensures room { OnOk result (place < vec_capacity marks.new) }
+// Room for so many marks.
+fn reserve(marks: &mut Vec<bool>, count: usize) -> Result<(), AllocError>
+    ensures room { OnOk result (count ≤ vec_capacity marks.new) }
     ensures same { marks.new.items ≡ marks.old.items }
 {
     let len = marks.len();
-    if len <= place {
-        marks.reserve(place - len + 1)?;
+    if len < count {
+        marks.reserve(count - len)?;
     }
     Ok(())
 }
 
 // Marks a place, where there is room.
+#[tactic(auto, using(crate::proofs::Turns::marked_set, crate::proofs::Turns::marked_past, crate::proofs::Turns::marked_end))]
 fn mark(marks: &mut Vec<bool>, place: usize)
     requires { place < vec_capacity marks.old }
     ensures { marks.new.items ≡ marked marks.old.items place }
 {
-    for index in marks.len()..place + 1 {
-        let _ = index;
+    if place < marks.len() {
+        marks[place] = true;
+        return;
+    }
+    for _ in marks.len()..place {
         marks.push_reserved(false);
     }
-    marks[place] = true;
+    marks.push_reserved(true);
 }

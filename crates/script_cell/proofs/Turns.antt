@@ -25,11 +25,14 @@ delivered_within marks zero h = omega arith
 delivered_within [] (suc count) h = absurd h
 delivered_within (mark ∷ marks) (suc count) h = let t = delivered_within marks count h.1 in omega arith
 
-pub delivered_next : (marks : List Bool) (count : ℕ) → AreDelivered count marks → slice_get marks count ≡ Some true → AreDelivered (count + 1) marks
+delivered_next : (marks : List Bool) (count : ℕ) → AreDelivered count marks → slice_get marks count ≡ Some true → AreDelivered (suc count) marks
 delivered_next [] zero h k = cc
 delivered_next (mark ∷ marks) zero h k = let e : mark ≡ true = cc in (e, tt)
 delivered_next [] (suc count) h k = absurd h
 delivered_next (mark ∷ marks) (suc count) h k = (h.0, delivered_next marks count h.1 k)
+
+pub delivered_more : (marks : List Bool) (count : ℕ) → AreDelivered count marks → slice_get marks count ≡ Some true → AreDelivered (count + 1) marks
+delivered_more marks count h k = let one : count + 1 ≡ suc count = omega arith in subst (λ n. AreDelivered n marks) (sym one) (delivered_next marks count h k)
 
 -- what is delivered stays so
 pub delivered_marked : (marks : List Bool) (count place : ℕ) → AreDelivered count marks → AreDelivered count (marked marks place)
@@ -49,6 +52,12 @@ marked_set [] place h = absurd (omega arith)
 marked_set (mark ∷ marks) zero h = refl
 marked_set (mark ∷ marks) (suc place) h = ap (λ l. mark ∷ l) (marked_set marks place (omega arith))
 
+pub marked_end : (marks : List Bool) (place : ℕ) → length marks ≡ place → marked marks place ≡ marks ++ true ∷ []
+marked_end [] zero h = refl
+marked_end [] (suc place) h = absurd (omega arith)
+marked_end (mark ∷ marks) zero h = absurd (omega arith)
+marked_end (mark ∷ marks) (suc place) h = ap (λ l. mark ∷ l) (marked_end marks place (omega arith))
+
 -- ---- the first message that waits
 
 -- the message at a place, with the number of the list's first message
@@ -58,9 +67,9 @@ waiting_at (Some message) number = Some (step_of message number)
 
 from_place : (sent : List Message) (marks : List Bool) (place number : ℕ) → AreDelivered place marks → slice_get marks place ≢ Some true → first_waiting sent marks number ≡ waiting_at (slice_get sent place) (place + number)
 from_place [] marks place number h k = refl
-from_place (message ∷ rest) [] zero number h k = refl
+from_place (message ∷ rest) [] zero number h k = let none : 0 + number ≡ number = omega arith in ap (λ n. Some (step_of message n)) (sym none)
 from_place (message ∷ rest) (true ∷ marks) zero number h k = absurd (k refl)
-from_place (message ∷ rest) (false ∷ marks) zero number h k = refl
+from_place (message ∷ rest) (false ∷ marks) zero number h k = let none : 0 + number ≡ number = omega arith in ap (λ n. Some (step_of message n)) (sym none)
 from_place (message ∷ rest) [] (suc place) number h k = absurd h
 from_place (message ∷ rest) (true ∷ marks) (suc place) number h k =
     let one : place + (number + 1) ≡ suc place + number = omega arith in
@@ -75,8 +84,14 @@ pub none_first : IsFirst 0 []
 none_first = record { before = tt; here = λ e. cc }
 
 -- behind the last mark
-pub first_past : (marks : List Bool) (place : ℕ) → AreDelivered place marks → length marks ≤ place → IsFirst place marks
-first_past marks place h past = record { before = h; here = λ e. let k = slice_get_within marks place true e in absurd (omega arith) }
+pub all_first : (marks : List Bool) (place : ℕ) → AreDelivered place marks → length marks ≤ place → IsFirst (length marks) marks
+all_first marks place h past =
+    let within = delivered_within marks place h in
+    let same : place ≡ length marks = omega arith in
+    subst (λ n. IsFirst n marks) same (record { before = h; here = λ e. let k = slice_get_within marks place true e in absurd (omega arith) })
+
+pub still_delivered : (old new : List Bool) (count place : ℕ) → AreDelivered count old → new ≡ marked old place → AreDelivered count new
+still_delivered old new count place h is = subst (λ m. AreDelivered count m) (sym is) (delivered_marked old count place h)
 
 -- ---- a step
 
@@ -91,9 +106,9 @@ plays_sent old new step place before after printed is made stored marks =
     record { made = record { is_step = made; stored = stored }; delivered = marks ∙ ap (marked_at before) (sym is) }
 
 -- a step that delivers what wasn't sent isn't made
-pub plays_unsent : (old new : WorldView) (step : Step) (place : ℕ) (before after : List Bool) (printed : List Line) → place_of step ≡ Some place → length old.world.messages ≤ place → world_step old.world step ≡ Ok (new.world, printed) → PlaysMade (played old before) step (played new after) printed
-plays_unsent old new step place before after printed is none made =
-    let sent = was_sent old.world new.world step place printed is made in absurd (omega arith)
+pub plays_unsent : (old new : WorldView) (step : Step) (place : ℕ) (marks : List Bool) (r : Result (List Line) Fault) → place_of step ≡ Some place → length old.world.messages ≤ place → IfOk r (λ printed. world_step old.world step ≡ Ok (new.world, printed)) → IfOk r (λ printed. PlaysMade (played old marks) step (played new marks) printed)
+plays_unsent old new step place marks (Ok printed) is none made = let sent = was_sent old.world new.world step place printed is made in absurd (omega arith)
+plays_unsent old new step place marks (Err fault) is none made = tt
 
 pub plays_other : (old new : WorldView) (step : Step) (marks : List Bool) (r : Result (List Line) Fault) → place_of step ≡ None → IfOk r (λ printed. world_step old.world step ≡ Ok (new.world, printed)) → OnOk r (IsStored (step_edits old.world step) old new) → IfOk r (λ printed. PlaysMade (played old marks) step (played new marks) printed)
 plays_other old new step marks (Ok printed) none made stored = record { made = record { is_step = made; stored = stored }; delivered = ap (marked_at marks) (sym none) }
