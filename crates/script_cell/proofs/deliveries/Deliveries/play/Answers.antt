@@ -8,4 +8,4 @@ returns-in_default-clause-made g c =
 
 pub returns-then-place-messages-clause-made : goal.returns-then-place-messages-clause-made
 returns-then-place-messages-clause-made g c =
-    plays_unsent c.args.world.now _ c.args.step.now c.in-Some.place c.args.self.now c.step.result (search rules) (search rules) c.step.ensures.ok
+    plays_unsent c.args.world.now _ c.args.step.now c.in-Some.place c.args.self.now c.step-then-place-messages.result (search rules) (search rules) c.step-then-place-messages.ensures.ok
