@@ -6,3 +6,6 @@ pub mod SoundParts
 pub mod SoundChanges
 pub mod SoundRemovals
 pub mod StoreLemmas
+pub mod InstanceTables
+pub mod WholeTest
+pub mod LiveCounts

@@ -5,4 +5,6 @@ pub mod Keys
 pub mod Rows
 pub mod Sound
 pub mod Stores
+pub mod Indexes
+pub mod Counts
 pub mod Opening

@@ -1,14 +1,18 @@
 //! What outlives a master: the rows of a cell, and who keeps them.
 #![tactic(auto)]
 
+mod counts;
 mod keys;
 mod lists;
 mod records;
 mod settings;
+mod soundness;
 mod tables;
 
+pub use counts::Counts;
 pub use keys::LockKey;
 pub use lists::ListRecords;
 pub use records::{Records, StoreFault};
 pub use settings::{Settings, SettingsFault};
+pub use soundness::is_sound;
 pub use tables::{Edit, LockRow, LockState, Node, Rows, Session};

@@ -1,0 +1,7 @@
+pub mod Meaning
+pub mod Held
+pub mod Ascii
+pub mod ReadLemmas
+pub mod ReadLoops
+pub mod SaidTables
+pub mod InspectLemmas

@@ -1,0 +1,59 @@
+-- The entries that rows say.
+use Rattle.std.specs.Prelude.{◌≡◌, ℕ, List, [], ◌∷◌, map, Option, Some, IsPermutation, MatchOption}
+use Rattle.std.specs.declared.cmp.Ordering.{Ordering}
+use Rattle.std.specs.List.Sorted.{IsStrictlySortedBy}
+use Rattle.std.specs.Map.{keys_of}
+use Rattle.std.specs.Ordering.{nat_cmp}
+use Rattle.std.specs.Cmp.Lexicographic.{slice_cmp}
+use Rattle.sqlite_value.specs.Order.{Row}
+use Rattle.rows_cell.specs.Keys.{lock_order}
+use Rattle.rows_cell.specs.declared.tables.Node.{Node}
+use Rattle.rows_cell.specs.declared.tables.Session.{Session}
+use Rattle.rows_cell.specs.declared.tables.LockRow.{LockRow}
+use Rattle.rows_cell.specs.declared.tables.Rows.{Rows}
+use Rattle.rows_cell.specs.declared.keys.LockKey.{LockKey}
+use Rattle.rows_read.specs.declared.stored.Meta.{Meta}
+use Rattle.rows_read.specs.Decode.{node_in, session_in, lock_in, meta_in}
+
+-- each row says an entry, no two of the same key, and these are they in the order of their keys
+pub record Holds {K V : Type 0} (cmp : K → K → Ordering) (read : Row → Option (K × V)) (rows : List Row) (entries : List (K × V)) : Type 0 where
+  pub sorted : IsStrictlySortedBy cmp (keys_of entries)
+  pub said : IsPermutation (map (λ e. Some e) entries) (map read rows)
+
+-- those entries; or the rows hold none
+abbrev pub IsRead : {K V : Type 0} → (K → K → Ordering) → (Row → Option (K × V)) → List Row → Option (List (K × V)) → Type 0
+IsRead {K} {V} cmp read rows o = MatchOption o ((es : List (K × V)) → ¬ Holds cmp read rows es) (λ es. Holds cmp read rows es)
+
+abbrev pub HoldsNodes : List Row → List (List ℕ × Node) → Type 0
+HoldsNodes = Holds (slice_cmp nat_cmp) node_in
+
+abbrev pub HoldsSessions : List Row → List (ℕ × Session) → Type 0
+HoldsSessions = Holds nat_cmp session_in
+
+abbrev pub HoldsLocks : List Row → List (LockKey × LockRow) → Type 0
+HoldsLocks = Holds lock_order lock_in
+
+abbrev pub meta_of : Rows → Meta
+meta_of rows = record { cell = rows.cell; secret = rows.secret; epoch = rows.epoch; next_instance = rows.next_instance }
+
+-- what the four tables show
+pub record Tables : Type 0 where
+  pub metas : List Row
+  pub nodes : List Row
+  pub sessions : List Row
+  pub locks : List Row
+
+-- the rows of a cell that the four tables say
+pub record Says (tables : Tables) (rows : Rows) : Type 0 where
+  pub meta : map meta_in tables.metas ≡ Some (meta_of rows) ∷ []
+  pub nodes : HoldsNodes tables.nodes rows.nodes
+  pub sessions : HoldsSessions tables.sessions rows.sessions
+  pub locks : HoldsLocks tables.locks rows.locks
+
+-- those rows; or the tables say none
+abbrev pub IsWhole : Tables → Option Rows → Type 0
+IsWhole tables o = MatchOption o ((rows : Rows) → ¬ Says tables rows) (λ rows. Says tables rows)
+
+-- the row of the cell, where there is just one; or there is none
+abbrev pub IsOnly : List Row → Option Meta → Type 0
+IsOnly metas o = MatchOption o ((m : Meta) → ¬ (map meta_in metas ≡ Some m ∷ [])) (λ m. map meta_in metas ≡ Some m ∷ [])

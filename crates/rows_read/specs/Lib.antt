@@ -1,0 +1,10 @@
+pub use Rattle.rows_cell.specs.Rows
+pub use Rattle.rows_cell.specs.Sound
+pub use Rattle.rows_cell.specs.Stores
+pub use Rattle.rows_schema.specs.OurSchema
+pub mod Texts
+pub mod Commands
+pub mod Decode
+pub mod Held
+pub mod Ready
+pub mod Inspected

@@ -1,0 +1,37 @@
+//! Looking at a store.
+ghost use Rattle.std.specs.Prelude.{◌≡◌, Err, IfOk};
+ghost use Rattle.sqlite.specs.State.{HasCleanDisk};
+ghost use Rattle.sqlite.specs.Held.{state};
+ghost use Rattle.rows_cell.specs.Counts.{counts_of};
+ghost use Rattle.rows_cell.specs.declared.tables.Rows.{Rows as Held};
+ghost use Rattle.rows_read.specs.Ready.{IsSettled, Quiet};
+ghost use Rattle.rows_read.specs.Inspected.{HasSound, IsDamaged};
+
+use crate::load::load_said;
+use names_cell::Component;
+use rows_cell::{Counts, StoreFault, is_sound};
+use rows_schema::is_ours;
+use sqlite::{Alter, Connection};
+use std::alloc::Global;
+
+/// Tests a store by the name of its cell, and counts what it holds. It writes nothing: the clause `quiet`, whatever the
+/// answer. `Damaged` is a store of another schema, or of rows that break a rule; `Refused` is the store's own refusal.
+pub fn inspect<S: Alter>(
+    alloc: Global,
+    conn: &mut Connection<S>,
+    cell: &Component,
+) -> Result<Counts, StoreFault>
+    ensures sound { HasCleanDisk (state S.Store conn.new) → IsSettled (state S.Store conn.old) → IfOk result (λ counts. (rows : Held) × HasSound cell.now (state S.Store conn.old) rows × (counts ≡ counts_of rows)) }
+    ensures damaged { HasCleanDisk (state S.Store conn.new) → IsSettled (state S.Store conn.old) → result ≡ Err StoreFault.Damaged → IsDamaged cell.now (state S.Store conn.old) }
+    ensures quiet { Quiet S.Store conn.old conn.new }
+    ensures counted { result ≡ Err StoreFault.Exhausted → ⊥ }
+{
+    if !is_ours(alloc, conn.schema())? {
+        return Err(StoreFault::Damaged);
+    }
+    let rows = load_said(alloc, conn)?;
+    if !is_sound(alloc, cell, &rows)? {
+        return Err(StoreFault::Damaged);
+    }
+    Ok(rows.counts())
+}

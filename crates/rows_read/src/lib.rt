@@ -1,0 +1,12 @@
+//! The rows of a cell, read from the tables of a database.
+#![tactic(auto)]
+
+mod entries;
+mod inspection;
+mod load;
+mod reads;
+mod stored;
+
+pub use inspection::inspect;
+pub use load::load_said;
+pub use stored::{Acls, Meta, Numbers};

@@ -1,0 +1,91 @@
+//! Reading the tables.
+ghost use Rattle.std.specs.Prelude.{[], map, IfOk, OnOk, IsPermutation};
+ghost use Rattle.sqlite.specs.Listing.{understood};
+ghost use Rattle.sqlite.specs.Given.{IsPlain};
+ghost use Rattle.sqlite.specs.State.{HasCleanDisk, Shown};
+ghost use Rattle.sqlite.specs.Held.{state};
+ghost use Rattle.rows_schema.specs.OurSchema.{the_schema};
+ghost use Rattle.rows_read.specs.Ready.{IsReady, IsStill, Quiet, AreOf, tables_of, meta_shown, node_shown, session_shown, lock_shown};
+
+use sqlite::{Alter, Connection, Error, Row};
+
+/// The rows of the four tables, as they were read.
+#[derive(Drop)]
+pub(crate) struct Raw {
+    pub metas: Vec<Row>,
+    pub nodes: Vec<Row>,
+    pub sessions: Vec<Row>,
+    pub locks: Vec<Row>,
+}
+
+// Runs one of the four reads.
+fn read_all<S: Alter>(conn: &mut Connection<S>, sql: &str) -> Result<Vec<Row>, Error>
+    requires plain { IsPlain (understood the_schema sql.now) }
+    ensures shown { HasCleanDisk (state S.Store conn.new) → IfOk result (λ rows. Shown sql.now [] (state S.Store conn.old) (state S.Store conn.new) rows.items) }
+    ensures quiet { Quiet S.Store conn.old conn.new }
+    ensures ready { HasCleanDisk (state S.Store conn.new) → IsReady (state S.Store conn.old) → OnOk result (IsStill (state S.Store conn.old) (state S.Store conn.new)) }
+{
+    conn.query_all(sql, &[])
+}
+
+fn read_metas<S: Alter>(conn: &mut Connection<S>) -> Result<Vec<Row>, Error>
+    ensures shown { HasCleanDisk (state S.Store conn.new) → IsReady (state S.Store conn.old) → IfOk result (λ rows. IsPermutation (map meta_shown ((state S.Store conn.old).now.trees 0)) rows.items) }
+    ensures quiet { Quiet S.Store conn.old conn.new }
+    ensures ready { HasCleanDisk (state S.Store conn.new) → IsReady (state S.Store conn.old) → OnOk result (IsStill (state S.Store conn.old) (state S.Store conn.new)) }
+{
+    read_all(
+        conn,
+        "SELECT id, version, cell, secret, epoch, next_instance FROM meta ORDER BY id",
+    )
+}
+
+fn read_nodes<S: Alter>(conn: &mut Connection<S>) -> Result<Vec<Row>, Error>
+    ensures shown { HasCleanDisk (state S.Store conn.new) → IsReady (state S.Store conn.old) → IfOk result (λ rows. IsPermutation (map node_shown ((state S.Store conn.old).now.trees 1)) rows.items) }
+    ensures quiet { Quiet S.Store conn.old conn.new }
+    ensures ready { HasCleanDisk (state S.Store conn.new) → IsReady (state S.Store conn.old) → OnOk result (IsStill (state S.Store conn.old) (state S.Store conn.new)) }
+{
+    read_all(
+        conn,
+        "SELECT name, instance, kind, life, content_gen, acl_gen, lock_gen, acl_read, acl_write, acl_change, content FROM nodes ORDER BY name",
+    )
+}
+
+fn read_sessions<S: Alter>(conn: &mut Connection<S>) -> Result<Vec<Row>, Error>
+    ensures shown { HasCleanDisk (state S.Store conn.new) → IsReady (state S.Store conn.old) → IfOk result (λ rows. IsPermutation (map session_shown ((state S.Store conn.old).now.trees 4)) rows.items) }
+    ensures quiet { Quiet S.Store conn.old conn.new }
+    ensures ready { HasCleanDisk (state S.Store conn.new) → IsReady (state S.Store conn.old) → OnOk result (IsStill (state S.Store conn.old) (state S.Store conn.new)) }
+{
+    read_all(
+        conn,
+        "SELECT client, principal, live FROM sessions ORDER BY client",
+    )
+}
+
+fn read_locks<S: Alter>(conn: &mut Connection<S>) -> Result<Vec<Row>, Error>
+    ensures shown { HasCleanDisk (state S.Store conn.new) → IsReady (state S.Store conn.old) → IfOk result (λ rows. IsPermutation (map lock_shown ((state S.Store conn.old).now.trees 5)) rows.items) }
+    ensures quiet { Quiet S.Store conn.old conn.new }
+    ensures ready { HasCleanDisk (state S.Store conn.new) → IsReady (state S.Store conn.old) → OnOk result (IsStill (state S.Store conn.old) (state S.Store conn.new)) }
+{
+    read_all(
+        conn,
+        "SELECT instance, client, handle, mode, delay FROM locks ORDER BY instance, client, handle",
+    )
+}
+
+/// Reads the four tables.
+pub(crate) fn read_tables<S: Alter>(conn: &mut Connection<S>) -> Result<Raw, Error>
+    ensures shown { HasCleanDisk (state S.Store conn.new) → IsReady (state S.Store conn.old) → IfOk result (λ raw. AreOf (tables_of (state S.Store conn.old).now.trees) (record { metas = raw.metas.items; nodes = raw.nodes.items; sessions = raw.sessions.items; locks = raw.locks.items })) }
+    ensures quiet { Quiet S.Store conn.old conn.new }
+    ensures ready { HasCleanDisk (state S.Store conn.new) → IsReady (state S.Store conn.old) → OnOk result (IsStill (state S.Store conn.old) (state S.Store conn.new)) }
+{
+    let metas = read_metas(conn)?;
+    let nodes = read_nodes(conn)?;
+    let sessions = read_sessions(conn)?;
+    let locks = read_locks(conn)?;
+    Ok(Raw {
+        metas,
+        nodes,
+        sessions,
+        locks,
+    })
+}
