@@ -1,11 +1,12 @@
 -- What holds of every world: how its clients, its messages and its master fit one another.
-use Rattle.std.specs.Prelude.{◌≡◌, ℕ, true, ◌≤◌, ◌==◌, List, [], ◌∷◌, Option, Some, None, if◌then◌else◌, is_none}
+use Rattle.std.specs.Prelude.{◌≡◌, ◌⊎◌, ℕ, ◌+◌, ◌*◌, Bool, true, false, ◌≤◌, ◌==◌, List, [], ◌∷◌, Option, Some, None, if◌then◌else◌}
 use Rattle.tags_cell.specs.declared.calls.Call.{Call}
 use Rattle.tags_cell.specs.declared.requests.Request.TheVariants as requests
 use Rattle.tags_cell.specs.declared.requests.CallMessage.{CallMessage}
 use Rattle.tags_cell.specs.declared.outs.Out.TheVariants as outs
 use Rattle.tags_cell.specs.declared.outs.Started.{Started}
 use Rattle.session_core.specs.declared.records.Kept.{Kept}
+use Rattle.session_core.specs.declared.records.Session.{Session}
 use Rattle.tags_cell.specs.declared.outs.Reply.{Reply}
 use Rattle.lease_core.specs.Lease.{longest_lease}
 use Rattle.coherence.specs.Slice.{Reached}
@@ -15,7 +16,7 @@ use Rattle.cell_core.specs.declared.pending.Task.{Task}
 use Rattle.cell_core.specs.declared.pending.Work.{Work}
 use Rattle.cell_core.specs.declared.pending.Work.TheVariants as works
 use Rattle.cell_core.specs.State.{MasterState}
-use Rattle.cell_core.specs.Step.{kept_of}
+use Rattle.cell_core.specs.Step.{session_of, kept_of}
 use Rattle.over_core.specs.Kept.{IsKept}
 use Rattle.world_cell.specs.declared.mail.Message.{Message}
 use Rattle.world_cell.specs.declared.seats.Seat.{Seat}
@@ -54,10 +55,20 @@ abbrev pub waiting : ℕ → List (Waiting Task) → List ℕ
 waiting client [] = []
 waiting client (w ∷ ws) = put_waiting client w.change.body.client w.change.body.number w.change.body.work (waiting client ws)
 
--- of a client's calls the last one waits until it has its reply, and no other does
-abbrev pub IsInTurn : Option (Kept Reply) → List ℕ → Type 0
+-- the last call of a client waits until it has its reply; once the session has ended, at most until its turn
+abbrev pub IsWaiting : Bool → ℕ → Option Reply → List ℕ → Type 0
+IsWaiting live number (Some reply) numbers = numbers ≡ []
+IsWaiting true number None numbers = numbers ≡ number ∷ []
+IsWaiting false number None numbers = (numbers ≡ number ∷ []) ⊎ (numbers ≡ [])
+
+abbrev pub IsLastInTurn : Bool → Option (Kept Reply) → List ℕ → Type 0
+IsLastInTurn live None numbers = numbers ≡ []
+IsLastInTurn live (Some kept) numbers = IsWaiting live kept.number kept.reply numbers
+
+-- and no other call of the client waits
+abbrev pub IsInTurn : Option (Session Reply) → List ℕ → Type 0
 IsInTurn None numbers = numbers ≡ []
-IsInTurn (Some kept) numbers = numbers ≡ (if is_none kept.reply then kept.number ∷ [] else [])
+IsInTurn (Some session) numbers = IsLastInTurn session.live session.kept numbers
 
 -- a call that waits was sent in the master's epoch
 abbrev pub IsOfMessage : List Message → ℕ → ℕ → ℕ → Work → Type 0
@@ -78,7 +89,7 @@ pub record WasSent (sent : List Message) (epoch client number : ℕ) : Type 0 wh
 pub record FitsMessages (sent : List Message) (s : MasterState) : Type 0 where
   pub queue : AreOfMessages sent s.epoch s.gate.waiting
   pub kept : (client : ℕ) (kept : Kept Reply) → kept_of s client ≡ Some kept → WasSent sent s.epoch client kept.number
-  pub turns : (client : ℕ) → IsInTurn (kept_of s client) (waiting client s.gate.waiting)
+  pub turns : (client : ℕ) → IsInTurn (session_of s client) (waiting client s.gate.waiting)
 
 -- what it knows of the rows is what they hold
 abbrev pub Agrees : WorldState → Option MasterState → Type 0
@@ -96,10 +107,15 @@ abbrev pub IsNoted : ℕ → Option MasterState → Type 0
 IsNoted now None = Unit {0}
 IsNoted now (Some s) = s.clock ≤ now
 
--- each client's clock and the master's are fair, from the beginning of the master's life on
+-- a client's clock and the master's are fair since the point of their least lead, and the lead isn't less now
+pub record IsFairSince (now : ℕ) (seat : Seat) : Type 0 where
+  pub fair : is_fair now seat.clock seat ≡ true
+  pub least : 16 * seat.least_now + 17 * seat.clock ≤ 16 * now + 17 * seat.least_clock
+
+-- the clocks of each client and of the master
 abbrev pub AreFair : WorldState → Option MasterState → Type 0
 AreFair w None = Unit {0}
-AreFair w (Some s) = (number : ℕ) (seat : Seat) → seat_of w number ≡ Some seat → is_fair w.clock seat.clock seat ≡ true
+AreFair w (Some s) = (number : ℕ) (seat : Seat) → seat_of w number ≡ Some seat → IsFairSince w.clock seat
 
 -- ---- all of it
 
