@@ -1,4 +1,4 @@
 mod FitsByEffects
-mod KeptBySweeps
+pub mod KeptBySweeps
 mod KeptByTakes
 pub mod SweepCases
