@@ -173,9 +173,9 @@ impl Cell {
     /// Notes a moment, in milliseconds; an earlier one than the last counts as that. Gives the last one.
     pub fn note_moment(&mut self, now: u64) -> u64
         requires { IsMoment now }
-        ensures noted { self.new ≡ noted self.old now }
+        ensures moment { self.new ≡ noted self.old now }
         ensures before { result ≡ self.old.clock }
-        ensures moment { IsMoment result }
+        ensures range { IsMoment result }
     {
         let before = self.clock;
         self.clock = before.max(now);
