@@ -1,4 +1,6 @@
 mod FitsByEffects
 pub mod KeptBySweeps
 mod KeptByTakes
+mod KeptByUps
+mod SweepBegins
 pub mod SweepCases

@@ -1,13 +1,14 @@
 -- The arm of the table that a sweep takes.
-use Rattle.std.proofs.Common.{◌≡◌, ℕ, ◌≤◌, List, [], ◌∷◌, ◌++◌, Bool, true, false, cond, Option, Some, None, Result, Ok, Err, refl, sym, ap, subst, eqb, arith}
-use Rattle.std.specs.Prelude.{◌==◌, ◌&&◌, nat_le}
-use Rattle.std.specs.Option.{option_map_or}
+use Rattle.std.proofs.Common.{◌≡◌, ℕ, ◌≤◌, List, [], ◌∷◌, ◌++◌, Bool, true, false, cond, Option, Some, None, Result, Ok, Err, refl, sym, ap, ◌∙◌, subst, eqb, arith}
+use Rattle.std.specs.Prelude.{◌==◌, ◌&&◌, ◌||◌, nat_le}
+use Rattle.std.specs.Option.{option_map, option_map_or, option_and_then}
 use Rattle.std.specs.List.Sorted.{IsStrictlySortedBy}
 use Rattle.std.specs.Map.{keys_of}
 use Rattle.std.specs.Ordering.{nat_cmp}
 use Rattle.std.specs.Str.{bytes_eq}
 use Rattle.std.proofs.lemmas.Bool.{and_parts}
 use Rattle.std.proofs.lemmas.Bool.Decides.{nat_tests}
+use Rattle.std.proofs.lemmas.List.{append-nil}
 use Rattle.node_core.specs.declared.refusals.Fault.{Fault}
 use Rattle.node_core.specs.declared.refusals.Fault.TheVariants as faults
 use Rattle.node_core.specs.declared.lines.Line.TheVariants as lines
@@ -20,17 +21,19 @@ use Rattle.tags_cell.specs.declared.outs.Reply.{Reply}
 use Rattle.tags_cell.specs.Numbers.{is_client_number}
 use Rattle.gate_core.specs.declared.pending.Waiting.{Waiting}
 use Rattle.gate_core.specs.Gate.{without}
+use Rattle.session_core.specs.declared.records.Offer.{Offer}
 use Rattle.session_core.specs.declared.records.Parked.{Parked}
 use Rattle.session_core.specs.declared.records.Session.{Session}
-use Rattle.session_core.specs.Session.{is_expired, is_client_expired, is_client_due, is_due, owes, nears_timeout}
-use Rattle.session_core.specs.Sessions.{all_heard, lowest, passes, IsLowest}
+use Rattle.session_core.specs.Session.{is_client_expired, is_client_due, is_due, owes, nears_timeout, offer_to}
+use Rattle.session_core.specs.Sessions.{all_heard, lowest, passes, offer_of}
 use Rattle.session_core.proofs.Lowest.{lowest_is}
 use Rattle.cell_core.specs.declared.deeds.Change.{Change}
+use Rattle.cell_core.specs.declared.deeds.SessionDeed.TheVariants.{Ends, Answers}
 use Rattle.cell_core.specs.declared.handles.Note.{Note}
 use Rattle.cell_core.specs.declared.pending.Task.{Task}
 use Rattle.cell_core.specs.declared.pending.Work.{Work}
 use Rattle.cell_core.specs.declared.pending.Work.TheVariants as works
-use Rattle.cell_core.specs.State.{MasterState, first_number, task_at}
+use Rattle.cell_core.specs.State.{MasterState, locks_of, first_number, task_at}
 use Rattle.cell_core.specs.Step.{session_of, is_live, may_start, turned_away, is_past_end, noted}
 use Rattle.over_core.specs.Effect.{effect}
 use Rattle.cell_core.specs.Deeds.{edits_of}
@@ -38,7 +41,7 @@ use Rattle.over_core.specs.declared.actions.Action.{Action}
 use Rattle.over_core.specs.declared.actions.Action.TheVariants as actions
 use Rattle.over_core.specs.declared.plans.Plan.{Plan}
 use Rattle.over_core.specs.declared.sweeps.Swept.{Swept}
-use Rattle.over_core.specs.Sweep.{no_deed, no_plan, leaving, plan_session, plan_start, plan_effect, plan_call, plan_work, answer_or_quiet, apply_or_later, first_action, swept_by_plan, swept, action_edits, sweep_edits, sweep_step}
+use Rattle.over_core.specs.Sweep.{no_deed, no_plan, session_plan, alive_out, leaving, plan_session, plan_start, plan_effect, plan_call, plan_work, answer_or_quiet, apply_or_later, first_action, swept_by_plan, swept, action_edits, sweep_edits, sweep_step}
 use Rattle.over_core.specs.SweepCase.{IsTurn, IsDueToEnd, IsDue, SweepCase, swept_by, swept_edits}
 use Rattle.over_core.specs.SweepCase.SweepCase.{Quiet, Recovers, Expires, AnswersBeat, TurnedAway, StartedAgain, Started, OfEnded, Ended, Applied}
 
@@ -69,7 +72,7 @@ some_passes test None h = absurd (cc)
 some_passes test (Some session) h = (session, refl, h)
 
 -- a client that may start, and has no live session, has none
-no_session : (principal : List ℕ) (o : Option (Session Reply)) → option_map_or (λ (session : Session Reply). session.live && bytes_eq session.principal principal) o true ≡ true → option_map_or (λ (session : Session Reply). session.live) o false ≡ false → o ≡ None
+pub no_session : (principal : List ℕ) (o : Option (Session Reply)) → option_map_or (λ (session : Session Reply). session.live && bytes_eq session.principal principal) o true ≡ true → option_map_or (λ (session : Session Reply). session.live) o false ≡ false → o ≡ None
 no_session principal None may live = refl
 no_session principal (Some session) may live =
     let t = and_parts session.live (bytes_eq session.principal principal) may in
@@ -160,23 +163,38 @@ parked_of lease now client session (Some beat) is h =
 over_at : (a b : ℕ) → nat_le a b ≡ true → a ≤ b
 over_at a b h = grind (arith, nat_tests)
 
+-- what is planned for a session, and what for none
+abbrev pub expiry_of : MasterState → ℕ → Option (Session Reply) → Plan
+expiry_of s client o = option_map_or (λ session. session_plan (Ends client session.principal (locks_of client s.held_locks)) (lines.Ended client ∷ []) []) o no_plan
+
+abbrev pub answer_of : MasterState → ℕ → Option Offer → Plan
+answer_of s client o = option_map_or (λ offer. session_plan (Answers client) [] (alive_out s client offer ∷ [])) o no_plan
+
 module _ (s : MasterState) (order : HasSessionsInOrder s) where
   expire_case : (client : ℕ) → lowest s.sessions (is_client_expired s.clock) ≡ Some client → IsDone s (actions.Expire client)
   expire_case client is =
       let t = some_passes (is_client_expired s.clock client) (session_of s client) (passed s (is_client_expired s.clock) client order is) in
       let u = and_parts t.0.live (nat_le t.0.timeout s.clock) t.2 in
       let due : IsDueToEnd s client t.0 = record { lowest_expired = is; found = t.1; live = u.0; over = over_at t.0.timeout s.clock u.1 } in
-      let found = t.1 in
-      (Expires client t.0 due, rw found refl, rw found refl)
+      (
+        Expires client t.0 due,
+        ap (λ (o : Option (Session Reply)). swept_by_plan s (expiry_of s client o) false) t.1,
+        ap (λ (o : Option (Session Reply)). edits_of (expiry_of s client o).deed) t.1 ∙ append-nil (swept_edits s (Expires client t.0 due)),
+      )
 
   answer_case : (client : ℕ) → lowest s.sessions (is_client_due s.sessions.lease s.clock) ≡ Some client → IsDone s (actions.Answer client)
   answer_case client is =
       let t = some_passes (is_client_due s.sessions.lease s.clock client) (session_of s client) (passed s (is_client_due s.sessions.lease s.clock) client order is) in
       let u = parked_of s.sessions.lease s.clock client t.0 t.0.parked refl t.2 in
       let due : IsDue s client t.0 u.0 = record { lowest_due = is; found = t.1; live = u.2; is_parked = u.1 } in
-      let found = t.1 in
-      let beat = u.1 in
-      (AnswersBeat client t.0 u.0 due, rw (found, beat) refl, rw (found, beat) refl)
+      let offered : offer_of s.sessions client s.clock ≡ Some (offer_to s.sessions.lease s.clock u.0) =
+      ap (λ (o : Option (Session Reply)). option_and_then (λ session. option_map (offer_to s.sessions.lease s.clock) session.parked) o) t.1
+      ∙ ap (λ (o : Option Parked). option_map (offer_to s.sessions.lease s.clock) o) u.1 in
+      (
+        AnswersBeat client t.0 u.0 due,
+        ap (λ (o : Option Offer). swept_by_plan s (answer_of s client o) false) offered,
+        ap (λ (o : Option Offer). edits_of (answer_of s client o).deed) offered,
+      )
 
   -- ---- the first action that there is
 
