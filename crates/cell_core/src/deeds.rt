@@ -182,14 +182,13 @@ impl Cell {
         ensures rest { IfOk result (λ begun. begun.1 ≡ session_rest deed) }
         ensures err { OnErr result (self.new ≡ self.old) }
     {
-        match deed {
-            Some(SessionDeed::Begins(client, principal)) => {
-                let now = self.clock;
-                self.sessions.begin(client, principal, now)?;
-                Ok((Some(client), None))
-            }
-            left => Ok((None, left)),
-        }
+        let Some(SessionDeed::Begins(client, principal)) = &deed else {
+            return Ok((None, deed));
+        };
+        let client = *client;
+        let now = self.clock;
+        self.sessions.begin(client, principal.clone()?, now)?;
+        Ok((Some(client), None))
     }
 
     // A session that began is gone again.
@@ -206,12 +205,12 @@ impl Cell {
         ensures { self.new ≡ with_session_rest self.old deed }
     {
         let now = self.clock;
-        match deed {
+        match &deed {
             Some(SessionDeed::Prolongs(client)) => {
-                self.sessions.prolong(client, now + self.sessions.lease());
+                self.sessions.prolong(*client, now + self.sessions.lease());
             }
-            Some(SessionDeed::Ends(client, ..)) => self.sessions.expire(client),
-            Some(SessionDeed::Answers(client)) => self.sessions.answer(client, now),
+            Some(SessionDeed::Ends(client, ..)) => self.sessions.expire(*client),
+            Some(SessionDeed::Answers(client)) => self.sessions.answer(*client, now),
             _ => {}
         }
     }
