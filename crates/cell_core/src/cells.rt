@@ -132,7 +132,8 @@ impl Cell {
         ensures { IfOk result (λ keys. keys ≡ locks_of client self.now.held_locks) }
     {
         let mut keys = Items::new(self.alloc);
-        for key in self.held_locks.as_slice() {
+        let held = self.held_locks.as_slice();
+        for key in held {
             if key.client == client {
                 keys.push(*key)?;
             }

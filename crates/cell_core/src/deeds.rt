@@ -182,13 +182,20 @@ impl Cell {
         ensures rest { IfOk result (λ begun. begun.1 ≡ session_rest deed) }
         ensures err { OnErr result (self.new ≡ self.old) }
     {
+        let Some(deed) = deed else {
+            return Ok((None, None));
+        };
         match deed {
-            Some(SessionDeed::Begins(client, principal)) => {
+            SessionDeed::Begins(client, principal) => {
                 let now = self.clock;
                 self.sessions.begin(client, principal, now)?;
                 Ok((Some(client), None))
             }
-            left => Ok((None, left)),
+            SessionDeed::Prolongs(client) => Ok((None, Some(SessionDeed::Prolongs(client)))),
+            SessionDeed::Ends(client, principal, locks) => {
+                Ok((None, Some(SessionDeed::Ends(client, principal, locks))))
+            }
+            SessionDeed::Answers(client) => Ok((None, Some(SessionDeed::Answers(client)))),
         }
     }
 
@@ -206,12 +213,12 @@ impl Cell {
         ensures { self.new ≡ with_session_rest self.old deed }
     {
         let now = self.clock;
-        match deed {
+        match &deed {
             Some(SessionDeed::Prolongs(client)) => {
-                self.sessions.prolong(client, now + self.sessions.lease());
+                self.sessions.prolong(*client, now + self.sessions.lease());
             }
-            Some(SessionDeed::Ends(client, ..)) => self.sessions.expire(client),
-            Some(SessionDeed::Answers(client)) => self.sessions.answer(client, now),
+            Some(SessionDeed::Ends(client, ..)) => self.sessions.expire(*client),
+            Some(SessionDeed::Answers(client)) => self.sessions.answer(*client, now),
             _ => {}
         }
     }
