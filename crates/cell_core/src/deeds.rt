@@ -182,13 +182,21 @@ impl Cell {
         ensures rest { IfOk result (λ begun. begun.1 ≡ session_rest deed) }
         ensures err { OnErr result (self.new ≡ self.old) }
     {
-        let Some(SessionDeed::Begins(client, principal)) = &deed else {
-            return Ok((None, deed));
+        let Some(deed) = deed else {
+            return Ok((None, None));
         };
-        let client = *client;
-        let now = self.clock;
-        self.sessions.begin(client, principal.clone()?, now)?;
-        Ok((Some(client), None))
+        match deed {
+            SessionDeed::Begins(client, principal) => {
+                let now = self.clock;
+                self.sessions.begin(client, principal, now)?;
+                Ok((Some(client), None))
+            }
+            SessionDeed::Prolongs(client) => Ok((None, Some(SessionDeed::Prolongs(client)))),
+            SessionDeed::Ends(client, principal, locks) => {
+                Ok((None, Some(SessionDeed::Ends(client, principal, locks))))
+            }
+            SessionDeed::Answers(client) => Ok((None, Some(SessionDeed::Answers(client)))),
+        }
     }
 
     // A session that began is gone again.
