@@ -112,6 +112,7 @@ opening_in _ = None
 
 abbrev pub opening_of : Request → Option Open
 opening_of (requests.Start message) = None
+opening_of (requests.Beat message) = None
 opening_of (requests.Call message) = opening_in message.call
 
 -- what is kept of a new handle: name and mode are those that were asked for
