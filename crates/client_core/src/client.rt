@@ -33,7 +33,8 @@ use tags_cell::{
 /// memory runs out nothing changes either, not even the noted time.
 ///
 /// A lease counts from the moment that was noted when its Start or Beat was sent, and not from when the answer came: the
-/// master can't have made its promise earlier (Gray and Cheriton 1989, section 2; Burrows 2006, section 2.8).
+/// master counts its promise from the receipt, which is no earlier (Gray and Cheriton 1989, section 2; Burrows 2006,
+/// section 2.8).
 ///
 /// What isn't there yet: a cache; jeopardy, and the loss of a session by time; events; locks; and a change of the
 /// master's epoch.
@@ -78,8 +79,8 @@ impl Model for Client {
 }
 
 impl Client {
-    /// A client without a session, its clock at 0, with a lease that is never unexpired. Takes no memory yet. A number is used by one client alone, which is
-    /// the caller's to see to.
+    /// A client without a session, its clock at 0, its lease of span 0. Takes no memory yet. A number is used by one
+    /// client alone, which is the caller's to see to.
     pub fn new(alloc: Global, number: ClientNumber, principal: Principal) -> Client
         ensures { result ≡ new_client number principal }
     {
@@ -126,9 +127,10 @@ impl Client {
         }
     }
 
-    /// Asks for what keeps the session: a Start under the next number until the client has a session, then a Beat, which
-    /// acknowledges nothing yet, and where the session is lost nothing more. A lease that the master answers it with counts
-    /// from the moment that is noted now. Behind the last number, 2^63-1, it is refused as Exhausted, and nothing changes.
+    /// Asks for what keeps the session, under the next number: a Start until the client has a session, then a Beat, which
+    /// acknowledges nothing yet; where the session is lost, or the client was told that it gets none, nothing more. The
+    /// lease that it is answered with counts from the moment that is noted now. Behind the last number, 2^63-1, it is
+    /// refused as Exhausted, and nothing changes.
     #[tactic(auto, unfolding(crate::specs::Beats::beat_step))]
     pub fn beat(&mut self, now: u64) -> Result<Option<Request>, Fault>
         ensures { Does self.old self.new result (beat_step self.old now) }
@@ -146,10 +148,10 @@ impl Client {
 
     /// Gives the client a message of a master, and answers the lines that are printed.
     ///
-    /// A Started gives it the session that its newest Start asked for, with the lease on it. An Alive of its epoch that
-    /// answers its newest Beat gives it a lease, if that ends later than the one that it has. Of such a message a span of
-    /// 2^53 or more is refused as ProtocolFault, also in an Alive that answers an older Beat: no master sends it, and it
-    /// changes nothing but the noted time.
+    /// A Started gives it the session that its newest Start asked for, with the lease on it. An Alive that answers its
+    /// newest Beat gives it a lease, if it is of the client's epoch and the lease ends later than the one that there is. In
+    /// that Started, and in every Alive of the client's epoch, a span of 2^53 or more is refused as ProtocolFault: no master
+    /// sends it, and it changes nothing but the noted time.
     ///
     /// A Reply ends the outstanding call, if it is for that call and of the client's epoch; a handle gets the client's next
     /// number for it, none is given out twice, and the number of a closed handle is open no more. Where the call's handle

@@ -1,6 +1,7 @@
 //! The leases that a client is offered. It counts each from the moment at which it sent the Start or the Beat that is
-//! answered, in milliseconds by its own clock, and not from when the answer came. So its count ends no later than the
-//! master's promise, however long the answer was on its way (Gray and Cheriton 1989, section 2; Burrows 2006, section 2.8).
+//! answered, in milliseconds by its own clock, and not from when the answer came. So where the clocks are fair its count
+//! ends no later than the master's promise, however long the answer was on its way (Gray and Cheriton 1989, section 2;
+//! Burrows 2006, section 2.8).
 ghost use Rattle.std.specs.Prelude.{◌≡◌, Some, None, if◌then◌else◌};
 ghost use Rattle.client_core.specs.State.{no_lease, Does};
 ghost use Rattle.client_core.specs.Gives.{is_span, offered, started_step, alive_step};
