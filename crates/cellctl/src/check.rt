@@ -6,8 +6,7 @@ use crate::exits::unwritten_status;
 use anyhow::{Context, Result, bail};
 use rows_cell::{Counts, Settings, StoreFault};
 use rows_file::{inspect_file, verdict};
-use std::fs;
-use std::io;
+use std::{fs, io};
 
 /// Tests the store at a path by the standard settings' cell, prints what is found, and answers the exit status: 0 where
 /// it is sound, 3 where it is refused, 1 where that can't be written.

@@ -7,10 +7,7 @@ use rows_cell::{Counts, StoreFault};
 use std::alloc::{AllocError, Global};
 
 /// The line that a test of a store prints.
-pub fn verdict(
-    alloc: Global,
-    tested: &Result<Counts, StoreFault>,
-) -> Result<String, AllocError>
+pub fn verdict(alloc: Global, tested: &Result<Counts, StoreFault>) -> Result<String, AllocError>
     ensures { IfOk result (λ text. string_bytes text ≡ verdict_text tested.now) }
 {
     match tested {

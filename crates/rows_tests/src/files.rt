@@ -20,14 +20,34 @@ enum Change {
 }
 
 const FILES: &[(&str, Change, &str)] = &[
-    ("a new store", Change::Nothing, "sound epoch 0 nodes 3 sessions 0 locks 0"),
+    (
+        "a new store",
+        Change::Nothing,
+        "sound epoch 0 nodes 3 sessions 0 locks 0",
+    ),
     ("no byte", Change::Cut(0), "refused 16 StoreDamaged"),
     ("one byte", Change::Cut(1), "refused 16 StoreDamaged"),
     ("one page", Change::Cut(4096), "refused 16 StoreDamaged"),
-    ("a page and a half", Change::Cut(6144), "refused 16 StoreDamaged"),
-    ("a page of another kind", Change::Byte(4096, 0x5a), "refused 16 StoreDamaged"),
-    ("another first byte", Change::Byte(0, b's'), "refused 16 StoreDamaged"),
-    ("a text", Change::Other(b"up 0\njoin 1 ann\n"), "refused 16 StoreDamaged"),
+    (
+        "a page and a half",
+        Change::Cut(6144),
+        "refused 16 StoreDamaged",
+    ),
+    (
+        "a page of another kind",
+        Change::Byte(4096, 0x5a),
+        "refused 16 StoreDamaged",
+    ),
+    (
+        "another first byte",
+        Change::Byte(0, b's'),
+        "refused 16 StoreDamaged",
+    ),
+    (
+        "a text",
+        Change::Other(b"up 0\njoin 1 ann\n"),
+        "refused 16 StoreDamaged",
+    ),
 ];
 
 fn batch(conn: &mut Connection<FileStore<Memory>>, sql: &str) -> Result<(), Fail> {
@@ -39,7 +59,11 @@ fn opened(alloc: Global) -> Result<Connection<FileStore<Memory>>, Fail> {
         log: Memory::new(alloc),
         db: Memory::new(alloc),
     };
-    Ok(Connection::open_files(alloc, files, Options::new(7)).ok().ok_or("opened")?)
+    Ok(
+        Connection::open_files(alloc, files, Options::new(7))
+            .ok()
+            .ok_or("opened")?,
+    )
 }
 
 fn closed(conn: Connection<FileStore<Memory>>) -> Result<Memory, Fail> {
@@ -93,7 +117,10 @@ fn files_that_hold_a_store(rt: HostRuntime) -> Result<(), Fail> {
     let bytes = new_store(rt.alloc())?;
     for row in FILES {
         let name = row.0;
-        assert!(rt; is_answered(rt.alloc(), bytes.as_slice(), row)?, "at {name}");
+        assert!(rt;
+            is_answered(rt.alloc(), bytes.as_slice(), row)?,
+            "at {name}"
+        );
     }
     Ok(())
 }

@@ -1,12 +1,13 @@
 -- The settings that a table says.
-use Rattle.std.specs.Prelude.{◌≡◌, ◌⊎◌, ⊤, ℕ, ℤ, pos, unsigned_abs, int_lt, Bool, ◌||◌, ◌&&◌, ◌==◌, List, [], ◌∷◌, length, replicate, codes, string_bytes, Option, Some, None, Result, Ok, Err, if◌then◌else◌}
+use Rattle.std.specs.Prelude.{◌≡◌, ⊤, ℕ, ℤ, pos, unsigned_abs, int_lt, nat_lt, Bool, true, ◌||◌, ◌&&◌, ◌==◌, List, [], ◌∷◌, length, replicate, codes, string_bytes, Option, Some, None, Result, Ok, Err, if◌then◌else◌}
 use Rattle.std.specs.Str.{bytes_eq}
 use Rattle.hex.specs.Hex.{decode_of, encode_lower}
 use Rattle.hex.specs.declared.error.FromHexError.{FromHexError}
 use Rattle.toml.specs.Data.{Data, Items, no_items, item, Members, no_members, member, as_str, as_integer, as_array, get_member}
+use Rattle.node_core.specs.Limits.{content_limit}
 use Rattle.toml.specs.Parse.{parse_document}
 use Rattle.names_cell.specs.Text.{is_component}
-use Rattle.rows_cell.specs.Opening.{Settled, base_of, settled_or}
+use Rattle.rows_cell.specs.Opening.{Settled, base_of}
 use Rattle.settings_file.specs.declared.faults.TextFault.{TextFault}
 use Rattle.settings_file.specs.declared.faults.TextFault.TheVariants.{NoMemory, NotToml, UnknownKey, WrongCell, WrongLease, WrongPrincipals, WrongSecret}
 
@@ -96,10 +97,10 @@ pub record Says (members : Members) (settings : Settled) : Type 0 where
   pub named : principals_said members ≡ Some principals
   pub secret : secret_said members ≡ Some settings.secret
 
--- the principals are no array of principals, or there are too many
-abbrev pub AreWrong : Members → Type 0
-AreWrong members =
-    (principals_said members ≡ None) ⊎ ((cell : List ℕ) × (lease : ℕ) × (principals : List (List ℕ)) × (secret : List ℕ) × (principals_said members ≡ Some principals) × (fault : _) × (settled_or cell lease (base_of principals) secret ≡ Err fault))
+-- the principals are no array of principals, or their lines are too long for a file
+abbrev pub AreWrong : Option (List (List ℕ)) → Type 0
+AreWrong None = ⊤
+AreWrong (Some principals) = nat_lt content_limit (length (base_of principals)) ≡ true
 
 -- what is wrong with a table
 abbrev pub IsFault : Members → TextFault → Type 0
@@ -108,5 +109,15 @@ IsFault members (NotToml error) = ⊤
 IsFault members (UnknownKey key) = unknown_key members ≡ Some (string_bytes key)
 IsFault members WrongCell = cell_said members ≡ None
 IsFault members WrongLease = lease_said members ≡ None
-IsFault members WrongPrincipals = AreWrong members
+IsFault members WrongPrincipals = AreWrong (principals_said members)
 IsFault members WrongSecret = secret_said members ≡ None
+
+-- a text says these settings
+abbrev pub AreSaid : List ℕ → Settled → Type 0
+AreSaid text settings = (members : Members) × (parse_document text ≡ Some members) × Says members settings
+
+-- why a text says none: memory may be wanting, it is no TOML, or its table says none
+abbrev pub IsUnread : List ℕ → TextFault → Type 0
+IsUnread text NoMemory = ⊤
+IsUnread text (NotToml error) = parse_document text ≡ None
+IsUnread text fault = (members : Members) × (parse_document text ≡ Some members) × IsFault members fault

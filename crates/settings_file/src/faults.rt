@@ -14,9 +14,7 @@ pub enum TextFault {
     NotToml(de::Error),
     #[error("no setting has the key `{0}`: the keys are `cell`, `lease`, `principals` and `secret`")]
     UnknownKey(String),
-    #[error(
-        "`cell` has to be a component: 1 to 64 of a to z, 0 to 9, `.`, `_` and `-`, and neither `.` nor `..`"
-    )]
+    #[error("`cell` has to be a component: 1 to 64 of a to z, 0 to 9, `.`, `_` and `-`, and neither `.` nor `..`")]
     WrongCell,
     #[error("`lease` has to be a whole number of milliseconds, 1000 to 60000")]
     WrongLease,
