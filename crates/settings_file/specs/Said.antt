@@ -76,16 +76,16 @@ value_or standard read None = Some standard
 value_or standard read (Some value) = read value
 
 abbrev pub cell_said : Members → Option (List ℕ)
-cell_said members = value_or (codes "c") component_in (get_member (codes "cell") members)
+cell_said said = value_or (codes "c") component_in (get_member (codes "cell") said)
 
 abbrev pub lease_said : Members → Option ℕ
-lease_said members = value_or 12000 lease_in (get_member (codes "lease") members)
+lease_said said = value_or 12000 lease_in (get_member (codes "lease") said)
 
 abbrev pub principals_said : Members → Option (List (List ℕ))
-principals_said members = value_or (codes "ann" ∷ codes "bob" ∷ []) principals_in (get_member (codes "principals") members)
+principals_said said = value_or (codes "ann" ∷ codes "bob" ∷ []) principals_in (get_member (codes "principals") said)
 
 abbrev pub secret_said : Members → Option (List ℕ)
-secret_said members = value_or (replicate 32 0) secret_in (get_member (codes "secret") members)
+secret_said said = value_or (replicate 32 0) secret_in (get_member (codes "secret") said)
 
 -- a table says these settings
 pub record Says (members : Members) (settings : Settled) : Type 0 where
@@ -104,13 +104,13 @@ AreWrong (Some principals) = nat_lt content_limit (length (base_of principals)) 
 
 -- what is wrong with a table
 abbrev pub IsFault : Members → TextFault → Type 0
-IsFault members NoMemory = ⊤
-IsFault members (NotToml error) = ⊤
-IsFault members (UnknownKey key) = unknown_key members ≡ Some (string_bytes key)
-IsFault members WrongCell = cell_said members ≡ None
-IsFault members WrongLease = lease_said members ≡ None
-IsFault members WrongPrincipals = AreWrong (principals_said members)
-IsFault members WrongSecret = secret_said members ≡ None
+IsFault _ NoMemory = ⊤
+IsFault _ (NotToml error) = ⊥
+IsFault said (UnknownKey key) = unknown_key said ≡ Some (string_bytes key)
+IsFault said WrongCell = cell_said said ≡ None
+IsFault said WrongLease = lease_said said ≡ None
+IsFault said WrongPrincipals = AreWrong (principals_said said)
+IsFault said WrongSecret = secret_said said ≡ None
 
 -- a text says these settings
 abbrev pub AreSaid : List ℕ → Settled → Type 0
