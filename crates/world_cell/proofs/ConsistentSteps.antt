@@ -161,7 +161,7 @@ none_fresh old new e = record {
   started = λ j started k. cc;
 }
 
-no_call_found : (request : Request) (client number : ℕ) → IsNoCall request → call_of (ToMaster request ∷ []) client number ≡ None
+pub no_call_found : (request : Request) (client number : ℕ) → IsNoCall request → call_of (ToMaster request ∷ []) client number ≡ None
 no_call_found (requests.Start start) client number none = refl
 no_call_found (requests.Beat beat) client number none = refl
 no_call_found (requests.Call call) client number none = absurd none
@@ -438,7 +438,7 @@ more_calls s new sent (Nothing e calls) = omega (arith, calls)
 more_calls s new sent (NoCall request e none calls) = omega (arith, calls)
 more_calls s new sent (NextCall call e m calls) = omega (arith, calls)
 
-own_goes : (old new : WorldState) (printed : List Line) → IsConsistent old → IsOwn old new printed → Later old new
+pub own_goes : (old new : WorldState) (printed : List Line) → IsConsistent old → IsOwn old new printed → Later old new
 own_goes old new printed h o = subst (Later old) (sym o.is) (own_later old h o.number o.seat o.found o.client new.messages (more_calls o.seat.client o.client o.sent o.sends))
 
 -- ---- clocks move
@@ -499,7 +499,7 @@ fits_at w o s e k = rw e at k
 pub agrees_at : (w : WorldState) (o : Option MasterState) (s : MasterState) → o ≡ Some s → Agrees w o → IsKept w.cell w.rows s
 agrees_at w o s e k = rw e at k
 
-fair_at : (w : WorldState) (o : Option MasterState) (s : MasterState) → o ≡ Some s → AreFair w o → (number : ℕ) (seat : Seat) → seat_of w number ≡ Some seat → IsFairSince w.clock seat
+pub fair_at : (w : WorldState) (o : Option MasterState) (s : MasterState) → o ≡ Some s → AreFair w o → (number : ℕ) (seat : Seat) → seat_of w number ≡ Some seat → IsFairSince w.clock seat
 fair_at w o s e k = rw e at k
 
 noted_at : (now : ℕ) (o : Option MasterState) (s : MasterState) → o ≡ Some s → IsNoted now o → s.clock ≤ now

@@ -1,10 +1,7 @@
 -- To each client, what a client's own steps are: a call that it is asked for, a Start or a Beat, and a message that it is given.
-use Rattle.std.proofs.Common.{◌≡◌, ◌≢◌, ℕ, ◌+◌, ◌≤◌, Bool, true, false, cond, max, List, [], ◌∷◌, ◌++◌, Result, Ok, Err, Option, Some, None, inl, inr, arith, refl, sym, ap, ◌∙◌, subst}
+use Rattle.std.proofs.Common.{◌≡◌, ◌≢◌, ℕ, ◌+◌, ◌≤◌, false, max, List, [], ◌∷◌, Result, Ok, Err, Option, Some, inl, inr, arith, refl, sym, ap, ◌∙◌, subst}
 use Rattle.std.specs.Prelude.{◌⊎◌, ◌==◌}
 use Rattle.std.specs.Option.{option_map}
-use Rattle.std.specs.Map.{lookup}
-use Rattle.std.specs.BTreeMap.{is_at}
-use Rattle.std.specs.Ordering.{nat_cmp}
 use Rattle.std.proofs.lemmas.Bool.Decides.{nat_tests}
 use Rattle.lease_core.specs.Lease.{LeaseTerms}
 use Rattle.coherence.specs.Slice as one
@@ -14,8 +11,6 @@ use Rattle.node_core.specs.declared.refusals.Fault.TheVariants as faults
 use Rattle.node_core.specs.declared.lines.Line.{Line}
 use Rattle.node_core.specs.declared.lines.Line.TheVariants as lines
 use Rattle.tags_cell.specs.declared.requests.Request.{Request}
-use Rattle.tags_cell.specs.declared.requests.Request.TheVariants as requests
-use Rattle.tags_cell.specs.declared.requests.CallMessage.{CallMessage}
 use Rattle.tags_cell.specs.declared.outs.Out.{Out}
 use Rattle.tags_cell.specs.declared.outs.Out.TheVariants as outs
 use Rattle.tags_cell.specs.declared.outs.CallResult.{CallResult}
@@ -23,7 +18,6 @@ use Rattle.tags_cell.specs.declared.outs.CallResult.TheVariants as results
 use Rattle.tags_cell.specs.Messages.{out_client}
 use Rattle.session_core.proofs.OneClient.{lookup_set, lookup_set_apart}
 use Rattle.client_core.specs.declared.asks.Ask.{Ask}
-use Rattle.client_core.specs.declared.asks.Asked.{Asked}
 use Rattle.client_core.specs.declared.targets.Target.{Target}
 use Rattle.client_core.specs.declared.sessions.Session.TheVariants as sessions
 use Rattle.client_core.specs.State.{ClientState}
@@ -33,13 +27,13 @@ use Rattle.client_core.specs.Gives.{begun, ended, offered}
 use Rattle.client_core.specs.Cases.{noted, AskCase, asked_in, BeatCase, beaten_in, GiveCase, given_in}
 use Rattle.client_core.specs.Cases.AskCase.{AskedTooLate, Refused, OutOfCalls, Sent, Poisoned}
 use Rattle.client_core.specs.Cases.BeatCase.{BeatTooLate, OutOfBeats, Starts, Beats, Quiet}
-use Rattle.client_core.specs.Cases.GiveCase.{GivenTooLate, Started, LeaseTaken, Replied}
+use Rattle.client_core.specs.Cases.GiveCase.{Started, LeaseTaken, Replied}
 use Rattle.world_cell.specs.declared.seats.Seat.{Seat}
 use Rattle.world_cell.specs.Messages.{out_at}
 use Rattle.world_cell.specs.World.{WorldState, seat_of, with_client, sends, own_refusal, asked, beaten, gave, gave_by}
 use Rattle.world_cell.specs.Consistent.{IsSeated}
-use Rattle.world_cell.specs.Slices.{slice, beat_of, beats_of, offers_of, client_of}
-use Rattle.world_cell.proofs.Slices.{LeadsTo, reached_stays, unseen, by_test, is_same, is_other, same_test, two_same, three_same, beats_more, offers_stay, offer_sent, seated_as}
+use Rattle.world_cell.specs.Slices.{slice, beat_of, beats_of, offers_of}
+use Rattle.world_cell.proofs.Slices.{LeadsTo, reached_stays, unseen, by_test, is_same, is_other, same_test, two_same, three_same, beats_more, offers_stay, offer_sent, seated_as, latest, first_of, none_more, first_in}
 
 -- ---- a client's state that its slice doesn't tell from another
 
@@ -111,9 +105,9 @@ module _ (c : ℕ) (w new : WorldState) (number : ℕ) (seat : Seat) (printed : 
   ask_leads ask (Sent call target sendable room) found h =
       let client : ClientState = with_call seat.client (max seat.client.clock seat.clock) call target in
       unseen c w new (
-        sym (client_stays w number seat client c found (record { beats = refl; sent = refl; epoch = refl; lease = refl }))
-        ∙ sym (sending_stays c (with_client w number seat client) (message_of seat.client call) refl)
-        ∙ ap (slice c) (told_pair (sends (with_client w number seat client) (message_of seat.client call), []) (new, printed) h)
+      sym (client_stays w number seat client c found (record { beats = refl; sent = refl; epoch = refl; lease = refl }))
+      ∙ sym (sending_stays c (with_client w number seat client) (message_of seat.client call) refl)
+      ∙ ap (slice c) (told_pair (sends (with_client w number seat client) (message_of seat.client call), []) (new, printed) h)
       )
   ask_leads ask (Poisoned handle_number handle poisonable) found h =
       led_by_client (asked_in seat.client seat.clock ask (Poisoned handle_number handle poisonable)).0 found (record { beats = refl; sent = refl; epoch = refl; lease = refl }) (told_pair (_, _) (new, printed) h)
@@ -123,19 +117,8 @@ module _ (c : ℕ) (w new : WorldState) (number : ℕ) (seat : Seat) (printed : 
 
 -- ---- a client sends a Start or a Beat
 
-one_more_true : {A : Type 0} (b : Bool) (x : A) (xs : List A) → b ≡ true → cond b (x ∷ xs) xs ≡ x ∷ xs
-one_more_true true x xs h = refl
-one_more_true false x xs h = cc
-
-one_more_false : {A : Type 0} (b : Bool) (x : A) (xs : List A) → b ≡ false → cond b (x ∷ xs) xs ≡ xs
-one_more_false true x xs h = cc
-one_more_false false x xs h = refl
-
 no_test : (a b : ℕ) → a ≢ b → (a == b) ≡ false
 no_test a b h = grind (arith, nat_tests, h)
-
-latest : (a b : ℕ) → a ≤ b → max a b ≡ b
-latest a b h = omega (arith, h)
 
 module _ (w : WorldState) (number : ℕ) (seat : Seat) (request : Request) where
   abbrev pub client_then : ClientState
@@ -174,13 +157,13 @@ module _ (w : WorldState) (number : ℕ) (seat : Seat) (request : Request) where
 
   start_leads : (c : ℕ) → request ≡ start_message seat.client → seat_of w number ≡ Some seat → IsSeated w.rows.epoch number seat → seat.client.session ≡ sessions.Unstarted → LeadsTo c w has_sent
   start_leads c is found fits unstarted = beat_by c 0 found fits.noted (fits.unstarted unstarted)
-      (λ k own. ap (λ r. beat_of k r (beats_of k w.messages)) is ∙ one_more_true (k == seat.client.number) (beat_then 0) (beats_of k w.messages) (same_test k seat.client.number (own ∙ sym fits.own)))
-      (λ k other. ap (λ r. beat_of k r (beats_of k w.messages)) is ∙ one_more_false (k == seat.client.number) (beat_then 0) (beats_of k w.messages) (no_test k seat.client.number (λ e. other (e ∙ fits.own))))
+      (λ k own. ap (λ r. beat_of k r (beats_of k w.messages)) is ∙ first_of (k == seat.client.number) (beat_then 0) (beats_of k w.messages) (same_test k seat.client.number (own ∙ sym fits.own)))
+      (λ k other. ap (λ r. beat_of k r (beats_of k w.messages)) is ∙ none_more (k == seat.client.number) (beat_then 0) (beats_of k w.messages) (no_test k seat.client.number (λ e. other (e ∙ fits.own))))
 
   keeping_leads : (c : ℕ) → request ≡ beat_message seat.client → seat_of w number ≡ Some seat → IsSeated w.rows.epoch number seat → LeadsTo c w has_sent
   keeping_leads c is found fits = beat_by c seat.client.epoch found fits.noted refl
-      (λ k own. ap (λ r. beat_of k r (beats_of k w.messages)) is ∙ one_more_true (k == seat.client.number) (beat_then seat.client.epoch) (beats_of k w.messages) (same_test k seat.client.number (own ∙ sym fits.own)))
-      (λ k other. ap (λ r. beat_of k r (beats_of k w.messages)) is ∙ one_more_false (k == seat.client.number) (beat_then seat.client.epoch) (beats_of k w.messages) (no_test k seat.client.number (λ e. other (e ∙ fits.own))))
+      (λ k own. ap (λ r. beat_of k r (beats_of k w.messages)) is ∙ first_of (k == seat.client.number) (beat_then seat.client.epoch) (beats_of k w.messages) (same_test k seat.client.number (own ∙ sym fits.own)))
+      (λ k other. ap (λ r. beat_of k r (beats_of k w.messages)) is ∙ none_more (k == seat.client.number) (beat_then seat.client.epoch) (beats_of k w.messages) (no_test k seat.client.number (λ e. other (e ∙ fits.own))))
 
 module _ (c : ℕ) (w new : WorldState) (number : ℕ) (seat : Seat) (printed : List Line) where
   pub beat_leads : (case : BeatCase seat.client seat.clock) → seat_of w number ≡ Some seat → IsSeated w.rows.epoch number seat → beaten w number seat (beaten_in seat.client seat.clock case) ≡ Ok (new, printed) → LeadsTo c w new
@@ -197,6 +180,9 @@ module _ (c : ℕ) (w new : WorldState) (number : ℕ) (seat : Seat) (printed : 
   reached_stays_at_beat case found fits h = reached_stays c w new (beat_leads case found fits h)
 
 -- ---- a client is given a message
+
+abbrev offer_by : (epoch number span : ℕ) → one.Offer
+offer_by epoch number span = record { epoch = epoch; number = number; span = span; last_invalidation = 0; name_invalidation = 0 }
 
 ended_keeps : (s : ClientState) (target : Target) (result : CallResult) → Keeps s (ended s target result)
 ended_keeps s target (results.Opened handle) = record { beats = refl; sent = refl; epoch = refl; lease = refl }
@@ -217,26 +203,21 @@ module _ (w : WorldState) (seat : Seat) (at : ℕ) (out : Out) where
     }),
   )
 
-  -- the offer of a Started or an Alive for the client is among those that were sent to it
-  first_offer : (b : Bool) (o : one.Offer) (offers : List one.Offer) → b ≡ true → IsIn o (cond b (o ∷ offers) offers)
-  first_offer true o offers h = inl refl
-  first_offer false o offers h = cc
-
   pub give_by_case : (c : ℕ) (case : GiveCase seat.client seat.clock out) → out_at w.messages at ≡ Some out → seat_of w (out_client out) ≡ Some seat → IsSeated w.rows.epoch (out_client out) seat → LeadsTo c w (with_client w (out_client out) seat (given_in seat.client seat.clock out case).0)
   give_by_case c (Started message heard is standing fits) sent found seated = by_test (c == out_client out)
-      (λ own. takes_lease c (out_client out) (begun (noted seat.client seat.clock) message) (record { epoch = message.epoch; number = message.number; span = message.span; last_invalidation = 0; name_invalidation = 0 })
+      (λ own. takes_lease c (out_client out) (begun (noted seat.client seat.clock) message) (offer_by message.epoch message.number message.span)
       (is_same c (out_client out) own)
       found
-      (offer_sent (out_client out) w.messages at (outs.Started message) (record { epoch = message.epoch; number = message.number; span = message.span; last_invalidation = 0; name_invalidation = 0 }) (sent ∙ ap (λ o. Some o) is) (λ offers. first_offer (out_client out == message.client) (record { epoch = message.epoch; number = message.number; span = message.span; last_invalidation = 0; name_invalidation = 0 }) offers (same_test (out_client out) message.client (ap out_client is))))
+      (offer_sent (out_client out) w.messages at (outs.Started message) (offer_by message.epoch message.number message.span) (sent ∙ ap (λ o. Some o) is) (λ offers. first_in (out_client out == message.client) (offer_by message.epoch message.number message.span) offers (same_test (out_client out) message.client (ap out_client is))))
       standing.newest
       (inl (seated.unstarted standing.unstarted))
       refl refl refl refl)
       (λ other. unseen c w (with_client w (out_client out) seat (begun (noted seat.client seat.clock) message)) (sym (other_client w (out_client out) seat (begun (noted seat.client seat.clock) message) c (is_other c (out_client out) other))))
   give_by_case c (LeaseTaken message heard is taken) sent found seated = by_test (c == out_client out)
-      (λ own. takes_lease c (out_client out) (record (noted seat.client seat.clock) { lease = offered seat.client message.span }) (record { epoch = message.epoch; number = message.number; span = message.span; last_invalidation = 0; name_invalidation = 0 })
+      (λ own. takes_lease c (out_client out) (record (noted seat.client seat.clock) { lease = offered seat.client message.span }) (offer_by message.epoch message.number message.span)
       (is_same c (out_client out) own)
       found
-      (offer_sent (out_client out) w.messages at (outs.Alive message) (record { epoch = message.epoch; number = message.number; span = message.span; last_invalidation = 0; name_invalidation = 0 }) (sent ∙ ap (λ o. Some o) is) (λ offers. first_offer (out_client out == message.client) (record { epoch = message.epoch; number = message.number; span = message.span; last_invalidation = 0; name_invalidation = 0 }) offers (same_test (out_client out) message.client (ap out_client is))))
+      (offer_sent (out_client out) w.messages at (outs.Alive message) (offer_by message.epoch message.number message.span) (sent ∙ ap (λ o. Some o) is) (λ offers. first_in (out_client out == message.client) (offer_by message.epoch message.number message.span) offers (same_test (out_client out) message.client (ap out_client is))))
       taken.newest
       (inr (sym taken.alive.epoch))
       refl refl (sym taken.alive.epoch) refl)

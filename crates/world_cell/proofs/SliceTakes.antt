@@ -1,5 +1,5 @@
 -- To each client, what a message that the master takes is.
-use Rattle.std.proofs.Common.{◌≡◌, ◌≢◌, ℕ, ◌+◌, Bool, true, false, cond, List, [], ◌∷◌, ◌++◌, map, Option, Some, None, inl, inr, arith, refl, sym, ap, ◌∙◌, subst}
+use Rattle.std.proofs.Common.{◌≡◌, ℕ, ◌+◌, Bool, true, false, cond, List, [], ◌∷◌, ◌++◌, map, Option, Some, None, inl, inr, arith, refl, sym, ap, ◌∙◌, subst}
 use Rattle.std.specs.Prelude.{◌⊎◌, ◌==◌, ◌&&◌, ◌||◌, not, nat_le, ◌≤◌, fold}
 use Rattle.std.specs.Option.{option_map}
 use Rattle.std.proofs.lemmas.Bool.Decides.{nat_tests}
@@ -16,7 +16,6 @@ use Rattle.tags_cell.specs.declared.outs.Out.{Out}
 use Rattle.tags_cell.specs.declared.outs.CallResult.{CallResult}
 use Rattle.tags_cell.specs.declared.outs.CallResult.TheVariants as results
 use Rattle.tags_cell.specs.declared.outs.Reply.{Reply}
-use Rattle.session_core.specs.declared.records.Kept.{Kept}
 use Rattle.session_core.specs.declared.records.Session.{Session}
 use Rattle.session_core.specs.Session.{beat_fault, live_beat_fault, beaten, keeping}
 use Rattle.session_core.proofs.OneClient.{other_session}
@@ -25,15 +24,15 @@ use Rattle.cell_core.specs.declared.handles.Note.{Note}
 use Rattle.cell_core.specs.declared.pending.Task.{Task}
 use Rattle.cell_core.specs.declared.pending.Work.TheVariants as works
 use Rattle.cell_core.specs.State.{MasterState, row_of}
-use Rattle.cell_core.specs.Step.{session_of, noted, with_note, recorded, reply_of, answered_by, replied, queued, waits, parked, repeated_reply}
+use Rattle.cell_core.specs.Step.{session_of, noted, with_note, reply_of, answered_by, replied, queued, waits, parked, repeated_reply}
 use Rattle.cell_core.specs.Cases.{TakeCase, taken_by}
 use Rattle.cell_core.specs.Cases.TakeCase.{StartQueued, BeatParked, Repeated, Recovering, Answered, Waits}
 use Rattle.over_core.specs.Kept.{IsKept}
 use Rattle.world_cell.specs.declared.mail.Message.TheVariants.{ToClient}
 use Rattle.world_cell.specs.Messages.{request_at}
-use Rattle.world_cell.specs.World.{WorldState, seat_of}
+use Rattle.world_cell.specs.World.{WorldState}
 use Rattle.world_cell.specs.Slices.{slice, standing_so, standing_of, standing_in, parked_list, seen_of, heard_from, start_of, starts_of, beats_of, put_offer, offers_of}
-use Rattle.world_cell.proofs.Slices.{LeadsTo, reached_stays, by_test, is_same, is_other, same_test, in_front, in_back, in_either, beat_sent, up_same, standing_kept, shown, shows, up_stays, with_master, lease_stays, seen_stays, own_found, IsKnown, known, first_in, none_more, no_start}
+use Rattle.world_cell.proofs.Slices.{LeadsTo, reached_stays, by_test, is_same, is_other, same_test, in_front, in_back, in_either, beat_sent, up_same, standing_kept, shows, up_stays, with_master, lease_stays, seen_stays, own_found, IsKnown, known, first_in, none_more, no_start}
 
 -- ---- lists
 
@@ -142,26 +141,26 @@ module _ (w : WorldState) (s : MasterState) (knows : IsKnown w s) where
   own_beat beat session sent epoch found taken = (
     Receive (as_beat beat) ∷ KeepReceipts (receipt_of beat ∷ starts_of beat.client s.gate.waiting) ∷ Acknowledge (as_beat beat) ∷ [],
     subst (λ (z : Slice (Unit {0})). Leads z (Receive (as_beat beat) ∷ KeepReceipts (receipt_of beat ∷ starts_of beat.client s.gate.waiting) ∷ Acknowledge (as_beat beat) ∷ []) (slice beat.client (record w { master = Some (parked s beat); messages = w.messages ++ [] })))
-    (shows beat.client w s (Some session) knows.sessions knows.epoch found)
-    (record {
-      allowed = record {
-        first = record { up = refl; sent = sent };
-        rest = record {
-          first = beat_kept beat session;
-          rest = record { first = record { up = refl; live = ap standing_so taken.live; sent = sent; epoch = epoch }; rest = tt };
-        };
-      };
-      leads_there =
-          up_same beat.client w w.rows (parked s beat) [] (standing_so session.live) s.epoch s.sessions.lease s.recovering (seen_of (Some (beaten beat w.clock session))) (starts_of beat.client s.gate.waiting) true (offers_of beat.client w.messages)
-          (standing_kept beat.client w s knows.sessions ∙ ap (λ o. standing_of (option_map row_of o)) found)
-          (sym knows.epoch)
-          (lease_stays s.sessions beat.client (beaten beat s.clock))
-          refl
-          (ap seen_of (own_found (beaten beat s.clock) s.sessions beat.client session found) ∙ ap (λ z. seen_of (Some (beaten beat z session))) knows.clock)
-          refl
-          (heard_now session.live s.recovering (nat_le 1 beat.number) taken.live taken.newer)
-          refl;
-    }),
+        (shows beat.client w s (Some session) knows.sessions knows.epoch found)
+        (record {
+          allowed = record {
+            first = record { up = refl; sent = sent };
+            rest = record {
+              first = beat_kept beat session;
+              rest = record { first = record { up = refl; live = ap standing_so taken.live; sent = sent; epoch = epoch }; rest = tt };
+            };
+          };
+          leads_there =
+              up_same beat.client w w.rows (parked s beat) [] (standing_so session.live) s.epoch s.sessions.lease s.recovering (seen_of (Some (beaten beat w.clock session))) (starts_of beat.client s.gate.waiting) true (offers_of beat.client w.messages)
+              (standing_kept beat.client w s knows.sessions ∙ ap (λ o. standing_of (option_map row_of o)) found)
+              (sym knows.epoch)
+              (lease_stays s.sessions beat.client (beaten beat s.clock))
+              refl
+              (ap seen_of (own_found (beaten beat s.clock) s.sessions beat.client session found) ∙ ap (λ z. seen_of (Some (beaten beat z session))) knows.clock)
+              refl
+              (heard_now session.live s.recovering (nat_le 1 beat.number) taken.live taken.newer)
+              refl;
+        }),
   )
 
   any_beat : (beat : Beat) (found : Option (Session Reply)) → IsIn (as_beat beat) (beats_of beat.client w.messages) → beat.epoch ≡ s.epoch → session_of s beat.client ≡ found → beat_fault found beat ≡ None → Goes beat.client (parked s beat) []
@@ -208,15 +207,15 @@ module _ (w : WorldState) (s : MasterState) (knows : IsKnown w s) where
   take_by c at request (Waits message note touched new serving admitted) sent = call_waits c message.client message.number note message.call touched
   take_by c at request case sent = goes_unseen c s (taken_by s request case).1.outs refl refl refl refl refl
 
-module _ (c : ℕ) (w : WorldState) (s : MasterState) (at : ℕ) (request : Request) (case : TakeCase (noted s w.clock) request) where
-  -- the world behind the step
-  abbrev pub took : WorldState
-  took = record w { master = Some (taken_by (noted s w.clock) request case).0; messages = w.messages ++ map ToClient (taken_by (noted s w.clock) request case).1.outs }
+-- the world behind the step
+abbrev pub behind_take : (w : WorldState) (s : MasterState) (request : Request) → TakeCase (noted s w.clock) request → WorldState
+behind_take w s request case = record w { master = Some (taken_by (noted s w.clock) request case).0; messages = w.messages ++ map ToClient (taken_by (noted s w.clock) request case).1.outs }
 
-  pub take_leads : w.master ≡ Some s → s.clock ≤ w.clock → IsKept w.cell w.rows s → request_at w.messages at ≡ Some request → LeadsTo c w took
+module _ (c : ℕ) (w : WorldState) (s : MasterState) (at : ℕ) (request : Request) (case : TakeCase (noted s w.clock) request) where
+  pub take_leads : w.master ≡ Some s → s.clock ≤ w.clock → IsKept w.cell w.rows s → request_at w.messages at ≡ Some request → LeadsTo c w (behind_take w s request case)
   take_leads up early kept sent =
       let led = take_by w (noted s w.clock) (known w s kept early) c at request case sent in
-      (led.0, with_master c w s led.0 (slice c took) up led.1)
+      (led.0, with_master c w s led.0 (slice c (behind_take w s request case)) up led.1)
 
-  pub reached_stays_at_take : w.master ≡ Some s → s.clock ≤ w.clock → IsKept w.cell w.rows s → request_at w.messages at ≡ Some request → Reached (slice c w) → Reached (slice c took)
-  reached_stays_at_take up early kept sent reached = reached_stays c w took (take_leads up early kept sent) reached
+  pub reached_stays_at_take : w.master ≡ Some s → s.clock ≤ w.clock → IsKept w.cell w.rows s → request_at w.messages at ≡ Some request → Reached (slice c w) → Reached (slice c (behind_take w s request case))
+  reached_stays_at_take up early kept sent reached = reached_stays c w (behind_take w s request case) (take_leads up early kept sent) reached

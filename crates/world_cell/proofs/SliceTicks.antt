@@ -1,8 +1,7 @@
 -- To each client, what a step of the clocks, a master that comes up, and a client that joins are.
-use Rattle.std.proofs.Common.{◌≡◌, ◌≢◌, ℕ, ◌+◌, ◌≤◌, Bool, true, false, cond, List, [], ◌∷◌, ◌++◌, Option, Some, None, arith, refl, sym, ap, ◌∙◌, subst}
+use Rattle.std.proofs.Common.{◌≡◌, ℕ, ◌+◌, ◌≤◌, Bool, true, false, cond, List, [], ◌∷◌, ◌++◌, Option, Some, None, arith, refl, sym, ap, ◌∙◌, subst}
 use Rattle.std.specs.Prelude.{◌==◌, ◌&&◌, ◌||◌, not, nat_le}
 use Rattle.std.specs.Option.{option_map}
-use Rattle.std.specs.List.{list_all}
 use Rattle.std.specs.Map.{lookup}
 use Rattle.std.specs.BTreeMap.{is_at, insert_entry}
 use Rattle.std.specs.Ordering.{nat_cmp}
@@ -23,7 +22,7 @@ use Rattle.cell_core.specs.Step.{session_of}
 use Rattle.over_core.specs.Up.{up_edits}
 use Rattle.world_cell.specs.declared.seats.Seat.{Seat}
 use Rattle.world_cell.specs.declared.steps.Ticks.{Ticks}
-use Rattle.world_cell.specs.Seats.{new_seat, each_seat, at_up, is_least, is_fair, moved_beside}
+use Rattle.world_cell.specs.Seats.{new_seat, each_seat, at_up, is_least, is_fair}
 use Rattle.world_cell.specs.World.{WorldState, seat_of, own_step, clock_then, stays_fair, moved, ticked, are_fair}
 use Rattle.world_cell.specs.Slices.{slice, standing_so, standing_of, standing_in, seen_of, heard_from, beats_of, offers_of, clocks_of, client_of, master_of}
 use Rattle.world_cell.proofs.Slices.{LeadsTo, reached_stays, unseen, by_test, is_same, is_other, two_same, lookup_rows, lookup_each, all_found, seen_up, seated_as}
@@ -109,15 +108,16 @@ not_live : (live : Bool) → (not live || false) ≡ true → standing_so live �
 not_live true h k = cc
 not_live false h k = cc
 
-module _ (c : ℕ) (w : WorldState) (now : ℕ) where
-  abbrev pub came_up : WorldState
-  came_up = record w {
-    rows = changed_rows w.rows (up_edits w.rows);
-    master = Some (of_state.master_of (changed_rows w.rows (up_edits w.rows)) w.lease now);
-    clock = now;
-    clients = each_seat (λ number. at_up now) w.clients;
-  }
+-- the world behind it
+abbrev pub behind_up : WorldState → ℕ → WorldState
+behind_up w now = record w {
+  rows = changed_rows w.rows (up_edits w.rows);
+  master = Some (of_state.master_of (changed_rows w.rows (up_edits w.rows)) w.lease now);
+  clock = now;
+  clients = each_seat (λ number. at_up now) w.clients;
+}
 
+module _ (c : ℕ) (w : WorldState) (now : ℕ) where
   abbrev known_of : of_rows.Session → Session Reply
   known_of row = recovered_session row.principal row.live now
 
@@ -171,29 +171,30 @@ module _ (c : ℕ) (w : WorldState) (now : ℕ) where
       (λ heard. absurd (not_live row.live (all_found c (λ entry. has_heard entry.1) new_master.sessions.sessions (known_of row) heard (found_known ∙ ap (option_map known_of) is)) live))
       (λ unheard_yet. ap not unheard_yet)
 
-  up_events : Leads (down_slice row_here (seat_of w c)) (comes_up row_here new_master.recovering ∷ []) (up_found row_here new_master.recovering (seat_of w c)) → Leads (slice c (record w { master = None })) (comes_up row_here new_master.recovering ∷ []) (slice c came_up)
+  up_events : Leads (down_slice row_here (seat_of w c)) (comes_up row_here new_master.recovering ∷ []) (up_found row_here new_master.recovering (seat_of w c)) → Leads (slice c (record w { master = None })) (comes_up row_here new_master.recovering ∷ []) (slice c (behind_up w now))
   up_events led = subst (λ (z : Slice (Unit {0})). Leads (down_slice row_here (seat_of w c)) (comes_up row_here new_master.recovering ∷ []) z)
-      (two_same (λ found seat. up_slice row_here new_master.recovering found seat (heard_from new_master.recovering (seen_of found))) (option_map known_of row_here) (session_of new_master c) (option_map (at_up now) (seat_of w c)) (seat_of came_up c)
+      (two_same (λ found seat. up_slice row_here new_master.recovering found seat (heard_from new_master.recovering (seen_of found))) (option_map known_of row_here) (session_of new_master c) (option_map (at_up now) (seat_of w c)) (seat_of (behind_up w now) c)
       (sym found_known)
       (sym (lookup_each c (λ number. at_up now) w.clients)))
       led
 
-  pub up_leads : w.master ≡ None → w.lease ≤ longest_lease → LeadsTo c w came_up
+  pub up_leads : w.master ≡ None → w.lease ≤ longest_lease → LeadsTo c w (behind_up w now)
   up_leads down short = (
     comes_up row_here new_master.recovering ∷ [],
-    subst (λ (m : Option MasterState). Leads (slice c (record w { master = m })) (comes_up row_here new_master.recovering ∷ []) (slice c came_up)) (sym down)
-    (up_events (comes_up_by row_here new_master.recovering (seat_of w c) short (live_recovers row_here refl))),
+    subst (λ (m : Option MasterState). Leads (slice c (record w { master = m })) (comes_up row_here new_master.recovering ∷ []) (slice c (behind_up w now))) (sym down)
+        (up_events (comes_up_by row_here new_master.recovering (seat_of w c) short (live_recovers row_here refl))),
   )
 
-  pub reached_stays_at_up : w.master ≡ None → w.lease ≤ longest_lease → Reached (slice c w) → Reached (slice c came_up)
-  reached_stays_at_up down short reached = reached_stays c w came_up (up_leads down short) reached
+  pub reached_stays_at_up : w.master ≡ None → w.lease ≤ longest_lease → Reached (slice c w) → Reached (slice c (behind_up w now))
+  reached_stays_at_up down short reached = reached_stays c w (behind_up w now) (up_leads down short) reached
 
 -- ---- a client joins
 
-module _ (w : WorldState) (number : ℕ) (principal : List ℕ) where
-  abbrev pub joined : WorldState
-  joined = record w { clients = insert_entry nat_cmp w.clients number (new_seat number principal w.clock) }
+-- the world behind it
+abbrev pub behind_join : WorldState → ℕ → List ℕ → WorldState
+behind_join w number principal = record w { clients = insert_entry nat_cmp w.clients number (new_seat number principal w.clock) }
 
+module _ (w : WorldState) (number : ℕ) (principal : List ℕ) where
   abbrev seat_with : Option MasterState → Option Seat → Slice (Unit {0})
   seat_with m seat = record {
     present = tt;
@@ -210,16 +211,16 @@ module _ (w : WorldState) (number : ℕ) (principal : List ℕ) where
   new_is_nobody None = refl
   new_is_nobody (Some s) = refl
 
-  own_join : seat_of w number ≡ None → slice number w ≡ slice number joined
+  own_join : seat_of w number ≡ None → slice number w ≡ slice number (behind_join w number principal)
   own_join free = ap (seat_with w.master) free ∙ new_is_nobody w.master ∙ ap (seat_with w.master) (sym (lookup_put number w.clients (new_seat number principal w.clock)))
 
-  pub join_stays : (c : ℕ) → seat_of w number ≡ None → slice c w ≡ slice c joined
+  pub join_stays : (c : ℕ) → seat_of w number ≡ None → slice c w ≡ slice c (behind_join w number principal)
   join_stays c free = by_test (c == number)
-      (λ own. subst (λ (z : ℕ). slice z w ≡ slice z joined) (sym (is_same c number own)) (own_join free))
+      (λ own. subst (λ (z : ℕ). slice z w ≡ slice z (behind_join w number principal)) (sym (is_same c number own)) (own_join free))
       (λ other. ap (λ seat. seated_as c w seat (beats_of c w.messages) (offers_of c w.messages)) (sym (lookup_put_apart number c (is_other c number other) w.clients (new_seat number principal w.clock))))
 
-  pub join_leads : (c : ℕ) → seat_of w number ≡ None → LeadsTo c w joined
-  join_leads c free = unseen c w joined (join_stays c free)
+  pub join_leads : (c : ℕ) → seat_of w number ≡ None → LeadsTo c w (behind_join w number principal)
+  join_leads c free = unseen c w (behind_join w number principal) (join_stays c free)
 
-  pub reached_stays_at_join : (c : ℕ) → seat_of w number ≡ None → Reached (slice c w) → Reached (slice c joined)
-  reached_stays_at_join c free reached = reached_stays c w joined (join_leads c free) reached
+  pub reached_stays_at_join : (c : ℕ) → seat_of w number ≡ None → Reached (slice c w) → Reached (slice c (behind_join w number principal))
+  reached_stays_at_join c free reached = reached_stays c w (behind_join w number principal) (join_leads c free) reached

@@ -320,7 +320,7 @@ pub record IsKnown (w : WorldState) (s : MasterState) : Type 0 where
   pub by_beats : AreByBeats s.sessions
   pub clock : s.clock ≡ w.clock
 
-latest : (a b : ℕ) → a ≤ b → max a b ≡ b
+pub latest : (a b : ℕ) → a ≤ b → max a b ≡ b
 latest a b h = omega (arith, h)
 
 pub known : (w : WorldState) (s : MasterState) → IsKept w.cell w.rows s → s.clock ≤ w.clock → IsKnown w (noted s w.clock)
