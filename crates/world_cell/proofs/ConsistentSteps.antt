@@ -224,10 +224,10 @@ same_seats old new h e epoch number seat is =
 -- ---- the rows of the table: a master comes up
 
 -- of a session as the new master finds it no call is kept, and none waits
-abbrev IsFirst : Option (Session Reply) → Type 0
+abbrev pub IsFirst : Option (Session Reply) → Type 0
 IsFirst o = (kept_in o ≡ None) × IsInTurn o []
 
-all_first : (now : ℕ) (es : List (ℕ × stored.Session)) (client : ℕ) → IsFirst (lookup (is_at (nat_cmp client)) (map (taken_over now) es))
+pub all_first : (now : ℕ) (es : List (ℕ × stored.Session)) (client : ℕ) → IsFirst (lookup (is_at (nat_cmp client)) (map (taken_over now) es))
 all_first now [] client = (refl, refl)
 all_first now (e ∷ es) client =
     elim (is_at (nat_cmp client) e.0) as (λ b. IsFirst (cond b (Some (taken_over now e).1) (lookup (is_at (nat_cmp client)) (map (taken_over now) es)))) [

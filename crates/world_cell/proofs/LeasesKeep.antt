@@ -10,7 +10,7 @@ use Rattle.session_core.specs.declared.records.Session.{Session}
 use Rattle.cell_core.specs.State.{MasterState}
 use Rattle.cell_core.specs.Step.{session_of}
 use Rattle.world_cell.specs.declared.seats.Seat.{Seat}
-use Rattle.world_cell.specs.World.{WorldState}
+use Rattle.world_cell.specs.World.{WorldState, seat_of}
 use Rattle.world_cell.specs.Slices.{standing_so, standing_of, Seen, seen_of, master_of, client_of, slice}
 use Rattle.world_cell.specs.Consistent.{IsConsistent}
 use Rattle.world_cell.specs.Runs.{HasSession, LeasesKeepSessions}
@@ -37,5 +37,5 @@ leases_keep w h number seat found runs =
     let outlives = (reached_is_joint (slice number w) (h.reached number)).session_outlives_lease has in
     record {
       live = live_of _ outlives.live;
-      in_time = λ master session up is. in_time number w.clock _ w.master master session up is outlives.before_timeout;
+      in_time = λ master session up is. in_time number w.clock (seat_of w number) w.master master session up is outlives.before_timeout;
     }
