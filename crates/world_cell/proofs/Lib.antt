@@ -15,5 +15,12 @@ pub mod RowsByRuns
 pub mod CallsByRuns
 pub mod SessionsByRuns
 pub mod ClocksByRuns
-pub mod LeasesKeep
+pub mod Slices
+pub mod SliceTicks
+pub mod SliceClients
+pub mod SliceTakes
+pub mod SliceSweeps
+pub mod SliceLeases
+pub mod SliceSteps
+pub mod Reaches
 pub mod WereSent
