@@ -1,6 +1,6 @@
 -- A master that comes up stands beside its rows.
-use Rattle.std.proofs.Common.{◌≡◌, ℕ, List, [], ◌∷◌, Bool, true, false, cond, Option, Some, None, refl, sym, ap, arith}
-use Rattle.std.specs.Prelude.{◌||◌, ◌≤◌, not, map, filter}
+use Rattle.std.proofs.Common.{◌≡◌, ℕ, List, [], ◌∷◌, Bool, true, false, cond, Option, Some, None, refl, sym, ap, subst, ◌∙◌, arith}
+use Rattle.std.specs.Prelude.{◌+◌, ◌||◌, ◌≤◌, not, map, filter}
 use Rattle.std.specs.List.{list_all, list_any}
 use Rattle.std.specs.List.Sorted.{IsStrictlySortedBy}
 use Rattle.std.specs.Map.{keys_of, lookup}
@@ -13,15 +13,18 @@ use Rattle.rows_cell.specs.declared.tables.LockRow.{LockRow}
 use Rattle.rows_cell.specs.declared.tables.Session as stored
 use Rattle.rows_cell.specs.declared.tables.Rows.{Rows}
 use Rattle.rows_cell.specs.Keys.{lock_order}
-use Rattle.rows_cell.specs.Rows.{StoredLocks}
+use Rattle.rows_cell.specs.declared.tables.Edit.TheVariants.{Epoch}
+use Rattle.rows_cell.specs.Rows.{StoredLocks, changed_rows}
 use Rattle.rows_cell.specs.Sound.{sound}
+use Rattle.rows_cell.specs.Stores.{Store, IsCommitted}
 use Rattle.rows_cell.proofs.PutEntries.{all_more}
 use Rattle.rows_cell.proofs.SoundEnds.{locks_total}
 use Rattle.tags_cell.specs.declared.outs.Reply.{Reply}
 use Rattle.session_core.specs.declared.records.Session.{Session}
 use Rattle.session_core.proofs.RowsOfSessions.{rows_of}
-use Rattle.cell_core.specs.State.{is_held, taken_over, row_of, master_of}
+use Rattle.cell_core.specs.State.{MasterState, is_held, taken_over, row_of, master_of}
 use Rattle.over_core.specs.Kept.{IsKept, is_known, are_known}
+use Rattle.over_core.specs.Up.{up_edits}
 
 -- the sessions that a master takes over are those of its rows
 same_rows : (now : ℕ) (es : List (ℕ × stored.Session)) → rows_of row_of (map (taken_over now) es) ≡ es
@@ -81,3 +84,17 @@ up_kept cell rows lease now h sessions locks = record {
   recovery_is_empty = λ recovering. refl;
   by_beats = λ client session found some. none_counts session.events.acknowledged (none_acknowledged now rows.sessions client session found) some;
 }
+
+-- the same of a store that was read and then commits the epoch
+pub up_stands : (old read new : Store) (rows : Rows) (s : MasterState) (lease now : ℕ) → sound old.cell (changed_rows old.rows (up_edits old.rows)) ≡ true → rows ≡ changed_rows old.rows (up_edits old.rows) → IsStrictlySortedBy nat_cmp (keys_of rows.sessions) → IsStrictlySortedBy lock_order (keys_of rows.locks) → read ≡ old → s ≡ master_of rows lease now → IsCommitted (Epoch rows.epoch ∷ []) read new → IsKept old.cell new.rows s
+up_stands old read new rows s lease now h next sessions locks stays is committed =
+    let epoch : rows.epoch ≡ old.rows.epoch + 1 = ap (λ (r : Rows). r.epoch) next in
+    let same : new.rows ≡ rows =
+    committed.rows
+    ∙ ap (λ (store : Store). changed_rows store.rows (Epoch rows.epoch ∷ [])) stays
+    ∙ ap (λ n. changed_rows old.rows (Epoch n ∷ [])) epoch
+    ∙ sym next in
+    let P : Rows → Type 0 = λ r. sound old.cell r ≡ true in
+    let Q : Rows → Type 0 = λ r. IsKept old.cell r s in
+    let T : MasterState → Type 0 = IsKept old.cell rows in
+    subst Q (sym same) (subst T (sym is) (up_kept old.cell rows lease now (subst P (sym next) h) sessions locks))

@@ -4,3 +4,4 @@ mod KeptByTakes
 mod KeptByUps
 mod SweepBegins
 pub mod SweepCases
+mod Wants

@@ -123,6 +123,7 @@ fn next_master<R: Records>(
     lease: u64,
     now: u64,
 ) -> Result<Master, Fault>
+    requires { (1000 ≤ lease) × (lease ≤ 60000) }
     ensures ok { IfOk result (λ master. up_step (R.store records.old).cell (R.store records.old).rows lease now ≡ Ok master) }
     ensures kept { IfOk result (λ master. IsKept (R.store records.old).cell (R.store records.new).rows master) }
     ensures committed { OnOk result (IsCommitted (up_edits (R.store records.old).rows) (R.store records.old) (R.store records.new)) }

@@ -45,14 +45,14 @@ impl Plan {
 }
 
 // What is done for an action, as the master stands now.
-pub(crate) fn plan_of(master: &Master, action: Action) -> Result<Plan, AllocError>
-    ensures { IfOk result (λ plan. plan ≡ plan_of master.now action) }
+pub(crate) fn plan_of(master: &Master, action: &Action) -> Result<Plan, AllocError>
+    ensures { IfOk result (λ plan. plan ≡ plan_of master.now action.now) }
 {
     match action {
         Action::Recover => plan_recovery(master),
-        Action::Expire(client) => plan_expiry(master, client),
-        Action::Apply(number) => plan_apply(master, number),
-        Action::Answer(client) => plan_answer(master, client),
+        Action::Expire(client) => plan_expiry(master, *client),
+        Action::Apply(number) => plan_apply(master, *number),
+        Action::Answer(client) => plan_answer(master, *client),
         Action::Quiet => Ok(Plan::of(None, master.nothing())),
     }
 }

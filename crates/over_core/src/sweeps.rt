@@ -72,12 +72,12 @@ fn sweep_at<R: Records>(master: &mut Master, records: &mut R) -> Result<Swept, F
     ensures err { OnErr result (master.new ≡ master.old) }
 {
     let action = first_action(master);
-    let plan = plan_of(master, action)?;
-    carry_out(master, records, plan, is_quiet(action))
+    let plan = plan_of(master, &action)?;
+    carry_out(master, records, plan, is_quiet(&action))
 }
 
-fn is_quiet(action: Action) -> bool
-    ensures { result ≡ is_quiet action }
+fn is_quiet(action: &Action) -> bool
+    ensures { result ≡ is_quiet action.now }
 {
     matches!(action, Action::Quiet)
 }
