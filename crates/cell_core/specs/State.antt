@@ -5,7 +5,7 @@ use Rattle.std.specs.BTreeMap.{insert_entry}
 use Rattle.std.specs.Ordering.{nat_cmp}
 use Rattle.node_core.specs.Nodes.{Nodes}
 use Rattle.rows_cell.specs.declared.tables.Node.{Node}
-use Rattle.rows_cell.specs.declared.tables.Session as rows
+use Rattle.rows_cell.specs.declared.tables.Session as stored
 use Rattle.rows_cell.specs.declared.tables.LockRow.{LockRow}
 use Rattle.rows_cell.specs.declared.tables.LockState.{LockState}
 use Rattle.rows_cell.specs.declared.tables.LockState.TheVariants.{Lapsed, Exclusive, Shared}
@@ -77,17 +77,17 @@ task_at number waiting = option_map (λ change. change.body) (change_at number w
 -- ---- a master that comes up
 
 -- a session of the rows lives for the recovery timeout at least
-abbrev pub taken_over : ℕ → ℕ × rows.Session → ℕ × Session Reply
+abbrev pub taken_over : ℕ → ℕ × stored.Session → ℕ × Session Reply
 taken_over now entry = (entry.0, recovered_session entry.1.principal entry.1.live now)
 
 abbrev pub sessions_of : Rows → ℕ → ℕ → SessionTable Reply
 sessions_of rows lease now = record { lease = lease; sessions = map (taken_over now) rows.sessions }
 
 -- what the rows hold of a session
-abbrev pub row_of : Session Reply → rows.Session
+abbrev pub row_of : Session Reply → stored.Session
 row_of session = record { principal = session.principal; live = session.live }
 
-abbrev pub session_rows : SessionTable Reply → List (ℕ × rows.Session)
+abbrev pub session_rows : SessionTable Reply → List (ℕ × stored.Session)
 session_rows table = map (λ entry. (entry.0, row_of entry.1)) table.sessions
 
 -- a master that comes up with these rows: nothing waits, and it knows of no call and of no handle. It is in recovery where a session of the rows is live

@@ -1,4 +1,7 @@
 mod FitsByEffects
-mod KeptBySweeps
+pub mod KeptBySweeps
 mod KeptByTakes
+mod KeptByUps
+mod SweepBegins
 pub mod SweepCases
+mod Wants

@@ -22,14 +22,14 @@ pub struct Sessions<K> {
 
 impl<K> Model for Sessions<K> {
     ghost use Rattle.std.specs.Prelude.{◌≤◌};
-    ghost use Rattle.lease_core.specs.Lease.{longest_lease};
+    ghost use Rattle.lease_core.specs.Lease.{least_lease, longest_lease};
     ghost use Rattle.session_core.specs.Sessions.{SessionTable};
 
     ghost Value = { SessionTable K };
 
     ghost view = { λ s. record { lease = s.lease; sessions = s.map.entries } };
 
-    ghost invariant = { λ s. s.lease ≤ longest_lease };
+    ghost invariant = { λ s. (least_lease ≤ s.lease) × (s.lease ≤ longest_lease) };
 }
 
 impl<K> Sessions<K> {
@@ -44,6 +44,14 @@ impl<K> Sessions<K> {
             lease,
             map: BTreeMap::new(alloc),
         }
+    }
+
+    /// How long an answer lets a session live, in milliseconds.
+    pub fn lease(&self) -> u64
+        ensures value { result ≡ self.now.lease }
+        ensures range { (least_lease ≤ result) × (result ≤ longest_lease) }
+    {
+        self.lease
     }
 
     /// A client's session, also one that has ended. Takes no memory.
