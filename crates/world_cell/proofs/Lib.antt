@@ -1,8 +1,11 @@
+pub mod SilentLines
+pub mod OneSession
 pub mod OneMessage
 pub mod SeatAnswers
+pub mod SeatsFound
 pub mod RefusedUp
-pub mod ClientCases
 pub mod WorldCases
+pub mod OwnSteps
 pub mod PartsOfRuns
 pub mod MessagesGrow
 pub mod MasterFits
@@ -10,4 +13,14 @@ pub mod ConsistentSteps
 pub mod OnceByRuns
 pub mod RowsByRuns
 pub mod CallsByRuns
+pub mod SessionsByRuns
+pub mod ClocksByRuns
+pub mod Slices
+pub mod SliceTicks
+pub mod SliceClients
+pub mod SliceTakes
+pub mod SliceSweeps
+pub mod SliceLeases
+pub mod SliceSteps
+pub mod Reaches
 pub mod WereSent

@@ -18,7 +18,7 @@ use std::collections::BTreeMap;
 use std::marker::Model;
 use tags_cell::{ClientNumber, Out, Request};
 
-/// A client with its own clock. All clocks stand still so far.
+/// A client with its own clock.
 #[derive(Drop)]
 pub struct Seat {
     pub client: Client,
@@ -29,6 +29,8 @@ pub struct Seat {
     pub least_now: u64,
     /// The client's clock at that point.
     pub least_clock: u64,
+    /// The client's clock when the master came up.
+    pub clock_when_up: u64,
 }
 
 /// The clients of a world, by their numbers.
