@@ -1,5 +1,5 @@
 -- By which arm of its table a master takes a message. Each law of it is a match on these.
-use Rattle.std.specs.Prelude.{◌≡◌, ◌≢◌, ◌⊎◌, ℕ, ◌<◌, true, false, List, [], ◌∷◌, Option, Some, None}
+use Rattle.std.specs.Prelude.{◌≡◌, ◌≢◌, ◌⊎◌, ℕ, ◌<◌, true, false, List, [], Option, Some, None}
 use Rattle.node_core.specs.declared.refusals.Fault.TheVariants as faults
 use Rattle.tags_cell.specs.declared.requests.Start.{Start}
 use Rattle.tags_cell.specs.declared.beats.Beat.{Beat}

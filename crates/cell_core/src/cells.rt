@@ -1,7 +1,7 @@
 //! The master in memory.
 ghost use Rattle.std.specs.Prelude.{◌≡◌, ◌≤◌, IfOk};
 ghost use Rattle.lease_core.specs.Lease.{IsMoment, least_lease, longest_lease};
-ghost use Rattle.cell_core.specs.State.{is_held_so, lock_generations_of, held_locks_of, sessions_of};
+ghost use Rattle.cell_core.specs.State.{lock_generations_of, held_locks_of, sessions_of};
 
 use crate::handles::{HandleKey, HandleState};
 use crate::pending::Task;
@@ -9,7 +9,7 @@ use gate_core::Gate;
 use names_cell::Component;
 use node_core::Map;
 use plain::{Items, Secret, Table};
-use rows_cell::{LockKey, LockRow, LockState, Rows};
+use rows_cell::{LockKey, LockState, Rows};
 use session_core::Sessions;
 use std::alloc::{AllocError, Global};
 use std::marker::Model;
@@ -216,20 +216,11 @@ fn held_locks_of(alloc: Global, rows: &Rows) -> Result<Items<LockKey>, AllocErro
 {
     let mut keys = Items::new(alloc);
     for (key, row) in rows.locks.as_map() {
-        if is_held(row) {
+        if row.state != LockState::Lapsed {
             keys.push(*key)?;
         }
     }
     Ok(keys)
-}
-
-fn is_held(row: &LockRow) -> bool
-    ensures { result ≡ is_held_so row.now.state }
-{
-    match row.state {
-        LockState::Lapsed => false,
-        LockState::Exclusive | LockState::Shared => true,
-    }
 }
 
 // The sessions of the rows, each with its time anew.
