@@ -107,11 +107,7 @@ fn carry_out<R: Records>(
 }
 
 // The deed is done, with its edits committed.
-fn commit_edits<R: Records>(
-    master: &mut Master,
-    records: &mut R,
-    deed: Deed,
-) -> Result<(), Fault>
+fn commit_edits<R: Records>(master: &mut Master, records: &mut R, deed: Deed) -> Result<(), Fault>
     requires sound { sound (R.store records.old).cell (changed_rows (R.store records.old).rows (edits_of deed)) ≡ true }
     requires begins { BeginsNew master.old deed.session }
     ensures ok { OnOk result (master.new ≡ done master.old deed) }
