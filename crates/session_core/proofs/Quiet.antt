@@ -8,6 +8,7 @@ use Rattle.std.specs.BTreeMap.{is_at, insert_entry}
 use Rattle.std.proofs.lemmas.Bool.Decides.{nat_tests}
 use Rattle.std.proofs.lemmas.List.Elements.{All-nil, All-cons, All-head, All-tail, All-weaker}
 use Rattle.std.proofs.lemmas.Map.Views.{All-values-insert_entry, All-values-set_value, All-map-remove_entry, IfSome-lookup_from_All}
+use Rattle.lease_core.specs.Lease.{least_lease, longest_lease}
 use Rattle.session_core.specs.declared.records.Session.{Session}
 use Rattle.session_core.specs.Session.{owes, nears_timeout, is_expired, is_due, is_client_expired, is_client_due}
 use Rattle.session_core.specs.Sessions.{SessionTable, lowest, passes, IsLowest}
@@ -16,7 +17,7 @@ use Rattle.session_core.specs.Quiet.{quiet_until, AreQuietUntil}
 -- ---- what is noted, as sessions come, change and go
 
 -- a session is quiet until its own moment at least
-abbrev Quiet : {K : Type 0} → ℕ → ℕ → Session K → Type 0
+abbrev pub Quiet : {K : Type 0} → ℕ → ℕ → Session K → Type 0
 Quiet lease moment session = moment ≤ quiet_until lease session
 
 at_least : (moment until own : ℕ) → until ≡ own → min moment until ≤ own
@@ -50,6 +51,24 @@ quiet_without {K} lease moment client old new h is = record {
       let P : List (ℕ × Session K) → Type 0 = λ es. All (Quiet {K = K} lease moment) (values_of es) in
       subst P (sym is) (All-map-remove_entry (is_at (nat_cmp client)) (λ (e : ℕ × Session K). e.1) (Quiet lease moment) old h.all);
 }
+
+-- ---- what is kept of all sessions
+
+abbrev pub IsKept : (K : Type 0) → ℕ → ℕ → List (ℕ × Session K) → Type 0
+IsKept K lease moment entries = (least_lease ≤ lease) × (lease ≤ longest_lease) × AreQuietUntil K lease moment entries
+
+pub kept_with_new : {K : Type 0} (lease moment until least client : ℕ) (session : Session K) (old new : List (ℕ × Session K)) → IsKept K lease moment old → least ≡ min moment until → until ≡ quiet_until lease session → new ≡ insert_entry nat_cmp old client session → IsKept K lease least new
+kept_with_new {K} lease moment until least client session old new h is own put =
+    let P : ℕ → Type 0 = λ m. AreQuietUntil K lease m new in
+    (h.0, h.1, subst P (sym is) (quiet_with_new lease moment until client session old new h.2 own put))
+
+pub kept_changed : {K : Type 0} (lease moment until least client : ℕ) (session : Session K) (old new : List (ℕ × Session K)) → IsKept K lease moment old → least ≡ min moment until → until ≡ quiet_until lease session → new ≡ set_value (is_at (nat_cmp client)) old session → IsKept K lease least new
+kept_changed {K} lease moment until least client session old new h is own put =
+    let P : ℕ → Type 0 = λ m. AreQuietUntil K lease m new in
+    (h.0, h.1, subst P (sym is) (quiet_changed lease moment until client session old new h.2 own put))
+
+pub kept_without : {K : Type 0} (lease moment client : ℕ) (old new : List (ℕ × Session K)) → IsKept K lease moment old → new ≡ remove_entry (is_at (nat_cmp client)) old → IsKept K lease moment new
+kept_without lease moment client old new h put = (h.0, h.1, quiet_without lease moment client old new h.2 put)
 
 -- ---- before that moment nobody is looked for
 
@@ -109,3 +128,23 @@ pub nobody_is_due : {K : Type 0} (view s : SessionTable K) (moment now : ℕ) �
 nobody_is_due {K} view s moment now same h lt =
     let P : SessionTable K → Type 0 = λ x. (None ≡ lowest x (is_client_due x.lease now)) × IsLowest x (is_client_due x.lease now) None in
     subst P same (nobody view (is_client_due view.lease now) (All-weaker (Quiet {K = K} view.lease moment) (λ session. (client : ℕ) → is_client_due view.lease now client session ≡ false) (λ session k client. and_false _ (is_due view.lease now session) (not_due view.lease moment now client session lt k)) (values_of view.sessions) h.all))
+
+-- ---- the moment is found
+
+-- who is above `least` and above what is left is above all
+abbrev pub IsLeast : {K : Type 0} → ℕ → ℕ → List (Session K) → List (ℕ × Session K) → Type 0
+IsLeast {K} lease least left entries = (moment : ℕ) → moment ≤ least → All (Quiet {K = K} lease moment) left → AreQuietUntil K lease moment entries
+
+pub least_first : {K : Type 0} (lease least : ℕ) (entries : List (ℕ × Session K)) → IsLeast lease least (values_of entries) entries
+least_first lease least entries moment le h = record { all = h }
+
+pub least_more : {K : Type 0} (lease least until less : ℕ) (left next : List (Session K)) (session : Session K) (entries : List (ℕ × Session K)) → IsLeast lease least left entries → left ≡ session ∷ next → until ≡ quiet_until lease session → less ≡ min least until → IsLeast lease less next entries
+least_more {K} lease least until less left next session entries h steps own is moment le rest =
+    let P : List (Session K) → Type 0 = λ all. All (Quiet lease moment) all in
+    let own_le : moment ≤ quiet_until lease session = omega arith in
+    h moment (omega arith) (subst P (sym steps) (All-cons (Quiet lease moment) session next own_le rest))
+
+pub least_last : {K : Type 0} (lease least : ℕ) (left : List (Session K)) (entries : List (ℕ × Session K)) → IsLeast lease least left entries → left ≡ [] → AreQuietUntil K lease least entries
+least_last {K} lease least left entries h steps =
+    let P : List (Session K) → Type 0 = λ all. All (Quiet lease least) all in
+    h least (omega arith) (subst P (sym steps) (All-nil (Quiet {K = K} lease least)))
