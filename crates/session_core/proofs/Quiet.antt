@@ -2,6 +2,7 @@
 use Rattle.std.proofs.Common.{◌≡◌, ℕ, ◌<◌, ◌≤◌, ◌+◌, ◌-◌, ◌/◌, ◌^◌, List, [], ◌∷◌, Bool, true, false, cond, Option, Some, None, refl, sym, ap, ◌∙◌, arith, subst}
 use Rattle.std.specs.Prelude.{not, ◌&&◌, ◌||◌, find, nat_lt, nat_le, min, All, IfSome, is_none}
 use Rattle.std.specs.Option.{option_map, option_map_or}
+use Rattle.std.specs.List.{list_all}
 use Rattle.std.specs.Ordering.{nat_cmp}
 use Rattle.std.specs.Map.{values_of, lookup, set_value, remove_entry}
 use Rattle.std.specs.BTreeMap.{is_at, insert_entry}
@@ -10,9 +11,9 @@ use Rattle.std.proofs.lemmas.List.Elements.{All-nil, All-cons, All-head, All-tai
 use Rattle.std.proofs.lemmas.Map.Views.{All-values-insert_entry, All-values-set_value, All-map-remove_entry, IfSome-lookup_from_All}
 use Rattle.lease_core.specs.Lease.{least_lease, longest_lease}
 use Rattle.session_core.specs.declared.records.Session.{Session}
-use Rattle.session_core.specs.Session.{owes, nears_timeout, is_expired, is_due, is_client_expired, is_client_due}
-use Rattle.session_core.specs.Sessions.{SessionTable, lowest, passes, IsLowest}
-use Rattle.session_core.specs.Quiet.{quiet_until, AreQuietUntil}
+use Rattle.session_core.specs.Session.{owes, has_heard, nears_timeout, is_expired, is_due, is_client_expired, is_client_due}
+use Rattle.session_core.specs.Sessions.{SessionTable, all_heard, lowest, passes, IsLowest}
+use Rattle.session_core.specs.Quiet.{quiet_until, is_client_unheard, AreQuietUntil}
 
 -- ---- what is noted, as sessions come, change and go
 
@@ -148,3 +149,20 @@ pub least_last : {K : Type 0} (lease least : ℕ) (left : List (Session K)) (ent
 least_last {K} lease least left entries h steps =
     let P : List (Session K) → Type 0 = λ all. All (Quiet lease least) all in
     h least (omega arith) (subst P (sym steps) (All-nil (Quiet {K = K} lease least)))
+
+-- ---- one that wasn't heard from
+
+first_false : (a b : Bool) → not a ≡ true → (a && b) ≡ false
+first_false true b h = absurd (cc)
+first_false false b h = refl
+
+unheard_in : {K : Type 0} (test : ℕ → Bool) (es : List (ℕ × Session K)) → option_map_or (λ session. not (has_heard session)) (lookup test es) false ≡ true → list_all (λ e. has_heard e.1) es ≡ false
+unheard_in test [] h = absurd (cc)
+unheard_in {K} test (e ∷ es) h =
+    (elim (test e.0) as (λ b. option_map_or (λ (session : Session K). not (has_heard session)) (cond b (Some e.1) (lookup test es)) false ≡ true → (has_heard e.1 && list_all (λ d. has_heard d.1) es) ≡ false) [
+      | true ↦ (λ k. first_false (has_heard e.1) (list_all (λ d. has_heard d.1) es) k)
+      | false ↦ (λ k. and_false (has_heard e.1) (list_all (λ d. has_heard d.1) es) (unheard_in test es k))
+    ]) h
+
+pub one_unheard : {K : Type 0} (s : SessionTable K) (client : ℕ) → passes s is_client_unheard client ≡ true → all_heard s ≡ false
+one_unheard {K} s client h = unheard_in (is_at (nat_cmp client)) s.sessions h

@@ -20,6 +20,8 @@ pub struct Sessions<K> {
     pub(crate) map: BTreeMap<u64, Session<K>>,
     // Before this moment nothing is to be done for any session, so nobody looks for one.
     pub(crate) quiet: u64,
+    // A client that wasn't heard from when one was last looked for. Nothing hangs on it but how long a walk is.
+    pub(crate) unheard: u64,
 }
 
 impl<K> Model for Sessions<K> {
@@ -47,6 +49,7 @@ impl<K> Sessions<K> {
             lease,
             map: BTreeMap::new(alloc),
             quiet: u64::MAX,
+            unheard: 0,
         }
     }
 
@@ -91,6 +94,9 @@ impl<K> Sessions<K> {
     pub fn all_heard(&self) -> bool
         ensures { result ≡ all_heard self.now }
     {
+        if self.is_unheard(self.unheard) {
+            return false;
+        }
         self.map.iter().all(|(_, session)| session.has_heard())
     }
 }
