@@ -1,6 +1,6 @@
 -- Until when nothing is to be done for sessions, as each step leaves them.
-use Rattle.std.proofs.Common.{◌≡◌, ℕ, ◌<◌, ◌≤◌, ◌+◌, ◌-◌, ◌/◌, ◌^◌, List, [], ◌∷◌, Bool, true, false, cond, Option, Some, None, refl, sym, ap, ◌∙◌, arith, subst}
-use Rattle.std.specs.Prelude.{not, ◌&&◌, ◌||◌, find, nat_lt, nat_le, min, All, IfSome, is_none}
+use Rattle.std.proofs.Common.{◌≡◌, ℕ, ◌<◌, ◌≤◌, ◌+◌, ◌-◌, ◌/◌, ◌^◌, List, [], ◌∷◌, Bool, true, false, cond, Option, Some, None, refl, sym, ap, arith, subst}
+use Rattle.std.specs.Prelude.{not, ◌&&◌, ◌||◌, find, nat_le, min, All, IfSome, is_none}
 use Rattle.std.specs.Option.{option_map, option_map_or}
 use Rattle.std.specs.List.{list_all}
 use Rattle.std.specs.Ordering.{nat_cmp}
@@ -11,7 +11,7 @@ use Rattle.std.proofs.lemmas.List.Elements.{All-nil, All-cons, All-head, All-tai
 use Rattle.std.proofs.lemmas.Map.Views.{All-values-insert_entry, All-values-set_value, All-map-remove_entry, IfSome-lookup_from_All}
 use Rattle.lease_core.specs.Lease.{least_lease, longest_lease}
 use Rattle.session_core.specs.declared.records.Session.{Session}
-use Rattle.session_core.specs.Session.{owes, has_heard, nears_timeout, is_expired, is_due, is_client_expired, is_client_due}
+use Rattle.session_core.specs.Session.{owes, has_heard, nears_timeout, is_due, is_client_expired, is_client_due}
 use Rattle.session_core.specs.Sessions.{SessionTable, all_heard, lowest, passes, IsLowest}
 use Rattle.session_core.specs.Quiet.{quiet_until, is_client_unheard, AreQuietUntil}
 
