@@ -72,6 +72,9 @@ fn sweep_at<R: Records>(master: &mut Master, records: &mut R) -> Result<Swept, F
     ensures err { OnErr result (master.new ≡ master.old) }
 {
     let action = first_action(master);
+    if is_quiet(&action) {
+        master.note_quiet();
+    }
     let plan = plan_of(master, &action)?;
     carry_out(master, records, plan, is_quiet(&action))
 }
