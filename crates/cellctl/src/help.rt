@@ -42,5 +42,27 @@ Limits:
 Exit status:
   0                 the script ran to its end; a refused step is a line like others
   1                 a bad step, behind which nothing is done; or the output can't be written
+  2                 a wrong command line, or settings that aren't any
+  4                 memory ran out outside a step
+
+Settings are a table in TOML. A key that isn't there has its value here:
+  cell       = \"c\"               a component
+  lease      = 12000             milliseconds, 1000 to 60000
+  principals = [\"ann\", \"bob\"]  those of the ACL file acl/base, a line each, 262,144 bytes at most
+  secret     = \"00..\"            64 hexadecimal digits in lower case; zeros where it isn't there";
+
+/// What a test of a store prints, and how it ends.
+pub(crate) const STORES: &str = "\
+On standard output stands one of
+  sound epoch E nodes N sessions S locks L
+                          the store is sound; S counts the live sessions
+  refused 16 StoreDamaged it isn't that of a cell c, its rows break a rule, or it isn't there
+  refused 15 StoreRefused it can't be read
+Nothing is written to it.
+
+Exit status:
+  0                 the store is sound
+  1                 the output can't be written
   2                 a wrong command line
-  4                 memory ran out outside a step";
+  3                 it is refused
+  4                 memory ran out";
