@@ -7,9 +7,11 @@ pub(crate) const VERSION: &str = "0.1.0";
 pub(crate) const SCRIPTS: &str = "\
 Steps, one a line, with one space between two words; blank lines and lines that begin with # are skipped:
   up M              a master comes up, its clock at M milliseconds
+  tick DM DK [C:DK]...
+                    the master's clock moves by DM, that of client C by its own DK, those of all other clients by the first
   join C PRINCIPAL  client C joins and acts for the principal
   ask C CALL        client C is asked for a call
-  beat C            client C sends a Start until it has a session
+  beat C            client C sends a Start until it has a session, and then a Beat, which keeps it
   take I            message I comes to the master
   give I            message I comes to its client
   sweep             one sweep of the master
@@ -38,6 +40,7 @@ Limits:
   a name            512 bytes; each component, and a principal, 64
   a content         262,144 bytes; N of fill at most 300,000
   changes that wait 4,096
+  a moment          below 2^53 milliseconds
 
 Exit status:
   0                 the script ran to its end; a refused step is a line like others

@@ -31,6 +31,12 @@ const CLOCKS: &[Row] = &[
         "refused 36 UnfairClock; refused 19 NoSession; ended 1; ended 2",
     ),
     (
+        "first_of_two_own_steps_counts",
+        Before::Client,
+        "tick 12000 0 1:11294 1:0; sweep",
+        "ended 1",
+    ),
+    (
         "refused_ticks",
         Before::Nothing,
         "tick 1 0; tick 0 5; tick 0 0 1:3; tick 1 0 1:3; join 1 ann; tick 0 0 1:3; up 0; tick 2 0; tick 2 0 2:1; tick 9007199254740992 9007199254740992; tick 9007199254740992 0; tick 0 9007199254740992; tick 9007199254740991 9007199254740988; tick 1 0",

@@ -235,8 +235,8 @@ fn request(alloc: Global, event: Event) -> Result<Option<Request>, Fail> {
     })
 }
 
-fn reply_text(alloc: Global, result: &CallResult) -> Result<String, Fail> {
-    Ok(match result {
+fn reply_text(alloc: Global, answer: &CallResult) -> Result<String, Fail> {
+    Ok(match answer {
         CallResult::Refused(fault) => format!(in alloc; "reply {fault}")?,
         _ => String::from_str(alloc, "reply")?,
     })
