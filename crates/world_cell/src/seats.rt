@@ -194,7 +194,7 @@ impl Seats {
     ) -> Option<Result<Items<Line>, Fault>>
         ensures none { IsNone result → lookup (is_at (nat_cmp number)) self.old ≡ None }
         ensures stay { IsNone result → self.new ≡ self.old }
-        ensures some { IfSome result (λ r. (seat : SeatState) × (lookup (is_at (nat_cmp number)) self.old ≡ Some seat) × AnswersOrLeaves self.old self.new number seat r (give_step seat.client seat.clock out.now)) }
+        ensures some { IfSome result (λ r. (seat : SeatState) × (lookup (is_at (nat_cmp number)) self.old ≡ Some seat) × Answers self.old self.new number seat r (give_step seat.client seat.clock out.now)) }
     {
         let Some(seat) = self.clients.get_mut(&number.get()) else {
             return None;

@@ -313,13 +313,19 @@ impl<R: Records + Drop> Stage<R> {
         ensures fault { IfErr result (λ e. MayRefuseStep (world_give self.old.world number) (Step.Give number) e self.old self.new) }
         ensures left { OnErr result (IsLeft [] self.old self.new) }
     {
+        let mut lines = room(self.alloc)?;
         let Some(out) = mail::out_at(self.messages.as_slice(), number) else {
             return Err(Fault::NoSuchMessage);
         };
         match self.clients.give(out.client(), out) {
             None => Err(Fault::NoSession),
-            Some(Ok(lines)) => Ok(lines),
-            Some(Err(fault)) => Err(fault),
+            Some(Ok(told)) => Ok(told),
+            Some(Err(Fault::NoMemory)) => Err(Fault::NoMemory),
+            Some(Err(Fault::Exhausted)) => Err(Fault::Exhausted),
+            Some(Err(fault)) => {
+                lines.set(0, Line::Refused(fault));
+                Ok(lines)
+            }
         }
     }
 }
