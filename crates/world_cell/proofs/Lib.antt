@@ -3,6 +3,7 @@ pub mod OneSession
 pub mod OneMessage
 pub mod SeatAnswers
 pub mod SeatsFound
+pub mod SeatsMove
 pub mod RefusedUp
 pub mod WorldCases
 pub mod OwnSteps

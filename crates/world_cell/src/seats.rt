@@ -1,5 +1,5 @@
 //! The clients of a world.
-ghost use Rattle.std.specs.Prelude.{◌≡◌, ◌+◌, [], false, Some, None, IfSome, OnErr, IsNone, OnOk, is_some, nat_le};
+ghost use Rattle.std.specs.Prelude.{◌≡◌, ◌+◌, ◌<◌, ◌^◌, [], false, Some, None, IfSome, OnErr, IsNone, OnOk, is_some, nat_le};
 ghost use Rattle.std.specs.List.{list_all, list_any};
 ghost use Rattle.std.specs.Map.{lookup};
 ghost use Rattle.std.specs.BTreeMap.{is_at, insert_entry};
@@ -41,9 +41,17 @@ pub struct Seat {
 impl Seat {
     // Where its clock is then. No sum of two of 64 bits overflows.
     fn clock_then(&self, ticks: &Ticks, number: u64) -> u128
-        ensures { result ≡ clock_then ticks.now number self.now }
+        ensures is { result ≡ clock_then ticks.now number self.now }
+        ensures bound { result < 2 ^ 65 }
     {
         self.clock as u128 + own_step(ticks, number) as u128
+    }
+
+    // The same, where it isn't past the end of moments.
+    fn moment_then(&self, ticks: &Ticks, number: u64) -> u64
+        ensures { nat_le moment_limit (clock_then ticks.now number self.now) ≡ false → result ≡ clock_then ticks.now number self.now }
+    {
+        self.clock.saturating_add(own_step(ticks, number))
     }
 
     // Whether the clocks are fair then; the master's is told as it stands.
@@ -74,7 +82,7 @@ impl Seat {
     fn move_beside(&mut self, ticks: &Ticks, number: u64, now: u64)
         ensures { nat_le moment_limit (clock_then ticks.now number self.old) ≡ false → self.new ≡ moved_beside now (clock_then ticks.now number self.old) self.old }
     {
-        let clock = self.clock_then(ticks, number) as u64;
+        let clock = self.moment_then(ticks, number);
         let is_least = self.is_least(now, clock);
         self.clock = clock;
         if is_least {
@@ -87,7 +95,7 @@ impl Seat {
     fn move_alone(&mut self, ticks: &Ticks, number: u64)
         ensures { nat_le moment_limit (clock_then ticks.now number self.old) ≡ false → self.new ≡ moved_alone (clock_then ticks.now number self.old) self.old }
     {
-        self.clock = self.clock_then(ticks, number) as u64;
+        self.clock = self.moment_then(ticks, number);
     }
 
     // Whether the client's lead is the least there.

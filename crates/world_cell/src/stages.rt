@@ -278,7 +278,7 @@ impl<R: Records + Drop> Stage<R> {
     fn move_clocks(&mut self, ticks: &Ticks)
         ensures { goes_past_end self.old.world ticks.now ≡ false → self.new ≡ record self.old { world = ticked self.old.world ticks.now } }
     {
-        let now = (self.clock as u128 + ticks.master as u128) as u64;
+        let now = self.clock.saturating_add(ticks.master);
         self.clock = now;
         match &self.master {
             None => self.clients.move_alone(ticks),
