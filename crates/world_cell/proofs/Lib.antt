@@ -4,6 +4,7 @@ pub mod OneMessage
 pub mod SeatAnswers
 pub mod SeatsFound
 pub mod SeatsMove
+pub mod TickOutcomes
 pub mod RefusedUp
 pub mod WorldCases
 pub mod OwnSteps
