@@ -183,6 +183,17 @@ impl Cell {
         before
     }
 
+    /// Notes until when nothing is to be done for sessions, so that until then nobody looks for one. To be called where
+    /// nothing is to be done; elsewhere it does no harm. Takes no memory.
+    pub fn note_quiet(&mut self)
+        ensures { self.new ≡ self.old }
+    {
+        self.sessions.note_quiet(self.clock);
+        if self.recovering {
+            self.sessions.note_unheard();
+        }
+    }
+
     /// The moment that was the last one before.
     pub fn restore_moment(&mut self, before: u64)
         requires { IsMoment before }

@@ -1,6 +1,6 @@
 -- What a sweep commits is sound, and leaves the master beside its rows.
 use Rattle.std.proofs.Common.{◌≡◌, ℕ, List, [], ◌∷◌, ◌++◌, Bool, true, false, cond, Option, Some, None, Result, Ok, Err, refl, sym, ◌∙◌, ap, subst, inl, inr, arith}
-use Rattle.std.specs.Prelude.{◌⊎◌, ◌&&◌, ◌||◌, ◌==◌, ◌+◌, ◌≤◌, not, map, filter, max, if◌then◌else◌, IfOk, IfErr, OnOk, OnErr}
+use Rattle.std.specs.Prelude.{◌⊎◌, ◌&&◌, ◌||◌, ◌==◌, ◌+◌, ◌≤◌, not, map, max, if◌then◌else◌, IfOk, IfErr, OnOk, OnErr}
 use Rattle.std.specs.Option.{option_map_or}
 use Rattle.std.specs.List.{list_all, list_any}
 use Rattle.std.specs.List.Sorted.{IsStrictlySortedBy}
@@ -42,19 +42,17 @@ use Rattle.session_core.specs.declared.records.Parked.{Parked}
 use Rattle.session_core.specs.declared.records.Session.{Session}
 use Rattle.session_core.specs.Session as of_session
 use Rattle.session_core.specs.Session.{session_until, prolonged, answered}
-use Rattle.session_core.specs.Sessions.{SessionTable, with_session, with_new}
+use Rattle.session_core.specs.Sessions.{with_session, with_new}
 use Rattle.session_core.proofs.RowsOfSessions.{rows_of, rows_of-set_value, rows_of-insert_entry, lookup-rows_of}
-use Rattle.cell_core.specs.declared.deeds.Change.{Change}
 use Rattle.cell_core.specs.declared.pending.Task.{Task}
 use Rattle.cell_core.specs.State.{MasterState, is_held, is_held_so, locks_of, row_of, session_rows}
-use Rattle.cell_core.specs.Step.{session_of, reply_of, answered_by, recorded, with_note, is_past_end, noted}
+use Rattle.cell_core.specs.Step.{session_of, reply_of, answered_by, recorded, is_past_end, noted}
 use Rattle.cell_core.specs.Deeds.{edit_of}
 use Rattle.over_core.specs.declared.effects.Effect.{Effect}
-use Rattle.over_core.specs.Effect.{effect}
 use Rattle.over_core.specs.declared.sweeps.Swept.{Swept}
 use Rattle.over_core.specs.Kept.{IsKept, is_known, are_known, waiting_fits}
 use Rattle.over_core.specs.Sweep.{action_edits, first_action, sweep_edits, sweep_step}
-use Rattle.over_core.specs.SweepCase.{IsTurn, IsDueToEnd, SweepCase, rest, mapped, swept_by, swept_edits}
+use Rattle.over_core.specs.SweepCase.{IsTurn, SweepCase, rest, mapped, swept_by, swept_edits}
 use Rattle.over_core.specs.SweepCase.SweepCase.{Quiet, Recovers, Expires, AnswersBeat, TurnedAway, StartedAgain, Started, OfEnded, Ended, Applied}
 use Rattle.over_core.proofs.FitsByEffects.{ModFits, EffectFits, effect_fits}
 use Rattle.over_core.proofs.KeptByTakes.{IsByBeats, step_by_beats, new_by_beats, stays, stepped_kept, note_kept, recorded_kept, clock_kept}

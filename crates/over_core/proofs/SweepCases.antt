@@ -1,6 +1,6 @@
 -- The arm of the table that a sweep takes.
-use Rattle.std.proofs.Common.{◌≡◌, ℕ, ◌≤◌, List, [], ◌∷◌, ◌++◌, Bool, true, false, cond, Option, Some, None, Result, Ok, Err, refl, sym, ap, ◌∙◌, subst, eqb, arith}
-use Rattle.std.specs.Prelude.{◌==◌, ◌&&◌, ◌||◌, nat_le}
+use Rattle.std.proofs.Common.{◌≡◌, ℕ, ◌≤◌, List, [], ◌∷◌, Bool, true, false, cond, Option, Some, None, Result, Ok, Err, refl, sym, ap, ◌∙◌, subst, eqb, arith}
+use Rattle.std.specs.Prelude.{◌&&◌, ◌||◌, nat_le}
 use Rattle.std.specs.Option.{option_map, option_map_or, option_and_then}
 use Rattle.std.specs.List.Sorted.{IsStrictlySortedBy}
 use Rattle.std.specs.Map.{keys_of}
@@ -175,8 +175,7 @@ module _ (s : MasterState) (order : HasSessionsInOrder s) where
   expire_case client is =
       let t = some_passes (is_client_expired s.clock client) (session_of s client) (passed s (is_client_expired s.clock) client order is) in
       let u = and_parts t.0.live (nat_le t.0.timeout s.clock) t.2 in
-      let due : IsDueToEnd s client t.0 = record { lowest_expired = is; found = t.1; live = u.0; over = over_at t.0.timeout s.clock u.1 } in
-      (
+      let due : IsDueToEnd s client t.0 = record { lowest_expired = is; found = t.1; live = u.0; over = over_at t.0.timeout s.clock u.1 } in (
         Expires client t.0 due,
         ap (λ (o : Option (Session Reply)). swept_by_plan s (expiry_of s client o) false) t.1,
         ap (λ (o : Option (Session Reply)). edits_of (expiry_of s client o).deed) t.1 ∙ append-nil (swept_edits s (Expires client t.0 due)),
@@ -189,8 +188,7 @@ module _ (s : MasterState) (order : HasSessionsInOrder s) where
       let due : IsDue s client t.0 u.0 = record { lowest_due = is; found = t.1; live = u.2; is_parked = u.1 } in
       let offered : offer_of s.sessions client s.clock ≡ Some (offer_to s.sessions.lease s.clock u.0) =
       ap (λ (o : Option (Session Reply)). option_and_then (λ session. option_map (offer_to s.sessions.lease s.clock) session.parked) o) t.1
-      ∙ ap (λ (o : Option Parked). option_map (offer_to s.sessions.lease s.clock) o) u.1 in
-      (
+      ∙ ap (λ (o : Option Parked). option_map (offer_to s.sessions.lease s.clock) o) u.1 in (
         AnswersBeat client t.0 u.0 due,
         ap (λ (o : Option Offer). swept_by_plan s (answer_of s client o) false) offered,
         ap (λ (o : Option Offer). edits_of (answer_of s client o).deed) offered,

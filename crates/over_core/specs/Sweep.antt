@@ -9,7 +9,6 @@ use Rattle.rows_cell.specs.declared.tables.Edit.{Edit}
 use Rattle.tags_cell.specs.declared.outs.Out.{Out}
 use Rattle.tags_cell.specs.declared.outs.Out.TheVariants as outs
 use Rattle.tags_cell.specs.declared.calls.Call.{Call}
-use Rattle.gate_core.specs.declared.pending.Waiting.{Waiting}
 use Rattle.session_core.specs.declared.records.Offer.{Offer}
 use Rattle.session_core.specs.Session.{is_client_expired, is_client_due, offered_span}
 use Rattle.session_core.specs.Sessions.{all_heard, lowest, offer_of}
@@ -18,8 +17,6 @@ use Rattle.cell_core.specs.declared.deeds.SessionDeed.{SessionDeed}
 use Rattle.cell_core.specs.declared.deeds.SessionDeed.TheVariants.{Begins, Prolongs, Ends, Answers}
 use Rattle.over_core.specs.declared.effects.Effect.{Effect}
 use Rattle.cell_core.specs.declared.deeds.Change.{Change}
-use Rattle.cell_core.specs.declared.pending.Taken.{Taken}
-use Rattle.cell_core.specs.declared.pending.Task.{Task}
 use Rattle.cell_core.specs.declared.pending.Work.{Work}
 use Rattle.cell_core.specs.declared.pending.Work.TheVariants as works
 use Rattle.cell_core.specs.State.{MasterState, locks_of, first_number, task_at}

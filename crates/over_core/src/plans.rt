@@ -76,10 +76,7 @@ fn plan_expiry(master: &Master, client: u64) -> Result<Plan, AllocError>
     let locks = master.held_locks_of(client)?;
     let principal = session.principal.clone()?;
     let taken = printed(master, Line::Ended(client))?;
-    Ok(Plan::of(
-        Some(SessionDeed::Ends(client, principal, locks)),
-        taken,
-    ))
+    Ok(Plan::of(Some(SessionDeed::Ends(client, principal, locks)), taken))
 }
 
 // What is done for the change of a number, which then leaves the gate.
@@ -140,10 +137,7 @@ fn plan_session(
     }
     let taken = started(master, client, number, received)?;
     let principal = principal.clone()?;
-    Ok(Plan::of(
-        Some(SessionDeed::Begins(client, principal)),
-        taken,
-    ))
+    Ok(Plan::of(Some(SessionDeed::Begins(client, principal)), taken))
 }
 
 // The client's new session is printed too.

@@ -72,6 +72,9 @@ fn sweep_at<R: Records>(master: &mut Master, records: &mut R) -> Result<Swept, F
     ensures err { OnErr result (master.new ≡ master.old) }
 {
     let action = first_action(master);
+    if is_quiet(&action) {
+        master.note_quiet();
+    }
     let plan = plan_of(master, &action)?;
     carry_out(master, records, plan, is_quiet(&action))
 }
@@ -97,9 +100,34 @@ fn carry_out<R: Records>(
     ensures err { OnErr result (master.new ≡ master.old) }
 {
     let Plan { deed, taken } = plan;
-    let edits = edits_of(master.alloc(), &deed)?;
-    commit_deed(master, records, deed, &edits)?;
-    Ok(Swept::of(taken, quiet))
+    match commit_edits(master, records, deed) {
+        Ok(()) => Ok(Swept::of(taken, quiet)),
+        Err(fault) => {
+            drop(taken);
+            Err(fault)
+        }
+    }
+}
+
+// The deed is done, with its edits committed.
+fn commit_edits<R: Records>(master: &mut Master, records: &mut R, deed: Deed) -> Result<(), Fault>
+    requires sound { sound (R.store records.old).cell (changed_rows (R.store records.old).rows (edits_of deed)) ≡ true }
+    requires begins { BeginsNew master.old deed.session }
+    ensures ok { OnOk result (master.new ≡ done master.old deed) }
+    ensures store { Commits (edits_of deed) (R.store records.old) (R.store records.new) result }
+    ensures err { OnErr result (master.new ≡ master.old) }
+{
+    match edits_of(master.alloc(), &deed) {
+        Ok(edits) => {
+            let done = commit_deed(master, records, deed, &edits);
+            drop(edits);
+            done
+        }
+        Err(error) => {
+            drop(deed);
+            Err(error.into())
+        }
+    }
 }
 
 // The deed is begun, committed, and finished; where the commit is refused it is taken back.
@@ -123,6 +151,7 @@ fn commit_deed<R: Records>(
             Ok(())
         }
         Err(fault) => {
+            drop(rest);
             master.undo(former);
             Err(fault.into())
         }

@@ -60,7 +60,7 @@ const CLIENTS: &[(&str, &[(Turn, &str)])] = &[
             (Turn::Read, "NoSession"),
             (Turn::Beat, "start 1"),
             (Turn::Started, "no line"),
-            (Turn::Beat, "nothing"),
+            (Turn::Beat, "beat 2"),
             (Turn::Read, "BadHandle"),
             (Turn::Again, "nothing"),
         ],
@@ -91,17 +91,17 @@ fn started() -> Result<Out, Fail> {
     }))
 }
 
-fn start_text(request: &Request) -> &'static str {
-    if request.number().get() == 1 {
-        "start 1"
-    } else {
-        "another start"
+fn beat_text(request: &Request) -> &'static str {
+    match (request, request.number().get()) {
+        (Request::Start(_), 1) => "start 1",
+        (Request::Beat(_), 2) => "beat 2",
+        _ => "another message",
     }
 }
 
 fn beat(client: &mut Client) -> &'static str {
     match client.beat(0) {
-        Ok(Some(request)) => start_text(&request),
+        Ok(Some(request)) => beat_text(&request),
         Ok(None) => "nothing",
         Err(fault) => fault.name(),
     }

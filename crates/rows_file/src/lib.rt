@@ -1,0 +1,8 @@
+//! A store in SQL as the bytes of its files.
+#![tactic(auto)]
+
+mod file;
+mod verdicts;
+
+pub use file::inspect_file;
+pub use verdicts::verdict;
