@@ -1,5 +1,6 @@
 //! The parts of a world, and what each step does to them.
-ghost use Rattle.std.specs.Prelude.{◌≡◌, [], ◌∷◌, false, Some, None, Ok, Err, IfOk, IfErr, OnOk, OnErr, is_some};
+ghost use Rattle.lease_core.specs.Lease.{longest_lease};
+ghost use Rattle.std.specs.Prelude.{◌≡◌, ◌≤◌, [], ◌∷◌, false, Some, None, Ok, Err, IfOk, IfErr, OnOk, OnErr, is_some};
 ghost use Rattle.world_cell.specs.World.{opened, store_in, world_step, world_up, world_join, world_ask, world_beat, world_tick, world_take, world_give, world_sweep, moves_nobody, are_fair, goes_past_end, ticked, step_edits, IsStored, IsLeft, MayRefuseStep};
 ghost use Rattle.world_cell.specs.Consistent.{Agrees};
 
@@ -47,7 +48,8 @@ impl<R: Records> Model for Stage<R> {
 
 impl<R: Records + Drop> Stage<R> {
     pub(crate) fn new(alloc: Global, records: R, settings: &Settings) -> Stage<R>
-        ensures { result ≡ opened (R.store records) settings.now.lease }
+        ensures is { result ≡ opened (R.store records) settings.now.lease }
+        ensures range { settings.now.lease ≤ longest_lease }
     {
         Stage {
             alloc,
