@@ -22,10 +22,10 @@ loop-step-preserved g c =
     rw c.in_ok-append.ensures.ok (run_more c.args.self.now c.loop-step.self c.line_step.new.self c.args.steps.now c.loop-step.step-index c.step-item.result c.loop-step.lines c.in_ok-here.here (omega arith) c.step-item.is c.loop-step.invariant c.in_ok-here.ensures.ok c.line_step.ensures.consistent)
 
 pub returns-clause-map : goal.returns-clause-map
-returns-clause-map g c = (run_tells c.args.self.now c.args.steps.now c.loop-step.lines c.loop-step.self (run_whole c.args.self.now c.loop-step.self c.args.steps.now c.loop-step.step-index c.loop-step.lines (omega arith) c.loop-step.invariant)).is_map
+returns-clause-map g c = (run_tells c.args.self.now c.args.steps.now c.loop-step.lines c.loop-step.self c.consistent.ensures (run_whole c.args.self.now c.loop-step.self c.args.steps.now c.loop-step.step-index c.loop-step.lines (omega arith) c.loop-step.invariant)).is_map
 
 pub returns-clause-epoch : goal.returns-clause-epoch
-returns-clause-epoch g c = (run_tells c.args.self.now c.args.steps.now c.loop-step.lines c.loop-step.self (run_whole c.args.self.now c.loop-step.self c.args.steps.now c.loop-step.step-index c.loop-step.lines (omega arith) c.loop-step.invariant)).is_epoch
+returns-clause-epoch g c = (run_tells c.args.self.now c.args.steps.now c.loop-step.lines c.loop-step.self c.consistent.ensures (run_whole c.args.self.now c.loop-step.self c.args.steps.now c.loop-step.step-index c.loop-step.lines (omega arith) c.loop-step.invariant)).is_epoch
 
 pub returns-clause-once : goal.returns-clause-once
 returns-clause-once g c = λ client.
