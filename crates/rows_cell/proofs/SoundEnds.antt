@@ -74,9 +74,9 @@ fewer test keep (e ∷ es) =
     elim (test e.0) as (λ b. length (filter keep (cond b es (e ∷ remove_entry test es))) ≤ length (filter keep (e ∷ es))) [
       | true ↦ kept_at_most keep e es
       | false ↦ elim (keep e) as (λ b. length (cond b (e ∷ filter keep (remove_entry test es)) (filter keep (remove_entry test es))) ≤ length (cond b (e ∷ filter keep es) (filter keep es))) [
-          | true ↦ both_more (length (filter keep (remove_entry test es))) (length (filter keep es)) (fewer test keep es)
-          | false ↦ fewer test keep es
-        ]
+        | true ↦ both_more (length (filter keep (remove_entry test es))) (length (filter keep es)) (fewer test keep es)
+        | false ↦ fewer test keep es
+      ]
     ]
 
 one_left : (m n : ℕ) → m ≤ n → nat_le 1 m ≡ true → (n == 1) ≡ true → (m == 1) ≡ true
@@ -136,7 +136,7 @@ module _ (cell : List ℕ) (rows : Rows) (test : LockKey → Bool) where
         distinct = p.distinct;
         sessions = p.sessions;
         locks = all_from_both (lock_fits rows) (λ e. nat_le 1 (length (beside unlocked.locks e.0))) (lock_fits unlocked) unlocked.locks lock_stays
-        (all_gone test (lock_fits rows) rows.locks p.locks) (each_counts unlocked.locks);
+            (all_gone test (lock_fits rows) rows.locks p.locks) (each_counts unlocked.locks);
       })
 
 -- a lock's row may go

@@ -85,7 +85,7 @@ moved_fair now past own own_then least_now least_own ln lo a b c d e = omega ari
 fair_between : (here later : WorldState) → IsConsistent here → IsConsistent later → Later here later → AreFairClocks here later
 fair_between here later h k l master successor up up_then same number seat moved is is_then =
     let epoch : later.rows.epoch ≡ here.rows.epoch =
-        sym (agrees_at later later.master successor up_then k.master).epoch ∙ same ∙ (agrees_at here here.master master up h.master).epoch in
+    sym (agrees_at later later.master successor up_then k.master).epoch ∙ same ∙ (agrees_at here here.master master up h.master).epoch in
     let x = l.clients number seat is in
     let next : x.next ≡ moved = some_same x.next moved (sym x.there ∙ is_then) in
     let began = fair_at here here.master master up h.fair number seat is in

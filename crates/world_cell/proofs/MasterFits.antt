@@ -212,11 +212,11 @@ module _ (sent : List Message) (s : MasterState) (client number : ℕ) (h : Fits
   waits_fits call touched found =
       let w : Waiting Task = waits_as (s.gate.pushed + 1) touched (record { client = client; number = number; work = works.Calls call }) in
       let own : waiting client (s.gate.waiting ++ w ∷ []) ≡ number ∷ [] =
-          waiting_append client s.gate.waiting (w ∷ []) ∙ ap (λ xs. xs ++ waiting client (w ∷ [])) free ∙ waits_own client number call [] in
+      waiting_append client s.gate.waiting (w ∷ []) ∙ ap (λ xs. xs ++ waiting client (w ∷ [])) free ∙ waits_own client number call [] in
       let others = λ (q : ℕ) (apart : q ≢ client).
-          subst (λ xs. IsInTurn (session_of s q) xs)
-          (sym (waiting_append q s.gate.waiting (w ∷ []) ∙ ap (λ xs. waiting q s.gate.waiting ++ xs) (waits_other q client number (works.Calls call) [] apart) ∙ append-nil (waiting q s.gate.waiting)))
-          (h.turns q) in
+      subst (λ xs. IsInTurn (session_of s q) xs)
+      (sym (waiting_append q s.gate.waiting (w ∷ []) ∙ ap (λ xs. waiting q s.gate.waiting ++ xs) (waits_other q client number (works.Calls call) [] apart) ∙ append-nil (waiting q s.gate.waiting)))
+      (h.turns q) in
       record {
         queue = queue_push sent s.epoch s.gate.waiting w h.queue found;
         kept = is_recorded sent s h client number None (record { call = record { client = client; epoch = s.epoch; number = number; call = call }; found = found; same = refl });

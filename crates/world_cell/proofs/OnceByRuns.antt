@@ -326,8 +326,8 @@ module _ (client : ℕ) (last : Option ℕ) (old : WorldState) (step : Step) (ne
   step_on : WorldCase old step new printed → StepsOn client last printed new
   step_on (ComesUp u) =
       let past : PastIn new.messages client new.master last = subst (λ (x : WorldState). PastIn x.messages client x.master last) (sym u.is)
-          (same_past old.messages (old.rows.epoch + 1) client None _ last (all_first u.now old.rows.sessions client).0
-          (λ number call is of. let before = (h.sent client number call is).past in absurd (omega arith))) in
+      (same_past old.messages (old.rows.epoch + 1) client None _ last (all_first u.now old.rows.sessions client).0
+      (λ number call is of. let before = (h.sent client number call is).past in absurd (omega arith))) in
       record { rises = rw u.tells tt; past = rw u.tells (record { counted = counted_on (ComesUp u); master = past }) }
   step_on (Joins j) =
       silent_on client new printed last (rw j.tells tt) (record { counted = counted_on (Joins j); master = same_master [] (rw j.is (sym (append-nil old.messages))) (rw j.is refl) (λ number call is. cc) })

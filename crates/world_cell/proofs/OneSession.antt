@@ -34,7 +34,7 @@ module _ (P : ℕ → Option (Session Reply) → Type 0) (table : Sessions) (cli
   pub each_apart : (step : Session Reply → Session Reply) → ((q : ℕ) → q ≢ client → P q (session_of table q)) → (session_of table client ≡ None → P client None) → ((session : Session Reply) → session_of table client ≡ Some session → P client (Some (step session))) → (q : ℕ) → P q (session_of (with_session table client step) q)
   each_apart step others none own q =
       let stepped : P client (option_map step (session_of table client)) =
-          (elim (session_of table client) as (λ o. session_of table client ≡ o → P client (option_map step o)) [ None ↦ none | Some session ↦ own session ]) refl in
+      (elim (session_of table client) as (λ o. session_of table client ≡ o → P client (option_map step o)) [ None ↦ none | Some session ↦ own session ]) refl in
       at_each (λ n. P n (session_of (with_session table client step) n)) client
       (subst (λ o. P client o) (sym (own_session table client step)) stepped)
       (λ n apart. subst (λ o. P n o) (sym (other_session table client step n apart)) (others n apart)) q
