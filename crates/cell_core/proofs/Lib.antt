@@ -1,3 +1,5 @@
 mod MissingRights
 mod Notes
+mod Filtered
+mod TakenOver
 pub mod TakeCases

@@ -1,10 +1,11 @@
 -- The arm of the table that a message takes.
-use Rattle.std.proofs.Common.{◌≡◌, ◌≢◌, ℕ, ◌<◌, List, [], Bool, true, false, cond, Option, Some, None, Result, Ok, Err, refl, arith, eqb, inl, inr}
-use Rattle.std.specs.Prelude.{◌==◌, ◌||◌, nat_lt, nat_le, is_none}
+use Rattle.std.proofs.Common.{◌≡◌, ◌≢◌, ℕ, ◌<◌, [], Bool, true, false, cond, Option, Some, None, Result, Ok, Err, refl, arith, eqb, inl, inr}
+use Rattle.std.specs.Prelude.{◌==◌, ◌||◌, nat_lt, is_none}
 use Rattle.std.proofs.lemmas.Bool.Decides.{nat_tests}
 use Rattle.node_core.specs.declared.refusals.Fault.{Fault}
 use Rattle.node_core.specs.declared.refusals.Fault.TheVariants as faults
 use Rattle.tags_cell.specs.declared.requests.Start.{Start}
+use Rattle.tags_cell.specs.declared.beats.Beat.{Beat}
 use Rattle.tags_cell.specs.declared.requests.CallMessage.{CallMessage}
 use Rattle.tags_cell.specs.declared.requests.Request.{Request}
 use Rattle.tags_cell.specs.declared.requests.Request.TheVariants as requests
@@ -13,12 +14,13 @@ use Rattle.tags_cell.specs.declared.outs.CallResult.TheVariants as results
 use Rattle.tags_cell.specs.declared.outs.Reply.{Reply}
 use Rattle.cell_core.specs.declared.admissions.Admission.{Admission}
 use Rattle.cell_core.specs.declared.pending.Taken.{Taken}
-use Rattle.cell_core.specs.declared.pending.Kept.{Kept}
+use Rattle.session_core.specs.declared.records.Kept.{Kept}
+use Rattle.session_core.specs.Session.{beat_fault, kept_answer}
 use Rattle.cell_core.specs.declared.pending.Work.TheVariants as works
 use Rattle.cell_core.specs.State.{MasterState}
-use Rattle.cell_core.specs.Step.{kept_of, is_live, is_full, may_start, turned_away, refusal, repeated, queued, replied, waits, nothing, with_note, admission_of, admit_step, new_call, kept_step, call_step, start_step, take_at, take_step, is_past_end, is_spent, noted}
-use Rattle.cell_core.specs.Cases.{IsBehind, IsHeard, IsNew, IsAnswered, IsAdmitted, TakeCase, taken_by}
-use Rattle.cell_core.specs.Cases.TakeCase.{StartRefused, StartFull, StartQueued, OldEpoch, NoSession, Repeated, OlderCall, Outstanding, Answered, Waits}
+use Rattle.cell_core.specs.Step.{session_of, kept_of, is_live, is_full, may_start, turned_away, refusal, queued, replied, waits, nothing, with_note, admission_of, admit_step, new_call_by, new_call, kept_step, call_step, start_step, beat_by, beat_step, take_at, take_step, is_past_end, is_spent, noted}
+use Rattle.cell_core.specs.Cases.{IsHeard, IsNew, TakeCase, taken_by}
+use Rattle.cell_core.specs.Cases.TakeCase.{StartRefused, StartRecovering, StartFull, StartQueued, OldBeat, BeatRefused, BeatParked, OldEpoch, NoSession, Repeated, OlderCall, Outstanding, Recovering, Answered, Waits}
 
 -- one of the cases is what is done
 abbrev pub IsCase : (s : MasterState) → Request → MasterState × Taken → Type 0
@@ -51,38 +53,44 @@ some_reply (Some reply) h = (reply, refl)
 -- ---- a new call
 
 -- by what it is answered at once, and whether there is room
-admit_case : (s : MasterState) (request : Request) (message : CallMessage) (admission : Admission) (o : Option CallResult) → IsNew s request message → admission_of s message.client message.number message.call ≡ admission → admission.answer ≡ o → IsCase s request (admit_step (with_note s admission.note) message.client message.number message.call admission.touched o)
-admit_case s request message admission None new is none =
+admit_case : (s : MasterState) (request : Request) (message : CallMessage) (admission : Admission) (o : Option CallResult) → IsNew s request message → s.recovering ≡ false → admission_of s message.client message.number message.call ≡ admission → admission.answer ≡ o → IsCase s request (admit_step (with_note s admission.note) message.client message.number message.call admission.touched o)
+admit_case s request message admission None new serving is none =
     let t : MasterState = with_note s admission.note in
     either s request (is_full t) (replied t message.client message.number (results.Refused faults.Busy)) (waits t message.client message.number message.call admission.touched)
-    (λ full. (Answered message admission.note (results.Refused faults.Busy) new (record { is_noted = rw is refl; is_answer = inr (rw is none, full, refl) }), refl))
-    (λ room. (Waits message admission.note admission.touched new (record { is_touched = rw is refl; is_noted = rw is refl; passes = rw is none; room = room }), refl))
-admit_case s request message admission (Some answer) new is some =
-    (Answered message admission.note answer new (record { is_noted = rw is refl; is_answer = inl (rw is some) }), refl)
+    (λ full. (Answered message admission.note (results.Refused faults.Busy) new serving (record { is_noted = rw is refl; is_answer = inr (rw is none, full, refl) }), refl))
+    (λ room. (Waits message admission.note admission.touched new serving (record { is_touched = rw is refl; is_noted = rw is refl; passes = rw is none; room = room }), refl))
+admit_case s request message admission (Some answer) new serving is some =
+    (Answered message admission.note answer new serving (record { is_noted = rw is refl; is_answer = inl (rw is some) }), refl)
 
 new_case : (s : MasterState) (request : Request) (message : CallMessage) → IsNew s request message → IsCase s request (new_call s message.client message.number message.call)
 new_case s request message new =
     let admission : Admission = admission_of s message.client message.number message.call in
-    admit_case s request message admission admission.answer new refl refl
+    either s request s.recovering (replied s message.client message.number (results.Refused faults.Recovering)) (new_call_by s message.client message.number message.call admission)
+    (λ recovering. (Recovering message new recovering, refl))
+    (λ serving. admit_case s request message admission admission.answer new serving refl refl)
 
 -- ---- a call, by the client's last one
 
-kept_case : (s : MasterState) (request : Request) (message : CallMessage) (o : Option Kept) → IsHeard s request message → kept_of s message.client ≡ o → IsCase s request (kept_step s message.client message.number message.call o)
+-- how it stands to the last one, by a test
+by_test : (s : MasterState) (request : Request) (message : CallMessage) (b : Bool) (x y : Result (Option (Kept Reply)) Fault) → (b ≡ true → IsCase s request (kept_step s message.client message.number message.call x)) → (b ≡ false → IsCase s request (kept_step s message.client message.number message.call y)) → IsCase s request (kept_step s message.client message.number message.call (cond b x y))
+by_test s request message true x y h k = h refl
+by_test s request message false x y h k = k refl
+
+kept_case : (s : MasterState) (request : Request) (message : CallMessage) (o : Option (Kept Reply)) → IsHeard s request message → kept_of s message.client ≡ o → IsCase s request (kept_step s message.client message.number message.call (kept_answer o message.number))
 kept_case s request message None heard is = new_case s request message (record { heard = heard; behind = rw is tt })
 kept_case s request message (Some kept) heard is =
-    let new = new_call s message.client message.number message.call in
-    let outstanding = cond (is_none kept.reply) (s, refusal s message.client message.number faults.CallOutstanding) new in
-    let older = cond (nat_lt message.number kept.number) (s, refusal s message.client message.number faults.Repeat) outstanding in
-    either s request (message.number == kept.number) (s, repeated kept) older (λ e. (Repeated message kept heard is (same message.number kept.number e), refl)) (λ apart.
-    either s request (nat_lt message.number kept.number) (s, refusal s message.client message.number faults.Repeat) outstanding (λ e. (OlderCall message kept heard is (less message.number kept.number e), refl)) (λ more.
+    let waiting : Result (Option (Kept Reply)) Fault = cond (is_none kept.reply) (Err faults.CallOutstanding) (Ok None) in
+    let older : Result (Option (Kept Reply)) Fault = cond (nat_lt message.number kept.number) (Err faults.Repeat) waiting in
+    by_test s request message (message.number == kept.number) (Ok (Some kept)) older (λ e. (Repeated message kept heard is (same message.number kept.number e), refl)) (λ apart.
+    by_test s request message (nat_lt message.number kept.number) (Err faults.Repeat) waiting (λ e. (OlderCall message kept heard is (less message.number kept.number e), refl)) (λ more.
     let high = above message.number kept.number apart more in
-    either s request (is_none kept.reply) (s, refusal s message.client message.number faults.CallOutstanding) new (λ e. (Outstanding message kept heard is high (no_reply kept.reply e), refl)) (λ e.
+    by_test s request message (is_none kept.reply) (Err faults.CallOutstanding) (Ok None) (λ e. (Outstanding message kept heard is high (no_reply kept.reply e), refl)) (λ e.
     let t = some_reply kept.reply e in
     new_case s request message (record { heard = heard; behind = rw is (t.0, t.1, high) }))))
 
 call_case : (s : MasterState) (request : Request) (message : CallMessage) → request ≡ requests.Call message → IsCase s request (call_step s message)
 call_case s request message is =
-    let kept = kept_step s message.client message.number message.call (kept_of s message.client) in
+    let kept = kept_step s message.client message.number message.call (kept_answer (kept_of s message.client) message.number) in
     let live = cond (is_live s message.client) kept (s, refusal s message.client message.number faults.NoSession) in
     either s request (message.epoch == s.epoch) live (s, refusal s message.client message.number (faults.OldEpoch s.epoch)) (λ e.
     let epoch = same message.epoch s.epoch e in
@@ -91,18 +99,35 @@ call_case s request message is =
     (λ ended. (NoSession message is epoch ended, refl)))
     (λ e. (OldEpoch message is (other message.epoch s.epoch e), refl))
 
+-- ---- a Start
+
 start_case : (s : MasterState) (request : Request) (start : Start) → request ≡ requests.Start start → IsCase s request (start_step s start)
 start_case s request start is =
-    let waits : MasterState × Taken = (queued s [] (record { client = start.client; number = start.number; work = works.Starts start.principal }), nothing) in
+    let waits : MasterState × Taken = (queued s [] (record { client = start.client; number = start.number; work = works.Starts start.principal s.clock }), nothing) in
     let room = cond (is_full s) (s, turned_away s start.client start.number faults.Busy) waits in
-    either s request (may_start s start.client start.principal) room (s, refusal s start.client start.number faults.NoSession) (λ may.
-    either s request (is_full s) (s, turned_away s start.client start.number faults.Busy) waits (λ full. (StartFull start is may full, refl)) (λ free. (StartQueued start is may free, refl)))
+    let serving = cond s.recovering (s, turned_away s start.client start.number faults.Recovering) room in
+    either s request (may_start s start.client start.principal) serving (s, refusal s start.client start.number faults.NoSession) (λ may.
+    either s request s.recovering (s, turned_away s start.client start.number faults.Recovering) room (λ e. (StartRecovering start is may e, refl)) (λ e.
+    either s request (is_full s) (s, turned_away s start.client start.number faults.Busy) waits (λ full. (StartFull start is may e full, refl)) (λ free. (StartQueued start is may e free, refl))))
     (λ may. (StartRefused start is may, refl))
+
+-- ---- a Beat
+
+fault_case : (s : MasterState) (request : Request) (beat : Beat) (o : Option Fault) → request ≡ requests.Beat beat → beat.epoch ≡ s.epoch → beat_fault (session_of s beat.client) beat ≡ o → IsCase s request (beat_by s beat o)
+fault_case s request beat None is epoch none = (BeatParked beat is epoch none, refl)
+fault_case s request beat (Some fault) is epoch some = (BeatRefused beat fault is epoch some, refl)
+
+beat_case : (s : MasterState) (request : Request) (beat : Beat) → request ≡ requests.Beat beat → IsCase s request (beat_step s beat)
+beat_case s request beat is =
+    either s request (beat.epoch == s.epoch) (beat_by s beat (beat_fault (session_of s beat.client) beat)) (s, refusal s beat.client beat.number (faults.OldEpoch s.epoch))
+    (λ e. fault_case s request beat (beat_fault (session_of s beat.client) beat) is (same beat.epoch s.epoch e) refl)
+    (λ e. (OldBeat beat is (other beat.epoch s.epoch e), refl))
 
 -- ---- the lemma
 
 pub take_case : (s : MasterState) (request : Request) → IsCase s request (take_at s request)
 take_case s (requests.Start start) = start_case s (requests.Start start) start refl
+take_case s (requests.Beat beat) = beat_case s (requests.Beat beat) beat refl
 take_case s (requests.Call message) = call_case s (requests.Call message) message refl
 
 -- a message that is taken at a moment

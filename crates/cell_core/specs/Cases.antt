@@ -1,7 +1,9 @@
 -- By which arm of its table a master takes a message. Each law of it is a match on these.
-use Rattle.std.specs.Prelude.{◌≡◌, ◌≢◌, ◌⊎◌, ℕ, ◌<◌, true, false, List, [], ◌∷◌, Option, Some, None}
+use Rattle.std.specs.Prelude.{◌≡◌, ◌≢◌, ◌⊎◌, ℕ, ◌<◌, true, false, List, [], Option, Some, None}
 use Rattle.node_core.specs.declared.refusals.Fault.TheVariants as faults
 use Rattle.tags_cell.specs.declared.requests.Start.{Start}
+use Rattle.tags_cell.specs.declared.beats.Beat.{Beat}
+use Rattle.node_core.specs.declared.refusals.Fault.{Fault}
 use Rattle.tags_cell.specs.declared.requests.CallMessage.{CallMessage}
 use Rattle.tags_cell.specs.declared.requests.Request.{Request}
 use Rattle.tags_cell.specs.declared.requests.Request.TheVariants as requests
@@ -10,15 +12,16 @@ use Rattle.tags_cell.specs.declared.outs.Reply.{Reply}
 use Rattle.tags_cell.specs.declared.outs.CallResult.TheVariants as results
 use Rattle.cell_core.specs.declared.handles.Note.{Note}
 use Rattle.cell_core.specs.declared.pending.Taken.{Taken}
-use Rattle.cell_core.specs.declared.pending.Kept.{Kept}
+use Rattle.session_core.specs.declared.records.Kept.{Kept}
+use Rattle.session_core.specs.Session.{beat_fault}
 use Rattle.cell_core.specs.declared.pending.Work.TheVariants as works
 use Rattle.cell_core.specs.State.{MasterState}
-use Rattle.cell_core.specs.Step.{kept_of, is_live, is_full, may_start, nothing, turned_away, refusal, repeated, queued, replied, waits, with_note, admission_of}
+use Rattle.cell_core.specs.Step.{session_of, kept_of, is_live, is_full, may_start, nothing, turned_away, refusal, repeated, queued, parked, replied, waits, with_note, admission_of}
 
 -- ---- a message
 
 -- the client's last call, if it made one, has its reply and a smaller number
-abbrev pub IsBehind : Option Kept → ℕ → Type 0
+abbrev pub IsBehind : Option (Kept Reply) → ℕ → Type 0
 IsBehind None number = Unit {0}
 IsBehind (Some kept) number = (reply : Reply) × (kept.reply ≡ Some reply) × (kept.number < number)
 
@@ -49,27 +52,38 @@ pub record IsAdmitted (s : MasterState) (message : CallMessage) (note : Option N
 pub data TakeCase (s : MasterState) (request : Request) : Type 0 where
   -- A START
   StartRefused : (start : Start) → request ≡ requests.Start start → may_start s start.client start.principal ≡ false → TakeCase s request
-  StartFull : (start : Start) → request ≡ requests.Start start → may_start s start.client start.principal ≡ true → is_full s ≡ true → TakeCase s request
-  StartQueued : (start : Start) → request ≡ requests.Start start → may_start s start.client start.principal ≡ true → is_full s ≡ false → TakeCase s request
+  StartRecovering : (start : Start) → request ≡ requests.Start start → may_start s start.client start.principal ≡ true → s.recovering ≡ true → TakeCase s request
+  StartFull : (start : Start) → request ≡ requests.Start start → may_start s start.client start.principal ≡ true → s.recovering ≡ false → is_full s ≡ true → TakeCase s request
+  StartQueued : (start : Start) → request ≡ requests.Start start → may_start s start.client start.principal ≡ true → s.recovering ≡ false → is_full s ≡ false → TakeCase s request
+  -- A BEAT
+  OldBeat : (beat : Beat) → request ≡ requests.Beat beat → beat.epoch ≢ s.epoch → TakeCase s request
+  BeatRefused : (beat : Beat) (fault : Fault) → request ≡ requests.Beat beat → beat.epoch ≡ s.epoch → beat_fault (session_of s beat.client) beat ≡ Some fault → TakeCase s request
+  BeatParked : (beat : Beat) → request ≡ requests.Beat beat → beat.epoch ≡ s.epoch → beat_fault (session_of s beat.client) beat ≡ None → TakeCase s request
   -- A CALL
   OldEpoch : (message : CallMessage) → request ≡ requests.Call message → message.epoch ≢ s.epoch → TakeCase s request
   NoSession : (message : CallMessage) → request ≡ requests.Call message → message.epoch ≡ s.epoch → is_live s message.client ≡ false → TakeCase s request
-  Repeated : (message : CallMessage) (kept : Kept) → IsHeard s request message → kept_of s message.client ≡ Some kept → message.number ≡ kept.number → TakeCase s request
-  OlderCall : (message : CallMessage) (kept : Kept) → IsHeard s request message → kept_of s message.client ≡ Some kept → message.number < kept.number → TakeCase s request
-  Outstanding : (message : CallMessage) (kept : Kept) → IsHeard s request message → kept_of s message.client ≡ Some kept → kept.number < message.number → kept.reply ≡ None → TakeCase s request
-  Answered : (message : CallMessage) (note : Option Note) (answer : CallResult) → IsNew s request message → IsAnswered s message note answer → TakeCase s request
-  Waits : (message : CallMessage) (note : Option Note) (touched : List (List ℕ)) → IsNew s request message → IsAdmitted s message note touched → TakeCase s request
+  Repeated : (message : CallMessage) (kept : Kept Reply) → IsHeard s request message → kept_of s message.client ≡ Some kept → message.number ≡ kept.number → TakeCase s request
+  OlderCall : (message : CallMessage) (kept : Kept Reply) → IsHeard s request message → kept_of s message.client ≡ Some kept → message.number < kept.number → TakeCase s request
+  Outstanding : (message : CallMessage) (kept : Kept Reply) → IsHeard s request message → kept_of s message.client ≡ Some kept → kept.number < message.number → kept.reply ≡ None → TakeCase s request
+  Recovering : (message : CallMessage) → IsNew s request message → s.recovering ≡ true → TakeCase s request
+  Answered : (message : CallMessage) (note : Option Note) (answer : CallResult) → IsNew s request message → s.recovering ≡ false → IsAnswered s message note answer → TakeCase s request
+  Waits : (message : CallMessage) (note : Option Note) (touched : List (List ℕ)) → IsNew s request message → s.recovering ≡ false → IsAdmitted s message note touched → TakeCase s request
 
 -- what the master is then, prints and sends
 abbrev pub taken_by : (s : MasterState) (request : Request) → TakeCase s request → MasterState × Taken
 taken_by s request (StartRefused start is may) = (s, refusal s start.client start.number faults.NoSession)
-taken_by s request (StartFull start is may full) = (s, turned_away s start.client start.number faults.Busy)
-taken_by s request (StartQueued start is may room) =
-    (queued s [] (record { client = start.client; number = start.number; work = works.Starts start.principal }), nothing)
+taken_by s request (StartRecovering start is may recovering) = (s, turned_away s start.client start.number faults.Recovering)
+taken_by s request (StartFull start is may serving full) = (s, turned_away s start.client start.number faults.Busy)
+taken_by s request (StartQueued start is may serving room) =
+    (queued s [] (record { client = start.client; number = start.number; work = works.Starts start.principal s.clock }), nothing)
+taken_by s request (OldBeat beat is other) = (s, refusal s beat.client beat.number (faults.OldEpoch s.epoch))
+taken_by s request (BeatRefused beat fault is same refused) = (s, refusal s beat.client beat.number fault)
+taken_by s request (BeatParked beat is same taken) = (parked s beat, nothing)
 taken_by s request (OldEpoch message is other) = (s, refusal s message.client message.number (faults.OldEpoch s.epoch))
 taken_by s request (NoSession message is same ended) = (s, refusal s message.client message.number faults.NoSession)
 taken_by s request (Repeated message kept heard is same) = (s, repeated kept)
 taken_by s request (OlderCall message kept heard is less) = (s, refusal s message.client message.number faults.Repeat)
 taken_by s request (Outstanding message kept heard is more none) = (s, refusal s message.client message.number faults.CallOutstanding)
-taken_by s request (Answered message note answer new answered) = replied (with_note s note) message.client message.number answer
-taken_by s request (Waits message note touched new admitted) = waits (with_note s note) message.client message.number message.call touched
+taken_by s request (Recovering message new recovering) = replied s message.client message.number (results.Refused faults.Recovering)
+taken_by s request (Answered message note answer new serving answered) = replied (with_note s note) message.client message.number answer
+taken_by s request (Waits message note touched new serving admitted) = waits (with_note s note) message.client message.number message.call touched

@@ -1,5 +1,5 @@
--- What a step of a master changes in it, beside the change that leaves the gate: first what may want memory, then, behind the one commit, the rest.
-use Rattle.std.specs.Prelude.{ℕ, List, [], ◌∷◌, ◌++◌, Option, Some, None}
+-- What a step of a master changes in it: first what may want memory, then, behind the one commit, the rest.
+use Rattle.std.specs.Prelude.{◌≡◌, ℕ, ◌+◌, Bool, true, false, List, [], ◌∷◌, ◌++◌, map, Option, Some, None}
 use Rattle.std.specs.Map.{remove_entry}
 use Rattle.std.specs.BTreeMap.{is_at, insert_entry}
 use Rattle.std.specs.Ordering.{nat_cmp}
@@ -8,32 +8,36 @@ use Rattle.plain.specs.Tables.{with_former}
 use Rattle.node_core.specs.declared.views.View.{View}
 use Rattle.node_core.specs.declared.views.Mod.{Mod}
 use Rattle.node_core.specs.declared.views.Mod.TheVariants.{Put, Gone}
-use Rattle.rows_cell.specs.declared.tables.Session.{Session}
 use Rattle.rows_cell.specs.declared.tables.Edit.{Edit}
-use Rattle.rows_cell.specs.declared.tables.Edit.TheVariants.{NextInstance, PutNode, RemoveNode, PutSession}
-use Rattle.gate_core.specs.Gate.{without}
+use Rattle.rows_cell.specs.declared.tables.Edit.TheVariants.{NextInstance, PutNode, RemoveNode, PutSession, RemoveLock}
+use Rattle.gate_core.specs.Gate as of_gate
+use Rattle.session_core.specs.Session.{session_until, prolonged, ended, answered}
+use Rattle.session_core.specs.Sessions.{with_session, with_new, without}
 use Rattle.cell_core.specs.declared.deeds.Change.{Change}
 use Rattle.cell_core.specs.declared.handles.HandleKey.{HandleKey}
 use Rattle.cell_core.specs.declared.handles.HandleState.{HandleState}
-use Rattle.cell_core.specs.declared.pending.Kept.{Kept}
 use Rattle.cell_core.specs.declared.deeds.Deed.{Deed}
-use Rattle.cell_core.specs.declared.deeds.SessionPut.{SessionPut}
+use Rattle.cell_core.specs.declared.deeds.SessionDeed.{SessionDeed}
+use Rattle.cell_core.specs.declared.deeds.SessionDeed.TheVariants.{Begins, Prolongs, Ends, Answers}
 use Rattle.cell_core.specs.declared.deeds.KeptPut.{KeptPut}
 use Rattle.cell_core.specs.declared.deeds.Former.{Former}
+use Rattle.cell_core.specs.declared.deeds.MapRest.{MapRest}
 use Rattle.cell_core.specs.declared.deeds.Rest.{Rest}
 use Rattle.cell_core.specs.Keys.{handle_order}
 use Rattle.cell_core.specs.State.{MasterState}
-use Rattle.cell_core.specs.Step.{recorded, with_note}
+use Rattle.cell_core.specs.Step.{session_of, recorded, with_note}
 
 -- ---- what may want memory
 
-abbrev pub with_session : MasterState → Option SessionPut → MasterState
-with_session s None = s
-with_session s (Some put) = record s { sessions = insert_entry nat_cmp s.sessions put.client put.session }
+-- a session that begins is of a client without one
+abbrev pub BeginsNew : MasterState → Option SessionDeed → Type 0
+BeginsNew s (Some (Begins client principal)) = session_of s client ≡ None
+BeginsNew s _ = Unit {0}
 
-abbrev pub with_kept : MasterState → Option KeptPut → MasterState
-with_kept s None = s
-with_kept s (Some put) = recorded s put.client put.kept
+-- it lives for a lease from now on
+abbrev pub with_begun : MasterState → Option SessionDeed → MasterState
+with_begun s (Some (Begins client principal)) = record s { sessions = with_new s.sessions client (session_until principal true (s.clock + s.sessions.lease)) }
+with_begun s _ = s
 
 -- a node that is put
 abbrev pub with_put : MasterState → Mod → MasterState
@@ -45,17 +49,13 @@ with_node s None = s
 with_node s (Some change) = with_put s change.change
 
 abbrev pub grown : MasterState → Deed → MasterState
-grown s deed = with_node (with_note (with_kept (with_session s deed.session) deed.kept) deed.note) deed.change
+grown s deed = with_node (with_note (with_begun s deed.session) deed.note) deed.change
 
 -- ---- how it is taken back
 
-abbrev pub without_session : MasterState → Option (ℕ × Option Session) → MasterState
-without_session s None = s
-without_session s (Some former) = record s { sessions = with_former nat_cmp s.sessions former.0 former.1 }
-
-abbrev pub without_kept : MasterState → Option (ℕ × Option Kept) → MasterState
-without_kept s None = s
-without_kept s (Some former) = record s { kept = with_former nat_cmp s.kept former.0 former.1 }
+abbrev pub without_begun : MasterState → Option ℕ → MasterState
+without_begun s None = s
+without_begun s (Some client) = record s { sessions = without s.sessions client }
 
 abbrev pub without_note : MasterState → Option (HandleKey × Option HandleState) → MasterState
 without_note s None = s
@@ -66,40 +66,69 @@ without_node s None = s
 without_node s (Some former) = record s { nodes = with_former (slice_cmp nat_cmp) s.nodes former.0 former.1 }
 
 abbrev pub undone : MasterState → Former → MasterState
-undone s former = without_session (without_kept (without_note (without_node s former.node) former.note) former.kept) former.session
+undone s former = without_begun (without_note (without_node s former.node) former.note) former.session
 
 -- ---- what is done behind the commit
+
+-- what is left to be done to a session
+abbrev pub session_rest : Option SessionDeed → Option SessionDeed
+session_rest (Some (Begins client principal)) = None
+session_rest deed = deed
 
 abbrev pub gone_of : Mod → Option (List ℕ)
 gone_of (Put name view) = None
 gone_of (Gone name) = Some name
 
 -- the node that goes, and the next instance
-abbrev pub rest_of : Option Change → Option Rest
-rest_of None = None
-rest_of (Some change) = Some (record { gone = gone_of change.change; next_instance = change.next_instance })
+abbrev pub map_rest : Option Change → Option MapRest
+map_rest None = None
+map_rest (Some change) = Some (record { gone = gone_of change.change; next_instance = change.next_instance })
+
+abbrev pub rest_of : Deed → Rest
+rest_of deed = record { session = session_rest deed.session; kept = deed.kept; map = map_rest deed.change; recovers = deed.recovers; leaves = deed.leaves }
+
+abbrev pub with_session_rest : MasterState → Option SessionDeed → MasterState
+with_session_rest s (Some (Prolongs client)) = record s { sessions = with_session s.sessions client (prolonged (s.clock + s.sessions.lease)) }
+with_session_rest s (Some (Ends client principal locks)) = record s { sessions = with_session s.sessions client ended }
+with_session_rest s (Some (Answers client)) = record s { sessions = with_session s.sessions client (answered s.sessions.lease s.clock) }
+with_session_rest s _ = s
+
+-- the reply to a call
+abbrev pub with_kept : MasterState → Option KeptPut → MasterState
+with_kept s None = s
+with_kept s (Some put) = recorded s put.client put.kept
 
 abbrev pub without_gone : MasterState → Option (List ℕ) → MasterState
 without_gone s None = s
 without_gone s (Some name) = record s { nodes = remove_entry (is_at (slice_cmp nat_cmp name)) s.nodes }
 
-abbrev pub with_rest : MasterState → Option Rest → MasterState
-with_rest s None = s
-with_rest s (Some rest) = record (without_gone s rest.gone) { next_instance = rest.next_instance }
+abbrev pub with_map : MasterState → Option MapRest → MasterState
+with_map s None = s
+with_map s (Some rest) = record (without_gone s rest.gone) { next_instance = rest.next_instance }
+
+abbrev pub recovered : MasterState → Bool → MasterState
+recovered s false = s
+recovered s true = record s { recovering = false }
 
 -- the change of this number leaves the gate
-abbrev pub left : MasterState → ℕ → MasterState
-left s number = record s { gate = record s.gate { waiting = without number s.gate.waiting } }
+abbrev pub left : MasterState → Option ℕ → MasterState
+left s None = s
+left s (Some number) = record s { gate = record s.gate { waiting = of_gate.without number s.gate.waiting } }
+
+abbrev pub with_rest : MasterState → Rest → MasterState
+with_rest s rest = left (recovered (with_map (with_kept (with_session_rest s rest.session) rest.kept) rest.map) rest.recovers) rest.leaves
 
 -- all of it
-abbrev pub done : MasterState → ℕ → Deed → MasterState
-done s number deed = left (with_rest (grown s deed) (rest_of deed.change)) number
+abbrev pub done : MasterState → Deed → MasterState
+done s deed = with_rest (grown s deed) (rest_of deed)
 
 -- ---- what of it is committed
 
-abbrev pub session_edits : Option SessionPut → List Edit
-session_edits None = []
-session_edits (Some put) = PutSession put.client put.session ∷ []
+-- a session that begins is put as live. One that ends lets its locks go, and is put as ended
+abbrev pub session_edits : Option SessionDeed → List Edit
+session_edits (Some (Begins client principal)) = PutSession client (record { principal = principal; live = true }) ∷ []
+session_edits (Some (Ends client principal locks)) = map RemoveLock locks ++ PutSession client (record { principal = principal; live = false }) ∷ []
+session_edits _ = []
 
 abbrev pub edit_of : Mod → Edit
 edit_of (Put name view) = PutNode name view

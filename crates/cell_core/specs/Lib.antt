@@ -2,6 +2,9 @@ pub use Rattle.plain.specs.Results
 pub use Rattle.names_cell.specs.Text
 pub use Rattle.node_core.specs.Nodes
 pub use Rattle.gate_core.specs.Gate
+pub use Rattle.lease_core.specs.Lease
+pub use Rattle.session_core.specs.Session
+pub use Rattle.session_core.specs.Sessions
 pub mod Handles
 pub mod Keys
 pub mod State

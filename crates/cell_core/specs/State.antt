@@ -1,17 +1,24 @@
 -- What a master is.
-use Rattle.std.specs.Prelude.{ℕ, List, [], ◌∷◌, fold, Option, Some, None}
+use Rattle.std.specs.Prelude.{ℕ, Bool, not, List, [], ◌∷◌, map, filter, ◌==◌, true, false, fold, Option, Some, None}
 use Rattle.std.specs.Option.{option_map}
 use Rattle.std.specs.BTreeMap.{insert_entry}
 use Rattle.std.specs.Ordering.{nat_cmp}
 use Rattle.node_core.specs.Nodes.{Nodes}
 use Rattle.rows_cell.specs.declared.tables.Node.{Node}
-use Rattle.rows_cell.specs.declared.tables.Session.{Session}
+use Rattle.rows_cell.specs.declared.tables.Session as stored
+use Rattle.rows_cell.specs.declared.tables.LockRow.{LockRow}
+use Rattle.rows_cell.specs.declared.tables.LockState.{LockState}
+use Rattle.rows_cell.specs.declared.tables.LockState.TheVariants.{Lapsed, Exclusive, Shared}
+use Rattle.rows_cell.specs.declared.keys.LockKey.{LockKey}
 use Rattle.rows_cell.specs.declared.tables.Rows.{Rows}
 use Rattle.rows_cell.specs.Rows.{map_of}
 use Rattle.gate_core.specs.declared.pending.Waiting.{Waiting}
 use Rattle.gate_core.specs.Gate.{GateState, change_at}
+use Rattle.session_core.specs.declared.records.Session.{Session}
+use Rattle.session_core.specs.Session.{recovered_session}
+use Rattle.session_core.specs.Sessions.{SessionTable, all_heard}
+use Rattle.tags_cell.specs.declared.outs.Reply.{Reply}
 use Rattle.cell_core.specs.declared.pending.Task.{Task}
-use Rattle.cell_core.specs.declared.pending.Kept.{Kept}
 use Rattle.cell_core.specs.declared.handles.HandleKey.{HandleKey}
 use Rattle.cell_core.specs.declared.handles.HandleState.{HandleState}
 
@@ -23,9 +30,25 @@ with_generation table entry = insert_entry nat_cmp table entry.1.view.instance e
 abbrev pub lock_generations_of : Rows → List (ℕ × ℕ)
 lock_generations_of rows = fold with_generation [] rows.nodes
 
--- name: the cell's. secret: what check digits are made over. nodes: the map. lock_generations: by instance, of the nodes that the rows held when it came up. sessions, kept: by
--- client number. handles: those that were opened, shown or closed in this epoch. gate: the changes that wait, in order of their coming. clock: the last moment that the
--- master was told. lease: in milliseconds
+abbrev pub is_held_so : LockState → Bool
+is_held_so Lapsed = false
+is_held_so Exclusive = true
+is_held_so Shared = true
+
+abbrev pub is_held : LockKey × LockRow → Bool
+is_held entry = is_held_so entry.1.state
+
+-- by whom the rows say that locks are held
+abbrev pub held_locks_of : Rows → List LockKey
+held_locks_of rows = map (λ entry. entry.0) (filter is_held rows.locks)
+
+-- those of a client's session
+abbrev pub locks_of : ℕ → List LockKey → List LockKey
+locks_of client keys = filter (λ key. key.client == client) keys
+
+-- name: the cell's. secret: what check digits are made over. nodes: the map. lock_generations: by instance, of the nodes that the rows held when it came up. held_locks: those that were held then. sessions: also those
+-- that have ended, each with the last call of its client and the reply to it. recovering: some session of an earlier master has neither been heard from nor expired. handles: those that
+-- were opened, shown or closed in this epoch. gate: the changes that wait, in order of their coming. clock: the last moment that the master was told
 pub record MasterState : Type 0 where
   pub name : List ℕ
   pub secret : List ℕ
@@ -33,12 +56,12 @@ pub record MasterState : Type 0 where
   pub next_instance : ℕ
   pub nodes : Nodes
   pub lock_generations : List (ℕ × ℕ)
-  pub sessions : List (ℕ × Session)
+  pub held_locks : List LockKey
+  pub sessions : SessionTable Reply
+  pub recovering : Bool
   pub handles : List (HandleKey × HandleState)
   pub gate : GateState Task
-  pub kept : List (ℕ × Kept)
   pub clock : ℕ
-  pub lease : ℕ
 
 -- ---- the changes that wait
 
@@ -53,7 +76,21 @@ task_at number waiting = option_map (λ change. change.body) (change_at number w
 
 -- ---- a master that comes up
 
--- a master that comes up with these rows: nothing waits, and it knows of no call and of no handle
+-- a session of the rows lives for the recovery timeout at least
+abbrev pub taken_over : ℕ → ℕ × stored.Session → ℕ × Session Reply
+taken_over now entry = (entry.0, recovered_session entry.1.principal entry.1.live now)
+
+abbrev pub sessions_of : Rows → ℕ → ℕ → SessionTable Reply
+sessions_of rows lease now = record { lease = lease; sessions = map (taken_over now) rows.sessions }
+
+-- what the rows hold of a session
+abbrev pub row_of : Session Reply → stored.Session
+row_of session = record { principal = session.principal; live = session.live }
+
+abbrev pub session_rows : SessionTable Reply → List (ℕ × stored.Session)
+session_rows table = map (λ entry. (entry.0, row_of entry.1)) table.sessions
+
+-- a master that comes up with these rows: nothing waits, and it knows of no call and of no handle. It is in recovery where a session of the rows is live
 abbrev pub master_of : Rows → ℕ → ℕ → MasterState
 master_of rows lease now = record {
   name = rows.cell;
@@ -62,10 +99,10 @@ master_of rows lease now = record {
   next_instance = rows.next_instance;
   nodes = map_of rows;
   lock_generations = lock_generations_of rows;
-  sessions = rows.sessions;
+  held_locks = held_locks_of rows;
+  sessions = sessions_of rows lease now;
+  recovering = not (all_heard (sessions_of rows lease now));
   handles = [];
   gate = record { waiting = []; pushed = 0 };
-  kept = [];
   clock = now;
-  lease = lease;
 }

@@ -1,5 +1,5 @@
 -- What a master does with a message.
-use Rattle.std.specs.Prelude.{ℕ, Bool, true, false, not, ◌&&◌, ◌||◌, ◌==◌, nat_lt, nat_le, max, List, [], ◌∷◌, ◌++◌, length, Option, Some, None, Result, Ok, Err, if◌then◌else◌, is_none}
+use Rattle.std.specs.Prelude.{ℕ, Bool, false, not, ◌&&◌, ◌||◌, ◌==◌, nat_lt, nat_le, max, List, [], ◌∷◌, length, Option, Some, None, Result, Ok, Err, if◌then◌else◌, is_none}
 use Rattle.std.specs.Option.{option_map_or}
 use Rattle.std.specs.Map.{lookup}
 use Rattle.std.specs.BTreeMap.{is_at, insert_entry}
@@ -19,7 +19,6 @@ use Rattle.lease_core.specs.Lease.{moment_limit}
 use Rattle.node_core.specs.Limits.{content_limit, number_limit}
 use Rattle.node_core.specs.Nodes.{get_node, children}
 use Rattle.node_core.specs.Access.{permitted}
-use Rattle.rows_cell.specs.declared.tables.Session.{Session}
 use Rattle.gate_core.specs.Gate.{pending_limit, with_change}
 use Rattle.tags_cell.specs.Modes.{Rights, has_right}
 use Rattle.tags_cell.specs.Handles.{is_ordinal, handle_bytes, read_handle}
@@ -32,6 +31,7 @@ use Rattle.tags_cell.specs.declared.calls.NewNode.TheVariants as made
 use Rattle.tags_cell.specs.declared.calls.Call.{Call}
 use Rattle.tags_cell.specs.declared.calls.Call.TheVariants as calls
 use Rattle.tags_cell.specs.declared.requests.Start.{Start}
+use Rattle.tags_cell.specs.declared.beats.Beat.{Beat}
 use Rattle.tags_cell.specs.declared.requests.CallMessage.{CallMessage}
 use Rattle.tags_cell.specs.declared.requests.Request.{Request}
 use Rattle.tags_cell.specs.declared.requests.Request.TheVariants as requests
@@ -40,7 +40,12 @@ use Rattle.tags_cell.specs.declared.outs.CallResult.TheVariants as results
 use Rattle.tags_cell.specs.declared.outs.Out.TheVariants as outs
 use Rattle.tags_cell.specs.declared.outs.Reply.{Reply}
 use Rattle.cell_core.specs.declared.pending.Taken.{Taken}
-use Rattle.cell_core.specs.declared.pending.Kept.{Kept}
+use Rattle.session_core.specs.declared.records.Kept.{Kept}
+use Rattle.session_core.specs.declared.records.Session.{Session}
+use Rattle.session_core.specs.Session as of_session
+use Rattle.session_core.specs.Session.{beat_fault, beaten, kept_answer, keeping}
+use Rattle.session_core.specs.Sessions as of_sessions
+use Rattle.session_core.specs.Sessions.{with_session}
 use Rattle.cell_core.specs.declared.pending.Task.{Task}
 use Rattle.cell_core.specs.declared.pending.Work.TheVariants as works
 use Rattle.cell_core.specs.declared.handles.HandleState.{HandleState}
@@ -53,18 +58,18 @@ use Rattle.cell_core.specs.State.{MasterState}
 
 -- ---- what the master knows of a client
 
-abbrev pub session_of : MasterState → ℕ → Option Session
-session_of s client = lookup (is_at (nat_cmp client)) s.sessions
+abbrev pub session_of : MasterState → ℕ → Option (Session Reply)
+session_of s client = of_sessions.session_of s.sessions client
 
-abbrev pub kept_of : MasterState → ℕ → Option Kept
-kept_of s client = lookup (is_at (nat_cmp client)) s.kept
+abbrev pub kept_of : MasterState → ℕ → Option (Kept Reply)
+kept_of s client = of_sessions.kept_of s.sessions client
 
 abbrev pub is_live : MasterState → ℕ → Bool
-is_live s client = option_map_or (λ session. session.live) (session_of s client) false
+is_live s client = of_sessions.is_live s.sessions client
 
 -- a client without a session may start, and one with a live session of the same principal
 abbrev pub may_start : MasterState → ℕ → List ℕ → Bool
-may_start s client principal = option_map_or (λ session. session.live && bytes_eq session.principal principal) (session_of s client) true
+may_start s client principal = of_session.may_start (session_of s client) principal
 
 abbrev pub is_full : MasterState → Bool
 is_full s = nat_le pending_limit (length s.gate.waiting)
@@ -96,20 +101,20 @@ abbrev pub repeated_reply : Option Reply → Taken
 repeated_reply None = nothing
 repeated_reply (Some reply) = sends reply
 
-abbrev pub repeated : Kept → Taken
+abbrev pub repeated : Kept Reply → Taken
 repeated kept = repeated_reply kept.reply
 
 -- ---- what the master keeps
 
-abbrev pub recorded : MasterState → ℕ → Kept → MasterState
-recorded s client kept = record s { kept = insert_entry nat_cmp s.kept client kept }
+abbrev pub recorded : MasterState → ℕ → Kept Reply → MasterState
+recorded s client kept = record s { sessions = with_session s.sessions client (keeping kept) }
 
 -- what waits behind all others, with the names that it touches
 abbrev pub queued : MasterState → List (List ℕ) → Task → MasterState
 queued s touched task = record s { gate = with_change (record { touched = touched; body = task }) s.gate }
 
 -- the reply to a call is what is recorded of it
-abbrev pub answered_by : Reply → Kept
+abbrev pub answered_by : Reply → Kept Reply
 answered_by reply = record { number = reply.number; reply = Some reply }
 
 -- a call that is answered at once: its reply is recorded, and sent
@@ -119,12 +124,28 @@ replied s client number result =
 
 -- ---- Starts
 
+-- no Start is committed during recovery
 abbrev pub start_step : MasterState → Start → MasterState × Taken
 start_step s start =
     if may_start s start.client start.principal
-    then (if is_full s then (s, turned_away s start.client start.number faults.Busy)
-    else (queued s [] (record { client = start.client; number = start.number; work = works.Starts start.principal }), nothing))
+    then (if s.recovering then (s, turned_away s start.client start.number faults.Recovering)
+    else if is_full s then (s, turned_away s start.client start.number faults.Busy)
+    else (queued s [] (record { client = start.client; number = start.number; work = works.Starts start.principal s.clock }), nothing))
     else (s, refusal s start.client start.number faults.NoSession)
+
+-- ---- Beats
+
+-- it acknowledges, and is parked
+abbrev pub parked : MasterState → Beat → MasterState
+parked s beat = record s { sessions = with_session s.sessions beat.client (beaten beat s.clock) }
+
+abbrev pub beat_by : MasterState → Beat → Option Fault → MasterState × Taken
+beat_by s beat (Some fault) = (s, refusal s beat.client beat.number fault)
+beat_by s beat None = (parked s beat, nothing)
+
+abbrev pub beat_step : MasterState → Beat → MasterState × Taken
+beat_step s beat =
+    if beat.epoch == s.epoch then beat_by s beat (beat_fault (session_of s beat.client) beat) else (s, refusal s beat.client beat.number (faults.OldEpoch s.epoch))
 
 -- ---- rights
 
@@ -338,27 +359,27 @@ admit_step s client number call touched None =
 abbrev pub new_call_by : MasterState → ℕ → ℕ → Call → Admission → MasterState × Taken
 new_call_by s client number call admission = admit_step (with_note s admission.note) client number call admission.touched admission.answer
 
+-- during recovery every new call is refused, and that is its recorded result
 abbrev pub new_call : MasterState → ℕ → ℕ → Call → MasterState × Taken
-new_call s client number call = new_call_by s client number call (admission_of s client number call)
+new_call s client number call =
+    if s.recovering then replied s client number (results.Refused faults.Recovering) else new_call_by s client number call (admission_of s client number call)
 
 -- by the last call of the client: it comes again, an older one comes, one comes while it waits, or a new one comes
-abbrev pub kept_step : MasterState → ℕ → ℕ → Call → Option Kept → MasterState × Taken
-kept_step s client number call None = new_call s client number call
-kept_step s client number call (Some kept) =
-    if number == kept.number then (s, repeated kept)
-    else if nat_lt number kept.number then (s, refusal s client number faults.Repeat)
-    else if is_none kept.reply then (s, refusal s client number faults.CallOutstanding)
-    else new_call s client number call
+abbrev pub kept_step : MasterState → ℕ → ℕ → Call → Result (Option (Kept Reply)) Fault → MasterState × Taken
+kept_step s client number call (Err fault) = (s, refusal s client number fault)
+kept_step s client number call (Ok (Some kept)) = (s, repeated kept)
+kept_step s client number call (Ok None) = new_call s client number call
 
 abbrev pub call_step : MasterState → CallMessage → MasterState × Taken
 call_step s message =
     if message.epoch == s.epoch
-    then (if is_live s message.client then kept_step s message.client message.number message.call (kept_of s message.client)
+    then (if is_live s message.client then kept_step s message.client message.number message.call (kept_answer (kept_of s message.client) message.number)
     else (s, refusal s message.client message.number faults.NoSession))
     else (s, refusal s message.client message.number (faults.OldEpoch s.epoch))
 
 abbrev pub take_at : MasterState → Request → MasterState × Taken
 take_at s (requests.Start start) = start_step s start
+take_at s (requests.Beat beat) = beat_step s beat
 take_at s (requests.Call message) = call_step s message
 
 -- ---- moments

@@ -3,7 +3,6 @@ ghost use Rattle.std.specs.Prelude.{◌≡◌, Some, None, IfOk};
 ghost use Rattle.cell_core.specs.Step.{answer_on, answer_on_node, needing, list_answer, stat_of, content_fault, node_fault, write_fault};
 
 use crate::cells::Cell;
-use names_cell::Name;
 use node_core::{CONTENT_LIMIT, Fault, Kind, Right, Stat, View};
 use plain::Bytes;
 use std::alloc::AllocError;
@@ -42,21 +41,15 @@ impl Cell {
         }
     }
 
+    // Only a directory is listed.
     fn names_answer(&self, handle: &Handle, view: &View) -> Result<CallResult, AllocError>
         ensures { IfOk result (λ answer. Some answer ≡ needing handle.now Right.Read (Some (list_answer self.now handle.now.name view.now.kind))) }
     {
         if !handle.mode.has(Right::Read) {
             return Ok(denied(Right::Read));
         }
-        self.list_answer(&handle.name, view.kind)
-    }
-
-    // Only a directory is listed.
-    fn list_answer(&self, name: &Name, kind: Kind) -> Result<CallResult, AllocError>
-        ensures { IfOk result (λ answer. answer ≡ list_answer self.now name.now kind) }
-    {
-        match kind {
-            Kind::Directory => Ok(CallResult::Names(self.map.children(name)?)),
+        match view.kind {
+            Kind::Directory => Ok(CallResult::Names(self.map.children(&handle.name)?)),
             Kind::File => Ok(CallResult::Refused(Fault::WrongKind(Kind::File))),
         }
     }

@@ -1,20 +1,22 @@
 //! The master in memory.
-ghost use Rattle.std.specs.Prelude.{◌≡◌, IfOk};
-ghost use Rattle.cell_core.specs.State.{lock_generations_of};
+ghost use Rattle.std.specs.Prelude.{◌≡◌, ◌≤◌, IfOk};
+ghost use Rattle.lease_core.specs.Lease.{IsMoment, least_lease, longest_lease};
+ghost use Rattle.cell_core.specs.State.{lock_generations_of, held_locks_of, sessions_of};
 
 use crate::handles::{HandleKey, HandleState};
-use crate::pending::{Kept, Task};
+use crate::pending::Task;
 use gate_core::Gate;
 use names_cell::Component;
 use node_core::Map;
-use plain::{Secret, Table};
-use rows_cell::{Rows, Session};
+use plain::{Items, Secret, Table};
+use rows_cell::{LockKey, LockState, Rows};
+use session_core::Sessions;
 use std::alloc::{AllocError, Global};
 use std::marker::Model;
-use tags_cell::ClientNumber;
+use tags_cell::Reply;
 
-/// A master in memory: what it read from the rows when it came up and has committed since, the changes that wait, the
-/// last call of each client, and the handles that it knows. It commits nothing by itself.
+/// A master in memory: what it read from the rows when it came up and has committed since, the changes that wait, its
+/// sessions with the last call of each client, and the handles that it knows. It commits nothing by itself.
 #[derive(Drop)]
 pub struct Cell {
     pub(crate) alloc: Global,
@@ -24,15 +26,16 @@ pub struct Cell {
     pub(crate) next_instance: u64,
     pub(crate) map: Map,
     pub(crate) lock_generations: Table<u64, u64>,
-    pub(crate) sessions: Table<u64, Session>,
+    pub(crate) held_locks: Items<LockKey>,
+    pub(crate) sessions: Sessions<Reply>,
+    pub(crate) recovering: bool,
     pub(crate) handles: Table<HandleKey, HandleState>,
     pub(crate) gate: Gate<Task>,
-    pub(crate) kept: Table<ClientNumber, Kept>,
     pub(crate) clock: u64,
-    pub(crate) lease: u64,
 }
 
 impl Model for Cell {
+    ghost use Rattle.lease_core.specs.Lease.{IsMoment};
     ghost use Rattle.cell_core.specs.State.{MasterState};
 
     ghost Value = { MasterState };
@@ -44,36 +47,41 @@ impl Model for Cell {
       next_instance = c.next_instance;
       nodes = c.map;
       lock_generations = c.lock_generations;
+      held_locks = c.held_locks;
       sessions = c.sessions;
+      recovering = c.recovering;
       handles = c.handles;
       gate = c.gate;
-      kept = c.kept;
       clock = c.clock;
-      lease = c.lease;
     } };
+
+    ghost invariant = { λ c. IsMoment c.clock };
 }
 
 impl Cell {
     ghost use Rattle.std.specs.Prelude.{◌≡◌, IfOk};
     ghost use Rattle.std.specs.Option.{option_copied};
-    ghost use Rattle.cell_core.specs.State.{master_of, first_number, task_at};
+    ghost use Rattle.cell_core.specs.State.{master_of, locks_of, first_number, task_at};
     ghost use Rattle.cell_core.specs.Step.{noted};
 
     /// A master that comes up with these rows, with its lease and the moment in milliseconds: nothing waits, and it
-    /// knows of no call and of no handle.
+    /// knows of no call and of no handle. Where a session is live it is in recovery.
     pub fn of_rows(alloc: Global, rows: Rows, lease: u64, now: u64) -> Result<Cell, AllocError>
+        requires range { (least_lease ≤ lease) × (lease ≤ longest_lease) }
+        requires moment { IsMoment now }
         ensures { IfOk result (λ cell. cell ≡ master_of rows lease now) }
     {
         let map = rows.map(alloc)?;
         let lock_generations = lock_generations_of(alloc, &rows)?;
+        let held_locks = held_locks_of(alloc, &rows)?;
+        let sessions = sessions_of(alloc, &rows, lease, now)?;
+        let recovering = !sessions.all_heard();
         let Rows {
             cell,
             secret,
             epoch,
             next_instance,
-            nodes: _,
-            sessions,
-            locks: _,
+            ..
         } = rows;
         Ok(Cell {
             alloc,
@@ -83,12 +91,12 @@ impl Cell {
             next_instance,
             map,
             lock_generations,
+            held_locks,
             sessions,
+            recovering,
             handles: Table::new(alloc),
             gate: Gate::new(alloc),
-            kept: Table::new(alloc),
             clock: now,
-            lease,
         })
     }
 
@@ -105,11 +113,32 @@ impl Cell {
         self.next_instance
     }
 
-    /// In milliseconds.
-    pub fn lease(&self) -> u64
-        ensures { result ≡ self.now.lease }
+    /// The sessions, with the lease in milliseconds.
+    pub fn sessions(&self) -> &Sessions<Reply>
+        ensures { result.now ≡ self.now.sessions }
     {
-        self.lease
+        &self.sessions
+    }
+
+    /// Whether some session of an earlier master has neither been heard from nor expired.
+    pub fn recovering(&self) -> bool
+        ensures { result ≡ self.now.recovering }
+    {
+        self.recovering
+    }
+
+    /// The locks that a client's session held when this master came up.
+    pub fn held_locks_of(&self, client: u64) -> Result<Items<LockKey>, AllocError>
+        ensures { IfOk result (λ keys. keys ≡ locks_of client self.now.held_locks) }
+    {
+        let mut keys = Items::new(self.alloc);
+        let held = self.held_locks.as_slice();
+        for key in held {
+            if key.client == client {
+                keys.push(*key)?;
+            }
+        }
+        Ok(keys)
     }
 
     pub fn alloc(&self) -> Global {
@@ -134,18 +163,40 @@ impl Cell {
         Some(&change.body)
     }
 
+    /// The last moment that the master was told, in milliseconds.
+    pub fn clock(&self) -> u64
+        ensures value { result ≡ self.now.clock }
+        ensures moment { IsMoment result }
+    {
+        self.clock
+    }
+
     /// Notes a moment, in milliseconds; an earlier one than the last counts as that. Gives the last one.
     pub fn note_moment(&mut self, now: u64) -> u64
+        requires { IsMoment now }
         ensures moment { self.new ≡ noted self.old now }
         ensures before { result ≡ self.old.clock }
+        ensures range { IsMoment result }
     {
         let before = self.clock;
         self.clock = before.max(now);
         before
     }
 
+    /// Notes until when nothing is to be done for sessions, so that until then nobody looks for one. To be called where
+    /// nothing is to be done; elsewhere it does no harm. Takes no memory.
+    pub fn note_quiet(&mut self)
+        ensures { self.new ≡ self.old }
+    {
+        self.sessions.note_quiet(self.clock);
+        if self.recovering {
+            self.sessions.note_unheard();
+        }
+    }
+
     /// The moment that was the last one before.
     pub fn restore_moment(&mut self, before: u64)
+        requires { IsMoment before }
         ensures { self.new ≡ record self.old { clock = before } }
     {
         self.clock = before;
@@ -168,4 +219,37 @@ fn lock_generations_of(alloc: Global, rows: &Rows) -> Result<Table<u64, u64>, Al
         generations.put(node.view.instance, node.lock_generation)?;
     }
     Ok(generations)
+}
+
+// By whom the rows say that locks are held.
+fn held_locks_of(alloc: Global, rows: &Rows) -> Result<Items<LockKey>, AllocError>
+    ensures { IfOk result (λ keys. keys ≡ held_locks_of rows.now) }
+{
+    let mut keys = Items::new(alloc);
+    for (key, row) in rows.locks.as_map() {
+        if row.state != LockState::Lapsed {
+            keys.push(*key)?;
+        }
+    }
+    Ok(keys)
+}
+
+// The sessions of the rows, each with its time anew.
+fn sessions_of(
+    alloc: Global,
+    rows: &Rows,
+    lease: u64,
+    now: u64,
+) -> Result<Sessions<Reply>, AllocError>
+    requires range { (least_lease ≤ lease) × (lease ≤ longest_lease) }
+    requires moment { IsMoment now }
+    ensures { IfOk result (λ sessions. sessions ≡ sessions_of rows.now lease now) }
+{
+    let stored = rows.sessions.as_map();
+    let _count = stored.len();
+    let mut sessions = Sessions::new(alloc, lease);
+    for (client, session) in stored {
+        sessions.recover(*client, session.principal.clone()?, session.live, now)?;
+    }
+    Ok(sessions)
 }

@@ -1,29 +1,36 @@
 //! What a step of a master changes in it: what may want memory first, which can be taken back, then the rest.
 ghost use Rattle.std.specs.Prelude.{◌≡◌, Some, None, IfOk, OnOk, OnErr};
 ghost use Rattle.cell_core.specs.Step.{with_note};
-ghost use Rattle.cell_core.specs.Deeds.{with_session, with_kept, with_put, with_node, grown, without_session, without_kept, without_note, without_node, undone, without_gone, with_rest, rest_of, left};
+ghost use Rattle.cell_core.specs.Deeds.{BeginsNew, with_begun, with_put, with_node, grown, without_begun, without_note, without_node, undone, session_rest, map_rest, rest_of, with_session_rest, with_kept, with_map, with_rest};
 
 use crate::cells::Cell;
 use crate::handles::{HandleKey, HandleState, Note};
-use crate::pending::Kept;
-use names_cell::Name;
+use names_cell::{Name, Principal};
 use node_core::{Mod, View};
-use rows_cell::Session;
+use plain::Items;
+use rows_cell::LockKey;
+use session_core::Kept;
 use std::alloc::AllocError;
-use tags_cell::ClientNumber;
+use tags_cell::{ClientNumber, Reply};
 
-/// The session of a client, which is committed.
+/// What a step does to a client's session.
 #[derive(Debug, Drop)]
-pub struct SessionPut {
-    pub client: u64,
-    pub session: Session,
+pub enum SessionDeed {
+    /// A session of a client that has none begins, and is committed.
+    Begins(ClientNumber, Principal),
+    /// It lives for a lease from now on.
+    Prolongs(ClientNumber),
+    /// It has ended, which is committed, and so is that these locks are let go.
+    Ends(u64, Principal, Items<LockKey>),
+    /// Its parked Beat is answered.
+    Answers(ClientNumber),
 }
 
 /// The last call of a client.
 #[derive(Debug, Drop)]
 pub struct KeptPut {
     pub client: ClientNumber,
-    pub kept: Kept,
+    pub kept: Kept<Reply>,
 }
 
 /// A change of the map.
@@ -37,43 +44,64 @@ pub struct Change {
 /// What a step changes in the parts of the master.
 #[derive(Debug, Drop)]
 pub struct Deed {
-    pub session: Option<SessionPut>,
+    pub session: Option<SessionDeed>,
     pub kept: Option<KeptPut>,
     pub note: Option<Note>,
     /// A change of the map, which is committed.
     pub change: Option<Change>,
+    /// Whether the recovery is over.
+    pub recovers: bool,
+    /// The number of the change that leaves the gate.
+    pub leaves: Option<u64>,
 }
 
-/// What takes a deed back that was begun: what stood at each key before.
+/// What takes a deed back that was begun: the client whose session began, and what stood at each key before.
 #[derive(Debug, Drop)]
 pub struct Former {
-    pub session: Option<(u64, Option<Session>)>,
-    pub kept: Option<(ClientNumber, Option<Kept>)>,
+    pub session: Option<ClientNumber>,
     pub note: Option<(HandleKey, Option<HandleState>)>,
     pub node: Option<(Name, Option<View>)>,
+}
+
+/// What is left of a change of the map.
+#[derive(Debug, Drop)]
+pub struct MapRest {
+    /// The name of a node that goes.
+    pub gone: Option<Name>,
+    pub next_instance: u64,
 }
 
 /// What is left of a deed for behind the commit. It takes no memory.
 #[derive(Debug, Drop)]
 pub struct Rest {
-    /// The name of a node that goes.
-    pub gone: Option<Name>,
-    pub next_instance: u64,
+    pub session: Option<SessionDeed>,
+    pub kept: Option<KeptPut>,
+    pub map: Option<MapRest>,
+    pub recovers: bool,
+    pub leaves: Option<u64>,
 }
 
 /// A deed that was begun: how it is taken back, and what is left of it.
 #[derive(Debug, Drop)]
 pub struct Grown {
     pub former: Former,
-    pub rest: Option<Rest>,
+    pub rest: Rest,
+}
+
+// A note and a node that were put: what stood there before, and what is left of the change of the map.
+struct GrownMap {
+    note: Option<(HandleKey, Option<HandleState>)>,
+    node: Option<(Name, Option<View>)>,
+    rest: Option<MapRest>,
 }
 
 impl Cell {
     /// Begins a deed: all of it that may want memory. Where memory is refused nothing has changed.
     pub fn grow(&mut self, deed: Deed) -> Result<Grown, AllocError>
+        requires { BeginsNew self.old deed.session }
         ensures ok { OnOk result (self.new ≡ grown self.old deed) }
         ensures back { IfOk result (λ begun. undone self.new begun.former ≡ self.old) }
-        ensures rest { IfOk result (λ begun. begun.rest ≡ rest_of deed.change) }
+        ensures rest { IfOk result (λ begun. begun.rest ≡ rest_of deed) }
         ensures err { OnErr result (self.new ≡ self.old) }
     {
         let Deed {
@@ -81,12 +109,27 @@ impl Cell {
             kept,
             note,
             change,
+            recovers,
+            leaves,
         } = deed;
-        let session = self.put_session(session)?;
-        match self.grow_calls(kept, note, change) {
-            Ok(begun) => Ok(after_session(begun, session)),
+        let (begun, session) = self.begin_session(session)?;
+        match self.grow_map(note, change) {
+            Ok(GrownMap { note, node, rest }) => Ok(Grown {
+                former: Former {
+                    session: begun,
+                    note,
+                    node,
+                },
+                rest: Rest {
+                    session,
+                    kept,
+                    map: rest,
+                    recovers,
+                    leaves,
+                },
+            }),
             Err(error) => {
-                self.restore_session(session);
+                self.take_back(begun);
                 Err(error)
             }
         }
@@ -98,29 +141,101 @@ impl Cell {
     {
         let Former {
             session,
-            kept,
             note,
             node,
         } = former;
         self.restore_node(node);
         self.restore_note(note);
-        self.restore_kept(kept);
-        self.restore_session(session);
+        self.take_back(session);
     }
 
-    /// Finishes a deed that was begun, and the change of this number leaves the gate. Takes no memory.
-    pub fn finish(&mut self, rest: Option<Rest>, number: u64)
-        ensures { self.new ≡ left (with_rest self.old rest) number }
-    {
-        self.do_rest(rest);
-        drop(self.gate.take(number));
-    }
-
-    fn do_rest(&mut self, rest: Option<Rest>)
+    /// Finishes a deed that was begun. Takes no memory.
+    pub fn finish(&mut self, rest: Rest)
         ensures { self.new ≡ with_rest self.old rest }
     {
+        let Rest {
+            session,
+            kept,
+            map,
+            recovers,
+            leaves,
+        } = rest;
+        self.finish_session(session);
+        self.keep(kept);
+        self.finish_map(map);
+        if recovers {
+            self.recovering = false;
+        }
+        if let Some(number) = leaves {
+            drop(self.gate.take(number));
+        }
+    }
+
+    // A session that begins; any other deed is left for the rest.
+    fn begin_session(
+        &mut self,
+        deed: Option<SessionDeed>,
+    ) -> Result<(Option<ClientNumber>, Option<SessionDeed>), AllocError>
+        requires { BeginsNew self.old deed }
+        ensures ok { OnOk result (self.new ≡ with_begun self.old deed) }
+        ensures back { IfOk result (λ begun. without_begun self.new begun.0 ≡ self.old) }
+        ensures rest { IfOk result (λ begun. begun.1 ≡ session_rest deed) }
+        ensures err { OnErr result (self.new ≡ self.old) }
+    {
+        let Some(deed) = deed else {
+            return Ok((None, None));
+        };
+        match deed {
+            SessionDeed::Begins(client, principal) => {
+                let now = self.clock;
+                self.sessions.begin(client, principal, now)?;
+                Ok((Some(client), None))
+            }
+            SessionDeed::Prolongs(client) => Ok((None, Some(SessionDeed::Prolongs(client)))),
+            SessionDeed::Ends(client, principal, locks) => {
+                Ok((None, Some(SessionDeed::Ends(client, principal, locks))))
+            }
+            SessionDeed::Answers(client) => Ok((None, Some(SessionDeed::Answers(client)))),
+        }
+    }
+
+    // A session that began is gone again.
+    fn take_back(&mut self, begun: Option<ClientNumber>)
+        ensures { self.new ≡ without_begun self.old begun }
+    {
+        if let Some(client) = begun {
+            self.sessions.take_back(client);
+        }
+    }
+
+    // What is left of a session's deed.
+    fn finish_session(&mut self, deed: Option<SessionDeed>)
+        ensures { self.new ≡ with_session_rest self.old deed }
+    {
+        let now = self.clock;
+        match &deed {
+            Some(SessionDeed::Prolongs(client)) => {
+                self.sessions.prolong(*client, now + self.sessions.lease());
+            }
+            Some(SessionDeed::Ends(client, ..)) => self.sessions.expire(*client),
+            Some(SessionDeed::Answers(client)) => self.sessions.answer(*client, now),
+            _ => {}
+        }
+    }
+
+    fn keep(&mut self, put: Option<KeptPut>)
+        ensures { self.new ≡ with_kept self.old put }
+    {
+        if let Some(KeptPut { client, kept }) = put {
+            self.sessions.keep(client, kept);
+        }
+    }
+
+    fn finish_map(&mut self, rest: Option<MapRest>)
+        ensures { self.new ≡ with_map self.old rest }
+    {
         if let Some(rest) = rest {
-            let Rest {
+            let MapRest {
                 gone,
                 next_instance,
             } = rest;
@@ -131,85 +246,23 @@ impl Cell {
         }
     }
 
-    // The kept call, the note and the node.
-    fn grow_calls(
+    // The note and the node.
+    fn grow_map(
         &mut self,
-        kept: Option<KeptPut>,
         note: Option<Note>,
         change: Option<Change>,
-    ) -> Result<Grown, AllocError>
-        ensures ok { OnOk result (self.new ≡ with_node (with_note (with_kept self.old kept) note) change) }
-        ensures back { IfOk result (λ begun. without_kept (without_note (without_node self.new begun.former.node) begun.former.note) begun.former.kept ≡ self.old) }
-        ensures none { IfOk result (λ begun. begun.former.session ≡ None) }
-        ensures rest { IfOk result (λ begun. begun.rest ≡ rest_of change) }
-        ensures err { OnErr result (self.new ≡ self.old) }
-    {
-        let kept = self.put_kept(kept)?;
-        match self.grow_map(note, change) {
-            Ok(begun) => Ok(after_kept(begun, kept)),
-            Err(error) => {
-                self.restore_kept(kept);
-                Err(error)
-            }
-        }
-    }
-
-    // The note and the node.
-    fn grow_map(&mut self, note: Option<Note>, change: Option<Change>) -> Result<Grown, AllocError>
+    ) -> Result<GrownMap, AllocError>
         ensures ok { OnOk result (self.new ≡ with_node (with_note self.old note) change) }
-        ensures back { IfOk result (λ begun. without_note (without_node self.new begun.former.node) begun.former.note ≡ self.old) }
-        ensures none { IfOk result (λ begun. begun.former.session ≡ None) }
-        ensures rest { IfOk result (λ begun. begun.rest ≡ rest_of change) }
+        ensures back { IfOk result (λ begun. without_note (without_node self.new begun.node) begun.note ≡ self.old) }
+        ensures rest { IfOk result (λ begun. begun.rest ≡ map_rest change) }
         ensures err { OnErr result (self.new ≡ self.old) }
     {
         let note = self.put_note(note)?;
         match self.put_node(change) {
-            Ok((node, rest)) => Ok(Grown {
-                former: Former {
-                    session: None,
-                    kept: None,
-                    note,
-                    node,
-                },
-                rest,
-            }),
+            Ok((node, rest)) => Ok(GrownMap { note, node, rest }),
             Err(error) => {
                 self.restore_note(note);
                 Err(error)
-            }
-        }
-    }
-
-    fn put_session(
-        &mut self,
-        put: Option<SessionPut>,
-    ) -> Result<Option<(u64, Option<Session>)>, AllocError>
-        ensures ok { OnOk result (self.new ≡ with_session self.old put) }
-        ensures back { IfOk result (λ former. without_session self.new former ≡ self.old) }
-        ensures err { OnErr result (self.new ≡ self.old) }
-    {
-        match put {
-            None => Ok(None),
-            Some(SessionPut { client, session }) => {
-                let former = self.sessions.put(client, session)?;
-                Ok(Some((client, former)))
-            }
-        }
-    }
-
-    fn put_kept(
-        &mut self,
-        put: Option<KeptPut>,
-    ) -> Result<Option<(ClientNumber, Option<Kept>)>, AllocError>
-        ensures ok { OnOk result (self.new ≡ with_kept self.old put) }
-        ensures back { IfOk result (λ former. without_kept self.new former ≡ self.old) }
-        ensures err { OnErr result (self.new ≡ self.old) }
-    {
-        match put {
-            None => Ok(None),
-            Some(KeptPut { client, kept }) => {
-                let former = self.kept.put(client, kept)?;
-                Ok(Some((client, former)))
             }
         }
     }
@@ -237,10 +290,10 @@ impl Cell {
     fn put_node(
         &mut self,
         change: Option<Change>,
-    ) -> Result<(Option<(Name, Option<View>)>, Option<Rest>), AllocError>
+    ) -> Result<(Option<(Name, Option<View>)>, Option<MapRest>), AllocError>
         ensures ok { OnOk result (self.new ≡ with_node self.old change) }
         ensures back { IfOk result (λ put. without_node self.new put.0 ≡ self.old) }
-        ensures rest { IfOk result (λ put. put.1 ≡ rest_of change) }
+        ensures rest { IfOk result (λ put. put.1 ≡ map_rest change) }
         ensures err { OnErr result (self.new ≡ self.old) }
     {
         let Some(
@@ -255,7 +308,7 @@ impl Cell {
         match change {
             Mod::Gone(name) => Ok((
                 None,
-                Some(Rest {
+                Some(MapRest {
                     gone: Some(name),
                     next_instance,
                 }),
@@ -264,7 +317,7 @@ impl Cell {
                 let former = self.put_view(name, view)?;
                 Ok((
                     Some(former),
-                    Some(Rest {
+                    Some(MapRest {
                         gone: None,
                         next_instance,
                     }),
@@ -283,22 +336,6 @@ impl Cell {
         Ok((key, former))
     }
 
-    fn restore_session(&mut self, former: Option<(u64, Option<Session>)>)
-        ensures { self.new ≡ without_session self.old former }
-    {
-        if let Some((client, session)) = former {
-            self.sessions.restore(&client, session);
-        }
-    }
-
-    fn restore_kept(&mut self, former: Option<(ClientNumber, Option<Kept>)>)
-        ensures { self.new ≡ without_kept self.old former }
-    {
-        if let Some((client, kept)) = former {
-            self.kept.restore(&client, kept);
-        }
-    }
-
     fn restore_note(&mut self, former: Option<(HandleKey, Option<HandleState>)>)
         ensures { self.new ≡ without_note self.old former }
     {
@@ -313,49 +350,5 @@ impl Cell {
         if let Some((name, view)) = former {
             self.map.restore(&name, view);
         }
-    }
-}
-
-// What was begun, with the session that was put first.
-fn after_session(begun: Grown, session: Option<(u64, Option<Session>)>) -> Grown
-    ensures { result ≡ record begun { former = record begun.former { session = session } } }
-{
-    let Grown { former, rest } = begun;
-    let Former {
-        session: _,
-        kept,
-        note,
-        node,
-    } = former;
-    Grown {
-        former: Former {
-            session,
-            kept,
-            note,
-            node,
-        },
-        rest,
-    }
-}
-
-// What was begun, with the kept call that was put first.
-fn after_kept(begun: Grown, kept: Option<(ClientNumber, Option<Kept>)>) -> Grown
-    ensures { result ≡ record begun { former = record begun.former { kept = kept } } }
-{
-    let Grown { former, rest } = begun;
-    let Former {
-        session,
-        kept: _,
-        note,
-        node,
-    } = former;
-    Grown {
-        former: Former {
-            session,
-            kept,
-            note,
-            node,
-        },
-        rest,
     }
 }

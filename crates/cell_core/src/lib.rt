@@ -15,7 +15,7 @@ mod takes;
 
 pub use answers::node_fault;
 pub use cells::Cell;
-pub use deeds::{Change, Deed, Former, Grown, KeptPut, Rest, SessionPut};
+pub use deeds::{Change, Deed, Former, Grown, KeptPut, MapRest, Rest, SessionDeed};
 pub use handles::{HandleKey, HandleState, Note, OpenHandle};
-pub use pending::{Kept, Taken, Task, Work};
+pub use pending::{Taken, Task, Work, answered_by};
 pub use shown::bytes_of;

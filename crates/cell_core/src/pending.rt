@@ -5,14 +5,15 @@ ghost use Rattle.cell_core.specs.Step.{answered_by};
 use names_cell::Principal;
 use node_core::Line;
 use plain::{Items, Same};
+use session_core::Kept;
 use std::alloc::AllocError;
 use tags_cell::{Call, ClientNumber, MessageNumber, Out, Reply};
 
 /// What a change that waits will do.
 #[derive(Debug, Drop)]
 pub enum Work {
-    /// A Start: it commits the client's session.
-    Starts(Principal),
+    /// A Start: it commits the client's session, or lets it live longer. When it was received, in milliseconds.
+    Starts(Principal, u64),
     /// A call that may change the map.
     Calls(Call),
 }
@@ -22,7 +23,7 @@ impl Clone for Work {
 
     fn clone(&self) -> Result<Work, AllocError> {
         Ok(match self {
-            Work::Starts(principal) => Work::Starts(principal.clone()?),
+            Work::Starts(principal, received) => Work::Starts(principal.clone()?, *received),
             Work::Calls(call) => Work::Calls(call.clone()?),
         })
     }
@@ -58,42 +59,14 @@ impl Same for Task {
     ghost exact = { λ x y h. h };
 }
 
-/// The last call of a client, and its reply once there is one: the same call gets it again.
-#[derive(Debug, Drop)]
-pub struct Kept {
-    pub number: MessageNumber,
-    /// None while the call waits.
-    pub reply: Option<Reply>,
-}
-
-impl Kept {
-    /// What is kept of a call that has its reply.
-    pub fn answered(reply: Reply) -> Kept
-        ensures { result ≡ answered_by reply }
-    {
-        Kept {
-            number: reply.number,
-            reply: Some(reply),
-        }
+/// What is kept of a call that has its reply.
+pub fn answered_by(reply: Reply) -> Kept<Reply>
+    ensures { result ≡ answered_by reply }
+{
+    Kept {
+        number: reply.number,
+        reply: Some(reply),
     }
-}
-
-impl Clone for Kept {
-    ghost is_clone = { λ s t. t ≡ s };
-
-    fn clone(&self) -> Result<Kept, AllocError> {
-        Ok(Kept {
-            number: self.number,
-            reply: match &self.reply {
-                Some(reply) => Some(reply.clone()?),
-                None => None,
-            },
-        })
-    }
-}
-
-impl Same for Kept {
-    ghost exact = { λ x y h. h };
 }
 
 /// What a step prints and sends.

@@ -12,7 +12,7 @@ impl Cell {
     pub fn may(&self, client: ClientNumber, view: &View, right: Right) -> Result<bool, AllocError>
         ensures { IfOk result (λ allowed. allowed ≡ may self.now client view.now right) }
     {
-        match self.sessions.get(&client.get()) {
+        match self.sessions.get(client.get()) {
             None => Ok(false),
             Some(session) => permitted(&self.map, &session.principal, view, right),
         }

@@ -3,11 +3,12 @@ ghost use Rattle.std.specs.Prelude.{◌≡◌, [], ◌∷◌, IfOk};
 ghost use Rattle.cell_core.specs.Step.{refusal, turned_away, reply_of, sends, repeated, may_start, is_live, is_full};
 
 use crate::cells::Cell;
-use crate::pending::{Kept, Taken};
+use crate::pending::Taken;
 use gate_core::PENDING_LIMIT;
 use names_cell::Principal;
 use node_core::{Fault, Line};
 use plain::Items;
+use session_core::Kept;
 use std::alloc::AllocError;
 use tags_cell::{CallResult, ClientNumber, MessageNumber, Out, Refused, Reply};
 
@@ -64,7 +65,7 @@ impl Cell {
     }
 
     // The reply to the last call again, or nothing while it waits.
-    pub(crate) fn repeated(&self, kept: &Kept) -> Result<Taken, AllocError>
+    pub(crate) fn repeated(&self, kept: &Kept<Reply>) -> Result<Taken, AllocError>
         ensures { IfOk result (λ taken. taken ≡ repeated kept.now) }
     {
         match &kept.reply {
@@ -95,19 +96,13 @@ impl Cell {
     pub fn may_start(&self, client: ClientNumber, principal: &Principal) -> bool
         ensures { result ≡ may_start self.now client principal.now }
     {
-        match self.sessions.get(&client.get()) {
-            None => true,
-            Some(session) => session.live && session.principal == *principal,
-        }
+        self.sessions.may_start(client, principal)
     }
 
     pub fn is_live(&self, client: ClientNumber) -> bool
         ensures { result ≡ is_live self.now client }
     {
-        match self.sessions.get(&client.get()) {
-            None => false,
-            Some(session) => session.live,
-        }
+        self.sessions.is_live(client.get())
     }
 
     pub(crate) fn is_full(&self) -> bool

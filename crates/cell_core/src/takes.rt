@@ -1,18 +1,20 @@
 //! What a master does with a message.
 ghost use Rattle.std.specs.Prelude.{◌≡◌, ◌≢◌, ◌-◌, ◌<◌, ◌^◌, [], false, Some, Ok, Err, IfOk, IfErr, OnOk, OnErr};
-ghost use Rattle.cell_core.specs.Step.{take_step, take_at, start_step, call_step, kept_step, kept_of, new_call, with_note, admit_step, waits, is_full, queued, recorded, replied};
+ghost use Rattle.cell_core.specs.Step.{take_step, take_at, start_step, beat_step, call_step, kept_step, kept_of, new_call, with_note, admit_step, waits, is_full, queued, replied};
+ghost use Rattle.session_core.specs.Session.{kept_answer};
 
 use crate::admissions::Admission;
 use crate::cells::Cell;
 use crate::handles::Note;
-use crate::pending::{Kept, Taken, Task, Work};
+use crate::pending::{Taken, Task, Work, answered_by};
 use gate_core::Pending;
 use lease_core::MOMENT_LIMIT;
 use names_cell::Name;
 use node_core::{Fault, NUMBER_LIMIT};
 use plain::Items;
+use session_core::Kept;
 use std::alloc::AllocError;
-use tags_cell::{Call, CallMessage, CallResult, ClientNumber, MessageNumber, Request, Start};
+use tags_cell::{Beat, Call, CallMessage, CallResult, ClientNumber, MessageNumber, Request, Start};
 
 impl Cell {
     /// One step by a request that came. A moment, in milliseconds, that is earlier than the last one counts as that;
@@ -44,6 +46,7 @@ impl Cell {
     {
         match request {
             Request::Start(start) => self.start(start),
+            Request::Beat(beat) => self.beat(beat),
             Request::Call(message) => self.call(message),
         }
     }
@@ -56,12 +59,30 @@ impl Cell {
         if !self.may_start(start.client, &start.principal) {
             return self.refusal(start.client, start.number, Fault::NoSession);
         }
+        if self.recovering {
+            return self.turned_away(start.client, start.number, Fault::Recovering);
+        }
         if self.is_full() {
             return self.turned_away(start.client, start.number, Fault::Busy);
         }
-        let work = Work::Starts(start.principal.clone()?);
+        let work = Work::Starts(start.principal.clone()?, self.clock);
         self.queue(start.client, start.number, work, Items::new(self.alloc))?;
         Ok(self.nothing())
+    }
+
+    // It acknowledges, and waits for its answer.
+    fn beat(&mut self, beat: &Beat) -> Result<Taken, AllocError>
+        ensures ok { IfOk result (λ taken. beat_step self.old beat.now ≡ (self.new, taken)) }
+        ensures err { OnErr result (self.new ≡ self.old) }
+    {
+        if beat.epoch != self.epoch {
+            let present = self.epoch;
+            return self.refusal(beat.client, beat.number, Fault::OldEpoch(present));
+        }
+        match self.sessions.beat(beat, self.clock) {
+            Ok(()) => Ok(self.nothing()),
+            Err(fault) => self.refusal(beat.client, beat.number, fault),
+        }
     }
 
     fn call(&mut self, message: &CallMessage) -> Result<Taken, AllocError>
@@ -89,26 +110,17 @@ impl Cell {
         call: &Call,
     ) -> Result<Taken, AllocError>
         requires { self.old.gate.pushed < 2 ^ 63 - 1 }
-        ensures ok { IfOk result (λ taken. kept_step self.old client number call.now (kept_of self.old client) ≡ (self.new, taken)) }
+        ensures ok { IfOk result (λ taken. kept_step self.old client number call.now (kept_answer (kept_of self.old client) number) ≡ (self.new, taken)) }
         ensures err { OnErr result (self.new ≡ self.old) }
     {
-        match self.kept.get(&client) {
-            None => self.new_call(client, number, call),
-            Some(kept) => {
-                if number == kept.number {
-                    self.repeated(kept)
-                } else if number < kept.number {
-                    self.refusal(client, number, Fault::Repeat)
-                } else if kept.reply.is_none() {
-                    self.refusal(client, number, Fault::CallOutstanding)
-                } else {
-                    self.new_call(client, number, call)
-                }
-            }
+        match self.sessions.kept(client, number) {
+            Err(fault) => self.refusal(client, number, fault),
+            Ok(Some(kept)) => self.repeated(kept),
+            Ok(None) => self.new_call(client, number, call),
         }
     }
 
-    // A call that is neither repeated nor too early.
+    // A call that is neither repeated nor too early. During recovery each is refused, and that is recorded.
     fn new_call(
         &mut self,
         client: ClientNumber,
@@ -119,6 +131,9 @@ impl Cell {
         ensures ok { IfOk result (λ taken. new_call self.old client number call.now ≡ (self.new, taken)) }
         ensures err { OnErr result (self.new ≡ self.old) }
     {
+        if self.recovering {
+            return self.reply(client, number, CallResult::Refused(Fault::Recovering));
+        }
         let Admission {
             note,
             touched,
@@ -183,7 +198,7 @@ impl Cell {
         }
     }
 
-    // Keeps that a call waits, and queues it. What is kept is taken back where memory is refused.
+    // Queues a call, and keeps that it waits.
     fn wait(
         &mut self,
         client: ClientNumber,
@@ -197,21 +212,13 @@ impl Cell {
         ensures err { OnErr result (self.new ≡ self.old) }
     {
         let work = Work::Calls(call.clone()?);
+        self.queue(client, number, work, touched)?;
         let kept = Kept {
             number,
             reply: None,
         };
-        let former = self.kept.put(client, kept)?;
-        match self.queue(client, number, work, touched) {
-            Ok(()) => {
-                drop(former);
-                Ok(self.nothing())
-            }
-            Err(error) => {
-                self.kept.restore(&client, former);
-                Err(error)
-            }
-        }
+        self.sessions.keep(client, kept);
+        Ok(self.nothing())
     }
 
     // What waits stands behind all others.
@@ -238,14 +245,6 @@ impl Cell {
         }
     }
 
-    fn keep(&mut self, client: ClientNumber, kept: Kept) -> Result<(), AllocError>
-        ensures ok { OnOk result (self.new ≡ recorded self.old client kept) }
-        ensures err { OnErr result (self.new ≡ self.old) }
-    {
-        drop(self.kept.put(client, kept)?);
-        Ok(())
-    }
-
     // Records a reply, and sends it.
     fn reply(
         &mut self,
@@ -258,7 +257,7 @@ impl Cell {
     {
         let reply = self.reply_of(client, number, answer);
         let taken = self.sends(&reply)?;
-        self.keep(client, Kept::answered(reply))?;
+        self.sessions.keep(client, answered_by(reply));
         Ok(taken)
     }
 }

@@ -7,9 +7,11 @@ pub(crate) const VERSION: &str = "0.1.0";
 pub(crate) const SCRIPTS: &str = "\
 Steps, one a line, with one space between two words; blank lines and lines that begin with # are skipped:
   up M              a master comes up, its clock at M milliseconds
+  tick DM DK [C:DK]...
+                    the master's clock moves by DM, that of client C by its own DK, those of all other clients by the first
   join C PRINCIPAL  client C joins and acts for the principal
   ask C CALL        client C is asked for a call
-  beat C            client C sends a Start until it has a session
+  beat C            client C sends a Start until it has a session, and then a Beat, which keeps it
   take I            message I comes to the master
   give I            message I comes to its client
   sweep             one sweep of the master
@@ -38,9 +40,32 @@ Limits:
   a name            512 bytes; each component, and a principal, 64
   a content         262,144 bytes; N of fill at most 300,000
   changes that wait 4,096
+  a moment          below 2^53 milliseconds
 
 Exit status:
   0                 the script ran to its end; a refused step is a line like others
   1                 a bad step, behind which nothing is done; or the output can't be written
+  2                 a wrong command line, or settings that aren't any
+  4                 memory ran out outside a step
+
+Settings are a table in TOML. A key that isn't there has its value here:
+  cell       = \"c\"               a component
+  lease      = 12000             milliseconds, 1000 to 60000
+  principals = [\"ann\", \"bob\"]  those of the ACL file acl/base, a line each, 262,144 bytes at most
+  secret     = \"00..\"            64 hexadecimal digits in lower case; zeros where it isn't there";
+
+/// What a test of a store prints, and how it ends.
+pub(crate) const STORES: &str = "\
+On standard output stands one of
+  sound epoch E nodes N sessions S locks L
+                          the store is sound; S counts the live sessions
+  refused 16 StoreDamaged it isn't that of a cell c, its rows break a rule, or it isn't there
+  refused 15 StoreRefused it can't be read
+Nothing is written to it.
+
+Exit status:
+  0                 the store is sound
+  1                 the output can't be written
   2                 a wrong command line
-  4                 memory ran out outside a step";
+  3                 it is refused
+  4                 memory ran out";

@@ -1,8 +1,11 @@
-//! Runs scripts against a cell: its steps on standard input, what happens on standard output.
+//! Runs scripts against a cell: its steps on standard input, what happens on standard output. Tests the stores of cells.
 #![tactic(auto)]
 
+mod check;
 mod commands;
+mod exits;
 mod help;
+mod settings;
 
 use std::process::ExitCode;
 

@@ -1,5 +1,5 @@
 -- The arm of the table by which a client is asked for a call, or for a Start.
-use Rattle.std.proofs.Common.{◌≡◌, ℕ, ◌+◌, ◌<◌, ◌≤◌, max, Bool, true, false, cond, List, Option, Some, None, Result, Ok, Err, refl, sym, ap, ◌∙◌, subst, arith}
+use Rattle.std.proofs.Common.{◌≡◌, inl, inr, ℕ, ◌+◌, ◌<◌, ◌≤◌, max, Bool, true, false, cond, List, Option, Some, None, Result, Ok, Err, refl, sym, ap, ◌∙◌, subst, arith}
 use Rattle.std.specs.Prelude.{nat_lt, is_some}
 use Rattle.std.proofs.lemmas.Bool.Decides.{nat_tests}
 use Rattle.lease_core.specs.Lease.{moment_limit}
@@ -24,10 +24,10 @@ use Rattle.client_core.specs.declared.targets.Target.TheVariants as targets
 use Rattle.client_core.specs.declared.targets.Outstanding.{Outstanding}
 use Rattle.client_core.specs.State.{ClientState}
 use Rattle.client_core.specs.Asks.{session_fault, handle_of, open_bytes, usable_handle, usable_bytes, call_on, send_plan, close_plan, poison_plan, node_plan, session_plan, plan_in, plan_of, message_of, with_call, send_step, ask_by, ask_at, ask_step}
-use Rattle.client_core.specs.Beats.{start_message, start_step, beat_by, beat_at, beat_step}
+use Rattle.client_core.specs.Beats.{start_message, beat_message, with_beat, sends, beat_by, beat_at, beat_step}
 use Rattle.client_core.specs.Cases.{IsSendable, AskCase, asked_in, BeatCase, beaten_in, noted}
 use Rattle.client_core.specs.Cases.AskCase.{AskedTooLate, Refused, OutOfCalls, Sent, Poisoned}
-use Rattle.client_core.specs.Cases.BeatCase.{BeatTooLate, OutOfStarts, Starts, Quiet}
+use Rattle.client_core.specs.Cases.BeatCase.{BeatTooLate, OutOfBeats, Starts, Beats, Quiet}
 
 pub either : {A : Type 0} (P : A → Type 0) (b : Bool) (x y : A) → (b ≡ true → P x) → (b ≡ false → P y) → P (cond b x y)
 either P true x y h k = h refl
@@ -144,16 +144,21 @@ ask_case s now ask =
 abbrev pub IsBeaten : (s : ClientState) (now : ℕ) → ClientState × Result (Option Request) Fault → Type 0
 IsBeaten s now p = (c : BeatCase s now) × (p ≡ beaten_in s now c)
 
-starts_case : (s : ClientState) (now : ℕ) → now < moment_limit → s.session ≡ sessions.Unstarted → IsBeaten s now (start_step s (max s.clock now))
+starts_case : (s : ClientState) (now : ℕ) → now < moment_limit → s.session ≡ sessions.Unstarted → IsBeaten s now (sends s (max s.clock now) (start_message s))
 starts_case s now early is =
-    either (IsBeaten s now) (nat_lt (s.starts + 1) number_end) (record (noted s now) { starts = s.starts + 1 }, Ok (Some (start_message s))) (s, Err faults.Exhausted)
-    (λ h. (Starts early is (less (s.starts + 1) number_end h), refl)) (λ h. (OutOfStarts early is (not_less (s.starts + 1) number_end h), refl))
+    either (IsBeaten s now) (nat_lt (s.beats + 1) number_end) (with_beat s (max s.clock now), Ok (Some (start_message s))) (s, Err faults.Exhausted)
+    (λ h. (Starts early is (less (s.beats + 1) number_end h), refl)) (λ h. (OutOfBeats early (inl is) (not_less (s.beats + 1) number_end h), refl))
+
+beats_case : (s : ClientState) (now : ℕ) → now < moment_limit → s.session ≡ sessions.Live → IsBeaten s now (sends s (max s.clock now) (beat_message s))
+beats_case s now early is =
+    either (IsBeaten s now) (nat_lt (s.beats + 1) number_end) (with_beat s (max s.clock now), Ok (Some (beat_message s))) (s, Err faults.Exhausted)
+    (λ h. (Beats early is (less (s.beats + 1) number_end h), refl)) (λ h. (OutOfBeats early (inr is) (not_less (s.beats + 1) number_end h), refl))
 
 session_case : (s : ClientState) (now : ℕ) (session : Session) → now < moment_limit → s.session ≡ session → IsBeaten s now (beat_by s (max s.clock now) session)
 session_case s now sessions.Unstarted early is = starts_case s now early is
-session_case s now sessions.Live early is = (Quiet early (λ e. cc), refl)
-session_case s now sessions.Lost early is = (Quiet early (λ e. cc), refl)
-session_case s now sessions.TurnedAway early is = (Quiet early (λ e. cc), refl)
+session_case s now sessions.Live early is = beats_case s now early is
+session_case s now sessions.Lost early is = (Quiet early (λ e. cc) (λ e. cc), refl)
+session_case s now sessions.TurnedAway early is = (Quiet early (λ e. cc) (λ e. cc), refl)
 
 pub beat_case : (s : ClientState) (now : ℕ) → IsBeaten s now (beat_step s now)
 unfolding beat_step

@@ -1,3 +1,4 @@
 pub mod AskCases
 pub mod GiveCases
 pub mod Numbered
+pub mod Leases

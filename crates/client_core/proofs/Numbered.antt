@@ -24,8 +24,8 @@ use Rattle.client_core.specs.Gives.{is_live, target_for, awaited, answer_of, end
 use Rattle.client_core.specs.Laws.{HandleNumbersRise, HandleNumbersStay, RepeatedReplyIsDropped, RefusedCallChangesNothing, answered_here, PoisonIsAsked}
 use Rattle.client_core.specs.Cases.{IsAwaited, AskCase, asked_in, BeatCase, beaten_in, GiveCase, given_in, noted}
 use Rattle.client_core.specs.Cases.AskCase.{AskedTooLate, Refused, OutOfCalls, Sent, Poisoned}
-use Rattle.client_core.specs.Cases.BeatCase.{BeatTooLate, OutOfStarts, Starts, Quiet}
-use Rattle.client_core.specs.Cases.GiveCase.{GivenTooLate, OfAnother, Started, StartedDropped, Replied, ReplyDropped, NotAwaited, Lost, TurnedAway, RefusalDropped}
+use Rattle.client_core.specs.Cases.BeatCase.{BeatTooLate, OutOfBeats, Starts, Beats, Quiet}
+use Rattle.client_core.specs.Cases.GiveCase.{GivenTooLate, OfAnother, Started, StartedUnfit, StartedDropped, LeaseTaken, LeaseStays, AliveUnfit, AliveDropped, Replied, ReplyDropped, NotAwaited, Lost, TurnedAway, RefusalDropped}
 use Rattle.client_core.proofs.AskCases.{ask_case, beat_case}
 use Rattle.client_core.proofs.GiveCases.{give_case}
 
@@ -57,8 +57,13 @@ reply_rises s t new target (results.Refused fault) client number call handle sam
 rises_in : (s new : ClientState) (now client call handle : ℕ) (out : Out) (c : GiveCase s now out) → (given_in s now out c).0 ≡ new → Tells (given_in s now out c).1 client call handle → (s.opened < handle) × (new.opened ≡ handle)
 rises_in s new now client call handle out (GivenTooLate late) h told = cc
 rises_in s new now client call handle out (OfAnother early other) h told = cc
-rises_in s new now client call handle out (Started message heard is unstarted newest) h told = cc
+rises_in s new now client call handle out (Started message heard is standing fits) h told = cc
+rises_in s new now client call handle out (StartedUnfit message heard is standing long) h told = cc
 rises_in s new now client call handle out (StartedDropped message heard is old) h told = cc
+rises_in s new now client call handle out (LeaseTaken message heard is better) h told = cc
+rises_in s new now client call handle out (LeaseStays message heard is passed) h told = cc
+rises_in s new now client call handle out (AliveUnfit message heard is alive long) h told = cc
+rises_in s new now client call handle out (AliveDropped message heard is strange) h told = cc
 rises_in s new now client call handle out (Replied message waiting heard is for kept) h told =
     reply_rises s (noted s now) new waiting.target message.result client message.number call handle refl h told
 rises_in s new now client call handle out (ReplyDropped message waiting heard is for dropped) h told = cc
@@ -82,9 +87,10 @@ ask_stays s now ask (Poisoned number handle poisonable) = refl
 
 beat_stays : (s : ClientState) (now : ℕ) (c : BeatCase s now) → (beaten_in s now c).0.opened ≡ s.opened
 beat_stays s now (BeatTooLate late) = refl
-beat_stays s now (OutOfStarts early unstarted last) = refl
+beat_stays s now (OutOfBeats early standing last) = refl
 beat_stays s now (Starts early unstarted room) = refl
-beat_stays s now (Quiet early started) = refl
+beat_stays s now (Beats early live room) = refl
+beat_stays s now (Quiet early standing started) = refl
 
 ended_stays : (s : ClientState) (target : Target) (result : CallResult) → s.opened ≤ (ended s target result).opened
 ended_stays s target (results.Opened kept) = omega arith
@@ -98,8 +104,13 @@ ended_stays s target (results.Refused fault) = omega arith
 give_stays : (s : ClientState) (now : ℕ) (out : Out) (c : GiveCase s now out) → s.opened ≤ (given_in s now out c).0.opened
 give_stays s now out (GivenTooLate late) = omega arith
 give_stays s now out (OfAnother early other) = omega arith
-give_stays s now out (Started message heard is unstarted newest) = omega arith
+give_stays s now out (Started message heard is standing fits) = omega arith
+give_stays s now out (StartedUnfit message heard is standing long) = omega arith
 give_stays s now out (StartedDropped message heard is old) = omega arith
+give_stays s now out (LeaseTaken message heard is better) = omega arith
+give_stays s now out (LeaseStays message heard is passed) = omega arith
+give_stays s now out (AliveUnfit message heard is alive long) = omega arith
+give_stays s now out (AliveDropped message heard is strange) = omega arith
 give_stays s now out (Replied message waiting heard is for kept) = ended_stays (noted s now) waiting.target message.result
 give_stays s now out (ReplyDropped message waiting heard is for dropped) = omega arith
 give_stays s now out (NotAwaited message heard is none) = omega arith
@@ -140,8 +151,13 @@ IsStale s reply = (out_client (outs.Reply reply) ≢ s.number) ⊎ (awaited s re
 stale_in : (s new : ClientState) (now : ℕ) (reply : Reply) (printed : List Line) (c : GiveCase s now (outs.Reply reply)) → (given_in s now (outs.Reply reply) c).0 ≡ new → (given_in s now (outs.Reply reply) c).1 ≡ Ok printed → IsStale new reply
 stale_in s new now reply printed (GivenTooLate late) h told = cc
 stale_in s new now reply printed (OfAnother early other) h told = rw (← h) (inl other)
-stale_in s new now reply printed (Started message heard is unstarted newest) h told = cc
+stale_in s new now reply printed (Started message heard is standing fits) h told = cc
+stale_in s new now reply printed (StartedUnfit message heard is standing long) h told = cc
 stale_in s new now reply printed (StartedDropped message heard is old) h told = cc
+stale_in s new now reply printed (LeaseTaken message heard is better) h told = cc
+stale_in s new now reply printed (LeaseStays message heard is passed) h told = cc
+stale_in s new now reply printed (AliveUnfit message heard is alive long) h told = cc
+stale_in s new now reply printed (AliveDropped message heard is strange) h told = cc
 stale_in s new now reply printed (Replied message waiting heard is for kept) h told =
     inr (none_awaited new reply (sym (ap (λ (t : ClientState). t.outstanding) h) ∙ ended_none (noted s now) waiting.target message.result))
 stale_in s new now reply printed (ReplyDropped message waiting heard is for dropped) h told =
@@ -180,8 +196,13 @@ not_both s reply message call (inr none) is own for X =
 dropped_in : (s : ClientState) (now : ℕ) (reply : Reply) (c : GiveCase s now (outs.Reply reply)) → IsStale s reply → now < moment_limit → given_in s now (outs.Reply reply) c ≡ (noted s now, Ok [])
 dropped_in s now reply (GivenTooLate late) stale moment = absurd (omega arith)
 dropped_in s now reply (OfAnother early other) stale moment = refl
-dropped_in s now reply (Started message heard is unstarted newest) stale moment = cc
+dropped_in s now reply (Started message heard is standing fits) stale moment = cc
+dropped_in s now reply (StartedUnfit message heard is standing long) stale moment = cc
 dropped_in s now reply (StartedDropped message heard is old) stale moment = refl
+dropped_in s now reply (LeaseTaken message heard is better) stale moment = cc
+dropped_in s now reply (LeaseStays message heard is passed) stale moment = cc
+dropped_in s now reply (AliveUnfit message heard is alive long) stale moment = cc
+dropped_in s now reply (AliveDropped message heard is strange) stale moment = cc
 dropped_in s now reply (Replied message waiting heard is for kept) stale moment = not_both s reply message waiting stale is heard.own for _
 dropped_in s now reply (ReplyDropped message waiting heard is for dropped) stale moment = not_both s reply message waiting stale is heard.own for _
 dropped_in s now reply (NotAwaited message heard is none) stale moment = refl

@@ -10,17 +10,24 @@ use Rattle.client_core.specs.declared.sessions.Session.TheVariants as sessions
 use Rattle.client_core.specs.State.{ClientState, moment, at_moment}
 
 abbrev pub start_message : ClientState → Request
-start_message s = requests.Start (record { client = s.number; number = s.starts + 1; principal = s.principal })
+start_message s = requests.Start (record { client = s.number; number = s.beats + 1; principal = s.principal })
 
--- a Start under the next number; behind the last number nothing changes
-abbrev pub start_step : ClientState → ℕ → ClientState × Result (Option Request) Fault
-start_step s noted =
-    if nat_lt (s.starts + 1) number_end then (record s { clock = noted; starts = s.starts + 1 }, Ok (Some (start_message s))) else (s, Err faults.Exhausted)
+-- nothing is invalidated and no event is told yet
+abbrev pub beat_message : ClientState → Request
+beat_message s = requests.Beat (record { client = s.number; epoch = s.epoch; number = s.beats + 1; invalidations = 0; events = 0 })
 
--- a client asks for a session until it has one, or is told that it gets none
+-- a lease that answers it counts from now on
+abbrev pub with_beat : ClientState → ℕ → ClientState
+with_beat s noted = record s { clock = noted; beats = s.beats + 1; sent = noted }
+
+-- it goes out under the next number; behind the last number nothing changes
+abbrev pub sends : ClientState → ℕ → Request → ClientState × Result (Option Request) Fault
+sends s noted message = if nat_lt (s.beats + 1) number_end then (with_beat s noted, Ok (Some message)) else (s, Err faults.Exhausted)
+
+-- a client asks for a session until it has one, and then for its being kept, or is told that it gets none
 abbrev pub beat_by : ClientState → ℕ → Session → ClientState × Result (Option Request) Fault
-beat_by s noted sessions.Unstarted = start_step s noted
-beat_by s noted sessions.Live = (at_moment s noted, Ok None)
+beat_by s noted sessions.Unstarted = sends s noted (start_message s)
+beat_by s noted sessions.Live = sends s noted (beat_message s)
 beat_by s noted sessions.Lost = (at_moment s noted, Ok None)
 beat_by s noted sessions.TurnedAway = (at_moment s noted, Ok None)
 

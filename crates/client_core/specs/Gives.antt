@@ -1,9 +1,10 @@
 -- A client is given a message of a master.
-use Rattle.std.specs.Prelude.{ℕ, ◌+◌, ◌==◌, ◌&&◌, nat_le, Bool, true, false, List, [], ◌∷◌, Option, Some, None, Result, Ok, Err, if◌then◌else◌}
+use Rattle.std.specs.Prelude.{ℕ, ◌+◌, ◌==◌, ◌&&◌, nat_lt, nat_le, Bool, true, false, List, [], ◌∷◌, Option, Some, None, Result, Ok, Err, if◌then◌else◌}
 use Rattle.std.specs.Option.{option_map_or}
 use Rattle.std.specs.Map.{remove_entry}
 use Rattle.std.specs.BTreeMap.{is_at, insert_entry}
 use Rattle.std.specs.Ordering.{nat_cmp}
+use Rattle.lease_core.specs.Lease.{LeaseTerms, moment_limit, is_better}
 use Rattle.node_core.specs.declared.refusals.Fault.{Fault}
 use Rattle.node_core.specs.declared.refusals.Fault.TheVariants as faults
 use Rattle.node_core.specs.declared.answers.Answer.{Answer}
@@ -13,6 +14,7 @@ use Rattle.node_core.specs.declared.lines.Line.TheVariants as lines
 use Rattle.tags_cell.specs.declared.outs.Out.{Out}
 use Rattle.tags_cell.specs.declared.outs.Out.TheVariants as outs
 use Rattle.tags_cell.specs.declared.outs.Started.{Started}
+use Rattle.tags_cell.specs.declared.beats.Alive.{Alive}
 use Rattle.tags_cell.specs.declared.outs.Reply.{Reply}
 use Rattle.tags_cell.specs.declared.outs.Refused.{Refused}
 use Rattle.tags_cell.specs.declared.outs.CallResult.{CallResult}
@@ -46,10 +48,37 @@ is_live sessions.TurnedAway = false
 
 -- ---- Started
 
+-- a span is a number of milliseconds
+abbrev pub is_span : ℕ → Bool
+is_span span = nat_lt span moment_limit
+
+-- the lease counts from the sending of the newest Start or Beat, which is the one that is answered
+abbrev pub offered : ClientState → ℕ → LeaseTerms
+offered s span = record { sent = s.sent; span = span }
+
+abbrev pub begun : ClientState → Started → ClientState
+begun s message = record s { session = sessions.Live; epoch = message.epoch; lease = offered s message.span }
+
 -- only a client without a session takes it, and only for its newest Start
-abbrev pub start_taken : ClientState → Started → ClientState
-start_taken s message =
-    if is_unstarted s.session && message.number == s.starts then record s { session = sessions.Live; epoch = message.epoch } else s
+abbrev pub started_step : ClientState → Started → ClientState × Result (List Line) Fault
+started_step s message =
+    if is_unstarted s.session && message.number == s.beats
+    then (if is_span message.span then (begun s message, Ok []) else (s, Err faults.ProtocolFault))
+    else (s, Ok [])
+
+-- ---- Alive
+
+-- only an offer for the newest Beat counts, and only a better one than the lease that there is
+abbrev pub with_lease : ClientState → Alive → ClientState
+with_lease s message =
+    if message.number == s.beats && is_better (offered s message.span) s.lease then record s { lease = offered s message.span } else s
+
+-- one of another epoch is dropped
+abbrev pub alive_step : ClientState → Alive → ClientState × Result (List Line) Fault
+alive_step s message =
+    if is_live s.session && message.epoch == s.epoch
+    then (if is_span message.span then (with_lease s message, Ok []) else (s, Err faults.ProtocolFault))
+    else (s, Ok [])
 
 -- ---- Reply
 
@@ -83,6 +112,7 @@ opening_in _ = None
 
 abbrev pub opening_of : Request → Option Open
 opening_of (requests.Start message) = None
+opening_of (requests.Beat message) = None
 opening_of (requests.Call message) = opening_in message.call
 
 -- what is kept of a new handle: name and mode are those that were asked for
@@ -140,20 +170,22 @@ refused_step s message = lose_step s (session_after s.session s.epoch message.ep
 
 -- ---- every message
 
-abbrev pub taken : ClientState → Out → ClientState × List Line
-taken s (outs.Started message) = (start_taken s message, [])
-taken s (outs.Reply message) = reply_step s message
-taken s (outs.Refused message) = refused_step s message
+abbrev pub told : ClientState × List Line → ClientState × Result (List Line) Fault
+told step = (step.0, Ok step.1)
+
+abbrev pub taken : ClientState → Out → ClientState × Result (List Line) Fault
+taken s (outs.Started message) = started_step s message
+taken s (outs.Alive message) = alive_step s message
+taken s (outs.Reply message) = told (reply_step s message)
+taken s (outs.Refused message) = told (refused_step s message)
 
 -- a message for another client changes nothing
-abbrev pub taken_own : ClientState → Out → ClientState × List Line
-taken_own s out = if out_client out == s.number then taken s out else (s, [])
+abbrev pub taken_own : ClientState → Out → ClientState × Result (List Line) Fault
+taken_own s out = if out_client out == s.number then taken s out else (s, Ok [])
 
-abbrev pub answered : ClientState × List Line → ClientState × Result (List Line) Fault
-answered step = (step.0, Ok step.1)
-
+-- what no master sends notes the time alone
 abbrev pub give_at : ClientState → Out → Result ℕ Fault → ClientState × Result (List Line) Fault
-give_at s out (Ok noted) = answered (taken_own (at_moment s noted) out)
+give_at s out (Ok noted) = taken_own (at_moment s noted) out
 give_at s out (Err fault) = (s, Err fault)
 
 unfoldable pub give_step : ClientState → ℕ → Out → ClientState × Result (List Line) Fault

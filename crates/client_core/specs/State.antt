@@ -1,6 +1,6 @@
 -- What a client is, and when it is.
 use Rattle.std.specs.Prelude.{◌≡◌, ◌≢◌, ℕ, ◌+◌, ◌<◌, ◌≤◌, nat_lt, max, List, [], Option, Some, None, Result, Ok, Err, if◌then◌else◌}
-use Rattle.lease_core.specs.Lease.{moment_limit}
+use Rattle.lease_core.specs.Lease.{LeaseTerms, IsMoment, moment_limit}
 use Rattle.node_core.specs.Limits.{number_end}
 use Rattle.node_core.specs.declared.refusals.Fault.{Fault}
 use Rattle.node_core.specs.declared.refusals.Fault.TheVariants as faults
@@ -14,11 +14,15 @@ pub record ClientState : Type 0 where
   pub principal : List ℕ
   -- the moment that it noted last, in milliseconds
   pub clock : ℕ
-  -- the number of its newest Start, 0 before the first
-  pub starts : ℕ
+  -- the number of its newest Start or Beat, 0 before the first
+  pub beats : ℕ
+  -- the moment that it noted when it sent that one
+  pub sent : ℕ
   pub session : Session
   -- the epoch of the master that gave it its session, also once that is lost; 0 before
   pub epoch : ℕ
+  -- how long it may rely on its session; of span 0 before the first
+  pub lease : LeaseTerms
   -- the number of its newest call, 0 before the first
   pub calls : ℕ
   -- the call that has no reply yet
@@ -28,18 +32,24 @@ pub record ClientState : Type 0 where
   -- the newest of these numbers, 0 before the first
   pub opened : ℕ
 
+-- a lease that is never unexpired
+abbrev pub no_lease : LeaseTerms
+no_lease = record { sent = 0; span = 0 }
+
 -- a client that has done nothing yet
 abbrev pub new_client : ℕ → List ℕ → ClientState
 new_client number principal =
-    record { number = number; principal = principal; clock = 0; starts = 0; session = sessions.Unstarted; epoch = 0; calls = 0; outstanding = None; handles = []; opened = 0 }
+    record { number = number; principal = principal; clock = 0; beats = 0; sent = 0; session = sessions.Unstarted; epoch = 0; lease = no_lease; calls = 0; outstanding = None; handles = []; opened = 0 }
 
 abbrev pub count_of : Option Outstanding → ℕ
 count_of None = 0
 count_of (Some call) = 1
 
--- messages are numbered up to their limit; each handle came of a call of its own that has ended
-pub record IsWithin (starts calls opened : ℕ) (outstanding : Option Outstanding) : Type 0 where
-  pub last_start : starts < number_end
+-- moments and the numbers of messages are within their limits; each handle came of a call of its own that has ended
+pub record IsWithin (clock sent beats calls opened : ℕ) (outstanding : Option Outstanding) : Type 0 where
+  pub last_moment : IsMoment clock
+  pub last_sending : IsMoment sent
+  pub last_beat : beats < number_end
   pub last_call : calls < number_end
   pub ended_calls : opened + count_of outstanding ≤ calls
 

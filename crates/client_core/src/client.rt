@@ -1,17 +1,19 @@
 //! A client.
 ghost use Rattle.std.specs.Prelude.{◌≡◌, ◌+◌, ◌==◌, ◌&&◌, ◌∷◌, [], ◌^◌, ◌<◌, Option, Some, None, Ok, Err, IsSome, OnOk, OnErr, IfOk};
 ghost use Rattle.std.specs.Option.{option_copied, option_map};
+ghost use Rattle.lease_core.specs.Lease.{IsMoment};
 ghost use Rattle.client_core.specs.State.{new_client, moment, Does};
 ghost use Rattle.client_core.specs.Asks.{ask_step, send_step};
-ghost use Rattle.client_core.specs.Beats.{beat_step, start_step};
-ghost use Rattle.client_core.specs.Gives.{give_step, taken_own, start_taken, awaited, answer_of, ended, reply_for, reply_step, refused_step, handles_behind};
+ghost use Rattle.client_core.specs.Beats.{beat_step, start_message, beat_message, with_beat, sends};
+ghost use Rattle.client_core.specs.Gives.{give_step, taken_own, awaited, answer_of, ended, reply_for, reply_step, refused_step, handles_behind};
 
 use crate::asks::{Ask, Asked};
 use crate::handles::ClientHandle;
+use crate::offers::first_lease;
 use crate::plans::Plan;
 use crate::sessions::Session;
 use crate::targets::{Outstanding, Target};
-use lease_core::MOMENT_LIMIT;
+use lease_core::{Lease, MOMENT_LIMIT};
 use names_cell::Principal;
 use node_core::{Answer, Fault, Line};
 use plain::{Items, Table};
@@ -19,27 +21,34 @@ use std::alloc::{AllocError, Global};
 use std::marker::Model;
 use std::mem;
 use tags_cell::{
-    Call, CallMessage, CallResult, ClientNumber, MessageNumber, NewHandle, Out, Refused, Reply,
-    Request, Start, Started,
+    Beat, Call, CallMessage, CallResult, ClientNumber, MessageNumber, NewHandle, Out, Refused,
+    Reply, Request, Start,
 };
 
-/// A client of a cell (Burrows 2006, section 2.7): its session, its handles, and its call that has no reply yet. To a
-/// contract, the record of these.
+/// A client of a cell (Burrows 2006, section 2.7): its session with the lease on it, its handles, and its call that has no
+/// reply yet. To a contract, the record of these.
 ///
 /// Each of `ask`, `give` and `beat` first notes the time, in milliseconds by the client's own clock: a moment that is
 /// earlier than the last one counts as that, and one of 2^53 or more is refused as Exhausted and changes nothing. Where
 /// memory runs out nothing changes either, not even the noted time.
 ///
-/// What isn't there yet: a lease and what ends with it, a cache, Beats, events, locks, and a change of the master's epoch.
+/// A lease counts from the moment that was noted when its Start or Beat was sent, and not from when the answer came: the
+/// master counts its promise from the receipt, which is no earlier (Gray and Cheriton 1989, section 2; Burrows 2006,
+/// section 2.8).
+///
+/// What isn't there yet: a cache; jeopardy, and the loss of a session by time; events; locks; and a change of the
+/// master's epoch.
 #[derive(Drop)]
 pub struct Client {
     pub(crate) alloc: Global,
     pub(crate) number: ClientNumber,
     pub(crate) principal: Principal,
     pub(crate) clock: u64,
-    pub(crate) starts: u64,
+    pub(crate) beats: u64,
+    pub(crate) sent: u64,
     pub(crate) session: Session,
     pub(crate) epoch: u64,
+    pub(crate) lease: Lease,
     pub(crate) calls: u64,
     pub(crate) outstanding: Option<Outstanding>,
     pub(crate) handles: Table<u64, ClientHandle>,
@@ -55,21 +64,23 @@ impl Model for Client {
       number = c.number;
       principal = c.principal;
       clock = c.clock;
-      starts = c.starts;
+      beats = c.beats;
+      sent = c.sent;
       session = c.session;
       epoch = c.epoch;
+      lease = c.lease;
       calls = c.calls;
       outstanding = c.outstanding;
       handles = c.handles;
       opened = c.opened;
     } };
 
-    ghost invariant = { λ c. IsWithin c.starts c.calls c.opened c.outstanding };
+    ghost invariant = { λ c. IsWithin c.clock c.sent c.beats c.calls c.opened c.outstanding };
 }
 
 impl Client {
-    /// A client without a session, its clock at 0. Takes no memory yet. A number is used by one client alone, which is
-    /// the caller's to see to.
+    /// A client without a session, its clock at 0, its lease of span 0. Takes no memory yet. A number is used by one
+    /// client alone, which is the caller's to see to.
     pub fn new(alloc: Global, number: ClientNumber, principal: Principal) -> Client
         ensures { result ≡ new_client number principal }
     {
@@ -78,9 +89,11 @@ impl Client {
             number,
             principal,
             clock: 0,
-            starts: 0,
+            beats: 0,
+            sent: 0,
             session: Session::Unstarted,
             epoch: 0,
+            lease: first_lease(),
             calls: 0,
             outstanding: None,
             handles: Table::new(alloc),
@@ -114,9 +127,10 @@ impl Client {
         }
     }
 
-    /// Asks for what keeps the session: a Start under the next number until the client has a session, and then nothing
-    /// more, also where the session is lost. (Beats come with leases.) Behind the last number, 2^63-1, it is refused as
-    /// Exhausted, and nothing changes.
+    /// Asks for what keeps the session, under the next number: a Start until the client has a session, then a Beat, which
+    /// acknowledges nothing yet; where the session is lost, or the client was told that it gets none, nothing more. The
+    /// lease that it is answered with counts from the moment that is noted now. Behind the last number, 2^63-1, it is
+    /// refused as Exhausted, and nothing changes.
     #[tactic(auto, unfolding(crate::specs::Beats::beat_step))]
     pub fn beat(&mut self, now: u64) -> Result<Option<Request>, Fault>
         ensures { Does self.old self.new result (beat_step self.old now) }
@@ -124,7 +138,8 @@ impl Client {
         let moment = self.moment(now)?;
         match self.session {
             Session::Unstarted => self.start(moment),
-            Session::Live | Session::Lost | Session::TurnedAway => {
+            Session::Live => self.prolong(moment),
+            Session::Lost | Session::TurnedAway => {
                 self.clock = moment;
                 Ok(None)
             }
@@ -133,12 +148,16 @@ impl Client {
 
     /// Gives the client a message of a master, and answers the lines that are printed.
     ///
-    /// A Started gives it the session that its newest Start asked for. A Reply ends the outstanding call, if it is for
-    /// that call and of the client's epoch; a handle gets the client's next number for it, none is given out twice, and
-    /// the number of a closed handle is open no more. Where the call's handle was poisoned since, its Reply prints
-    /// nothing. A refusal as NoSession, unless it is of an earlier epoch, ends the session. Every other message changes
-    /// nothing but the noted time: a repeated one, one of another epoch, another refusal, and one for another client,
-    /// which can't come where messages are delivered to those that they name.
+    /// A Started gives it the session that its newest Start asked for, with the lease on it. An Alive that answers its
+    /// newest Beat gives it a lease, if it is of the client's epoch and the lease ends later than the one that there is. In
+    /// that Started, and in every Alive of the client's epoch, a span of 2^53 or more is refused as ProtocolFault: no master
+    /// sends it, and it changes nothing but the noted time.
+    ///
+    /// A Reply ends the outstanding call, if it is for that call and of the client's epoch; a handle gets the client's next
+    /// number for it, none is given out twice, and the number of a closed handle is open no more. Where the call's handle
+    /// was poisoned since, its Reply prints nothing. A refusal as NoSession, unless it is of an earlier epoch, ends the
+    /// session. Every other message changes nothing but the noted time: a repeated one, one of another epoch, another
+    /// refusal, and one for another client, which can't come where messages are delivered to those that they name.
     #[tactic(auto, unfolding(crate::specs::Gives::give_step))]
     pub fn give(&mut self, now: u64, out: &Out) -> Result<Items<Line>, Fault>
         ensures { Does self.old self.new result (give_step self.old now out.now) }
@@ -147,10 +166,11 @@ impl Client {
         self.clock = self.moment(now)?;
         match self.take(out) {
             Ok(lines) => Ok(lines),
-            Err(_) => {
+            Err(Fault::NoMemory) => {
                 self.clock = before;
                 Err(Fault::NoMemory)
             }
+            Err(fault) => Err(fault),
         }
     }
 
@@ -166,7 +186,8 @@ impl Client {
 
     // The moment that is noted.
     pub(crate) fn moment(&self, now: u64) -> Result<u64, Fault>
-        ensures { result ≡ moment self.now.clock now }
+        ensures value { result ≡ moment self.now.clock now }
+        ensures moment { IfOk result IsMoment }
     {
         if now < MOMENT_LIMIT {
             Ok(self.clock.max(now))
@@ -177,6 +198,7 @@ impl Client {
 
     // Numbers the call, and keeps its message.
     fn send(&mut self, moment: u64, call: Call, target: Target) -> Result<Asked, Fault>
+        requires { IsMoment moment }
         ensures { Does self.old self.new result (send_step self.old moment call target) }
     {
         let Some(number) = MessageNumber::new(self.calls + 1) else {
@@ -205,7 +227,8 @@ impl Client {
 
     // Keeps the message of the next call, which is outstanding now.
     fn keep(&mut self, moment: u64, request: Request, target: Target)
-        requires { self.old.calls + 1 < 2 ^ 63 }
+        requires moment { IsMoment moment }
+        requires number { self.old.calls + 1 < 2 ^ 63 }
         ensures { self.new ≡ record self.old { clock = moment; calls = self.old.calls + 1; outstanding = Some (record { request = request; target = target }) } }
     {
         let kept = Some(Outstanding { request, target });
@@ -217,15 +240,15 @@ impl Client {
 
     // Asks for a session under the next number.
     fn start(&mut self, moment: u64) -> Result<Option<Request>, Fault>
-        ensures { Does self.old self.new result (start_step self.old moment) }
+        requires { IsMoment moment }
+        ensures { Does self.old self.new result (sends self.old moment (start_message self.old)) }
     {
-        let Some(number) = MessageNumber::new(self.starts + 1) else {
+        let Some(number) = MessageNumber::new(self.beats + 1) else {
             return Err(Fault::Exhausted);
         };
         let client = self.number;
         let principal = self.principal.clone()?;
-        self.clock = moment;
-        self.starts += 1;
+        self.count_beat(moment);
         Ok(Some(Request::Start(Start {
             client,
             number,
@@ -233,30 +256,49 @@ impl Client {
         })))
     }
 
+    // Asks under the next number for the session to be kept.
+    fn prolong(&mut self, moment: u64) -> Result<Option<Request>, Fault>
+        requires { IsMoment moment }
+        ensures { Does self.old self.new result (sends self.old moment (beat_message self.old)) }
+    {
+        let Some(number) = MessageNumber::new(self.beats + 1) else {
+            return Err(Fault::Exhausted);
+        };
+        let client = self.number;
+        let epoch = self.epoch;
+        self.count_beat(moment);
+        Ok(Some(Request::Beat(Beat {
+            client,
+            epoch,
+            number,
+            invalidations: 0,
+            events: 0,
+        })))
+    }
+
+    // The next Start or Beat is sent at this moment, and is the newest from here on.
+    fn count_beat(&mut self, moment: u64)
+        requires moment { IsMoment moment }
+        requires number { self.old.beats + 1 < 2 ^ 63 }
+        ensures { self.new ≡ with_beat self.old moment }
+    {
+        self.clock = moment;
+        self.sent = moment;
+        self.beats += 1;
+    }
+
     // Does what the message asks for, at the noted time.
-    fn take(&mut self, out: &Out) -> Result<Items<Line>, AllocError>
-        ensures ok { IfOk result (λ lines. taken_own self.old out.now ≡ (self.new, lines)) }
-        ensures err { OnErr result (self.new ≡ self.old) }
+    fn take(&mut self, out: &Out) -> Result<Items<Line>, Fault>
+        ensures { Does self.old self.new result (taken_own self.old out.now) }
     {
         if out.client() != self.number {
             return Ok(Items::new(self.alloc));
         }
         match out {
-            Out::Started(started) => {
-                self.take_started(started);
-                Ok(Items::new(self.alloc))
-            }
-            Out::Reply(reply) => self.take_reply(reply),
-            Out::Refused(refused) => self.take_refused(refused),
-        }
-    }
-
-    fn take_started(&mut self, started: &Started)
-        ensures { self.new ≡ start_taken self.old started.now }
-    {
-        if self.session == Session::Unstarted && started.number.get() == self.starts {
-            self.session = Session::Live;
-            self.epoch = started.epoch;
+            Out::Started(started) => self.take_started(started),
+            Out::Alive(alive) => self.take_alive(alive),
+            Out::Reply(reply) => Ok(self.take_reply(reply)?),
+            Out::Refused(refused) => Ok(self.take_refused(refused)?),
         }
     }
 

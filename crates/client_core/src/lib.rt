@@ -1,10 +1,13 @@
-//! The client library: it keeps a client's session, its handles and its one outstanding call.
+//! The client library: it keeps a client's session and the lease on it, its handles and its one outstanding call.
+//!
+//! Every moment is a number of milliseconds by the client's own clock.
 #![tactic(auto)]
 
 mod asks;
 mod client;
 mod handles;
 mod laws;
+mod offers;
 mod plans;
 mod poisons;
 mod sessions;

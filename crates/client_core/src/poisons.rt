@@ -1,6 +1,7 @@
 //! A client poisons a handle.
 ghost use Rattle.std.specs.Prelude.{◌≡◌, IfOk};
 ghost use Rattle.plain.specs.Results.{Gives};
+ghost use Rattle.lease_core.specs.Lease.{IsMoment};
 ghost use Rattle.client_core.specs.State.{Does};
 ghost use Rattle.client_core.specs.Asks.{poison_step, poison_by, usable_of, usable_handle, handle_of};
 ghost use Rattle.client_core.specs.Poisons.{poison_lines, poisoned, dropped};
@@ -65,6 +66,7 @@ impl Client {
         number: u64,
         handle: ClientHandle,
     ) -> Result<Items<Line>, Fault>
+        requires { IsMoment moment }
         ensures { Does self.old self.new result (poison_by self.old moment number (Ok handle)) }
     {
         let lines = self.poison_lines(number)?;

@@ -45,7 +45,7 @@ impl Outstanding {
         ensures { option_copied result ≡ opening_of self.now.request }
     {
         match &self.request {
-            Request::Start(_) => None,
+            Request::Start(_) | Request::Beat(_) => None,
             Request::Call(message) => match &message.call {
                 Call::Open(opening) => Some(opening),
                 _ => None,

@@ -1,44 +1,70 @@
 -- What a sweep commits is sound, and leaves the master beside its rows.
-use Rattle.std.proofs.Common.{◌≡◌, ℕ, List, [], ◌∷◌, ◌++◌, Bool, true, false, Option, Some, None, Result, Ok, Err, refl, sym, ◌∙◌, ap, subst, inl, inr}
-use Rattle.std.specs.Prelude.{◌⊎◌, ◌&&◌, max, if◌then◌else◌, IfOk, IfErr, OnOk, OnErr}
-use Rattle.std.specs.List.{list_all}
+use Rattle.std.proofs.Common.{◌≡◌, ℕ, List, [], ◌∷◌, ◌++◌, Bool, true, false, cond, Option, Some, None, Result, Ok, Err, refl, sym, ◌∙◌, ap, subst, inl, inr, arith}
+use Rattle.std.specs.Prelude.{◌⊎◌, ◌&&◌, ◌||◌, ◌==◌, ◌+◌, ◌≤◌, not, map, max, if◌then◌else◌, IfOk, IfErr, OnOk, OnErr}
+use Rattle.std.specs.Option.{option_map_or}
+use Rattle.std.specs.List.{list_all, list_any}
 use Rattle.std.specs.List.Sorted.{IsStrictlySortedBy}
-use Rattle.std.specs.Map.{keys_of, remove_entry}
+use Rattle.std.specs.Map.{keys_of, lookup, set_value, remove_entry}
 use Rattle.std.specs.BTreeMap.{is_at, insert_entry}
-use Rattle.std.specs.Ordering.{nat_cmp}
+use Rattle.std.specs.Ordering.{nat_cmp, ordering_then, is_eq}
+use Rattle.std.specs.Cmp.{nat_cmp_total, tied_then}
 use Rattle.std.specs.Cmp.Lexicographic.{slice_cmp}
 use Rattle.std.proofs.lemmas.Bool.{and_parts, and_from}
+use Rattle.std.proofs.lemmas.Map.Lookups.{exact_unsigned}
+use Rattle.std.proofs.lemmas.Map.Made.{keys_of-map_values}
+use Rattle.plain.proofs.Entries.{eq_at}
 use Rattle.node_core.specs.declared.refusals.Fault.{Fault}
 use Rattle.node_core.specs.declared.views.Mod.{Mod}
 use Rattle.node_core.specs.declared.views.Mod.TheVariants.{Put, Gone}
 use Rattle.node_core.specs.Nodes.{Nodes, HasNamesInOrder}
-use Rattle.rows_cell.specs.declared.tables.Session.{Session}
+use Rattle.rows_cell.specs.declared.keys.LockKey.{LockKey}
+use Rattle.rows_cell.specs.declared.tables.LockRow.{LockRow}
+use Rattle.rows_cell.specs.declared.tables.Node.{Node}
+use Rattle.rows_cell.specs.declared.tables.Session as stored
 use Rattle.rows_cell.specs.declared.tables.Rows.{Rows}
 use Rattle.rows_cell.specs.declared.tables.Edit.{Edit}
-use Rattle.rows_cell.specs.declared.tables.Edit.TheVariants.{NextInstance}
-use Rattle.rows_cell.specs.Rows.{changed_rows}
+use Rattle.rows_cell.specs.declared.tables.Edit.TheVariants.{NextInstance, PutSession, RemoveLock}
+use Rattle.rows_cell.specs.Keys.{lock_order}
+use Rattle.rows_cell.specs.Rows.{StoredLocks, stored_node, without_locks_of, changed_rows, edited}
 use Rattle.rows_cell.specs.Sound.{sound, is_number}
 use Rattle.rows_cell.specs.Stores.{Store, IsCommitted, IsRefused}
+use Rattle.rows_cell.proofs.EntriesInOrder.{sorted_put, sorted_kept, put_is_set}
+use Rattle.rows_cell.proofs.PutEntries.{all_found}
 use Rattle.rows_cell.proofs.RowViews.{views_put, views_gone, rows_in_order}
 use Rattle.rows_cell.proofs.SoundChanges.{put_sound, session_sound}
-use Rattle.rows_cell.proofs.SoundRemovals.{gone_sound}
+use Rattle.rows_cell.proofs.SoundEnds.{changed_more, unlocked_by, unlocks, unlocks_sound, unlocked_all, unlocked_sorted, unlocked_gone, holds, ended_sound}
+use Rattle.rows_cell.proofs.SoundParts.{parts_of}
+use Rattle.rows_cell.proofs.SoundRemovals.{gone_sound, all_from_both, all_let_through}
+use Rattle.tags_cell.specs.declared.outs.Reply.{Reply}
 use Rattle.gate_core.specs.declared.pending.Waiting.{Waiting}
-use Rattle.cell_core.specs.declared.deeds.Change.{Change}
-use Rattle.over_core.specs.declared.effects.Effect.{Effect}
-use Rattle.cell_core.specs.declared.pending.Kept.{Kept}
+use Rattle.session_core.specs.declared.records.Kept.{Kept}
+use Rattle.session_core.specs.declared.records.Parked.{Parked}
+use Rattle.session_core.specs.declared.records.Session.{Session}
+use Rattle.session_core.specs.Session as of_session
+use Rattle.session_core.specs.Session.{session_until, prolonged, answered}
+use Rattle.session_core.specs.Sessions.{with_session, with_new}
+use Rattle.session_core.proofs.RowsOfSessions.{rows_of, rows_of-set_value, rows_of-insert_entry, lookup-rows_of}
 use Rattle.cell_core.specs.declared.pending.Task.{Task}
-use Rattle.cell_core.specs.State.{MasterState}
-use Rattle.cell_core.specs.Step.{reply_of, answered_by, recorded, with_note, is_past_end, noted}
+use Rattle.cell_core.specs.State.{MasterState, is_held, is_held_so, locks_of, row_of, session_rows}
+use Rattle.cell_core.specs.Step.{session_of, reply_of, answered_by, recorded, is_past_end, noted}
 use Rattle.cell_core.specs.Deeds.{edit_of}
-use Rattle.over_core.specs.Effect.{effect}
+use Rattle.over_core.specs.declared.effects.Effect.{Effect}
 use Rattle.over_core.specs.declared.sweeps.Swept.{Swept}
-use Rattle.over_core.specs.Kept.{IsKept, waiting_fits}
+use Rattle.over_core.specs.Kept.{IsKept, is_known, are_known, waiting_fits}
 use Rattle.over_core.specs.Sweep.{action_edits, first_action, sweep_edits, sweep_step}
 use Rattle.over_core.specs.SweepCase.{IsTurn, SweepCase, rest, mapped, swept_by, swept_edits}
-use Rattle.over_core.specs.SweepCase.SweepCase.{Quiet, TurnedAway, StartedAgain, Started, Ended, Applied}
+use Rattle.over_core.specs.SweepCase.SweepCase.{Quiet, Recovers, Expires, AnswersBeat, TurnedAway, StartedAgain, Started, OfEnded, Ended, Applied}
 use Rattle.over_core.proofs.FitsByEffects.{ModFits, EffectFits, effect_fits}
-use Rattle.over_core.proofs.KeptByTakes.{stays, note_kept, recorded_kept, clock_kept}
-use Rattle.over_core.proofs.SweepCases.{sweep_case, swept_case}
+use Rattle.over_core.proofs.KeptByTakes.{IsByBeats, step_by_beats, new_by_beats, stays, stepped_kept, note_kept, recorded_kept, clock_kept}
+use Rattle.over_core.proofs.SweepCases.{HasSessionsInOrder, sweep_case, swept_case}
+
+-- the sessions of a master stand in the order of those of its rows
+pub sessions_ordered : (cell : List ℕ) (rows : Rows) (s : MasterState) → IsKept cell rows s → HasSessionsInOrder s
+sessions_ordered cell rows s k =
+    let P : List ℕ → Type 0 = IsStrictlySortedBy nat_cmp in
+    let same : keys_of rows.sessions ≡ keys_of s.sessions.sessions =
+    ap (λ (es : List (ℕ × stored.Session)). keys_of es) (sym k.sessions) ∙ keys_of-map_values row_of s.sessions.sessions in
+    subst P same k.sessions_in_order
 
 -- ---- the others that wait
 
@@ -49,9 +75,122 @@ all_middle p (y ∷ ys) x back h =
     let m = all_middle p ys x back t.1 in
     (m.0, and_from (p y) (list_all p (ys ++ back)) t.0 m.1)
 
+some_wait : {X : Type 0} (front : List X) (x : X) (back : List X) → front ++ x ∷ back ≡ [] → ⊥
+some_wait [] x back h = cc
+some_wait (y ∷ ys) x back h = cc
+
 change_sound : (cell : List ℕ) (rows : Rows) (change : Mod) (next : ℕ) → sound cell rows ≡ true → IsStrictlySortedBy (slice_cmp nat_cmp) (keys_of rows.nodes) → ModFits rows change next → sound cell (changed_rows rows (edit_of change ∷ NextInstance next ∷ [])) ≡ true
 change_sound cell rows (Put name view) next h order fits = put_sound cell rows name view next h order fits
 change_sound cell rows (Gone name) next h order fits = gone_sound cell rows name next h fits
+
+none_of : {P : Type 0} → 1 ≤ 0 → P
+none_of h = absurd (omega arith)
+
+-- ---- a session that ends
+
+client_same : (x y : LockKey) → is_at (lock_order x) y ≡ true → x.client ≡ y.client
+client_same x y h =
+    let i = nat_cmp x.instance y.instance in
+    let c = nat_cmp x.client y.client in
+    let n = nat_cmp x.handle y.handle in
+    let t = and_parts (is_eq (ordering_then i c)) (is_eq n) (tied_then (ordering_then i c) n ∙ h) in
+    let u = and_parts (is_eq i) (is_eq c) (tied_then i c ∙ t.0) in
+    exact_unsigned x.client y.client (eq_at c u.1)
+
+-- a key of a client's lock that is known is among those of the client
+known_of_client : (client : ℕ) (key : LockKey) (known : List LockKey) → (key.client == client) ≡ true → list_any (is_at (lock_order key)) known ≡ true → list_any (is_at (lock_order key)) (locks_of client known) ≡ true
+known_of_client client key [] own h = h
+known_of_client client key (k ∷ ks) own h =
+    let at : LockKey → Bool = is_at (lock_order key) in
+    (elim (at k) as (λ b. at k ≡ b → (b || list_any at ks) ≡ true → list_any at (cond (k.client == client) (k ∷ locks_of client ks) (locks_of client ks)) ≡ true) [
+      | true ↦ (λ c f.
+          let same = client_same key k c in
+          let mine : (k.client == client) ≡ true = rw same at own in
+          rw (mine, c) refl)
+      | false ↦ (λ c f.
+          let less = known_of_client client key ks own f in
+          elim (k.client == client) as (λ b. list_any at (cond b (k ∷ locks_of client ks) (locks_of client ks)) ≡ true) [ true ↦ rw c less | false ↦ less ])
+    ]) refl h
+
+free_by : (held mine a b : Bool) → (not held || a) ≡ true → (mine ≡ true → a ≡ true → b ≡ true) → not b ≡ true → not (held && mine) ≡ true
+free_by true true true b h f k = let is = f refl refl in absurd (cc)
+free_by true true false b h f k = absurd (cc)
+free_by true false a b h f k = refl
+free_by false mine a b h f k = refl
+
+-- once the locks are gone that a client's session is known to hold, it holds none
+none_held : (client : ℕ) (known : List LockKey) (locks : StoredLocks) → are_known known locks ≡ true → IsStrictlySortedBy lock_order (keys_of locks) → list_all (λ e. not (holds is_held_so client e)) (unlocked_by (locks_of client known) locks) ≡ true
+none_held client known locks h order =
+    let keys = locks_of client known in
+    all_from_both (is_known known) (λ e. not (list_any (is_at (lock_order e.0)) keys)) (λ e. not (holds is_held_so client e)) (unlocked_by keys locks)
+    (λ e a b. free_by (is_held e) (e.0.client == client) (list_any (is_at (lock_order e.0)) known) (list_any (is_at (lock_order e.0)) keys) a (known_of_client client e.0 known) b)
+    (unlocked_all (is_known known) keys locks h)
+    (unlocked_gone keys locks order)
+
+module _ (cell : List ℕ) (rows : Rows) (s : MasterState) (k : IsKept cell rows s) (client : ℕ) (session : Session Reply) (found : session_of s client ≡ Some session) where
+  abbrev keys : List LockKey
+  keys = locks_of client s.held_locks
+
+  abbrev put : stored.Session
+  put = record { principal = session.principal; live = false }
+
+  -- the rows behind the end of the session
+  abbrev ended_rows : Rows
+  ended_rows = record rows { locks = unlocked_by keys rows.locks; sessions = insert_entry nat_cmp rows.sessions client put }
+
+  ended_is : changed_rows rows (map RemoveLock keys ++ PutSession client put ∷ []) ≡ ended_rows
+  ended_is = changed_more rows (map RemoveLock keys) (PutSession client put ∷ []) ∙ ap (λ (r : Rows). edited r (PutSession client put)) (unlocks rows keys)
+
+  -- the row of the session
+  row_found : lookup (is_at (nat_cmp client)) rows.sessions ≡ Some (row_of session)
+  row_found =
+      let P : List (ℕ × stored.Session) → Type 0 = λ es. lookup (is_at (nat_cmp client)) es ≡ Some (row_of session) in
+      subst P k.sessions (lookup-rows_of row_of (is_at (nat_cmp client)) s.sessions.sessions session found)
+
+  expiry_sound : sound cell ended_rows ≡ true
+  expiry_sound =
+      let unlocked : Rows = record rows { locks = unlocked_by keys rows.locks } in
+      let number : is_number client ≡ true =
+      all_found nat_cmp exact_unsigned (λ e. is_number e.0) rows.sessions client (row_of session) (parts_of cell rows k.sound_rows).sessions row_found in
+      ended_sound cell unlocked client put is_held_so refl refl (unlocks_sound cell rows keys k.sound_rows) number (none_held client s.held_locks rows.locks k.held_locks k.locks_in_order)
+
+  ended_sessions : session_rows (with_session s.sessions client of_session.ended) ≡ insert_entry nat_cmp rows.sessions client put
+  ended_sessions =
+      let P : Option (Session Reply) → Type 0 = λ o.
+      rows_of row_of (option_map_or (λ (before : Session Reply). record (s.sessions) { sessions = set_value (is_at (nat_cmp client)) s.sessions.sessions (of_session.ended before) }) o s.sessions).sessions ≡ insert_entry nat_cmp rows.sessions client put in
+      subst P (sym found)
+      (rows_of-set_value row_of (is_at (nat_cmp client)) s.sessions.sessions (of_session.ended session)
+      ∙ ap (λ (es : List (ℕ × stored.Session)). set_value (is_at (nat_cmp client)) es put) k.sessions
+      ∙ sym (put_is_set nat_cmp nat_cmp_total rows.sessions client put (row_of session) k.sessions_in_order row_found))
+
+  expiry_kept : IsKept cell ended_rows (record s { sessions = with_session s.sessions client of_session.ended })
+  expiry_kept = record {
+    name = k.name;
+    secret = k.secret;
+    epoch = k.epoch;
+    next_instance = k.next_instance;
+    nodes = k.nodes;
+    sessions = ended_sessions;
+    sound_rows = expiry_sound;
+    waiting = k.waiting;
+    held_locks = unlocked_all (is_known s.held_locks) keys rows.locks k.held_locks;
+    sessions_in_order = sorted_put nat_cmp nat_cmp_total rows.sessions client put k.sessions_in_order;
+    locks_in_order = unlocked_sorted keys rows.locks k.locks_in_order;
+    recovery_is_empty = k.recovery_is_empty;
+    by_beats = step_by_beats s.sessions client of_session.ended (λ before there h. h) k.by_beats;
+  }
+
+-- ---- a Beat that is answered
+
+answered_row : (lease now : ℕ) (session : Session Reply) → row_of (answered lease now session) ≡ row_of session
+answered_row lease now session =
+    elim session.parked as (λ o. row_of (option_map_or (λ (beat : Parked). prolonged (now + lease) (record session { parked = None })) o session) ≡ row_of session) [ None ↦ refl | Some beat ↦ refl ]
+
+answered_by_beats : (lease now : ℕ) (session : Session Reply) → IsByBeats session → IsByBeats (answered lease now session)
+answered_by_beats lease now session h =
+    elim session.parked as (λ o. IsByBeats (option_map_or (λ (beat : Parked). prolonged (now + lease) (record session { parked = None })) o session)) [ None ↦ h | Some beat ↦ h ]
+
+-- ---- what is committed
 
 module _ (cell : List ℕ) (rows : Rows) (s : MasterState) (k : IsKept cell rows s) where
   ordered : HasNamesInOrder s.nodes → IsStrictlySortedBy (slice_cmp nat_cmp) (keys_of rows.nodes)
@@ -64,20 +203,48 @@ module _ (cell : List ℕ) (rows : Rows) (s : MasterState) (k : IsKept cell rows
       all_middle (λ (x : Waiting Task). is_number x.change.body.client) front w back (subst P turn.waited k.waiting)
 
   rest_kept : (front back : List (Waiting Task)) (task : Task) → IsTurn s front task back → IsKept cell rows (rest s front back)
-  rest_kept front back task turn = let t = parts front back task turn in stays cell rows s (rest s front back) k refl refl refl refl refl refl t.1
+  rest_kept front back task turn =
+      let t = parts front back task turn in
+      let w : Waiting Task = record { number = turn.number; change = record { touched = turn.touched; body = task } } in
+      stays cell rows s (rest s front back) k (record {
+        name = refl;
+        secret = refl;
+        epoch = refl;
+        next_instance = refl;
+        nodes = refl;
+        sessions = refl;
+        held_locks = refl;
+        waiting = t.1;
+        recovery_is_empty = λ recovering. absurd (some_wait front w back (sym turn.waited ∙ k.recovery_is_empty recovering));
+        by_beats = k.by_beats;
+      })
 
   case_sound : (c : SweepCase s) → HasNamesInOrder s.nodes → sound cell (changed_rows rows (swept_edits s c)) ≡ true
   case_sound (Quiet none) order = k.sound_rows
-  case_sound (TurnedAway front back task principal turn work may) order = k.sound_rows
-  case_sound (StartedAgain front back task principal turn work may live) order = k.sound_rows
-  case_sound (Started front back task principal turn work may live) order =
+  case_sound (Recovers recovering heard) order = k.sound_rows
+  case_sound (Expires client session due) order =
+      let P : Rows → Type 0 = λ r. sound cell r ≡ true in
+      subst P (sym (ended_is cell rows s k client session due.found)) (expiry_sound cell rows s k client session due.found)
+  case_sound (AnswersBeat client session beat due) order = k.sound_rows
+  case_sound (TurnedAway front back task principal received turn work may) order = k.sound_rows
+  case_sound (StartedAgain front back task principal received session turn work found live) order = k.sound_rows
+  case_sound (Started front back task principal received turn work none) order =
       let t = parts front back task turn in session_sound cell rows task.client principal k.sound_rows t.0
-  case_sound (Ended front back task call _ answer turn work made) order = k.sound_rows
-  case_sound (Applied front back task call _ change answer turn work made) order =
+  case_sound (OfEnded front back task call turn work gone) order = k.sound_rows
+  case_sound (Ended front back task call _ answer turn work live made) order = k.sound_rows
+  case_sound (Applied front back task call _ change answer turn work live made) order =
       let P : Effect → Type 0 = EffectFits rows in
       change_sound cell rows change.change change.next_instance k.sound_rows (ordered order) (subst P made (effect_fits cell rows s k task.client task.number call))
 
 -- ---- what the master is then
+
+known_left : (known : List LockKey) (locks : StoredLocks) (o : Option Node) → are_known known locks ≡ true → are_known known (without_locks_of o locks) ≡ true
+known_left known locks None h = h
+known_left known locks (Some node) h = all_let_through (λ (e : LockKey × LockRow). not (e.0.instance == node.view.instance)) (is_known known) (is_known known) locks (λ e stay is. is) h
+
+order_left : (locks : StoredLocks) (o : Option Node) → IsStrictlySortedBy lock_order (keys_of locks) → IsStrictlySortedBy lock_order (keys_of (without_locks_of o locks))
+order_left locks None h = h
+order_left locks (Some node) h = sorted_kept lock_order (λ (e : LockKey × LockRow). not (e.0.instance == node.view.instance)) locks h
 
 module _ (cell : List ℕ) (rows : Rows) where
   mapped_kept : (s : MasterState) (change : Mod) (next : ℕ) → IsKept cell rows s → sound cell (changed_rows rows (edit_of change ∷ NextInstance next ∷ [])) ≡ true → IsKept cell (changed_rows rows (edit_of change ∷ NextInstance next ∷ [])) (mapped s (record { change = change; next_instance = next }))
@@ -90,6 +257,11 @@ module _ (cell : List ℕ) (rows : Rows) where
     sessions = k.sessions;
     sound_rows = h;
     waiting = k.waiting;
+    held_locks = k.held_locks;
+    sessions_in_order = k.sessions_in_order;
+    locks_in_order = k.locks_in_order;
+    recovery_is_empty = k.recovery_is_empty;
+    by_beats = k.by_beats;
   }
   mapped_kept s (Gone name) next k h = record {
     name = k.name;
@@ -100,32 +272,66 @@ module _ (cell : List ℕ) (rows : Rows) where
     sessions = k.sessions;
     sound_rows = h;
     waiting = k.waiting;
+    held_locks = known_left s.held_locks rows.locks (stored_node rows.nodes name) k.held_locks;
+    sessions_in_order = k.sessions_in_order;
+    locks_in_order = order_left rows.locks (stored_node rows.nodes name) k.locks_in_order;
+    recovery_is_empty = k.recovery_is_empty;
+    by_beats = k.by_beats;
   }
+
+  -- a session that begins
+  begun_kept : (s : MasterState) (client : ℕ) (principal : List ℕ) (timeout : ℕ) → IsKept cell rows s → sound cell (changed_rows rows (PutSession client (record { principal = principal; live = true }) ∷ [])) ≡ true → IsKept cell (changed_rows rows (PutSession client (record { principal = principal; live = true }) ∷ [])) (record s { sessions = with_new s.sessions client (session_until principal true timeout) })
+  begun_kept s client principal timeout k h =
+      let new : Session Reply = session_until principal true timeout in
+      let put : stored.Session = record { principal = principal; live = true } in
+      record {
+        name = k.name;
+        secret = k.secret;
+        epoch = k.epoch;
+        next_instance = k.next_instance;
+        nodes = k.nodes;
+        sessions = rows_of-insert_entry row_of s.sessions.sessions client new ∙ ap (λ (es : List (ℕ × stored.Session)). insert_entry nat_cmp es client put) k.sessions;
+        sound_rows = h;
+        waiting = k.waiting;
+        held_locks = k.held_locks;
+        sessions_in_order = sorted_put nat_cmp nat_cmp_total rows.sessions client put k.sessions_in_order;
+        locks_in_order = k.locks_in_order;
+        recovery_is_empty = k.recovery_is_empty;
+        by_beats = new_by_beats s.sessions client new (λ none. none_of none) k.by_beats;
+      }
 
   case_kept : (s : MasterState) (c : SweepCase s) → IsKept cell rows s → sound cell (changed_rows rows (swept_edits s c)) ≡ true → IsKept cell (changed_rows rows (swept_edits s c)) (swept_by s c).0
   case_kept s (Quiet none) k h = k
-  case_kept s (TurnedAway front back task principal turn work may) k h = rest_kept cell rows s k front back task turn
-  case_kept s (StartedAgain front back task principal turn work may live) k h = rest_kept cell rows s k front back task turn
-  case_kept s (Started front back task principal turn work may live) k h =
-      let r = rest_kept cell rows s k front back task turn in
-      let session : Session = record { principal = principal; live = true } in
-      record {
-        name = r.name;
-        secret = r.secret;
-        epoch = r.epoch;
-        next_instance = r.next_instance;
-        nodes = r.nodes;
-        sessions = ap (λ (x : List (ℕ × Session)). insert_entry nat_cmp x task.client session) r.sessions;
-        sound_rows = h;
-        waiting = r.waiting;
-      }
-  case_kept s (Ended front back task call note answer turn work made) k h =
+  case_kept s (Recovers recovering heard) k h = stays cell rows s (record s { recovering = false }) k (record {
+    name = refl;
+    secret = refl;
+    epoch = refl;
+    next_instance = refl;
+    nodes = refl;
+    sessions = refl;
+    held_locks = refl;
+    waiting = k.waiting;
+    recovery_is_empty = λ never. absurd (cc);
+    by_beats = k.by_beats;
+  })
+  case_kept s (Expires client session due) k h =
+      let P : Rows → Type 0 = λ r. IsKept cell r (record s { sessions = with_session s.sessions client of_session.ended }) in
+      subst P (sym (ended_is cell rows s k client session due.found)) (expiry_kept cell rows s k client session due.found)
+  case_kept s (AnswersBeat client session beat due) k h =
+      stepped_kept cell rows s client (answered s.sessions.lease s.clock) (answered_row s.sessions.lease s.clock) (λ before there. answered_by_beats s.sessions.lease s.clock before) k
+  case_kept s (TurnedAway front back task principal received turn work may) k h = rest_kept cell rows s k front back task turn
+  case_kept s (StartedAgain front back task principal received session turn work found live) k h =
+      stepped_kept cell rows (rest s front back) task.client (prolonged (s.clock + s.sessions.lease)) (λ before. refl) (λ before there is. is) (rest_kept cell rows s k front back task turn)
+  case_kept s (Started front back task principal received turn work none) k h =
+      begun_kept (rest s front back) task.client principal (s.clock + s.sessions.lease) (rest_kept cell rows s k front back task turn) h
+  case_kept s (OfEnded front back task call turn work gone) k h = rest_kept cell rows s k front back task turn
+  case_kept s (Ended front back task call note answer turn work live made) k h =
       let t = rest s front back in
-      let kept : Kept = answered_by (reply_of s task.client task.number answer) in
+      let kept : Kept Reply = answered_by (reply_of s task.client task.number answer) in
       note_kept cell rows (recorded t task.client kept) note (recorded_kept cell rows t task.client kept (rest_kept cell rows s k front back task turn))
-  case_kept s (Applied front back task call note change answer turn work made) k h =
+  case_kept s (Applied front back task call note change answer turn work live made) k h =
       let t = mapped (rest s front back) change in
-      let kept : Kept = answered_by (reply_of s task.client task.number answer) in
+      let kept : Kept Reply = answered_by (reply_of s task.client task.number answer) in
       let after = changed_rows rows (edit_of change.change ∷ NextInstance change.next_instance ∷ []) in
       note_kept cell after (recorded t task.client kept) note (recorded_kept cell after t task.client kept (mapped_kept (rest s front back) change.change change.next_instance (rest_kept cell rows s k front back task turn) h))
 
@@ -134,7 +340,7 @@ module _ (cell : List ℕ) (rows : Rows) where
 pub sweep_sound : (cell : List ℕ) (rows : Rows) (s : MasterState) (now : ℕ) → IsKept cell rows s → HasNamesInOrder s.nodes → sound cell (changed_rows rows (sweep_edits s now)) ≡ true
 sweep_sound cell rows s now k order =
     let there = noted s now in
-    let c = sweep_case there in
+    let c = sweep_case there (sessions_ordered cell rows s k) in
     let P : List Edit → Type 0 = λ edits. sound cell (changed_rows rows edits) ≡ true in
     let swept = subst P (sym c.2) (case_sound cell rows there (clock_kept cell rows s (max s.clock now) k) c.0 order) in
     elim (is_past_end now) as (λ b. sound cell (changed_rows rows (if b then [] else action_edits there (first_action there))) ≡ true) [ true ↦ k.sound_rows | false ↦ swept ]
@@ -142,7 +348,7 @@ sweep_sound cell rows s now k order =
 sweep_kept : (cell : List ℕ) (rows : Rows) (s new : MasterState) (now : ℕ) (told : Swept) → IsKept cell rows s → HasNamesInOrder s.nodes → sweep_step s now ≡ Ok (new, told) → IsKept cell (changed_rows rows (sweep_edits s now)) new
 sweep_kept cell rows s new now told k order h =
     let there = noted s now in
-    let c = swept_case s new now told h in
+    let c = swept_case s new now told (sessions_ordered cell rows s k) h in
     let noted_kept = clock_kept cell rows s (max s.clock now) k in
     let is : new ≡ (swept_by there c.0).0 = ap (λ (p : MasterState × Swept). p.0) c.1 in
     let P : List Edit → Type 0 = λ edits. IsKept cell (changed_rows rows edits) (swept_by there c.0).0 in

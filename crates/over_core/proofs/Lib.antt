@@ -1,4 +1,6 @@
 mod FitsByEffects
-mod KeptBySweeps
+pub mod KeptBySweeps
 mod KeptByTakes
+mod KeptByUps
+mod SweepRefused
 pub mod SweepCases

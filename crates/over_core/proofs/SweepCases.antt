@@ -1,8 +1,14 @@
 -- The arm of the table that a sweep takes.
-use Rattle.std.proofs.Common.{◌≡◌, ℕ, List, [], ◌∷◌, ◌++◌, Bool, true, false, cond, Option, Some, None, Result, Ok, Err, refl, sym, subst, eqb, arith}
-use Rattle.std.specs.Prelude.{◌==◌}
-use Rattle.std.specs.Option.{option_map_or}
+use Rattle.std.proofs.Common.{◌≡◌, ℕ, ◌≤◌, List, [], ◌∷◌, Bool, true, false, cond, Option, Some, None, Result, Ok, Err, refl, sym, ap, ◌∙◌, subst, eqb, arith}
+use Rattle.std.specs.Prelude.{◌&&◌, ◌||◌, nat_le}
+use Rattle.std.specs.Option.{option_map, option_map_or, option_and_then}
+use Rattle.std.specs.List.Sorted.{IsStrictlySortedBy}
+use Rattle.std.specs.Map.{keys_of}
+use Rattle.std.specs.Ordering.{nat_cmp}
+use Rattle.std.specs.Str.{bytes_eq}
+use Rattle.std.proofs.lemmas.Bool.{and_parts}
 use Rattle.std.proofs.lemmas.Bool.Decides.{nat_tests}
+use Rattle.std.proofs.lemmas.List.{append-nil}
 use Rattle.node_core.specs.declared.refusals.Fault.{Fault}
 use Rattle.node_core.specs.declared.refusals.Fault.TheVariants as faults
 use Rattle.node_core.specs.declared.lines.Line.TheVariants as lines
@@ -11,35 +17,45 @@ use Rattle.node_core.specs.declared.views.Mod.TheVariants.{Put, Gone}
 use Rattle.rows_cell.specs.declared.tables.Edit.{Edit}
 use Rattle.tags_cell.specs.declared.calls.Call.{Call}
 use Rattle.tags_cell.specs.declared.outs.CallResult.{CallResult}
+use Rattle.tags_cell.specs.declared.outs.Reply.{Reply}
+use Rattle.tags_cell.specs.Numbers.{is_client_number}
 use Rattle.gate_core.specs.declared.pending.Waiting.{Waiting}
 use Rattle.gate_core.specs.Gate.{without}
+use Rattle.session_core.specs.declared.records.Offer.{Offer}
+use Rattle.session_core.specs.declared.records.Parked.{Parked}
+use Rattle.session_core.specs.declared.records.Session.{Session}
+use Rattle.session_core.specs.Session.{is_client_expired, is_client_due, is_due, owes, nears_timeout, offer_to}
+use Rattle.session_core.specs.Sessions.{all_heard, lowest, passes, offer_of}
+use Rattle.session_core.proofs.Lowest.{lowest_is}
 use Rattle.cell_core.specs.declared.deeds.Change.{Change}
+use Rattle.cell_core.specs.declared.deeds.SessionDeed.TheVariants.{Ends, Answers}
 use Rattle.cell_core.specs.declared.handles.Note.{Note}
 use Rattle.cell_core.specs.declared.pending.Task.{Task}
 use Rattle.cell_core.specs.declared.pending.Work.{Work}
 use Rattle.cell_core.specs.declared.pending.Work.TheVariants as works
-use Rattle.cell_core.specs.State.{MasterState, first_number, task_at}
-use Rattle.cell_core.specs.Step.{is_live, may_start, turned_away, is_past_end, noted}
+use Rattle.cell_core.specs.State.{MasterState, locks_of, first_number, task_at}
+use Rattle.cell_core.specs.Step.{session_of, is_live, may_start, turned_away, is_past_end, noted}
 use Rattle.over_core.specs.Effect.{effect}
-use Rattle.cell_core.specs.Deeds.{done, edits_of}
+use Rattle.cell_core.specs.Deeds.{edits_of}
 use Rattle.over_core.specs.declared.actions.Action.{Action}
 use Rattle.over_core.specs.declared.actions.Action.TheVariants as actions
 use Rattle.over_core.specs.declared.plans.Plan.{Plan}
 use Rattle.over_core.specs.declared.sweeps.Swept.{Swept}
-use Rattle.over_core.specs.Sweep.{no_deed, no_plan, started_out, plan_session, plan_start, plan_effect, plan_work, plan_of, swept, action_edits, sweep_edits, first_action, sweep_step}
-use Rattle.over_core.specs.SweepCase.{IsTurn, SweepCase, swept_by, swept_edits}
-use Rattle.over_core.specs.SweepCase.SweepCase.{Quiet, TurnedAway, StartedAgain, Started, Ended, Applied}
+use Rattle.over_core.specs.Sweep.{no_deed, no_plan, session_plan, alive_out, leaving, plan_session, plan_start, plan_effect, plan_call, plan_work, answer_or_quiet, apply_or_later, first_action, swept_by_plan, swept, action_edits, sweep_edits, sweep_step}
+use Rattle.over_core.specs.SweepCase.{IsTurn, IsDueToEnd, IsDue, SweepCase, swept_by, swept_edits}
+use Rattle.over_core.specs.SweepCase.SweepCase.{Quiet, Recovers, Expires, AnswersBeat, TurnedAway, StartedAgain, Started, OfEnded, Ended, Applied}
 
 -- one of the cases is what is done, and committed
 abbrev pub IsSwept : (s : MasterState) → MasterState × Swept → List Edit → Type 0
 IsSwept s p edits = (c : SweepCase s) × (p ≡ swept_by s c) × (edits ≡ swept_edits s c)
 
--- what a plan does for the first change that waits
-abbrev does : MasterState → ℕ → Plan → MasterState × Swept
-does s number plan = (done s number plan.deed, record { lines = plan.taken.lines; outs = plan.taken.outs; quiet = false })
+-- the sessions stand in order of the numbers of their clients
+abbrev pub HasSessionsInOrder : MasterState → Type 0
+HasSessionsInOrder s = IsStrictlySortedBy nat_cmp (keys_of s.sessions.sessions)
 
+-- what a plan does for the first change that waits
 abbrev IsPlan : (s : MasterState) → ℕ → Plan → Type 0
-IsPlan s number plan = IsSwept s (does s number plan) (edits_of plan.deed)
+IsPlan s number plan = IsSwept s (swept_by_plan s (leaving number plan) false) (edits_of (leaving number plan).deed)
 
 either : (s : MasterState) (number : ℕ) (b : Bool) (x y : Plan) → (b ≡ true → IsPlan s number x) → (b ≡ false → IsPlan s number y) → IsPlan s number (cond b x y)
 either s number true x y h k = h refl
@@ -47,6 +63,22 @@ either s number false x y h k = k refl
 
 itself : (n : ℕ) → eqb n n ≡ true
 itself n = grind (arith, nat_tests)
+
+-- ---- a client's session
+
+-- a test of a session that passes is of one that is there
+some_passes : (test : Session Reply → Bool) (o : Option (Session Reply)) → option_map_or test o false ≡ true → (session : Session Reply) × (o ≡ Some session) × (test session ≡ true)
+some_passes test None h = absurd (cc)
+some_passes test (Some session) h = (session, refl, h)
+
+-- a client that may start, and has no live session, has none
+pub no_session : (principal : List ℕ) (o : Option (Session Reply)) → option_map_or (λ (session : Session Reply). session.live && bytes_eq session.principal principal) o true ≡ true → option_map_or (λ (session : Session Reply). session.live) o false ≡ false → o ≡ None
+no_session principal None may live = refl
+no_session principal (Some session) may live =
+    let t = and_parts session.live (bytes_eq session.principal principal) may in
+    let is = t.0 in absurd (cc)
+
+-- ---- the change that has its turn
 
 -- the first of a list is the one of its number, and leaves the others
 module _ (s : MasterState) (w : Waiting Task) (back : List (Waiting Task)) (first : s.gate.waiting ≡ w ∷ back) where
@@ -56,64 +88,144 @@ module _ (s : MasterState) (w : Waiting Task) (back : List (Waiting Task)) (firs
   left_behind : without w.number s.gate.waiting ≡ back
   left_behind = let e = itself w.number in rw (first, e) refl
 
-  start_case : (principal : List ℕ) → w.change.body.work ≡ works.Starts principal → IsPlan s w.number (plan_start s w.change.body.client w.change.body.number principal)
-  start_case principal work =
+  again_case : (principal : List ℕ) (received : ℕ) → w.change.body.work ≡ works.Starts principal received → is_live s w.change.body.client ≡ true → IsPlan s w.number (plan_session s w.change.body.client w.change.body.number principal received)
+  again_case principal received work live =
+      let t = some_passes (λ session. session.live) (session_of s w.change.body.client) live in
+      rw live (StartedAgain [] back w.change.body principal received t.0 turn work t.1 t.2, rw left_behind refl, refl)
+
+  fresh_case : (principal : List ℕ) (received : ℕ) → w.change.body.work ≡ works.Starts principal received → may_start s w.change.body.client principal ≡ true → is_live s w.change.body.client ≡ false → IsPlan s w.number (plan_session s w.change.body.client w.change.body.number principal received)
+  fresh_case principal received work may live =
+      let none = no_session principal (session_of s w.change.body.client) may live in
+      rw live (Started [] back w.change.body principal received turn work none, rw left_behind refl, refl)
+
+  start_case : (principal : List ℕ) (received : ℕ) → w.change.body.work ≡ works.Starts principal received → IsPlan s w.number (plan_start s w.change.body.client w.change.body.number principal received)
+  start_case principal received work =
       let client = w.change.body.client in
       let number = w.change.body.number in
-      let again : Plan = record { deed = no_deed; taken = started_out s client number } in
-      let fresh : Plan = record {
-        deed = record no_deed { session = Some (record { client = client; session = record { principal = principal; live = true } }) };
-        taken = record { lines = lines.Started client ∷ []; outs = (started_out s client number).outs };
-      } in
       let away : Plan = record { deed = no_deed; taken = turned_away s client number faults.NoSession } in
-      either s w.number (may_start s client principal) (plan_session s client number principal) away (λ may.
-      (elim (is_live s client) as (λ b. is_live s client ≡ b → IsPlan s w.number (cond b again fresh)) [
-        | true ↦ (λ live. (StartedAgain [] back w.change.body principal turn work may live, rw left_behind refl, refl))
-        | false ↦ (λ live. (Started [] back w.change.body principal turn work may live, rw left_behind refl, refl))
-      ]) refl)
-      (λ may. (TurnedAway [] back w.change.body principal turn work may, rw left_behind refl, refl))
+      either s w.number (may_start s client principal) (plan_session s client number principal received) away
+      (λ may. (elim (is_live s client) as (λ b. is_live s client ≡ b → IsPlan s w.number (plan_session s client number principal received)) [ true ↦ again_case principal received work | false ↦ fresh_case principal received work may ]) refl)
+      (λ may. (TurnedAway [] back w.change.body principal received turn work may, rw left_behind refl, refl))
 
-  put_case : (call : Call) (note : Option Note) (change : Mod) (next : ℕ) (answer : CallResult) → w.change.body.work ≡ works.Calls call → effect s w.change.body.client w.change.body.number call ≡ record { note = note; change = Some (record { change = change; next_instance = next }); answer = answer } → IsPlan s w.number (plan_effect s w.change.body.client w.change.body.number (record { note = note; change = Some (record { change = change; next_instance = next }); answer = answer }))
-  put_case call None (Put name view) next answer work made = (Applied [] back w.change.body call None (record { change = Put name view; next_instance = next }) answer turn work made, rw left_behind refl, refl)
-  put_case call None (Gone name) next answer work made = (Applied [] back w.change.body call None (record { change = Gone name; next_instance = next }) answer turn work made, rw left_behind refl, refl)
-  put_case call (Some note) (Put name view) next answer work made = (Applied [] back w.change.body call (Some note) (record { change = Put name view; next_instance = next }) answer turn work made, rw left_behind refl, refl)
-  put_case call (Some note) (Gone name) next answer work made = (Applied [] back w.change.body call (Some note) (record { change = Gone name; next_instance = next }) answer turn work made, rw left_behind refl, refl)
+  put_case : (call : Call) (note : Option Note) (change : Mod) (next : ℕ) (answer : CallResult) → w.change.body.work ≡ works.Calls call → is_live s w.change.body.client ≡ true → effect s w.change.body.client w.change.body.number call ≡ record { note = note; change = Some (record { change = change; next_instance = next }); answer = answer } → IsPlan s w.number (plan_effect s w.change.body.client w.change.body.number (record { note = note; change = Some (record { change = change; next_instance = next }); answer = answer }))
+  put_case call None (Put name view) next answer work live made = (Applied [] back w.change.body call None (record { change = Put name view; next_instance = next }) answer turn work live made, rw left_behind refl, refl)
+  put_case call None (Gone name) next answer work live made = (Applied [] back w.change.body call None (record { change = Gone name; next_instance = next }) answer turn work live made, rw left_behind refl, refl)
+  put_case call (Some note) (Put name view) next answer work live made = (Applied [] back w.change.body call (Some note) (record { change = Put name view; next_instance = next }) answer turn work live made, rw left_behind refl, refl)
+  put_case call (Some note) (Gone name) next answer work live made = (Applied [] back w.change.body call (Some note) (record { change = Gone name; next_instance = next }) answer turn work live made, rw left_behind refl, refl)
 
-  call_case : (call : Call) (note : Option Note) (change : Option Change) (answer : CallResult) → w.change.body.work ≡ works.Calls call → effect s w.change.body.client w.change.body.number call ≡ record { note = note; change = change; answer = answer } → IsPlan s w.number (plan_effect s w.change.body.client w.change.body.number (record { note = note; change = change; answer = answer }))
-  call_case call None None answer work made = (Ended [] back w.change.body call None answer turn work made, rw left_behind refl, refl)
-  call_case call (Some note) None answer work made = (Ended [] back w.change.body call (Some note) answer turn work made, rw left_behind refl, refl)
-  call_case call note (Some change) answer work made = put_case call note change.change change.next_instance answer work made
+  effect_case : (call : Call) (note : Option Note) (change : Option Change) (answer : CallResult) → w.change.body.work ≡ works.Calls call → is_live s w.change.body.client ≡ true → effect s w.change.body.client w.change.body.number call ≡ record { note = note; change = change; answer = answer } → IsPlan s w.number (plan_effect s w.change.body.client w.change.body.number (record { note = note; change = change; answer = answer }))
+  effect_case call None None answer work live made = (Ended [] back w.change.body call None answer turn work live made, rw left_behind refl, refl)
+  effect_case call (Some note) None answer work live made = (Ended [] back w.change.body call (Some note) answer turn work live made, rw left_behind refl, refl)
+  effect_case call note (Some change) answer work live made = put_case call note change.change change.next_instance answer work live made
+
+  call_case : (call : Call) → w.change.body.work ≡ works.Calls call → IsPlan s w.number (plan_call s w.change.body.client w.change.body.number call)
+  call_case call work =
+      let client = w.change.body.client in
+      let made = effect s client w.change.body.number call in
+      either s w.number (is_live s client) (plan_effect s client w.change.body.number made) no_plan
+      (λ live. effect_case call made.note made.change made.answer work live refl)
+      (λ gone. (OfEnded [] back w.change.body call turn work gone, rw left_behind refl, refl))
 
   work_case : (work : Work) → w.change.body.work ≡ work → IsPlan s w.number (plan_work s w.change.body.client w.change.body.number work)
-  work_case (works.Starts principal) work = start_case principal work
-  work_case (works.Calls call) work =
-      let made = effect s w.change.body.client w.change.body.number call in call_case call made.note made.change made.answer work refl
+  work_case (works.Starts principal received) work = start_case principal received work
+  work_case (works.Calls call) work = call_case call work
 
   found : task_at w.number s.gate.waiting ≡ Some w.change.body
   found = let e = itself w.number in rw (first, e) refl
 
   apply_case : IsSwept s (swept s (actions.Apply w.number)) (action_edits s (actions.Apply w.number))
   apply_case =
-      let P : Option Task → Type 0 = λ o. IsPlan s w.number (option_map_or (λ (task : Task). plan_work s task.client task.number task.work) o no_plan) in
+      let P : Option Task → Type 0 = λ o.
+      let plan = option_map_or (λ (task : Task). leaving w.number (plan_work s task.client task.number task.work)) o no_plan in
+      IsSwept s (swept_by_plan s plan false) (edits_of plan.deed) in
       subst P (sym found) (work_case w.change.body.work refl)
 
-first_case : (s : MasterState) (waiting : List (Waiting Task)) → s.gate.waiting ≡ waiting → IsSwept s (swept s (option_map_or actions.Apply (first_number waiting) actions.Quiet)) (action_edits s (option_map_or actions.Apply (first_number waiting) actions.Quiet))
-first_case s [] is = (Quiet is, refl, refl)
-first_case s (w ∷ back) is = apply_case s w back is
+-- ---- what becomes of one session
+
+-- the action that a table tells is done
+abbrev IsDone : (s : MasterState) → Action → Type 0
+IsDone s action = IsSwept s (swept s action) (action_edits s action)
+
+-- the client that is found first passes the test
+passed : (s : MasterState) (test : ℕ → Session Reply → Bool) (client : ℕ) → HasSessionsInOrder s → lowest s.sessions test ≡ Some client → passes s.sessions test client ≡ true
+passed s test client order is = (lowest_is s.sessions s.sessions test (Some client) refl order (sym is)).0
+
+parked_of : (lease now client : ℕ) (session : Session Reply) (o : Option Parked) → session.parked ≡ o → is_client_due lease now client session ≡ true → (beat : Parked) × (session.parked ≡ Some beat) × (session.live ≡ true)
+parked_of lease now client session None is h =
+    let t = and_parts (is_client_number client) (is_due lease now session) h in
+    let due : option_map_or (λ (beat : Parked). session.live && (owes session || nears_timeout lease now session)) session.parked false ≡ true = t.1 in
+    absurd (cc)
+parked_of lease now client session (Some beat) is h =
+    let t = and_parts (is_client_number client) (is_due lease now session) h in
+    let due : (session.live && (owes session || nears_timeout lease now session)) ≡ true = rw is at t.1 in
+    (beat, is, (and_parts session.live (owes session || nears_timeout lease now session) due).0)
+
+over_at : (a b : ℕ) → nat_le a b ≡ true → a ≤ b
+over_at a b h = grind (arith, nat_tests)
+
+-- what is planned for a session, and what for none
+abbrev pub expiry_of : MasterState → ℕ → Option (Session Reply) → Plan
+expiry_of s client o = option_map_or (λ session. session_plan (Ends client session.principal (locks_of client s.held_locks)) (lines.Ended client ∷ []) []) o no_plan
+
+abbrev pub answer_of : MasterState → ℕ → Option Offer → Plan
+answer_of s client o = option_map_or (λ offer. session_plan (Answers client) [] (alive_out s client offer ∷ [])) o no_plan
+
+module _ (s : MasterState) (order : HasSessionsInOrder s) where
+  expire_case : (client : ℕ) → lowest s.sessions (is_client_expired s.clock) ≡ Some client → IsDone s (actions.Expire client)
+  expire_case client is =
+      let t = some_passes (is_client_expired s.clock client) (session_of s client) (passed s (is_client_expired s.clock) client order is) in
+      let u = and_parts t.0.live (nat_le t.0.timeout s.clock) t.2 in
+      let due : IsDueToEnd s client t.0 = record { lowest_expired = is; found = t.1; live = u.0; over = over_at t.0.timeout s.clock u.1 } in (
+        Expires client t.0 due,
+        ap (λ (o : Option (Session Reply)). swept_by_plan s (expiry_of s client o) false) t.1,
+        ap (λ (o : Option (Session Reply)). edits_of (expiry_of s client o).deed) t.1 ∙ append-nil (swept_edits s (Expires client t.0 due)),
+      )
+
+  answer_case : (client : ℕ) → lowest s.sessions (is_client_due s.sessions.lease s.clock) ≡ Some client → IsDone s (actions.Answer client)
+  answer_case client is =
+      let t = some_passes (is_client_due s.sessions.lease s.clock client) (session_of s client) (passed s (is_client_due s.sessions.lease s.clock) client order is) in
+      let u = parked_of s.sessions.lease s.clock client t.0 t.0.parked refl t.2 in
+      let due : IsDue s client t.0 u.0 = record { lowest_due = is; found = t.1; live = u.2; is_parked = u.1 } in
+      let offered : offer_of s.sessions client s.clock ≡ Some (offer_to s.sessions.lease s.clock u.0) =
+      ap (λ (o : Option (Session Reply)). option_and_then (λ session. option_map (offer_to s.sessions.lease s.clock) session.parked) o) t.1
+      ∙ ap (λ (o : Option Parked). option_map (offer_to s.sessions.lease s.clock) o) u.1 in (
+        AnswersBeat client t.0 u.0 due,
+        ap (λ (o : Option Offer). swept_by_plan s (answer_of s client o) false) offered,
+        ap (λ (o : Option Offer). edits_of (answer_of s client o).deed) offered,
+      )
+
+  -- ---- the first action that there is
+
+  late_case : (o : Option ℕ) → lowest s.sessions (is_client_due s.sessions.lease s.clock) ≡ o → first_number s.gate.waiting ≡ None → lowest s.sessions (is_client_expired s.clock) ≡ None → (s.recovering && all_heard s.sessions) ≡ false → IsDone s (option_map_or actions.Answer o actions.Quiet)
+  late_case None due none live going = (Quiet (rw (going, live, none, due) refl), refl, refl)
+  late_case (Some client) due none live going = answer_case client due
+
+  waiting_case : (waiting : List (Waiting Task)) → s.gate.waiting ≡ waiting → lowest s.sessions (is_client_expired s.clock) ≡ None → (s.recovering && all_heard s.sessions) ≡ false → IsDone s (option_map_or actions.Apply (first_number waiting) (answer_or_quiet s))
+  waiting_case [] is live going =
+      late_case (lowest s.sessions (is_client_due s.sessions.lease s.clock)) refl (ap (λ (ws : List (Waiting Task)). first_number ws) is) live going
+  waiting_case (w ∷ back) is live going = apply_case s w back is
+
+  session_case : (o : Option ℕ) → lowest s.sessions (is_client_expired s.clock) ≡ o → (s.recovering && all_heard s.sessions) ≡ false → IsDone s (option_map_or actions.Expire o (apply_or_later s))
+  session_case None is going = waiting_case s.gate.waiting refl is going
+  session_case (Some client) is going = expire_case client is
 
 -- ---- the lemma
 
-pub sweep_case : (s : MasterState) → IsSwept s (swept s (first_action s)) (action_edits s (first_action s))
-sweep_case s = first_case s s.gate.waiting refl
+pub sweep_case : (s : MasterState) → HasSessionsInOrder s → IsSwept s (swept s (first_action s)) (action_edits s (first_action s))
+sweep_case s order =
+    (elim (s.recovering && all_heard s.sessions) as (λ b. (s.recovering && all_heard s.sessions) ≡ b → IsDone s (cond b actions.Recover (option_map_or actions.Expire (lowest s.sessions (is_client_expired s.clock)) (apply_or_later s)))) [
+      | true ↦ (λ h. let t = and_parts s.recovering (all_heard s.sessions) h in (Recovers t.0 t.1, refl, refl))
+      | false ↦ (λ h. session_case s order (lowest s.sessions (is_client_expired s.clock)) refl h)
+    ]) refl
 
 -- a sweep at a moment
-pub swept_case : (s new : MasterState) (now : ℕ) (told : Swept) → sweep_step s now ≡ Ok (new, told) → IsSwept (noted s now) (new, told) (sweep_edits s now)
+pub swept_case : (s new : MasterState) (now : ℕ) (told : Swept) → HasSessionsInOrder s → sweep_step s now ≡ Ok (new, told) → IsSwept (noted s now) (new, told) (sweep_edits s now)
 unfolding sweep_step
-swept_case s new now told h =
+swept_case s new now told order h =
     let edits = action_edits (noted s now) (first_action (noted s now)) in
     (elim (is_past_end now) as (λ b. cond {A = Result (MasterState × Swept) Fault} b (Err faults.Exhausted) (Ok (swept (noted s now) (first_action (noted s now)))) ≡ Ok (new, told) → IsSwept (noted s now) (new, told) (cond b [] edits)) [
       | true ↦ (λ e. cc)
       | false ↦ (λ e.
           let is : swept (noted s now) (first_action (noted s now)) ≡ (new, told) = cc in
-          rw (← is) (sweep_case (noted s now)))
+          rw (← is) (sweep_case (noted s now) order))
     ]) h

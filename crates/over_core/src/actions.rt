@@ -1,14 +1,24 @@
 //! What a master does by itself first.
 ghost use Rattle.std.specs.Prelude.{◌≡◌};
-ghost use Rattle.over_core.specs.Sweep.{first_action};
+ghost use Rattle.over_core.specs.Sweep.{first_action, apply_or_later, answer_or_quiet};
 
 use cell_core::Cell as Master;
+use tags_cell::ClientNumber;
 
-/// What a sweep does, one thing at a time.
+/// What a sweep does, one thing at a time, in this order: what is told to clients of their time comes last, so that an
+/// answer never stands before an end or a change that was due.
 #[derive(Clone, Copy, Debug, PartialEq, Eq)]
 pub enum Action {
+    /// The recovery is over: each session of an earlier master was heard from, or has ended.
+    Recover,
+    /// The session of this client ends: its timeout has come (Gray and Cheriton 1989, section 2: whoever gave a lease
+    /// may go on without its holder once it has expired).
+    Expire(u64),
     /// The change of this number is done, and leaves the gate.
     Apply(u64),
+    /// The parked Beat of this client is answered (Burrows 2006, section 2.8: a KeepAlive is held until the lease is
+    /// close to its end, or something has to be told).
+    Answer(ClientNumber),
     /// There is nothing to do.
     Quiet,
 }
@@ -17,8 +27,30 @@ pub enum Action {
 pub(crate) fn first_action(master: &Master) -> Action
     ensures { result ≡ first_action master.now }
 {
+    if master.recovering() && master.sessions().all_heard() {
+        return Action::Recover;
+    }
+    match master.sessions().expired(master.clock()) {
+        Some(client) => Action::Expire(client),
+        None => apply_or_later(master),
+    }
+}
+
+// The change that waits longest has its turn.
+fn apply_or_later(master: &Master) -> Action
+    ensures { result ≡ apply_or_later master.now }
+{
     match master.first_waiting() {
         Some(number) => Action::Apply(number),
+        None => answer_or_quiet(master),
+    }
+}
+
+fn answer_or_quiet(master: &Master) -> Action
+    ensures { result ≡ answer_or_quiet master.now }
+{
+    match master.sessions().due(master.clock()) {
+        Some(client) => Action::Answer(client),
         None => Action::Quiet,
     }
 }

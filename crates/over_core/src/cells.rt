@@ -1,5 +1,9 @@
 //! A master over its records.
 ghost use Rattle.std.specs.Prelude.{◌≡◌, ◌≢◌, ◌⊎◌, ◌≤◌, ◌∷◌, [], true, Ok, Err, IfOk, IfErr, OnOk, OnErr};
+ghost use Rattle.std.specs.List.Sorted.{IsStrictlySortedBy};
+ghost use Rattle.std.specs.Map.{keys_of};
+ghost use Rattle.std.specs.Ordering.{nat_cmp};
+ghost use Rattle.rows_cell.specs.Keys.{lock_order};
 ghost use Rattle.rows_cell.specs.Rows.{changed_rows};
 ghost use Rattle.rows_cell.specs.Sound.{sound};
 ghost use Rattle.cell_core.specs.Step.{take_step};
@@ -38,7 +42,9 @@ impl<R: Records> Model for Cell<R> {
 
 impl<R: Records> Cell<R> {
     /// A master comes up: it reads the rows and commits the next epoch, before it can send anything. The lease and the
-    /// moment are in milliseconds.
+    /// moment are in milliseconds. Each live session of the rows goes on, with 60,002 ms from the moment: its client may
+    /// count on a lease that an earlier master gave. While there is one that wasn't heard from the master is in recovery
+    /// (Burrows 2006, section 2.9: fail-overs), in which it makes no change and begins no session.
     ///
     /// Refused, in this order: a moment of 2^53 or more as Exhausted; where the store refuses to be read, or its rows
     /// aren't sound; behind the last epoch, 2^63-1, as Exhausted; where the store refuses the commit. The records then
@@ -58,7 +64,8 @@ impl<R: Records> Cell<R> {
     }
 
     /// One step by a request that came; nothing is committed. A moment, in milliseconds, that is earlier than the last
-    /// one counts as that; one of 2^53 or more is refused as Exhausted. A refusal changes nothing.
+    /// one counts as that; one of 2^53 or more is refused as Exhausted. A Beat waits for its answer, which a sweep gives
+    /// (Burrows 2006, section 2.8). A refusal changes nothing.
     pub fn take(&mut self, now: u64, request: &Request) -> Result<Taken, Fault>
         ensures ok { IfOk result (λ taken. take_step self.old.master now request.now ≡ Ok (self.new.master, taken)) }
         ensures store { self.new ≡ record self.old { master = self.new.master } }
@@ -70,8 +77,11 @@ impl<R: Records> Cell<R> {
     }
 
     /// Does the first action that there is, with at most one commit, before all that is printed and sent; or finds
-    /// nothing to do, and is quiet. Moments are as in `take`. A refusal leaves the master and the rows as they were,
-    /// and comes only for a moment of 2^53 or more as Exhausted, for want of memory, or where the store refused.
+    /// nothing to do, and is quiet. A live session ends from its timeout on, lowest client first, and its end is
+    /// committed; an answer to a Start or a Beat lets it live for a lease from the moment of the answer, and offers its
+    /// client just that, counted from the receipt (Gray and Cheriton 1989, section 2). Moments are as in `take`. A
+    /// refusal leaves the master and the rows as they were, and comes only for a moment of 2^53 or more as Exhausted,
+    /// for want of memory, or where the store refused.
     pub fn sweep(&mut self, now: u64) -> Result<Swept, Fault>
         ensures ok { IfOk result (λ swept. sweep_step self.old.master now ≡ Ok (self.new.master, swept)) }
         ensures committed { OnOk result (IsCommitted (sweep_edits self.old.master now) self.old.store self.new.store) }
@@ -113,8 +123,9 @@ fn next_master<R: Records>(
     lease: u64,
     now: u64,
 ) -> Result<Master, Fault>
+    requires { (1000 ≤ lease) × (lease ≤ 60000) }
     ensures ok { IfOk result (λ master. up_step (R.store records.old).cell (R.store records.old).rows lease now ≡ Ok master) }
-    ensures sound { OnOk result (sound (R.store records.old).cell (R.store records.new).rows ≡ true) }
+    ensures kept { IfOk result (λ master. IsKept (R.store records.old).cell (R.store records.new).rows master) }
     ensures committed { OnOk result (IsCommitted (up_edits (R.store records.old).rows) (R.store records.old) (R.store records.new)) }
     ensures fault { IfErr result (λ e. (up_step (R.store records.old).cell (R.store records.old).rows lease now ≡ Err e × R.store records.new ≡ R.store records.old)
         ⊎ MayRefuseUp now e (R.store records.old).refusals (R.store records.new).refusals) }
@@ -140,6 +151,8 @@ fn next_rows<R: Records>(records: &mut R) -> Result<Rows, Fault>
     ensures ok { IfOk result (λ rows. next_epoch (R.store records.old).cell (R.store records.old).rows ≡ Ok rows) }
     ensures next { IfOk result (λ rows. rows ≡ changed_rows (R.store records.old).rows (up_edits (R.store records.old).rows)) }
     ensures sound { OnOk result (sound (R.store records.old).cell (changed_rows (R.store records.old).rows (up_edits (R.store records.old).rows)) ≡ true) }
+    ensures sessions { IfOk result (λ rows. IsStrictlySortedBy nat_cmp (keys_of rows.sessions)) }
+    ensures locks { IfOk result (λ rows. IsStrictlySortedBy lock_order (keys_of rows.locks)) }
     ensures fault { IfErr result (λ e. (next_epoch (R.store records.old).cell (R.store records.old).rows ≡ Err e × R.store records.new ≡ R.store records.old)
         ⊎ StoreRefuses e (R.store records.old).refusals (R.store records.new).refusals) }
     ensures ok_stays { OnOk result (R.store records.new ≡ R.store records.old) }
@@ -152,7 +165,19 @@ fn next_rows<R: Records>(records: &mut R) -> Result<Rows, Fault>
     }
     let epoch = rows.epoch + 1;
     rows.epoch = epoch;
+    note_orders(&rows);
     Ok(rows)
+}
+
+// The tables of rows stand in the order of their keys.
+fn note_orders(rows: &Rows)
+    ensures sessions { IsStrictlySortedBy nat_cmp (keys_of rows.now.sessions) }
+    ensures locks { IsStrictlySortedBy lock_order (keys_of rows.now.locks) }
+{
+    let sessions = rows.sessions.as_map();
+    let locks = rows.locks.as_map();
+    let _sessions = sessions.len();
+    let _locks = locks.len();
 }
 
 // Commits an epoch.

@@ -2,16 +2,20 @@
 ghost use Rattle.std.specs.Prelude.{◌≡◌, [], ◌∷◌, Some, None, IfOk};
 ghost use Rattle.node_core.specs.declared.lines.Line.TheVariants as lines;
 ghost use Rattle.cell_core.specs.Step.{sends};
-ghost use Rattle.over_core.specs.declared.actions.Action.TheVariants.{Apply};
-ghost use Rattle.over_core.specs.Sweep.{no_deed, started_out, applied_lines, plan_session, plan_start, plan_effect, plan_work, plan_of};
+ghost use Rattle.over_core.specs.declared.actions.Action.TheVariants as actions;
+ghost use Rattle.over_core.specs.Sweep.{no_deed, started_out, alive_out, applied_lines, plan_session, plan_start, plan_effect, plan_call, plan_work, plan_expiry, plan_answer, plan_of};
 
+use crate::actions::Action;
 use crate::effects::{Effect, effect_of};
-use cell_core::{Cell as Master, Change, Deed, Kept, KeptPut, SessionPut, Taken, Task, Work};
+use cell_core::{
+    Cell as Master, Change, Deed, KeptPut, SessionDeed, Taken, Task, Work, answered_by,
+};
 use names_cell::Principal;
 use node_core::{Fault, Line, Mod};
-use rows_cell::Session;
+use plain::Items;
+use session_core::Offer;
 use std::alloc::AllocError;
-use tags_cell::{ClientNumber, MessageNumber, Out, Reply, Started};
+use tags_cell::{Alive, Call, ClientNumber, MessageNumber, Out, Reply, Started};
 
 /// What is done for an action. It is made before anything changes.
 #[derive(Debug, Drop)]
@@ -22,29 +26,69 @@ pub struct Plan {
 }
 
 impl Plan {
-    fn nothing(taken: Taken) -> Plan
-        ensures { result ≡ record { deed = no_deed; taken = taken } }
+    // What becomes of a session, if anything.
+    fn of(session: Option<SessionDeed>, taken: Taken) -> Plan
+        ensures { result ≡ record { deed = record no_deed { session = session }; taken = taken } }
     {
         Plan {
             deed: Deed {
-                session: None,
+                session,
                 kept: None,
                 note: None,
                 change: None,
+                recovers: false,
+                leaves: None,
             },
             taken,
         }
     }
 }
 
-// What is done for the change of a number, as the master stands now.
-pub(crate) fn plan_for(master: &Master, number: u64) -> Result<Plan, AllocError>
-    ensures { IfOk result (λ plan. plan ≡ plan_of master.now (Apply number)) }
+// What is done for an action, as the master stands now.
+pub(crate) fn plan_of(master: &Master, action: &Action) -> Result<Plan, AllocError>
+    ensures { IfOk result (λ plan. plan ≡ plan_of master.now action.now) }
 {
-    match master.task(number) {
-        None => Ok(Plan::nothing(master.nothing())),
-        Some(task) => plan_task(master, task),
+    match action {
+        Action::Recover => plan_recovery(master),
+        Action::Expire(client) => plan_expiry(master, *client),
+        Action::Apply(number) => plan_apply(master, *number),
+        Action::Answer(client) => plan_answer(master, *client),
+        Action::Quiet => Ok(Plan::of(None, master.nothing())),
     }
+}
+
+fn plan_recovery(master: &Master) -> Result<Plan, AllocError>
+    ensures { IfOk result (λ plan. plan ≡ plan_of master.now actions.Recover) }
+{
+    let taken = printed(master, Line::Recovered)?;
+    let mut plan = Plan::of(None, taken);
+    plan.deed.recovers = true;
+    Ok(plan)
+}
+
+// The session is put as ended, and lets its locks go.
+fn plan_expiry(master: &Master, client: u64) -> Result<Plan, AllocError>
+    ensures { IfOk result (λ plan. plan ≡ plan_expiry master.now client) }
+{
+    let Some(session) = master.sessions().get(client) else {
+        return Ok(Plan::of(None, master.nothing()));
+    };
+    let locks = master.held_locks_of(client)?;
+    let principal = session.principal.clone()?;
+    let taken = printed(master, Line::Ended(client))?;
+    Ok(Plan::of(Some(SessionDeed::Ends(client, principal, locks)), taken))
+}
+
+// What is done for the change of a number, which then leaves the gate.
+fn plan_apply(master: &Master, number: u64) -> Result<Plan, AllocError>
+    ensures { IfOk result (λ plan. plan ≡ plan_of master.now (actions.Apply number)) }
+{
+    let Some(task) = master.task(number) else {
+        return Ok(Plan::of(None, master.nothing()));
+    };
+    let mut plan = plan_task(master, task)?;
+    plan.deed.leaves = Some(number);
+    Ok(plan)
 }
 
 fn plan_task(master: &Master, task: &Task) -> Result<Plan, AllocError>
@@ -53,27 +97,29 @@ fn plan_task(master: &Master, task: &Task) -> Result<Plan, AllocError>
     let client = task.client;
     let number = task.number;
     match &task.work {
-        Work::Starts(principal) => plan_start(master, client, number, principal),
-        Work::Calls(call) => {
-            let effect = effect_of(master, client, number, call)?;
-            plan_effect(master, client, number, effect)
+        Work::Starts(principal, received) => {
+            plan_start(master, client, number, principal, *received)
         }
+        Work::Calls(call) => plan_call(master, client, number, call),
     }
 }
+
+// ---- Starts
 
 fn plan_start(
     master: &Master,
     client: ClientNumber,
     number: MessageNumber,
     principal: &Principal,
+    received: u64,
 ) -> Result<Plan, AllocError>
-    ensures { IfOk result (λ plan. plan ≡ plan_start master.now client number principal.now) }
+    ensures { IfOk result (λ plan. plan ≡ plan_start master.now client number principal.now received) }
 {
     if master.may_start(client, principal) {
-        return plan_session(master, client, number, principal);
+        return plan_session(master, client, number, principal, received);
     }
     let taken = master.turned_away(client, number, Fault::NoSession)?;
-    Ok(Plan::nothing(taken))
+    Ok(Plan::of(None, taken))
 }
 
 fn plan_session(
@@ -81,30 +127,17 @@ fn plan_session(
     client: ClientNumber,
     number: MessageNumber,
     principal: &Principal,
+    received: u64,
 ) -> Result<Plan, AllocError>
-    ensures { IfOk result (λ plan. plan ≡ plan_session master.now client number principal.now) }
+    ensures { IfOk result (λ plan. plan ≡ plan_session master.now client number principal.now received) }
 {
     if master.is_live(client) {
-        let taken = started_out(master, client, number)?;
-        return Ok(Plan::nothing(taken));
+        let taken = started_out(master, client, number, received)?;
+        return Ok(Plan::of(Some(SessionDeed::Prolongs(client)), taken));
     }
-    let taken = started(master, client, number)?;
-    let session = Session {
-        principal: principal.clone()?,
-        live: true,
-    };
-    Ok(Plan {
-        deed: Deed {
-            session: Some(SessionPut {
-                client: client.get(),
-                session,
-            }),
-            kept: None,
-            note: None,
-            change: None,
-        },
-        taken,
-    })
+    let taken = started(master, client, number, received)?;
+    let principal = principal.clone()?;
+    Ok(Plan::of(Some(SessionDeed::Begins(client, principal)), taken))
 }
 
 // The client's new session is printed too.
@@ -112,11 +145,11 @@ fn started(
     master: &Master,
     client: ClientNumber,
     number: MessageNumber,
+    received: u64,
 ) -> Result<Taken, AllocError>
-    ensures lines { IfOk result (λ taken. taken.lines ≡ lines.Started client ∷ []) }
-    ensures outs { IfOk result (λ taken. taken.outs ≡ (started_out master.now client number).outs) }
+    ensures { IfOk result (λ taken. taken ≡ record { lines = lines.Started client ∷ []; outs = started_out master.now client number received ∷ [] }) }
 {
-    let mut taken = started_out(master, client, number)?;
+    let mut taken = started_out(master, client, number, received)?;
     taken.lines.push(Line::Started(client.get()))?;
     Ok(taken)
 }
@@ -125,15 +158,35 @@ fn started_out(
     master: &Master,
     client: ClientNumber,
     number: MessageNumber,
+    received: u64,
 ) -> Result<Taken, AllocError>
-    ensures { IfOk result (λ taken. taken ≡ started_out master.now client number) }
+    ensures { IfOk result (λ taken. taken ≡ record { lines = []; outs = started_out master.now client number received ∷ [] }) }
 {
+    let span = master.sessions().start_span(received, master.clock());
     master.sent(Out::Started(Started {
         client,
         epoch: master.epoch(),
         number,
-        span: master.lease(),
+        span,
     }))
+}
+
+// ---- calls
+
+// A call of a session that has ended changes nothing, and sends nothing.
+fn plan_call(
+    master: &Master,
+    client: ClientNumber,
+    number: MessageNumber,
+    call: &Call,
+) -> Result<Plan, AllocError>
+    ensures { IfOk result (λ plan. plan ≡ plan_call master.now client number call.now) }
+{
+    if !master.is_live(client) {
+        return Ok(Plan::of(None, master.nothing()));
+    }
+    let effect = effect_of(master, client, number, call)?;
+    plan_effect(master, client, number, effect)
 }
 
 fn plan_effect(
@@ -153,7 +206,7 @@ fn plan_effect(
     let taken = reply_taken(master, &reply, &change)?;
     let kept = Some(KeptPut {
         client,
-        kept: Kept::answered(reply),
+        kept: answered_by(reply),
     });
     Ok(Plan {
         deed: Deed {
@@ -161,6 +214,8 @@ fn plan_effect(
             kept,
             note,
             change,
+            recovers: false,
+            leaves: None,
         },
         taken,
     })
@@ -188,4 +243,39 @@ fn applied_line(
 {
     let shown = change.clone()?;
     Ok(Line::Applied(client.get(), number.get(), shown))
+}
+
+// ---- Beats
+
+fn plan_answer(master: &Master, client: ClientNumber) -> Result<Plan, AllocError>
+    ensures { IfOk result (λ plan. plan ≡ plan_answer master.now client) }
+{
+    let Some(offer) = master.sessions().offer(client, master.clock()) else {
+        return Ok(Plan::of(None, master.nothing()));
+    };
+    let taken = alive_out(master, client, offer)?;
+    Ok(Plan::of(Some(SessionDeed::Answers(client)), taken))
+}
+
+fn alive_out(master: &Master, client: ClientNumber, offer: Offer) -> Result<Taken, AllocError>
+    ensures { IfOk result (λ taken. taken ≡ record { lines = []; outs = alive_out master.now client offer ∷ [] }) }
+{
+    let Offer { number, span } = offer;
+    master.sent(Out::Alive(Alive {
+        client,
+        epoch: master.epoch(),
+        number,
+        span,
+        invalidations: Items::new(master.alloc()),
+        events: Items::new(master.alloc()),
+    }))
+}
+
+// One line, and no message.
+fn printed(master: &Master, line: Line) -> Result<Taken, AllocError>
+    ensures { IfOk result (λ taken. taken ≡ record { lines = line ∷ []; outs = [] }) }
+{
+    let mut taken = master.nothing();
+    taken.lines.push(line)?;
+    Ok(taken)
 }

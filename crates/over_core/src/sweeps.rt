@@ -1,20 +1,20 @@
 //! What a master does by itself.
-ghost use Rattle.std.specs.Prelude.{◌≡◌, ◌⊎◌, true, false, Ok, Err, IfOk, IfErr, OnOk, OnErr};
+ghost use Rattle.std.specs.Prelude.{◌≡◌, ◌⊎◌, true, Ok, Err, map, IfOk, IfErr, OnOk, OnErr};
 ghost use Rattle.rows_cell.specs.Rows.{changed_rows};
 ghost use Rattle.rows_cell.specs.Sound.{sound};
 ghost use Rattle.rows_cell.specs.Stores.{Commits, IsCommitted, IsRefused};
-ghost use Rattle.rows_cell.specs.declared.tables.Edit.TheVariants.{PutNode};
-ghost use Rattle.cell_core.specs.Deeds.{session_edits, edit_of, change_edits, edits_of, done};
-ghost use Rattle.over_core.specs.Sweep.{first_action, swept, action_edits, sweep_edits, sweep_step};
+ghost use Rattle.rows_cell.specs.declared.tables.Edit.TheVariants.{PutNode, PutSession, RemoveLock};
+ghost use Rattle.cell_core.specs.Deeds.{BeginsNew, session_edits, edit_of, change_edits, edits_of, done};
+ghost use Rattle.over_core.specs.Sweep.{first_action, is_quiet, swept, action_edits, sweep_edits, sweep_step};
 
 use crate::actions::{Action, first_action};
-use crate::plans::{Plan, plan_for};
-use cell_core::{Cell as Master, Change, Deed, Grown, SessionPut, Taken};
+use crate::plans::{Plan, plan_of};
+use cell_core::{Cell as Master, Change, Deed, Grown, SessionDeed, Taken};
 use lease_core::MOMENT_LIMIT;
-use names_cell::Name;
+use names_cell::{Name, Principal};
 use node_core::{Fault, Line, Mod, View};
 use plain::Items;
-use rows_cell::{Edit, Records};
+use rows_cell::{Edit, LockKey, Records, Session};
 use std::alloc::{AllocError, Global};
 use tags_cell::Out;
 
@@ -71,44 +71,75 @@ fn sweep_at<R: Records>(master: &mut Master, records: &mut R) -> Result<Swept, F
     ensures store { Commits (action_edits master.old (first_action master.old)) (R.store records.old) (R.store records.new) result }
     ensures err { OnErr result (master.new ≡ master.old) }
 {
-    match first_action(master) {
-        Action::Quiet => Ok(Swept::of(master.nothing(), true)),
-        Action::Apply(number) => {
-            let plan = plan_for(master, number)?;
-            carry_out(master, records, number, plan)
-        }
+    let action = first_action(master);
+    if is_quiet(&action) {
+        master.note_quiet();
     }
+    let plan = plan_of(master, &action)?;
+    carry_out(master, records, plan, is_quiet(&action))
 }
 
-// Does what is planned for the change of a number: it grows first, then commits, and what can't fail comes last.
+fn is_quiet(action: &Action) -> bool
+    ensures { result ≡ is_quiet action.now }
+{
+    matches!(action, Action::Quiet)
+}
+
+// Does what is planned: it grows first, then commits, and what can't fail comes last.
 fn carry_out<R: Records>(
     master: &mut Master,
     records: &mut R,
-    number: u64,
     plan: Plan,
+    quiet: bool,
 ) -> Result<Swept, Fault>
-    requires { sound (R.store records.old).cell (changed_rows (R.store records.old).rows (edits_of plan.deed)) ≡ true }
-    ensures ok { IfOk result (λ swept. swept ≡ record { lines = plan.taken.lines; outs = plan.taken.outs; quiet = false }) }
-    ensures done { OnOk result (master.new ≡ done master.old number plan.deed) }
+    requires sound { sound (R.store records.old).cell (changed_rows (R.store records.old).rows (edits_of plan.deed)) ≡ true }
+    requires begins { BeginsNew master.old plan.deed.session }
+    ensures ok { IfOk result (λ swept. swept ≡ record { lines = plan.taken.lines; outs = plan.taken.outs; quiet = quiet }) }
+    ensures done { OnOk result (master.new ≡ done master.old plan.deed) }
     ensures store { Commits (edits_of plan.deed) (R.store records.old) (R.store records.new) result }
     ensures err { OnErr result (master.new ≡ master.old) }
 {
     let Plan { deed, taken } = plan;
-    let edits = edits_of(master.alloc(), &deed)?;
-    commit_deed(master, records, number, deed, &edits)?;
-    Ok(Swept::of(taken, false))
+    match commit_edits(master, records, deed) {
+        Ok(()) => Ok(Swept::of(taken, quiet)),
+        Err(fault) => {
+            drop(taken);
+            Err(fault)
+        }
+    }
+}
+
+// The deed is done, with its edits committed.
+fn commit_edits<R: Records>(master: &mut Master, records: &mut R, deed: Deed) -> Result<(), Fault>
+    requires sound { sound (R.store records.old).cell (changed_rows (R.store records.old).rows (edits_of deed)) ≡ true }
+    requires begins { BeginsNew master.old deed.session }
+    ensures ok { OnOk result (master.new ≡ done master.old deed) }
+    ensures store { Commits (edits_of deed) (R.store records.old) (R.store records.new) result }
+    ensures err { OnErr result (master.new ≡ master.old) }
+{
+    match edits_of(master.alloc(), &deed) {
+        Ok(edits) => {
+            let done = commit_deed(master, records, deed, &edits);
+            drop(edits);
+            done
+        }
+        Err(error) => {
+            drop(deed);
+            Err(error.into())
+        }
+    }
 }
 
 // The deed is begun, committed, and finished; where the commit is refused it is taken back.
 fn commit_deed<R: Records>(
     master: &mut Master,
     records: &mut R,
-    number: u64,
     deed: Deed,
     edits: &Items<Edit>,
 ) -> Result<(), Fault>
     requires sound { sound (R.store records.old).cell (changed_rows (R.store records.old).rows edits.now) ≡ true }
-    ensures ok { OnOk result (master.new ≡ done master.old number deed) }
+    requires begins { BeginsNew master.old deed.session }
+    ensures ok { OnOk result (master.new ≡ done master.old deed) }
     ensures store { Commits edits.now (R.store records.old) (R.store records.new) result }
     ensures err { OnErr result (master.new ≡ master.old) }
 {
@@ -116,10 +147,11 @@ fn commit_deed<R: Records>(
     match records.commit(edits) {
         Ok(()) => {
             drop(former);
-            master.finish(rest, number);
+            master.finish(rest);
             Ok(())
         }
         Err(fault) => {
+            drop(rest);
             master.undo(former);
             Err(fault.into())
         }
@@ -135,14 +167,40 @@ fn edits_of(alloc: Global, deed: &Deed) -> Result<Items<Edit>, AllocError>
     Ok(edits)
 }
 
-fn session_edits(alloc: Global, put: &Option<SessionPut>) -> Result<Items<Edit>, AllocError>
-    ensures { IfOk result (λ edits. edits ≡ session_edits put.now) }
+fn session_edits(alloc: Global, deed: &Option<SessionDeed>) -> Result<Items<Edit>, AllocError>
+    ensures { IfOk result (λ edits. edits ≡ session_edits deed.now) }
+{
+    match deed {
+        Some(SessionDeed::Begins(client, principal)) => {
+            let mut edits = Items::new(alloc);
+            edits.push(put_session(client.get(), principal, true)?)?;
+            Ok(edits)
+        }
+        Some(SessionDeed::Ends(client, principal, locks)) => {
+            let mut edits = unlocks(alloc, locks.as_slice())?;
+            edits.push(put_session(*client, principal, false)?)?;
+            Ok(edits)
+        }
+        _ => Ok(Items::new(alloc)),
+    }
+}
+
+// These locks are let go.
+fn unlocks(alloc: Global, locks: &[LockKey]) -> Result<Items<Edit>, AllocError>
+    ensures { IfOk result (λ edits. edits ≡ map RemoveLock locks.now) }
 {
     let mut edits = Items::new(alloc);
-    if let Some(put) = put {
-        edits.push(Edit::PutSession(put.client, put.session.clone()?))?;
+    for key in locks {
+        edits.push(Edit::RemoveLock(*key))?;
     }
     Ok(edits)
+}
+
+fn put_session(client: u64, principal: &Principal, live: bool) -> Result<Edit, AllocError>
+    ensures { IfOk result (λ edit. edit ≡ PutSession client (record { principal = principal.now; live = live })) }
+{
+    let principal = principal.clone()?;
+    Ok(Edit::PutSession(client, Session { principal, live }))
 }
 
 fn change_edits(alloc: Global, change: &Option<Change>) -> Result<Items<Edit>, AllocError>

@@ -5,6 +5,8 @@ pub mod RowViews
 pub mod SoundParts
 pub mod SoundChanges
 pub mod SoundRemovals
+pub mod EntriesInOrder
+pub mod SoundEnds
 pub mod StoreLemmas
 pub mod InstanceTables
 pub mod WholeTest

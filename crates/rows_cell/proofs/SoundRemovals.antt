@@ -31,7 +31,7 @@ use Rattle.rows_cell.proofs.SoundParts.{SoundParts, five_parts, has_instance, pa
 -- ---- tests of all entries, of some entry, and of distinct numbers, where one entry goes
 
 -- a test that follows from two others
-all_from_both : {X : Type 0} (p q r : X → Bool) (xs : List X) → ((x : X) → p x ≡ true → q x ≡ true → r x ≡ true) → list_all p xs ≡ true → list_all q xs ≡ true → list_all r xs ≡ true
+pub all_from_both : {X : Type 0} (p q r : X → Bool) (xs : List X) → ((x : X) → p x ≡ true → q x ≡ true → r x ≡ true) → list_all p xs ≡ true → list_all q xs ≡ true → list_all r xs ≡ true
 all_from_both p q r [] h ps qs = refl
 all_from_both p q r (x ∷ xs) h ps qs =
     let t = and_parts (p x) (list_all p xs) ps in
@@ -39,7 +39,7 @@ all_from_both p q r (x ∷ xs) h ps qs =
     and_from (r x) (list_all r xs) (h x t.0 u.0) (all_from_both p q r xs h t.1 u.1)
 
 -- what a filter lets through passes a test, where each that it lets through did another
-all_let_through : {X : Type 0} (keep p q : X → Bool) (xs : List X) → ((x : X) → keep x ≡ true → p x ≡ true → q x ≡ true) → list_all p xs ≡ true → list_all q (filter keep xs) ≡ true
+pub all_let_through : {X : Type 0} (keep p q : X → Bool) (xs : List X) → ((x : X) → keep x ≡ true → p x ≡ true → q x ≡ true) → list_all p xs ≡ true → list_all q (filter keep xs) ≡ true
 all_let_through keep p q [] h all = refl
 all_let_through {X} keep p q (x ∷ xs) h all =
     let t = and_parts (p x) (list_all p xs) all in
@@ -49,7 +49,7 @@ all_let_through {X} keep p q (x ∷ xs) h all =
       | false ↦ (λ e. rest)
     ]) refl
 
-all_gone : {K V : Type 0} (test : K → Bool) (p : K × V → Bool) (es : List (K × V)) → list_all p es ≡ true → list_all p (remove_entry test es) ≡ true
+pub all_gone : {K V : Type 0} (test : K → Bool) (p : K × V → Bool) (es : List (K × V)) → list_all p es ≡ true → list_all p (remove_entry test es) ≡ true
 all_gone test p [] h = refl
 all_gone {K} {V} test p (e ∷ es) h =
     let t = and_parts (p e) (list_all p es) h in

@@ -5,4 +5,5 @@ mod Doings
 mod FirstLines
 mod Lifts
 mod LineWords
+mod Ticks
 mod Written

@@ -66,15 +66,15 @@ some_wrong true true true h = elim h [
 pub wrong_acls : (r w c : List ℕ) → (is_component r ≡ false) ⊎ ((is_component w ≡ false) ⊎ (is_component c ≡ false)) → Reads {A = AclNames} (λ acls. acl_words acls ≡ r ∷ (w ∷ (c ∷ []))) acls_fault (Err (Refused BadName))
 wrong_acls r w c h = (record { read = r; write = w; change = c }, refl, some_wrong (is_component r) (is_component w) (is_component c) h)
 
-abbrev tail : {X : Type 0} → List X → List X
+abbrev pub tail : {X : Type 0} → List X → List X
 tail [] = []
 tail (x ∷ xs) = xs
 
-abbrev head : List (List ℕ) → List ℕ
+abbrev pub head : List (List ℕ) → List ℕ
 head [] = []
 head (x ∷ xs) = x
 
-no_word : {xs : List (List ℕ)} {x : List ℕ} → [] ≡ x ∷ xs → ⊥
+pub no_word : {xs : List (List ℕ)} {x : List ℕ} → [] ≡ x ∷ xs → ⊥
 no_word e = let l = ap length e in absurd (omega arith)
 
 -- steps whose first words differ
@@ -97,7 +97,7 @@ new_acls_written words acls k r w c is shape p = ap (λ x. codes "acl" ∷ x) p 
 -- ---- nodes
 
 -- other words
-other : (a b : List ℕ) {word : List ℕ} → bytes_eq a b ≡ false → word ≡ a → word ≡ b → ⊥
+pub other : (a b : List ℕ) {word : List ℕ} → bytes_eq a b ≡ false → word ≡ a → word ≡ b → ⊥
 other a b differ is was = unlike a b false (sym differ) refl (sym is ∙ was)
 
 file_content : (node : NewNode) (acls : Option AclNames) (words rest : List (List ℕ)) (content : List ℕ) → words ≡ content ∷ rest → WritesNode (codes "file") words node acls → (bytes : List ℕ) × IsFileContent content bytes
@@ -314,6 +314,7 @@ ask_out words rest client word shape (steps.Ask n call) w =
 ask_out words rest client word shape (steps.Up n) w = absurd (other (codes "ask") (codes "up") refl refl w.0)
 ask_out words rest client word shape (steps.Join n principal) w = absurd (other (codes "ask") (codes "join") refl refl w.0)
 ask_out words rest client word shape (steps.Beat n) w = absurd (other (codes "ask") (codes "beat") refl refl w.0)
+ask_out words rest client word shape (steps.Tick ticks) w = absurd (other (codes "ask") (codes "tick") refl refl w.0)
 ask_out words rest client word shape (steps.Take n) w = absurd (other (codes "ask") (codes "take") refl refl w.0)
 ask_out words rest client word shape (steps.Give n) w = absurd (other (codes "ask") (codes "give") refl refl w.0)
 ask_out words rest client word shape steps.Sweep w = absurd (other (codes "ask") (codes "sweep") refl refl w.0)
@@ -340,6 +341,7 @@ no_client words client principal n is small none shape (steps.Join m other_princ
 no_client words client principal n is small none shape (steps.Ask m call) w = other (codes "join") (codes "ask") refl refl w.0
 no_client words client principal n is small none shape (steps.Up m) w = other (codes "join") (codes "up") refl refl w.0
 no_client words client principal n is small none shape (steps.Beat m) w = other (codes "join") (codes "beat") refl refl w.0
+no_client words client principal n is small none shape (steps.Tick ticks) w = other (codes "join") (codes "tick") refl refl w.0
 no_client words client principal n is small none shape (steps.Take m) w = other (codes "join") (codes "take") refl refl w.0
 no_client words client principal n is small none shape (steps.Give m) w = other (codes "join") (codes "give") refl refl w.0
 no_client words client principal n is small none shape steps.Sweep w = other (codes "join") (codes "sweep") refl refl w.0

@@ -1,5 +1,5 @@
 -- The lines of a script: the words that write each step.
-use Rattle.std.specs.Prelude.{◌≡◌, ◌⊎◌, ◌&&◌, ◌==◌, ◌<◌, ◌^◌, ℕ, Bool, true, false, List, map, [], ◌∷◌, ◌++◌, codes, decimal, Option, None, Some, if◌then◌else◌}
+use Rattle.std.specs.Prelude.{◌≡◌, ◌⊎◌, ◌&&◌, ◌==◌, ◌<◌, ◌^◌, ⊤, ℕ, Bool, true, false, List, map, [], ◌∷◌, ◌++◌, codes, decimal, Option, None, Some, if◌then◌else◌}
 use Rattle.std.specs.Borrow.{Bor}
 use Rattle.std.specs.List.{list_any, slice_split}
 use Rattle.hex.specs.Hex.{IsBytes}
@@ -20,6 +20,7 @@ use Rattle.client_core.specs.declared.asks.NodeCall.{NodeCall}
 use Rattle.client_core.specs.declared.asks.NodeCall.TheVariants as nodes
 use Rattle.world_cell.specs.declared.steps.Step.{Step}
 use Rattle.world_cell.specs.declared.steps.Step.TheVariants as steps
+use Rattle.world_cell.specs.declared.steps.Ticks.{Ticks}
 use Rattle.script_cell.specs.Words.{letters_of, HasRight, IsContent}
 
 -- a number that a word may write
@@ -106,12 +107,34 @@ WritesCall word rest (calls.Node handle call) = WritesHandleCall word rest handl
 abbrev pub WritesAsk : List (List ℕ) → ℕ → Ask → Type 0
 WritesAsk words client call = (word : List ℕ) × (rest : List (List ℕ)) × (words ≡ decimal client ∷ (word ∷ rest)) × (IsNumber client × WritesCall word rest call)
 
+-- a client's number and its own step, a colon between
+abbrev pub own_word : ℕ × ℕ → List ℕ
+own_word own = decimal own.0 ++ (codes ":" ++ decimal own.1)
+
+-- numbers that words may write
+abbrev pub IsOwn : ℕ × ℕ → Type 0
+IsOwn own = IsNumber own.0 × IsNumber own.1
+
+abbrev pub AreOwn : List (ℕ × ℕ) → Type 0
+AreOwn [] = ⊤
+AreOwn (own ∷ rest) = IsOwn own × AreOwn rest
+
+-- steps of single clients, a word each
+abbrev pub WritesOwn : List (List ℕ) → List (ℕ × ℕ) → Type 0
+WritesOwn words own = (words ≡ map own_word own) × AreOwn own
+
+-- the master's step, that of the clients, and the steps of single clients
+abbrev pub WritesTicks : List (List ℕ) → Ticks → Type 0
+WritesTicks words ticks =
+    (rest : List (List ℕ)) × (words ≡ decimal ticks.master ∷ (decimal ticks.clients ∷ rest)) × (IsNumber ticks.master × (IsNumber ticks.clients × WritesOwn rest ticks.own))
+
 -- the word of a step, and the words behind it
 abbrev pub WritesStep : List ℕ → List (List ℕ) → Step → Type 0
 WritesStep word rest (steps.Up moment) = (word ≡ codes "up") × WritesNumber rest moment
 WritesStep word rest (steps.Join client principal) = (word ≡ codes "join") × ((rest ≡ decimal client ∷ (principal ∷ [])) × IsClientNumber client)
 WritesStep word rest (steps.Ask client call) = (word ≡ codes "ask") × WritesAsk rest client call
 WritesStep word rest (steps.Beat client) = (word ≡ codes "beat") × WritesNumber rest client
+WritesStep word rest (steps.Tick ticks) = (word ≡ codes "tick") × WritesTicks rest ticks
 WritesStep word rest (steps.Take message) = (word ≡ codes "take") × WritesNumber rest message
 WritesStep word rest (steps.Give message) = (word ≡ codes "give") × WritesNumber rest message
 WritesStep word rest steps.Sweep = (word ≡ codes "sweep") × (rest ≡ [])

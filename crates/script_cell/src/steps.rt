@@ -1,18 +1,18 @@
 //! The steps of a script, each of them a line.
 ghost use Rattle.std.specs.Prelude.{◌≡◌, ◌∷◌, [], codes, IfOk, decimal, None};
 ghost use Rattle.std.specs.Str.Lossy.{utf8_lossy};
-ghost use Rattle.script_cell.specs.Steps.{WritesLine, WritesStep, WritesCall, WritesOpen, WritesCreate, WritesPermanent, WritesMade, WritesNumber, WritesNodeCall, WritesGeneration, IsHandleCall, IsFileContent, IsNumber, acl_words, new_acl_words, disposition_word, texts, step_fault, call_fault, open_fault, create_fault, made_fault, new_acls_fault, acls_fault, node_call_fault};
+ghost use Rattle.script_cell.specs.Steps.{WritesLine, WritesStep, WritesCall, WritesOpen, WritesCreate, WritesPermanent, WritesMade, WritesNumber, WritesNodeCall, WritesGeneration, IsHandleCall, IsFileContent, IsNumber, WritesTicks, WritesOwn, IsOwn, own_word, acl_words, new_acl_words, disposition_word, texts, step_fault, call_fault, open_fault, create_fault, made_fault, new_acls_fault, acls_fault, node_call_fault};
 ghost use Rattle.script_cell.specs.Readings.{Reads, IsParsed, flaw_of};
 
 use crate::words::{content, mode, number};
 use client_core::{Ask, NodeCall};
 use names_cell::{Component, Name, NameFault, Principal};
 use node_core::Fault;
-use plain::Bytes;
+use plain::{Bytes, Items};
 use std::alloc::{AllocError, Global};
 use std::str;
 use tags_cell::{AclNames, ClientNumber, Create, Disposition, NewNode, Open};
-use world_cell::Step;
+use world_cell::{Step, Ticks};
 
 /// What a line of a script asks for.
 #[derive(Debug, Drop)]
@@ -57,9 +57,6 @@ impl From<NameFault> for Flaw {
     }
 }
 
-/// The most words that a step has.
-const WORD_LIMIT: usize = 13;
-
 /// Reads a line of bytes, without the LF behind it. What isn't UTF-8 becomes U+FFFD, which no word has: so such a name
 /// or principal isn't one, and any other such word makes the line no step.
 pub fn read_line(alloc: Global, line: &[u8]) -> Result<Parsed, AllocError>
@@ -89,11 +86,11 @@ pub fn read_step(alloc: Global, line: &str) -> Result<Parsed, AllocError>
     }
 }
 
-// The words stand behind one another with one space between. A word more than a step has tells of too many.
+// The words stand behind one another with one space between.
 fn step_of_line(alloc: Global, line: &str) -> Result<Step, Flaw>
     ensures { Reads (WritesLine line.now) step_fault result }
 {
-    let words: Vec<&str> = line.split(' ').take(WORD_LIMIT + 1).collect(alloc)?;
+    let words: Vec<&str> = line.split(' ').collect(alloc)?;
     if words.iter().any(|word| word.is_empty()) {
         return Err(Flaw::Bad);
     }
@@ -111,6 +108,7 @@ fn step_of(alloc: Global, word: &str, rest: &[&str]) -> Result<Step, Flaw>
         "join" => join(alloc, rest),
         "ask" => asked(alloc, rest),
         "beat" => Ok(Step::Beat(only_number(rest)?)),
+        "tick" => Ok(Step::Tick(ticks(alloc, rest)?)),
         "take" => Ok(Step::Take(only_number(rest)?)),
         "give" => Ok(Step::Give(only_number(rest)?)),
         "sweep" if rest.is_empty() => Ok(Step::Sweep),
@@ -138,6 +136,44 @@ fn join(alloc: Global, words: &[&str]) -> Result<Step, Flaw>
         return Err(Flaw::Bad);
     };
     Ok(Step::Join(client, Principal::parse(alloc, principal)?))
+}
+
+// The master's step, that of the clients, and the steps of single clients.
+fn ticks(alloc: Global, words: &[&str]) -> Result<Ticks, Flaw>
+    ensures { Reads (WritesTicks (texts words.now)) (λ _. None) result }
+{
+    let [master, clients, own @ ..] = words else {
+        return Err(Flaw::Bad);
+    };
+    let master = number_of(master)?;
+    let clients = number_of(clients)?;
+    let own = own_ticks(alloc, own)?;
+    Ok(Ticks {
+        master,
+        clients,
+        own,
+    })
+}
+
+// Steps of single clients, a word each.
+fn own_ticks(alloc: Global, words: &[&str]) -> Result<Items<(u64, u64)>, Flaw>
+    ensures { Reads (WritesOwn (texts words.now)) (λ _. None) result }
+{
+    let mut own = Items::new(alloc);
+    for word in words {
+        own.push(own_tick(word)?)?;
+    }
+    Ok(own)
+}
+
+// A client's number and its own step.
+fn own_tick(word: &str) -> Result<(u64, u64), Flaw>
+    ensures { Reads (λ own. (own_word own ≡ word.now) × IsOwn own) (λ _. None) result }
+{
+    let Some((client, step)) = word.split_once(':') else {
+        return Err(Flaw::Bad);
+    };
+    Ok((number_of(client)?, number_of(step)?))
 }
 
 fn asked(alloc: Global, words: &[&str]) -> Result<Step, Flaw>

@@ -2,6 +2,10 @@
 #![tactic(auto)]
 
 #[cfg(test)]
+mod leases;
+#[cfg(test)]
+mod masters;
+#[cfg(test)]
 mod parts;
 #[cfg(test)]
 mod scripts;

@@ -3,11 +3,12 @@ use client_core::{Ask, Asked, Client, NodeCall};
 use names_cell::{Name, Principal};
 use node_core::Fault;
 use over_core::Cell;
+use plain::Items;
 use rows_cell::{ListRecords, Settings};
 use std::alloc::Global;
 use std::process::Abort;
 use std::test::Fail;
-use tags_cell::{ClientNumber, MessageNumber, Mode, Open, Out, Request, Started};
+use tags_cell::{Alive, ClientNumber, MessageNumber, Mode, Open, Out, Request, Started};
 
 fn new_records(alloc: Global) -> Result<ListRecords, Fail> {
     let settings = Settings::standard(alloc)?;
@@ -45,10 +46,13 @@ fn each_master_has_the_next_epoch(rt: HostRuntime) -> Result<(), Fail> {
 #[derive(Clone, Copy)]
 enum Turn {
     Beat,
-    Started,
+    // A Started of the first master for the first Start, with its span.
+    Started(u64),
+    // An Alive for the Beat behind it, with its epoch and its span.
+    Alive(u64, u64),
     Read,
-    // The same message comes again.
     Open,
+    // The same message comes again.
     Again,
 }
 
@@ -59,10 +63,26 @@ const CLIENTS: &[(&str, &[(Turn, &str)])] = &[
         &[
             (Turn::Read, "NoSession"),
             (Turn::Beat, "start 1"),
-            (Turn::Started, "no line"),
-            (Turn::Beat, "nothing"),
+            (Turn::Started(12_000), "no line"),
+            (Turn::Beat, "beat 2"),
             (Turn::Read, "BadHandle"),
             (Turn::Again, "nothing"),
+        ],
+    ),
+    (
+        "span_that_no_master_offers",
+        &[
+            (Turn::Beat, "start 1"),
+            (Turn::Started(0x20_0000_0000_0000), "ProtocolFault"),
+            (Turn::Read, "NoSession"),
+            (Turn::Alive(1, 0x20_0000_0000_0000), "no line"),
+            (Turn::Started(0x1f_ffff_ffff_ffff), "no line"),
+            (Turn::Read, "BadHandle"),
+            (Turn::Started(0x20_0000_0000_0000), "no line"),
+            (Turn::Beat, "beat 2"),
+            (Turn::Alive(1, 0x20_0000_0000_0000), "ProtocolFault"),
+            (Turn::Alive(2, 0x20_0000_0000_0000), "no line"),
+            (Turn::Alive(1, 0x1f_ffff_ffff_ffff), "no line"),
         ],
     ),
     (
@@ -70,7 +90,7 @@ const CLIENTS: &[(&str, &[(Turn, &str)])] = &[
         &[
             (Turn::Open, "NoSession"),
             (Turn::Beat, "start 1"),
-            (Turn::Started, "no line"),
+            (Turn::Started(12_000), "no line"),
             (Turn::Open, "sent, and again"),
         ],
     ),
@@ -82,37 +102,64 @@ fn client(alloc: Global) -> Result<Client, Fail> {
     Ok(Client::new(alloc, number, principal))
 }
 
-fn started() -> Result<Out, Fail> {
+fn started(span: u64) -> Result<Out, Fail> {
     Ok(Out::Started(Started {
         client: ClientNumber::new(1).ok_or("client")?,
         epoch: 1,
         number: MessageNumber::new(1).ok_or("number")?,
-        span: 12_000,
+        span,
     }))
 }
 
-fn start_text(request: &Request) -> &'static str {
-    if request.number().get() == 1 {
-        "start 1"
-    } else {
-        "another start"
+fn alive(alloc: Global, epoch: u64, span: u64) -> Result<Out, Fail> {
+    let client = ClientNumber::new(1).ok_or("client")?;
+    let number = MessageNumber::new(2).ok_or("number")?;
+    Ok(Out::Alive(Alive {
+        client,
+        epoch,
+        number,
+        span,
+        invalidations: Items::new(alloc),
+        events: Items::new(alloc),
+    }))
+}
+
+fn beat_text(request: &Request) -> &'static str {
+    match (request, request.number().get()) {
+        (Request::Start(_), 1) => "start 1",
+        (Request::Beat(_), 2) => "beat 2",
+        _ => "another message",
     }
 }
 
 fn beat(client: &mut Client) -> &'static str {
     match client.beat(0) {
-        Ok(Some(request)) => start_text(&request),
+        Ok(Some(request)) => beat_text(&request),
         Ok(None) => "nothing",
         Err(fault) => fault.name(),
     }
 }
 
-fn give(client: &mut Client) -> Result<&'static str, Fail> {
-    let started = started()?;
-    Ok(match client.give(0, &started) {
+fn give(client: &mut Client, out: &Out) -> &'static str {
+    match client.give(0, out) {
         Ok(lines) => if lines.is_empty() { "no line" } else { "lines" },
         Err(fault) => fault.name(),
-    })
+    }
+}
+
+fn give_started(client: &mut Client, span: u64) -> Result<&'static str, Fail> {
+    let started = started(span)?;
+    Ok(give(client, &started))
+}
+
+fn give_alive(
+    alloc: Global,
+    client: &mut Client,
+    epoch: u64,
+    span: u64,
+) -> Result<&'static str, Fail> {
+    let alive = alive(alloc, epoch, span)?;
+    Ok(give(client, &alive))
 }
 
 fn again(client: &Client) -> &'static str {
@@ -156,7 +203,8 @@ fn open(alloc: Global, client: &mut Client) -> Result<&'static str, Fail> {
 fn answer(alloc: Global, client: &mut Client, turn: Turn) -> Result<&'static str, Fail> {
     match turn {
         Turn::Beat => Ok(beat(client)),
-        Turn::Started => give(client),
+        Turn::Started(span) => give_started(client, span),
+        Turn::Alive(epoch, span) => give_alive(alloc, client, epoch, span),
         Turn::Read => Ok(ask(client, &Ask::Node(1, NodeCall::Read))),
         Turn::Open => open(alloc, client),
         Turn::Again => Ok(again(client)),

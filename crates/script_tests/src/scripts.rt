@@ -12,7 +12,7 @@ use world_cell::{Step, World};
 
 // What a row's script begins with.
 #[derive(Clone, Copy)]
-enum Before {
+pub(crate) enum Before {
     Nothing,
     // A client that has a session.
     Client,
@@ -181,7 +181,12 @@ fn ended(rt: &impl Abort, name: &str, ran: &Ran, status: u8, lines: &str, words:
     assert!(rt; ran.status == status, "at {name}");
 }
 
-fn prints(rt: &impl Abort, alloc: Global, row: &(&str, Before, &str, &str)) -> Result<(), Fail> {
+// A row's script prints its lines, and ends with status 0.
+pub(crate) fn prints(
+    rt: &impl Abort,
+    alloc: Global,
+    row: &(&str, Before, &str, &str),
+) -> Result<(), Fail> {
     let (name, before, steps, lines) = row;
     let (steps_before, lines_before) = before.texts();
     let steps = text_of(alloc, steps_before, steps)?;
@@ -449,7 +454,6 @@ const LINES: &[(&str, &str)] = &[
     ("up 18446744073709551616", "bad"),
     ("UP 0", "bad"),
     ("down", "bad"),
-    ("tick 1 1", "bad"),
     ("cut sweep kept", "bad"),
     ("join 0 ann", "bad"),
     ("join 9007199254740992 ann", "bad"),
@@ -528,7 +532,8 @@ const LINES: &[(&str, &str)] = &[
     ("ask 1 open /ls/c r delay 1", "bad"),
 ];
 
-fn is_read(alloc: Global, line: &str, kind: &str) -> Result<bool, Fail> {
+// Whether a line is read as one of this kind.
+pub(crate) fn is_read(alloc: Global, line: &str, kind: &str) -> Result<bool, Fail> {
     let parsed = read_step(alloc, line)?;
     Ok(kind_of(&parsed) == kind)
 }

@@ -86,6 +86,7 @@ impl<K> Sessions<K> {
         }
         if let Some(session) = self.map.get_mut(&client) {
             session.take_beat(beat, received);
+            self.quiet = self.quiet.min(session.quiet_until(self.lease));
         }
         Ok(())
     }
@@ -96,6 +97,9 @@ impl<K> Sessions<K> {
         ensures value { result ≡ lowest self.now (is_client_due self.now.lease now) }
         ensures lowest { IsLowest self.now (is_client_due self.now.lease now) result }
     {
+        if now < self.quiet {
+            return None;
+        }
         for (number, session) in self.map.iter() {
             if let Some(client) = due_client(*number, session, self.lease, now) {
                 return Some(client);
@@ -126,6 +130,7 @@ impl<K> Sessions<K> {
         let number = client.get();
         if let Some(session) = self.map.get_mut(&number) {
             session.end_beat(until);
+            self.quiet = self.quiet.min(session.quiet_until(self.lease));
         }
     }
 }

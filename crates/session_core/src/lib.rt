@@ -6,6 +6,7 @@ mod calls;
 mod ends;
 mod issues;
 mod laws;
+mod moments;
 mod records;
 mod sessions;
 mod starts;

@@ -2,6 +2,7 @@
 ghost use Rattle.std.specs.Prelude.{◌≡◌, ◌≤◌};
 ghost use Rattle.lease_core.specs.Lease.{longest_lease};
 ghost use Rattle.session_core.specs.Session.{is_owing, owes, nears_timeout, is_due, has_heard, is_expired};
+ghost use Rattle.session_core.specs.Quiet.{quiet_until};
 
 use names_cell::Principal;
 use tags_cell::MessageNumber;
@@ -106,6 +107,24 @@ impl<K> Session<K> {
             return false;
         }
         self.owes() || self.nears_timeout(lease, now)
+    }
+
+    // Before this moment it neither expires nor is its Beat to be answered.
+    pub(crate) fn quiet_until(&self, lease: u64) -> u64
+        requires { lease ≤ longest_lease }
+        ensures { result ≡ quiet_until lease self.now }
+    {
+        if !self.live {
+            return u64::MAX;
+        }
+        if self.parked.is_none() {
+            return self.timeout;
+        }
+        if self.owes() {
+            0
+        } else {
+            self.timeout.saturating_sub(3000 + lease / 16)
+        }
     }
 
     // Whether it has acknowledged its first event, or has ended.

@@ -18,18 +18,23 @@ use std::marker::Model;
 pub struct Sessions<K> {
     pub(crate) lease: u64,
     pub(crate) map: BTreeMap<u64, Session<K>>,
+    // Before this moment nothing is to be done for any session, so nobody looks for one.
+    pub(crate) quiet: u64,
+    // A client that wasn't heard from when one was last looked for. Nothing hangs on it but how long a walk is.
+    pub(crate) unheard: u64,
 }
 
 impl<K> Model for Sessions<K> {
     ghost use Rattle.std.specs.Prelude.{◌≤◌};
-    ghost use Rattle.lease_core.specs.Lease.{longest_lease};
+    ghost use Rattle.lease_core.specs.Lease.{least_lease, longest_lease};
     ghost use Rattle.session_core.specs.Sessions.{SessionTable};
+    ghost use Rattle.session_core.specs.Quiet.{AreQuietUntil};
 
     ghost Value = { SessionTable K };
 
     ghost view = { λ s. record { lease = s.lease; sessions = s.map.entries } };
 
-    ghost invariant = { λ s. s.lease ≤ longest_lease };
+    ghost invariant = { λ s. (least_lease ≤ s.lease) × (s.lease ≤ longest_lease) × AreQuietUntil K s.lease s.quiet s.map.entries };
 }
 
 impl<K> Sessions<K> {
@@ -43,7 +48,17 @@ impl<K> Sessions<K> {
         Sessions {
             lease,
             map: BTreeMap::new(alloc),
+            quiet: u64::MAX,
+            unheard: 0,
         }
+    }
+
+    /// How long an answer lets a session live, in milliseconds.
+    pub fn lease(&self) -> u64
+        ensures value { result ≡ self.now.lease }
+        ensures range { (least_lease ≤ result) × (result ≤ longest_lease) }
+    {
+        self.lease
     }
 
     /// A client's session, also one that has ended. Takes no memory.
@@ -79,6 +94,9 @@ impl<K> Sessions<K> {
     pub fn all_heard(&self) -> bool
         ensures { result ≡ all_heard self.now }
     {
+        if self.is_unheard(self.unheard) {
+            return false;
+        }
         self.map.iter().all(|(_, session)| session.has_heard())
     }
 }
@@ -99,7 +117,9 @@ impl<K: Drop> Sessions<K> {
         ensures err { OnErr result (self.new ≡ self.old) }
     {
         let session = session_until(principal, live, now + RECOVERY_TIMEOUT);
+        let until = session.quiet_until(self.lease);
         drop(self.map.insert(client, session)?);
+        self.quiet = self.quiet.min(until);
         Ok(())
     }
 }

@@ -24,7 +24,7 @@ use Rattle.over_core.specs.Effect.{effect}
 use Rattle.cell_core.specs.Cases.{TakeCase, taken_by}
 use Rattle.over_core.specs.SweepCase.{IsTurn, SweepCase, swept_by, rest, ended, mapped}
 use Rattle.cell_core.specs.Cases.TakeCase.{StartQueued, Answered, Waits}
-use Rattle.over_core.specs.SweepCase.SweepCase.{Quiet, TurnedAway, StartedAgain, Started as StartedFirst, Ended, Applied}
+use Rattle.over_core.specs.SweepCase.SweepCase.{Quiet, Recovers, Expires, AnswersBeat, TurnedAway, StartedAgain, Started as StartedFirst, OfEnded, Ended, Applied}
 use Rattle.over_core.specs.Kept.{IsKept}
 use Rattle.world_cell.specs.declared.steps.Step.{Step}
 use Rattle.world_cell.specs.declared.steps.Step.TheVariants.{Take, Sweep}
@@ -32,11 +32,12 @@ use Rattle.world_cell.specs.Messages.{call_of}
 use Rattle.world_cell.specs.World.{WorldState, WorldView}
 use Rattle.world_cell.specs.Consistent.{Agrees, IsConsistent}
 use Rattle.world_cell.specs.Runs.{IsMade, Does, Run, map_at, epoch_at, change_of, IsTaken, HasWaited, IsOfCall}
-use Rattle.world_cell.proofs.ClientCases.{IsSilent}
+use Rattle.world_cell.proofs.SilentLines.{IsSilent}
 use Rattle.world_cell.proofs.PartsOfRuns.{run_push}
 use Rattle.world_cell.proofs.MasterFits.{waits_as, turn_sent}
 use Rattle.world_cell.proofs.WorldCases.{IsTake, IsSweep, WorldCase, world_case}
-use Rattle.world_cell.proofs.WorldCases.WorldCase.{ComesUp, Joins, Calls, Starts, Acts, Grants, Takes, Sweeps}
+use Rattle.world_cell.proofs.WorldCases.WorldCase.{ComesUp, Joins, Asks, Beats, Gives, Ticks, Takes, Sweeps}
+use Rattle.world_cell.proofs.OwnSteps.{IsOwn, asks_own, beats_own, gives_own}
 use Rattle.world_cell.proofs.ConsistentSteps.{noted_fits}
 use Rattle.world_cell.proofs.OnceByRuns.{taken_silent}
 use Rattle.world_cell.proofs.RowsByRuns.{run_tells}
@@ -90,7 +91,7 @@ abbrev WasTaken : Ground → ℕ → ℕ → ℕ → Call → Type 0
 WasTaken g epoch client number call = HasWaited g.old.world.master epoch client number call ⊎ IsTaken g.old g.past g.told g.here epoch client number call
 
 abbrev IsCalled : Ground → ℕ → ℕ → ℕ → Work → Type 0
-IsCalled g epoch client number (works.Starts principal) = Unit {0}
+IsCalled g epoch client number (works.Starts principal received) = Unit {0}
 IsCalled g epoch client number (works.Calls call) = WasTaken g epoch client number call
 
 abbrev AreCalled : Ground → ℕ → List (Waiting Task) → Type 0
@@ -103,6 +104,7 @@ Queued g (Some s) = AreCalled g s.epoch s.gate.waiting
 
 -- the steps of the past told these lines and led to this world
 record Stands (g : Ground) : Type 0 where
+  began : IsConsistent g.old.world
   run : Run g.old g.past g.told g.here
   consistent : IsConsistent g.here.world
   queue : Queued g g.here.world.master
@@ -132,7 +134,7 @@ module _ (g : Ground) (step : Step) (printed : List Line) (new : WorldView) (doe
   }
 
   work_later : (epoch client number : ℕ) (work : Work) → IsCalled g epoch client number work → IsCalled (ground_after g step printed new) epoch client number work
-  work_later epoch client number (works.Starts principal) called = tt
+  work_later epoch client number (works.Starts principal received) called = tt
   work_later epoch client number (works.Calls call) (inl waited) = inl waited
   work_later epoch client number (works.Calls call) (inr taken) = inr (taken_later epoch client number call taken)
 
@@ -160,10 +162,10 @@ epoch_note s (Some note) = refl
 
 -- only a call of the master's own epoch may wait, and it was taken
 take_calls : (g : Ground) (s : MasterState) (request : Request) (c : TakeCase s request) → AreCalled g s.epoch s.gate.waiting → ((message : CallMessage) → request ≡ requests.Call message → message.epoch ≡ s.epoch → WasTaken g s.epoch message.client message.number message.call) → AreCalled g (taken_by s request c).0.epoch (taken_by s request c).0.gate.waiting
-take_calls g s request (StartQueued start is may room) h k =
-    calls_push g s.epoch s.gate.waiting (waits_as (s.gate.pushed + 1) [] (record { client = start.client; number = start.number; work = works.Starts start.principal })) h tt
-take_calls g s request (Answered message note answer new answered) h k = note_calls g s note h
-take_calls g s request (Waits message note touched new admitted) h k =
+take_calls g s request (StartQueued start is may serving room) h k =
+    calls_push g s.epoch s.gate.waiting (waits_as (s.gate.pushed + 1) [] (record { client = start.client; number = start.number; work = works.Starts start.principal s.clock })) h tt
+take_calls g s request (Answered message note answer new serving answered) h k = note_calls g s note h
+take_calls g s request (Waits message note touched new serving admitted) h k =
     let t = with_note s note in
     let taken : WasTaken g t.epoch message.client message.number message.call = rw (epoch_note s note) (k message new.heard.is_call new.heard.epoch) in
     calls_push g t.epoch t.gate.waiting (waits_as (t.gate.pushed + 1) touched (record { client = message.client; number = message.number; work = works.Calls message.call })) (note_calls g s note h) taken
@@ -185,11 +187,15 @@ ended_calls g s task (Some note) answer h = h
 
 sweep_calls : (g : Ground) (s : MasterState) (c : SweepCase s) → AreCalled g s.epoch s.gate.waiting → AreCalled g (swept_by s c).0.epoch (swept_by s c).0.gate.waiting
 sweep_calls g s (Quiet none) h = h
-sweep_calls g s (TurnedAway front back task principal turn work may) h = (turn_calls g s front task back turn h).1
-sweep_calls g s (StartedAgain front back task principal turn work may live) h = (turn_calls g s front task back turn h).1
-sweep_calls g s (StartedFirst front back task principal turn work may live) h = (turn_calls g s front task back turn h).1
-sweep_calls g s (Ended front back task call note answer turn work made) h = ended_calls g (rest s front back) task note answer (turn_calls g s front task back turn h).1
-sweep_calls g s (Applied front back task call note change answer turn work made) h =
+sweep_calls g s (Recovers recovering heard) h = h
+sweep_calls g s (Expires client session due) h = h
+sweep_calls g s (AnswersBeat client session beat due) h = h
+sweep_calls g s (TurnedAway front back task principal received turn work may) h = (turn_calls g s front task back turn h).1
+sweep_calls g s (StartedAgain front back task principal received session turn work found live) h = (turn_calls g s front task back turn h).1
+sweep_calls g s (StartedFirst front back task principal received turn work none) h = (turn_calls g s front task back turn h).1
+sweep_calls g s (OfEnded front back task call turn work gone) h = (turn_calls g s front task back turn h).1
+sweep_calls g s (Ended front back task call note answer turn work live made) h = ended_calls g (rest s front back) task note answer (turn_calls g s front task back turn h).1
+sweep_calls g s (Applied front back task call note change answer turn work live made) h =
     ended_calls g (mapped (rest s front back) change) task note answer (turn_calls g s front task back turn h).1
 
 -- ---- a step
@@ -235,10 +241,10 @@ module _ (g : Ground) (step : Step) (new : WorldView) (printed : List Line) (h :
   made_queue : IsMade g.here step new printed → WorldCase g.here.world step new.world printed → Queued next new.world.master
   made_queue made (ComesUp u) = queued_as next new.world.master _ (ap (λ (w : WorldState). w.master) u.is) tt
   made_queue made (Joins j) = same_queue (ap (λ (w : WorldState). w.master) j.is)
-  made_queue made (Calls c) = same_queue (ap (λ (w : WorldState). w.master) c.is)
-  made_queue made (Starts c) = same_queue (ap (λ (w : WorldState). w.master) c.is)
-  made_queue made (Acts c) = same_queue (ap (λ (w : WorldState). w.master) c.is)
-  made_queue made (Grants c) = same_queue (ap (λ (w : WorldState). w.master) c.is)
+  made_queue made (Asks a) = same_queue (ap (λ (w : WorldState). w.master) (asks_own g.here.world step new.world printed a).is)
+  made_queue made (Beats b) = same_queue (ap (λ (w : WorldState). w.master) (beats_own g.here.world step new.world printed b).is)
+  made_queue made (Gives v) = same_queue (ap (λ (w : WorldState). w.master) (gives_own g.here.world step new.world printed v).is)
+  made_queue made (Ticks t) = same_queue (ap (λ (w : WorldState). w.master) t.is)
   made_queue made (Takes t) =
       queued_as next new.world.master _ (ap (λ (w : WorldState). w.master) t.is)
       (take_calls next (noted t.master g.here.world.clock) t.request t.case (calls_then t.master t.is_up) (λ message is_call same. inr (taken_now g step printed new t h made message is_call same)))
@@ -247,11 +253,13 @@ module _ (g : Ground) (step : Step) (new : WorldView) (printed : List Line) (h :
 
 step_stands : (g : Ground) (step : Step) (new : WorldView) (printed : List Line) → Stands g → Does g.here step new printed → IsConsistent new.world → Stands (ground_after g step printed new)
 step_stands g step new printed h (inl m) fits = record {
+  began = h.began;
   run = run_push g.old g.here new g.past g.told step printed h.run (inl m) fits;
   consistent = fits;
-  queue = made_queue g step new printed h (inl m) fits m (world_case g.here.world step new.world printed m.is_step);
+  queue = made_queue g step new printed h (inl m) fits m (world_case g.here.world step new.world printed h.consistent.master m.is_step);
 }
 step_stands g step new printed h (inr r) fits = record {
+  began = h.began;
   run = run_push g.old g.here new g.past g.told step printed h.run (inr r) fits;
   consistent = fits;
   queue = same_queue g step new printed h (inr r) fits (ap (λ (w : WorldState). w.master) r.left.same);
@@ -288,7 +296,7 @@ record IsOfTurn (s : MasterState) (before : List Line) (client number : ℕ) (ch
   is_effect : change_of (effect s client number call) ≡ Some change
 
 of_turn : (s : MasterState) (c : SweepCase s) (before told : List Line) (client number : ℕ) (change : Mod) → (swept_by s c).1.lines ≡ before ++ lines.Applied client number change ∷ told → IsOfTurn s before client number change
-of_turn s (Applied front back task call note made answer turn work does) before told client number change e =
+of_turn s (Applied front back task call note made answer turn work live does) before told client number change e =
     let t = one_split (lines.Applied task.client task.number made.change) before told (lines.Applied client number change) e in
     let line : lines.Applied task.client task.number made.change ≡ lines.Applied client number change = t.1 in
     let c : task.client ≡ client = cc in
@@ -306,8 +314,15 @@ of_turn s (Applied front back task call note made answer turn work does) before 
       same = n;
       is_effect = rw (← c, ← n) (ap change_of does ∙ ap (λ x. Some x) m);
     }
-of_turn s (StartedFirst front back task principal turn work may live) before told client number change e =
-    absurd (silent_split (lines.Started task.client ∷ []) before told client number change (tt, tt) e)
+of_turn s (Recovers recovering heard) before told client number change e =
+    let t = one_split lines.Recovered before told (lines.Applied client number change) e in
+    let line : lines.Recovered ≡ lines.Applied client number change = t.1 in cc
+of_turn s (Expires whose session due) before told client number change e =
+    let t = one_split (lines.Ended whose) before told (lines.Applied client number change) e in
+    let line : lines.Ended whose ≡ lines.Applied client number change = t.1 in cc
+of_turn s (StartedFirst front back task principal received turn work none) before told client number change e =
+    let t = one_split (lines.Started task.client) before told (lines.Applied client number change) e in
+    let line : lines.Started task.client ≡ lines.Applied client number change = t.1 in cc
 of_turn s _ before told client number change e = absurd (no_split before told (lines.Applied client number change) e)
 
 of_sweep : (g : Ground) (step : Step) (next : WorldView) (printed before told later : List Line) (client number : ℕ) (change : Mod) (steps : List Step) (rest : List Line) (new : WorldView) → Stands g → (t : IsSweep g.here.world step next.world printed) → IsMade g.here step next printed → Run next steps later new → printed ≡ before ++ lines.Applied client number change ∷ told → rest ≡ told ++ later → IsOfCall g.old (g.past ++ step ∷ steps) (g.told ++ before) client number change rest new
@@ -315,7 +330,7 @@ of_sweep g step next printed before told later client number change steps rest n
     let s = noted t.master g.here.world.clock in
     let turn = of_turn s t.case before told client number change (sym t.tells ∙ e) in
     let kept = agreed g.here.world g.here.world.master t.master t.is_up h.consistent.master in
-    let tells = run_tells g.old g.past g.told g.here h.run in
+    let tells = run_tells g.old g.past g.told g.here h.began h.run in
     let is_line : printed ≡ lines.Applied client number change ∷ told = e ∙ ap (λ l. l ++ lines.Applied client number change ∷ told) turn.first in
     rw (turn.first, append-nil g.told) (record {
       front = g.past;
@@ -347,15 +362,15 @@ made_here : (g : Ground) (step : Step) (next : WorldView) (printed before told l
 made_here g step next printed before told later client number change steps rest new h (inr refused) run e r =
     absurd (silent_split printed before told client number change (rw refused.line (tt, tt)) e)
 made_here g step next printed before told later client number change steps rest new h (inl made) run e r =
-    elim (world_case g.here.world step next.world printed made.is_step) [
+    elim (world_case g.here.world step next.world printed h.consistent.master made.is_step) [
       | ComesUp u ↦
           (let t = one_split (lines.Up (g.here.world.rows.epoch + 1)) before told (lines.Applied client number change) (sym u.tells ∙ e) in
           let line : lines.Up (g.here.world.rows.epoch + 1) ≡ lines.Applied client number change = t.1 in cc)
       | Joins j ↦ absurd (silent_split printed before told client number change (rw j.tells tt) e)
-      | Calls c ↦ absurd (silent_split printed before told client number change (rw c.tells tt) e)
-      | Starts c ↦ absurd (silent_split printed before told client number change (rw c.tells tt) e)
-      | Acts c ↦ absurd (silent_split printed before told client number change c.silent e)
-      | Grants c ↦ absurd (silent_split printed before told client number change (rw c.tells tt) e)
+      | Asks a ↦ absurd (silent_split printed before told client number change (asks_own g.here.world step next.world printed a).silent e)
+      | Beats b ↦ absurd (silent_split printed before told client number change (beats_own g.here.world step next.world printed b).silent e)
+      | Gives v ↦ absurd (silent_split printed before told client number change (gives_own g.here.world step next.world printed v).silent e)
+      | Ticks t ↦ absurd (silent_split printed before told client number change (rw t.tells tt) e)
       | Takes t ↦ absurd (silent_split printed before told client number change (rw t.tells (taken_silent (noted t.master g.here.world.clock) t.request t.case)) e)
       | Sweeps t ↦ of_sweep g step next printed before told later client number change steps rest new h t made run e r
     ]
@@ -379,7 +394,7 @@ have_waited g s up front [] is = tt
 have_waited g s up front (w ∷ ws) is = (it_waited g s up front w ws w.change.body.work refl is, have_waited g s up (front ++ w ∷ []) ws (is ∙ sym (append_assoc front (w ∷ []) ws)))
   where
     it_waited : (g : Ground) (s : MasterState) → g.old.world.master ≡ Some s → (front : List (Waiting Task)) (w : Waiting Task) (ws : List (Waiting Task)) (work : Work) → w.change.body.work ≡ work → s.gate.waiting ≡ front ++ w ∷ ws → IsCalled g s.epoch w.change.body.client w.change.body.number work
-    it_waited g s up front w ws (works.Starts principal) work is = tt
+    it_waited g s up front w ws (works.Starts principal received) work is = tt
     it_waited g s up front w ws (works.Calls call) work is =
         inl (record {
           master = s;
@@ -400,4 +415,4 @@ first_queue g (Some s) up = have_waited g s up [] s.gate.waiting refl
 pub run_calls : (old : WorldView) (steps : List Step) (printed : List Line) (new : WorldView) → Run old steps printed new → IsConsistent old.world → (before rest : List Line) (client number : ℕ) (change : Mod) → printed ≡ before ++ lines.Applied client number change ∷ rest → IsOfCall old steps before client number change rest new
 run_calls old steps printed new run h before rest client number change e =
     let g : Ground = record { old = old; past = []; told = []; here = old } in
-    run_on g steps printed new (record { run = (refl, refl); consistent = h; queue = first_queue g old.world.master refl }) run before rest client number change e
+    run_on g steps printed new (record { began = h; run = (refl, refl); consistent = h; queue = first_queue g old.world.master refl }) run before rest client number change e

@@ -1,58 +1,67 @@
 -- Why a step of a consistent world leads to a consistent one.
-use Rattle.std.proofs.Common.{◌≡◌, ◌≢◌, ℕ, ◌+◌, ◌≤◌, List, [], ◌∷◌, ◌++◌, Bool, true, false, Option, Some, None, Result, Ok, Err, refl, sym, ap, ◌∙◌, inl, inr, arith, eqb, subst, map, zero, suc}
+use Rattle.std.proofs.Common.{◌≡◌, ◌≢◌, ℕ, ◌+◌, ◌*◌, ◌≤◌, max, List, [], ◌∷◌, ◌++◌, Bool, true, false, cond, Option, Some, None, Result, Ok, Err, refl, sym, ap, ◌∙◌, inl, inr, arith, subst, map, zero, suc}
 use Rattle.std.specs.Prelude.{IfOk, OnErr}
-use Rattle.std.specs.List.{slice_get}
+use Rattle.std.specs.List.{slice_get, list_all}
 use Rattle.std.specs.Option.{option_map}
 use Rattle.std.specs.Map.{lookup}
 use Rattle.std.specs.BTreeMap.{is_at, insert_entry}
 use Rattle.std.specs.Ordering.{nat_cmp}
 use Rattle.std.proofs.lemmas.List.{append-nil}
-use Rattle.plain.proofs.OneKey.{lookup_set, lookup_set_apart, lookup_put, lookup_put_apart}
+use Rattle.plain.proofs.OneKey.{lookup_put, lookup_put_apart}
+use Rattle.lease_core.specs.Lease.{longest_lease}
+use Rattle.coherence.specs.Slice.{Reached}
+use Rattle.coherence.proofs.Reached.{reached_at_start}
 use Rattle.node_core.specs.declared.refusals.Fault.{Fault}
 use Rattle.node_core.specs.declared.lines.Line.{Line}
 use Rattle.node_core.specs.declared.views.Mod.{Mod}
 use Rattle.node_core.specs.declared.views.Mod.TheVariants.{Put, Gone}
+use Rattle.rows_cell.specs.declared.keys.LockKey.{LockKey}
 use Rattle.rows_cell.specs.declared.tables.Rows.{Rows}
+use Rattle.rows_cell.specs.declared.tables.Session as stored
 use Rattle.rows_cell.specs.declared.tables.Edit.{Edit}
-use Rattle.rows_cell.specs.declared.tables.Edit.TheVariants.{NextInstance}
-use Rattle.rows_cell.specs.Rows.{changed_rows}
+use Rattle.rows_cell.specs.declared.tables.Edit.TheVariants.{NextInstance, RemoveLock, PutSession}
+use Rattle.rows_cell.specs.Rows.{StoredLocks, changed_rows, edited}
 use Rattle.tags_cell.specs.declared.requests.Request.{Request}
 use Rattle.tags_cell.specs.declared.requests.Request.TheVariants as requests
-use Rattle.tags_cell.specs.declared.requests.Start.{Start}
 use Rattle.tags_cell.specs.declared.requests.CallMessage.{CallMessage}
 use Rattle.tags_cell.specs.declared.outs.Out.{Out}
 use Rattle.tags_cell.specs.declared.outs.Out.TheVariants as outs
 use Rattle.tags_cell.specs.declared.outs.Started.{Started}
 use Rattle.tags_cell.specs.declared.outs.Reply.{Reply}
-use Rattle.cell_core.specs.declared.pending.Kept.{Kept}
-use Rattle.cell_core.specs.State.{MasterState, master_of}
-use Rattle.cell_core.specs.Step.{kept_of, repeated_reply, noted}
+use Rattle.cell_core.specs.declared.handles.Note.{Note}
+use Rattle.session_core.specs.declared.records.Session.{Session}
+use Rattle.cell_core.specs.State.{MasterState, master_of, taken_over, locks_of}
+use Rattle.cell_core.specs.Step.{with_note, repeated_reply, noted}
 use Rattle.cell_core.specs.Deeds.{edit_of}
 use Rattle.cell_core.specs.Cases.{TakeCase, taken_by}
 use Rattle.over_core.specs.SweepCase.{SweepCase, swept_by, swept_edits}
-use Rattle.cell_core.specs.Cases.TakeCase.{Repeated, StartQueued, Waits}
-use Rattle.over_core.specs.SweepCase.SweepCase.{Quiet, StartedAgain, Started as StartedFirst, Applied}
+use Rattle.cell_core.specs.Cases.TakeCase.{Repeated, StartQueued, BeatParked, Answered, Waits}
+use Rattle.over_core.specs.SweepCase.SweepCase.{Quiet, Recovers, Expires, AnswersBeat, StartedAgain, Started as StartedFirst, OfEnded, Ended, Applied}
 use Rattle.over_core.specs.Kept.{IsKept}
 use Rattle.over_core.specs.Up.{up_edits}
+use Rattle.client_core.specs.declared.sessions.Session.TheVariants as sessions
 use Rattle.client_core.specs.State.{ClientState}
 use Rattle.world_cell.specs.declared.steps.Step.{Step}
 use Rattle.world_cell.specs.declared.steps.Step.TheVariants as steps
+use Rattle.world_cell.specs.declared.steps.Ticks.{Ticks as ClockSteps}
 use Rattle.world_cell.specs.declared.worlds.Turn.{Turn}
 use Rattle.world_cell.specs.declared.mail.Message.{Message}
 use Rattle.world_cell.specs.declared.mail.Message.TheVariants.{ToMaster, ToClient}
 use Rattle.world_cell.specs.declared.seats.Seat.{Seat}
-use Rattle.world_cell.specs.Seats.{Clients, new_seat}
+use Rattle.world_cell.specs.Seats.{Clients, new_seat, seated, each_seat, at_up}
 use Rattle.world_cell.specs.Messages.{request_at, out_at, call_of}
-use Rattle.world_cell.specs.World.{WorldState, WorldView, seat_of, with_client, sends, new_world, world_step, world_sweep, without_quiet, IsLeft}
-use Rattle.world_cell.specs.Consistent.{IsSeated, HasSent, FitsMessages, Agrees, Fits, IsConsistent}
-use Rattle.world_cell.proofs.ClientCases.{Follows, SendsCall, IsGranted}
+use Rattle.world_cell.specs.World.{WorldState, WorldView, seat_of, new_world, world_step, world_sweep, without_quiet, IsLeft, clock_then, own_step, stays_fair, are_fair, moved, ticked}
+use Rattle.world_cell.specs.Slices.{slice, standing_in}
+use Rattle.world_cell.specs.Consistent.{IsSeated, HasSent, FitsMessages, Agrees, Fits, IsNoted, IsInTurn, IsFairSince, AreFair, IsConsistent}
 use Rattle.world_cell.proofs.MessagesGrow.{none_sent, none_out, request_more, out_more, call_stays, call_more, call_new, no_call, no_request, one_call, its_call, one_request, one_no_out, out_among}
-use Rattle.world_cell.proofs.MasterFits.{same, other, fits_stays, take_fits, sweep_fits}
-use Rattle.world_cell.proofs.WorldCases.{IsUp, IsJoin, IsCall, IsStart, IsOwn, IsGrant, IsTake, IsSweep, WorldCase, world_case}
-use Rattle.world_cell.proofs.WorldCases.WorldCase.{ComesUp, Joins, Calls, Starts, Acts, Grants, Takes, Sweeps}
-
-some_same : {X : Type 0} (a b : X) → ◌≡◌ {A = Option X} (Some a) (Some b) → a ≡ b
-some_same a b h = cc
+use Rattle.world_cell.proofs.OneSession.{at_each, kept_in}
+use Rattle.world_cell.proofs.MasterFits.{fits_stays, take_fits, sweep_fits}
+use Rattle.world_cell.proofs.SeatsFound.{some_same, own_seat, other_seat, at_seats, each_found, at_each_seat, all_found, moves_so, fair_at_once, fair_beside}
+use Rattle.world_cell.proofs.WorldCases.{IsUp, IsJoin, IsTick, IsTake, IsSweep, WorldCase, world_case}
+use Rattle.world_cell.proofs.WorldCases.WorldCase.{ComesUp, Joins, Asks, Beats, Gives, Ticks, Takes, Sweeps}
+use Rattle.world_cell.proofs.OwnSteps.{IsNoCall, IsNextCall, Sends, OfEpoch, sending, IsOwn, asks_own, beats_own, gives_own}
+use Rattle.world_cell.proofs.OwnSteps.Sends.{Nothing, NoCall, NextCall}
+use Rattle.world_cell.proofs.OwnSteps.OfEpoch.{SameEpoch, GrantedEpoch}
 
 least : (n : ℕ) → n ≤ n
 least n = omega arith
@@ -60,18 +69,24 @@ least n = omega arith
 zero_least : (n : ℕ) → 0 ≤ n
 zero_least n = omega arith
 
+no_more : (a b : ℕ) → 16 * a + 17 * b ≤ 16 * a + 17 * b
+no_more a b = omega arith
+
 -- ---- what only grows
 
--- the client is there, with that many calls at least
-pub record HasLater (w : WorldState) (client calls : ℕ) : Type 0 where
-  pub seat : Seat
-  pub there : seat_of w client ≡ Some seat
-  pub more : calls ≤ seat.client.calls
+-- a client is there later. While no other master has come up, the lead at the point of the least isn't more than it was
+pub record HasLater (old new : WorldState) (client : ℕ) (seat : Seat) : Type 0 where
+  pub next : Seat
+  pub there : seat_of new client ≡ Some next
+  pub calls : seat.client.calls ≤ next.client.calls
+  pub clock : seat.clock ≤ next.clock
+  pub lead : new.rows.epoch ≡ old.rows.epoch → 16 * next.least_now + 17 * seat.least_clock ≤ 16 * seat.least_now + 17 * next.least_clock
 
--- clients stay, and neither their calls nor the epoch go back
+-- clients stay, and neither their calls nor their clocks go back, nor the epoch, nor the clock of a master
 pub record Later (old new : WorldState) : Type 0 where
-  pub clients : (client : ℕ) (seat : Seat) → seat_of old client ≡ Some seat → HasLater new client seat.client.calls
+  pub clients : (client : ℕ) (seat : Seat) → seat_of old client ≡ Some seat → HasLater old new client seat
   pub epoch : old.rows.epoch ≤ new.rows.epoch
+  pub clock : new.rows.epoch ≡ old.rows.epoch → old.clock ≤ new.clock
 
 -- the messages that a step adds
 record AreFresh (old new : WorldState) (more : List Message) : Type 0 where
@@ -80,25 +95,23 @@ record AreFresh (old new : WorldState) (more : List Message) : Type 0 where
   sent : (client number : ℕ) (call : CallMessage) → call_of more client number ≡ Some call → HasSent new client number call
   started : (j : ℕ) (started : Started) → slice_get more j ≡ Some (ToClient (outs.Started started)) → started.epoch ≤ new.rows.epoch
 
-fits_more : (old new : WorldState) (more : List Message) (o : Option MasterState) → new.messages ≡ old.messages ++ more → Fits old o → Fits new o
+pub fits_more : (old new : WorldState) (more : List Message) (o : Option MasterState) → new.messages ≡ old.messages ++ more → Fits old o → Fits new o
 fits_more old new more None e h = tt
 fits_more old new more (Some s) e h = subst (λ (xs : List Message). FitsMessages xs s) (sym e) (fits_stays old.messages more s h)
 
-later_as : (w v new : WorldState) → new.clients ≡ v.clients → new.rows.epoch ≡ v.rows.epoch → Later w v → Later w new
-later_as w v new clients epoch l = record {
-  clients = λ q x is. let y = l.clients q x is in record { seat = y.seat; there = subst (λ (c : Clients). lookup (is_at (nat_cmp q)) c ≡ Some y.seat) (sym clients) y.there; more = y.more };
-  epoch = rw epoch l.epoch;
-}
+-- a world that agrees with its rows, and that schedules lead to, is consistent
+abbrev pub Becomes : WorldState → Type 0
+Becomes w = Agrees w w.master → ((client : ℕ) → Reached (slice client w)) → IsConsistent w
 
 module _ (old new : WorldState) (more : List Message) (h : IsConsistent old) (later : Later old new) (fresh : AreFresh old new more) where
   sent_later : (client number : ℕ) (call : CallMessage) → HasSent old client number call → HasSent new client number call
   sent_later client number call x =
       let y = later.clients client x.seat x.joined in
       let within = x.within in
-      let at_least = y.more in
+      let at_least = y.calls in
       let past = x.past in
       let epoch = later.epoch in
-      record { seat = y.seat; joined = y.there; within = omega arith; past = omega arith }
+      record { seat = y.next; joined = y.there; within = omega arith; past = omega arith }
 
   all_named : (at : ℕ) (call : CallMessage) → request_at new.messages at ≡ Some (requests.Call call) → call_of new.messages call.client call.number ≡ Some call
   all_named at call is =
@@ -124,8 +137,19 @@ module _ (old new : WorldState) (more : List Message) (h : IsConsistent old) (la
         | inr b ↦ fresh.started b.0 started b.1
       ]
 
-  all_consistent : ((number : ℕ) (seat : Seat) → seat_of new number ≡ Some seat → IsSeated new.rows.epoch number seat) → Fits new new.master → Agrees new new.master → IsConsistent new
-  all_consistent clients fits master = record { clients = clients; named = all_named; sent = all_sent; started = all_started; master = master; fits = fits }
+  all_consistent : ((number : ℕ) (seat : Seat) → seat_of new number ≡ Some seat → IsSeated new.rows.epoch number seat) → Fits new new.master → new.lease ≡ old.lease → IsNoted new.clock new.master → AreFair new new.master → Becomes new
+  all_consistent clients fits lease noted fair master reached = record {
+    clients = clients;
+    named = all_named;
+    sent = all_sent;
+    started = all_started;
+    master = master;
+    fits = fits;
+    lease = subst (λ n. n ≤ longest_lease) (sym lease) h.lease;
+    noted = noted;
+    fair = fair;
+    reached = reached;
+  }
 
 -- ---- messages that are no calls
 
@@ -137,12 +161,17 @@ none_fresh old new e = record {
   started = λ j started k. cc;
 }
 
-start_fresh : (old new : WorldState) (start : Start) → new.messages ≡ old.messages ++ ToMaster (requests.Start start) ∷ [] → AreFresh old new (ToMaster (requests.Start start) ∷ [])
-start_fresh old new start e = record {
+pub no_call_found : (request : Request) (client number : ℕ) → IsNoCall request → call_of (ToMaster request ∷ []) client number ≡ None
+no_call_found (requests.Start start) client number none = refl
+no_call_found (requests.Beat beat) client number none = refl
+no_call_found (requests.Call call) client number none = absurd none
+
+beat_fresh : (old new : WorldState) (request : Request) → IsNoCall request → new.messages ≡ old.messages ++ ToMaster request ∷ [] → AreFresh old new (ToMaster request ∷ [])
+beat_fresh old new request none e = record {
   grown = e;
-  named = λ j call k. let q = one_request (requests.Start start) (requests.Call call) j k in cc;
-  sent = λ client number call k. cc;
-  started = λ j started k. absurd (one_no_out (requests.Start start) (outs.Started started) j k);
+  named = λ j call k. absurd (subst IsNoCall (sym (one_request request (requests.Call call) j k)) none);
+  sent = λ client number call k. let nothing = no_call_found request client number none in cc;
+  started = λ j started k. absurd (one_no_out request (outs.Started started) j k);
 }
 
 -- what grants a session is of an epoch that was
@@ -169,171 +198,315 @@ outs_fresh old new sent e grants = record {
   started = λ j started k. grant_at new.rows.epoch sent j started grants (out_among sent j (outs.Started started) k);
 }
 
--- ---- clients
+-- ---- all clients as they were
 
-same_clients : (old new : WorldState) → new.clients ≡ old.clients → old.rows.epoch ≤ new.rows.epoch → Later old new
-same_clients old new e epoch = record {
-  clients = λ client seat is. record { seat = seat; there = subst (λ (c : Clients). lookup (is_at (nat_cmp client)) c ≡ Some seat) (sym e) is; more = least seat.client.calls };
+same_clients : (old new : WorldState) → new.clients ≡ old.clients → old.rows.epoch ≤ new.rows.epoch → new.clock ≡ old.clock → Later old new
+same_clients old new e epoch clock = record {
+  clients = λ client seat is. record {
+    next = seat;
+    there = subst (λ (c : Clients). lookup (is_at (nat_cmp client)) c ≡ Some seat) (sym e) is;
+    calls = least seat.client.calls;
+    clock = least seat.clock;
+    lead = λ same. no_more seat.least_now seat.least_clock;
+  };
   epoch = epoch;
+  clock = λ same. omega (arith, clock);
 }
+
+seated_later : (old new number : ℕ) (seat : Seat) → old ≤ new → IsSeated old number seat → IsSeated new number seat
+seated_later old new number seat more t = let past = t.past in record { own = t.own; past = omega arith; unstarted = t.unstarted; noted = t.noted }
 
 same_seats : (old new : WorldState) → IsConsistent old → new.clients ≡ old.clients → old.rows.epoch ≤ new.rows.epoch → (number : ℕ) (seat : Seat) → seat_of new number ≡ Some seat → IsSeated new.rows.epoch number seat
 same_seats old new h e epoch number seat is =
     let k : seat_of old number ≡ Some seat = subst (λ (c : Clients). lookup (is_at (nat_cmp number)) c ≡ Some seat) e is in
-    let t = h.clients number seat k in
-    let past = t.past in
-    record { own = t.own; past = omega arith }
+    seated_later old.rows.epoch new.rows.epoch number seat epoch (h.clients number seat k)
 
-module _ (w : WorldState) (number : ℕ) (seat : Seat) (client : ClientState) (found : seat_of w number ≡ Some seat) where
-  -- the client's own seat, and any other
-  own_seat : seat_of (with_client w number seat client) number ≡ Some (record seat { client = client })
-  own_seat = lookup_set number w.clients (record seat { client = client }) ∙ ap (λ o. option_map (λ (x : Seat). record seat { client = client }) o) found
+-- ---- the rows of the table: a master comes up
 
-  other_seat : (q : ℕ) → q ≢ number → seat_of (with_client w number seat client) q ≡ seat_of w q
-  other_seat q apart = lookup_set_apart number q apart w.clients (record seat { client = client })
+-- of a session as the new master finds it no call is kept, and none waits
+abbrev pub IsFirst : Option (Session Reply) → Type 0
+IsFirst o = (kept_in o ≡ None) × IsInTurn o []
 
-  each_seat : (P : ℕ → Seat → Type 0) → P number (record seat { client = client }) → ((q : ℕ) (x : Seat) → seat_of w q ≡ Some x → P q x) → (q : ℕ) (x : Seat) → seat_of (with_client w number seat client) q ≡ Some x → P q x
-  each_seat P h k q x is =
-      (elim (eqb q number) as (λ b. eqb q number ≡ b → P q x) [
-        | true ↦ (λ e.
-            let n : q ≡ number = same q number e in
-            let i : seat_of (with_client w number seat client) number ≡ Some x = rw n at is in
-            let y : record seat { client = client } ≡ x = some_same (record seat { client = client }) x (sym own_seat ∙ i) in
-            rw (n, ← y) h)
-        | false ↦ (λ e. k q x (sym (other_seat q (other q number e)) ∙ is))
-      ]) refl
+pub all_first : (now : ℕ) (es : List (ℕ × stored.Session)) (client : ℕ) → IsFirst (lookup (is_at (nat_cmp client)) (map (taken_over now) es))
+all_first now [] client = (refl, refl)
+all_first now (e ∷ es) client =
+    elim (is_at (nat_cmp client) e.0) as (λ b. IsFirst (cond b (Some (taken_over now e).1) (lookup (is_at (nat_cmp client)) (map (taken_over now) es)))) [
+      | true ↦ (refl, refl)
+      | false ↦ all_first now es client
+    ]
 
-  later_seat : seat.client.calls ≤ client.calls → (q : ℕ) (x : Seat) → seat_of w q ≡ Some x → HasLater (with_client w number seat client) q x.client.calls
-  later_seat more q x is =
-      (elim (eqb q number) as (λ b. eqb q number ≡ b → HasLater (with_client w number seat client) q x.client.calls) [
-        | true ↦ (λ e.
-            let n : q ≡ number = same q number e in
-            let i : seat_of w number ≡ Some x = rw n at is in
-            let y : seat ≡ x = some_same seat x (sym found ∙ i) in
-            let m : seat.client.calls ≤ client.calls = more in
-            rw (n, ← y) (record { seat = record seat { client = client }; there = own_seat; more = m }))
-        | false ↦ (λ e. record { seat = x; there = other_seat q (other q number e) ∙ is; more = least x.client.calls })
-      ]) refl
-
--- ---- the rows of the table
-
--- a world that agrees with its rows is consistent
-abbrev Becomes : WorldState → Type 0
-Becomes w = Agrees w w.master → IsConsistent w
-
-module _ (w : WorldState) (h : IsConsistent w) where
-  up_holds : (now : ℕ) → Becomes (record w { rows = changed_rows w.rows (up_edits w.rows); master = Some (master_of (changed_rows w.rows (up_edits w.rows)) w.lease now); clock = now })
-  up_holds now agrees =
-      let new : WorldState = record w { rows = changed_rows w.rows (up_edits w.rows); master = Some (master_of (changed_rows w.rows (up_edits w.rows)) w.lease now); clock = now } in
-      let epoch : w.rows.epoch ≤ w.rows.epoch + 1 = omega arith in
-      all_consistent w new [] h (same_clients w new refl epoch) (none_fresh w new refl) (same_seats w new h refl epoch)
-      (record { queue = tt; kept = λ client kept is. cc; turns = λ client. refl }) agrees
-
-  join_later : (number : ℕ) (principal : List ℕ) → seat_of w number ≡ None → Later w (record w { clients = insert_entry nat_cmp w.clients number (new_seat number principal) })
-  join_later number principal free = record {
-    clients = λ q x is. record {
-      seat = x;
-      there = lookup_put_apart number q (λ e. let i : seat_of w number ≡ Some x = rw e at is in cc) w.clients (new_seat number principal) ∙ is;
-      more = least x.client.calls;
-    };
-    epoch = least w.rows.epoch;
+module _ (w : WorldState) (h : IsConsistent w) (now : ℕ) where
+  abbrev up : WorldState
+  up = record w {
+    rows = changed_rows w.rows (up_edits w.rows);
+    master = Some (master_of (changed_rows w.rows (up_edits w.rows)) w.lease now);
+    clock = now;
+    clients = each_seat (λ number. at_up now) w.clients;
   }
 
-  join_holds : (number : ℕ) (principal : List ℕ) → seat_of w number ≡ None → Becomes (record w { clients = insert_entry nat_cmp w.clients number (new_seat number principal) })
-  join_holds number principal free agrees =
-      let new : WorldState = record w { clients = insert_entry nat_cmp w.clients number (new_seat number principal) } in
-      let apart : (q : ℕ) → q ≢ number → seat_of new q ≡ seat_of w q = λ q k. lookup_put_apart number q k w.clients (new_seat number principal) in
-      let own : seat_of new number ≡ Some (new_seat number principal) = lookup_put number w.clients (new_seat number principal) in
-      all_consistent w new [] h (join_later number principal free) (none_fresh w new refl)
-      (λ q x is.
-      (elim (eqb q number) as (λ b. eqb q number ≡ b → IsSeated w.rows.epoch q x) [
-        | true ↦ (λ e.
-            let n : q ≡ number = same q number e in
-            let i : seat_of new number ≡ Some x = rw n at is in
-            let y : new_seat number principal ≡ x = some_same (new_seat number principal) x (sym own ∙ i) in
-            rw (n, ← y) (record { own = refl; past = zero_least w.rows.epoch }))
-        | false ↦ (λ e. h.clients q x (sym (apart q (other q number e)) ∙ is))
-      ]) refl)
-      (fits_more w new [] w.master (sym (append-nil w.messages)) h.fits) agrees
+  next_epoch : w.rows.epoch ≤ w.rows.epoch + 1
+  next_epoch = omega arith
 
-  module _ (number : ℕ) (seat : Seat) (client : ClientState) (found : seat_of w number ≡ Some seat) where
-    seated : IsSeated w.rows.epoch number seat
-    seated = h.clients number seat found
+  not_next : {X : Type 0} → w.rows.epoch + 1 ≡ w.rows.epoch → X
+  not_next e = absurd (omega arith)
 
-    follows_seated : Follows seat.client client → (q : ℕ) (x : Seat) → seat_of (with_client w number seat client) q ≡ Some x → IsSeated w.rows.epoch q x
-    follows_seated f =
-        each_seat w number seat client found (λ q x. IsSeated w.rows.epoch q x) (record { own = f.own ∙ seated.own; past = rw f.epoch seated.past }) h.clients
+  up_later : Later w up
+  up_later = record {
+    clients = λ client seat is. record {
+      next = at_up now seat;
+      there = each_found (λ number. at_up now) w.clients client ∙ ap (λ o. option_map (at_up now) o) is;
+      calls = least seat.client.calls;
+      clock = least seat.clock;
+      lead = λ same. not_next same;
+    };
+    epoch = next_epoch;
+    clock = λ same. not_next same;
+  }
 
-    pub follows_later : client.calls ≡ seat.client.calls → Later w (with_client w number seat client)
-    follows_later e = record { clients = later_seat w number seat client found (omega arith); epoch = least w.rows.epoch }
+  up_holds : Becomes up
+  up_holds =
+      all_consistent w up [] h up_later (none_fresh w up refl)
+      (at_each_seat (λ number. at_up now) w.clients (λ q x. IsSeated (w.rows.epoch + 1) q x) (λ q x is.
+      let t = seated_later w.rows.epoch (w.rows.epoch + 1) q x next_epoch (h.clients q x is) in record { own = t.own; past = t.past; unstarted = t.unstarted; noted = t.noted }))
+      (record { queue = tt; kept = λ client kept is. let none = (all_first now w.rows.sessions client).0 in cc; turns = λ client. (all_first now w.rows.sessions client).1 }) refl (least now)
+      (at_each_seat (λ number. at_up now) w.clients (λ q x. IsFairSince now x) (λ q x is. fair_at_once now (at_up now x) refl refl))
 
-    own_holds : Follows seat.client client → Becomes (with_client w number seat client)
-    own_holds f agrees =
-        let new = with_client w number seat client in
-        all_consistent w new [] h (follows_later f.calls) (none_fresh w new refl) (follows_seated f) (fits_more w new [] w.master (sym (append-nil w.messages)) h.fits) agrees
+-- ---- a client joins
 
-    start_holds : (start : Start) → Follows seat.client client → Becomes (sends (with_client w number seat client) (requests.Start start))
-    start_holds start f agrees =
-        let new = sends (with_client w number seat client) (requests.Start start) in
-        all_consistent w new (ToMaster (requests.Start start) ∷ []) h (later_as w (with_client w number seat client) new refl refl (follows_later f.calls))
-        (start_fresh w new start refl) (follows_seated f) (fits_more w new (ToMaster (requests.Start start) ∷ []) w.master refl h.fits) agrees
+module _ (w : WorldState) (h : IsConsistent w) (number : ℕ) (principal : List ℕ) (free : seat_of w number ≡ None) where
+  abbrev newcomer : Seat
+  newcomer = new_seat number principal w.clock
 
-    grant_holds : (at : ℕ) (started : Started) → out_at w.messages at ≡ Some (outs.Started started) → IsGranted seat.client client started → Becomes (with_client w number seat client)
-    grant_holds at started sent g agrees =
-        let new = with_client w number seat client in
-        let past : client.epoch ≤ w.rows.epoch = rw g.epoch (h.started at started sent) in
-        all_consistent w new [] h (follows_later g.calls) (none_fresh w new refl)
-        (each_seat w number seat client found (λ q x. IsSeated w.rows.epoch q x) (record { own = g.own ∙ seated.own; past = past }) h.clients)
-        (fits_more w new [] w.master (sym (append-nil w.messages)) h.fits) agrees
+  abbrev joined : WorldState
+  joined = record w { clients = insert_entry nat_cmp w.clients number newcomer }
 
-    call_later : (call : CallMessage) → SendsCall seat.client client call → Later w (with_client w number seat client)
-    call_later call m = let calls = m.calls in record { clients = later_seat w number seat client found (omega arith); epoch = least w.rows.epoch }
+  at_others : (q : ℕ) → q ≢ number → seat_of joined q ≡ seat_of w q
+  at_others q apart = lookup_put_apart number q apart w.clients newcomer
 
-    -- the number of the call is new
-    unsent : (call : CallMessage) → SendsCall seat.client client call → (o : Option CallMessage) → call_of w.messages call.client call.number ≡ o → o ≡ None
-    unsent call m None is = refl
-    unsent call m (Some found_call) is =
-        let s = h.sent call.client call.number found_call is in
-        let n : call.client ≡ number = m.client ∙ seated.own in
-        let i : seat_of w number ≡ Some s.seat = subst (λ k. seat_of w k ≡ Some s.seat) n s.joined in
-        let y : seat ≡ s.seat = some_same seat s.seat (sym found ∙ i) in
-        let k : call.number ≤ seat.client.calls = subst (λ (x : Seat). call.number ≤ x.client.calls) (sym y) s.within in
-        let is_next = m.number in
-        absurd (omega arith)
+  join_later : Later w joined
+  join_later = record {
+    clients = λ q x is. record {
+      next = x;
+      there = at_others q (λ e. let i : seat_of w number ≡ Some x = rw e at is in cc) ∙ is;
+      calls = least x.client.calls;
+      clock = least x.clock;
+      lead = λ same. no_more x.least_now x.least_clock;
+    };
+    epoch = least w.rows.epoch;
+    clock = λ same. least w.clock;
+  }
 
-    call_holds : (call : CallMessage) → SendsCall seat.client client call → Becomes (sends (with_client w number seat client) (requests.Call call))
-    call_holds call m agrees =
-        let new = sends (with_client w number seat client) (requests.Call call) in
-        let more : List Message = ToMaster (requests.Call call) ∷ [] in
-        let calls = m.calls in
-        let is_next = m.number in
-        let n : call.client ≡ number = m.client ∙ seated.own in
-        let past : call.epoch ≤ w.rows.epoch = rw m.of_epoch seated.past in
-        let epoch : client.epoch ≤ w.rows.epoch = rw m.epoch seated.past in
-        let sent : HasSent new call.client call.number call = rw n (record { seat = record seat { client = client }; joined = own_seat w number seat client found; within = omega arith; past = past }) in
-        all_consistent w new more h (later_as w (with_client w number seat client) new refl refl (call_later call m))
-        (record {
-          grown = refl;
-          named = λ j other k.
-              let e = one_request (requests.Call call) (requests.Call other) j k in
-              let o : other ≡ call = cc in
-              rw o (unsent call m (call_of w.messages call.client call.number) refl, its_call call);
-          sent = λ q k other is. let t = one_call call other q k is in rw (t.0, ← t.1, ← t.2) sent;
-          started = λ j started k. absurd (one_no_out (requests.Call call) (outs.Started started) j k);
-        })
-        (each_seat w number seat client found (λ q x. IsSeated w.rows.epoch q x) (record { own = m.own ∙ seated.own; past = epoch }) h.clients)
-        (fits_more w new more w.master refl h.fits) agrees
+  -- what holds of the new client and of all others
+  at_joined : (P : ℕ → Seat → Type 0) → P number newcomer → ((q : ℕ) (x : Seat) → seat_of w q ≡ Some x → P q x) → (q : ℕ) (x : Seat) → seat_of joined q ≡ Some x → P q x
+  at_joined P own others q =
+      at_each (λ n. (x : Seat) → seat_of joined n ≡ Some x → P n x) number
+      (λ x is. subst (λ y. P number y) (some_same newcomer x (sym (lookup_put number w.clients newcomer) ∙ is)) own)
+      (λ n apart x is. others n x (sym (at_others n apart) ∙ is)) q
 
-  -- ---- the master takes and sweeps
+  fair_joined : (m : Option MasterState) → AreFair w m → AreFair joined m
+  fair_joined None fair = tt
+  fair_joined (Some s) fair = at_joined (λ q x. IsFairSince w.clock x) (fair_at_once w.clock newcomer refl refl) fair
 
-  fits_at : (o : Option MasterState) (s : MasterState) → o ≡ Some s → Fits w o → FitsMessages w.messages s
-  fits_at o s e k = rw e at k
+  join_holds : Becomes joined
+  join_holds =
+      all_consistent w joined [] h join_later (none_fresh w joined refl)
+      (at_joined (λ q x. IsSeated w.rows.epoch q x) (record { own = refl; past = zero_least w.rows.epoch; unstarted = λ e. refl; noted = least 0 }) h.clients)
+      (fits_more w joined [] w.master (sym (append-nil w.messages)) h.fits) refl h.noted (fair_joined w.master h.fair)
 
-  pub agrees_at : (o : Option MasterState) (s : MasterState) → o ≡ Some s → Agrees w o → s.epoch ≡ w.rows.epoch
-  agrees_at o s e k = let a : IsKept w.cell w.rows s = rw e at k in a.epoch
+-- ---- a client does a step
 
-  pub noted_fits : (s : MasterState) → w.master ≡ Some s → FitsMessages w.messages (noted s w.clock)
-  noted_fits s up = let f = fits_at w.master s up h.fits in record { queue = f.queue; kept = f.kept; turns = f.turns }
+module _ (w : WorldState) (h : IsConsistent w) (number : ℕ) (seat : Seat) (found : seat_of w number ≡ Some seat) (client : ClientState) (messages : List Message) where
+  abbrev acted : WorldState
+  acted = record w { clients = seated w.clients number seat client; messages = messages }
+
+  own_later : seat.client.calls ≤ client.calls → Later w acted
+  own_later more = record {
+    clients = λ q x is. (at_each (λ n. (y : Seat) → seat_of w n ≡ Some y → HasLater w acted n y) number
+        (λ y at. subst (λ z. HasLater w acted number z) (some_same seat y (sym found ∙ at)) (record {
+          next = record seat { client = client };
+          there = own_seat w.clients number seat client found;
+          calls = more;
+          clock = least seat.clock;
+          lead = λ same. no_more seat.least_now seat.least_clock;
+        }))
+        (λ n apart y at. record {
+          next = y;
+          there = other_seat w.clients number seat client found n apart ∙ at;
+          calls = least y.client.calls;
+          clock = least y.clock;
+          lead = λ same. no_more y.least_now y.least_clock;
+        }) q) x is;
+    epoch = least w.rows.epoch;
+    clock = λ same. least w.clock;
+  }
+
+  fair_acted : (m : Option MasterState) → AreFair w m → AreFair acted m
+  fair_acted None fair = tt
+  fair_acted (Some s) fair =
+      let own = fair number seat found in
+      at_seats w.clients number seat client found (λ q x. IsFairSince w.clock x) (record { fair = own.fair; least = own.least }) fair
+
+  own_consistent : (more : List Message) → messages ≡ w.messages ++ more → Later w acted → AreFresh w acted more → IsSeated w.rows.epoch number (record seat { client = client }) → Becomes acted
+  own_consistent more grown later fresh own =
+      all_consistent w acted more h later fresh (at_seats w.clients number seat client found (λ q x. IsSeated w.rows.epoch q x) own h.clients)
+      (fits_more w acted more w.master grown h.fits) refl h.noted (fair_acted w.master h.fair)
+
+-- the client's own seat then
+module _ (w : WorldState) (h : IsConsistent w) (number : ℕ) (seat : Seat) (found : seat_of w number ≡ Some seat) (client : ClientState) where
+  seated_by : client.number ≡ seat.client.number → client.clock ≡ max seat.client.clock seat.clock → OfEpoch w.messages seat.client client → IsSeated w.rows.epoch number (record seat { client = client })
+  seated_by own notes (SameEpoch epoch unstarted) =
+      let t = h.clients number seat found in
+      let within = t.noted in
+      let past = t.past in
+      record {
+        own = own ∙ t.own;
+        past = omega (arith, epoch);
+        unstarted = λ e. epoch ∙ t.unstarted (unstarted e);
+        noted = omega (arith, notes, within);
+      }
+  seated_by own notes (GrantedEpoch at started sent epoch live) =
+      let t = h.clients number seat found in
+      let within = t.noted in
+      let past = h.started at started sent in
+      record {
+        own = own ∙ t.own;
+        past = omega (arith, epoch, past);
+        unstarted = λ e. let two : sessions.Live ≡ sessions.Unstarted = sym live ∙ e in cc;
+        noted = omega (arith, notes, within);
+      }
+
+-- the number of the client's next call is new
+unsent : (w : WorldState) → IsConsistent w → (number : ℕ) (seat : Seat) → seat_of w number ≡ Some seat → (call : CallMessage) → IsNextCall seat.client call → (o : Option CallMessage) → call_of w.messages call.client call.number ≡ o → o ≡ None
+unsent w h number seat found call m None is = refl
+unsent w h number seat found call m (Some other) is =
+    let s = h.sent call.client call.number other is in
+    let n : call.client ≡ number = m.client ∙ (h.clients number seat found).own in
+    let i : seat_of w number ≡ Some s.seat = subst (λ k. seat_of w k ≡ Some s.seat) n s.joined in
+    let y : seat ≡ s.seat = some_same seat s.seat (sym found ∙ i) in
+    let k : call.number ≤ seat.client.calls = subst (λ (x : Seat). call.number ≤ x.client.calls) (sym y) s.within in
+    let is_next = m.number in
+    absurd (omega arith)
+
+call_fresh : (w : WorldState) (h : IsConsistent w) (number : ℕ) (seat : Seat) (found : seat_of w number ≡ Some seat) (client : ClientState) (call : CallMessage) → IsNextCall seat.client call → client.calls ≡ seat.client.calls + 1 → AreFresh w (record w { clients = seated w.clients number seat client; messages = w.messages ++ ToMaster (requests.Call call) ∷ [] }) (ToMaster (requests.Call call) ∷ [])
+call_fresh w h number seat found client call m calls =
+    let new : WorldState = record w { clients = seated w.clients number seat client; messages = w.messages ++ ToMaster (requests.Call call) ∷ [] } in
+    let t = h.clients number seat found in
+    let n : call.client ≡ number = m.client ∙ t.own in
+    let is_next = m.number in
+    let of_epoch = m.epoch in
+    let past = t.past in
+    let sent : HasSent new call.client call.number call = subst (λ k. HasSent new k call.number call) (sym n) (record {
+      seat = record seat { client = client };
+      joined = own_seat w.clients number seat client found;
+      within = omega arith;
+      past = omega arith;
+    }) in
+    record {
+      grown = refl;
+      named = λ j other k.
+          let e = one_request (requests.Call call) (requests.Call other) j k in
+          let o : other ≡ call = cc in
+          rw o (unsent w h number seat found call m (call_of w.messages call.client call.number) refl, its_call call);
+      sent = λ q k other is. let t = one_call call other q k is in rw (t.0, ← t.1, ← t.2) sent;
+      started = λ j started k. absurd (one_no_out (requests.Call call) (outs.Started started) j k);
+    }
+
+module _ (w : WorldState) (h : IsConsistent w) (number : ℕ) (seat : Seat) (found : seat_of w number ≡ Some seat) (client : ClientState) (own : IsSeated w.rows.epoch number (record seat { client = client })) where
+  sends_holds : (sent : Option Request) → Sends seat.client client sent → Becomes (record w { clients = seated w.clients number seat client; messages = w.messages ++ sending sent })
+  sends_holds None (Nothing e calls) =
+      own_consistent w h number seat found client (w.messages ++ []) [] refl (own_later w h number seat found client (w.messages ++ []) (omega (arith, calls)))
+      (none_fresh w (record w { clients = seated w.clients number seat client; messages = w.messages ++ [] }) (append-nil w.messages)) own
+  sends_holds None (NoCall request e none calls) = cc
+  sends_holds None (NextCall call e m calls) = cc
+  sends_holds (Some request) (Nothing e calls) = cc
+  sends_holds (Some request) (NoCall sent e none calls) =
+      let is : sent ≡ request = sym (some_same request sent e) in
+      own_consistent w h number seat found client (w.messages ++ ToMaster request ∷ []) (ToMaster request ∷ []) refl (own_later w h number seat found client (w.messages ++ ToMaster request ∷ []) (omega (arith, calls)))
+      (beat_fresh w (record w { clients = seated w.clients number seat client; messages = w.messages ++ ToMaster request ∷ [] }) request (subst IsNoCall is none) refl) own
+  sends_holds (Some request) (NextCall call e m calls) =
+      subst (λ r. Becomes (record w { clients = seated w.clients number seat client; messages = w.messages ++ ToMaster r ∷ [] })) (sym (some_same request (requests.Call call) e))
+      (own_consistent w h number seat found client (w.messages ++ ToMaster (requests.Call call) ∷ []) (ToMaster (requests.Call call) ∷ []) refl
+      (own_later w h number seat found client (w.messages ++ ToMaster (requests.Call call) ∷ []) (omega (arith, calls))) (call_fresh w h number seat found client call m calls) own)
+
+own_holds : (old new : WorldState) (printed : List Line) → IsConsistent old → IsOwn old new printed → Becomes new
+own_holds old new printed h o =
+    subst Becomes (sym (o.is ∙ ap (λ m. record old { clients = seated old.clients o.number o.seat o.client; messages = m }) o.grown))
+    (sends_holds old h o.number o.seat o.found o.client (seated_by old h o.number o.seat o.found o.client o.own o.notes o.epoch) o.sent o.sends)
+
+more_calls : (s new : ClientState) (sent : Option Request) → Sends s new sent → s.calls ≤ new.calls
+more_calls s new sent (Nothing e calls) = omega (arith, calls)
+more_calls s new sent (NoCall request e none calls) = omega (arith, calls)
+more_calls s new sent (NextCall call e m calls) = omega (arith, calls)
+
+pub own_goes : (old new : WorldState) (printed : List Line) → IsConsistent old → IsOwn old new printed → Later old new
+own_goes old new printed h o = subst (Later old) (sym o.is) (own_later old h o.number o.seat o.found o.client new.messages (more_calls o.seat.client o.client o.sent o.sends))
+
+-- ---- clocks move
+
+module _ (w : WorldState) (h : IsConsistent w) (ticks : ClockSteps) where
+  tick_later : Later w (ticked w ticks)
+  tick_later = record {
+    clients = λ q x is.
+        let m = moves_so w.master w ticks q x in
+        let same = m.client in
+        let to = m.clock in
+        record {
+          next = moved w.master w ticks q x;
+          there = each_found (moved w.master w ticks) w.clients q ∙ ap (λ o. option_map (moved w.master w ticks q) o) is;
+          calls = subst (λ (c : ClientState). x.client.calls ≤ c.calls) (sym same) (least x.client.calls);
+          clock = omega (arith, to);
+          lead = λ epoch. m.least;
+        };
+    epoch = least w.rows.epoch;
+    clock = λ same. omega arith;
+  }
+
+  tick_seated : (q : ℕ) (x : Seat) → seat_of w q ≡ Some x → IsSeated w.rows.epoch q (moved w.master w ticks q x)
+  tick_seated q x is =
+      let t = h.clients q x is in
+      let m = moves_so w.master w ticks q x in
+      let same = m.client in
+      let to = m.clock in
+      let within = t.noted in
+      record {
+        own = subst (λ (c : ClientState). c.number ≡ q) (sym same) t.own;
+        past = subst (λ (c : ClientState). c.epoch ≤ w.rows.epoch) (sym same) t.past;
+        unstarted = subst (λ (c : ClientState). c.session ≡ sessions.Unstarted → c.epoch ≡ 0) (sym same) t.unstarted;
+        noted = subst (λ (c : ClientState). c.clock ≤ (moved w.master w ticks q x).clock) (sym same) (omega (arith, to, within));
+      }
+
+  noted_ticked : (m : Option MasterState) → IsNoted w.clock m → IsNoted (w.clock + ticks.master) m
+  noted_ticked None noted = tt
+  noted_ticked (Some s) noted = omega (arith, noted)
+
+fair_ticked : (w : WorldState) (ticks : ClockSteps) (m : Option MasterState) → are_fair m w ticks ≡ true → AreFair (record w { clock = w.clock + ticks.master; clients = each_seat (moved m w ticks) w.clients }) m
+fair_ticked w ticks None fair = tt
+fair_ticked w ticks (Some s) fair =
+    at_each_seat (moved (Some s) w ticks) w.clients (λ q x. IsFairSince (w.clock + ticks.master) x)
+    (λ q x is. fair_beside (w.clock + ticks.master) (clock_then ticks q x) x (all_found (stays_fair w ticks) w.clients q x fair is))
+
+tick_holds : (w : WorldState) → IsConsistent w → (ticks : ClockSteps) → are_fair w.master w ticks ≡ true → Becomes (ticked w ticks)
+tick_holds w h ticks fair =
+    all_consistent w (ticked w ticks) [] h (tick_later w h ticks) (none_fresh w (ticked w ticks) refl)
+    (at_each_seat (moved w.master w ticks) w.clients (λ q x. IsSeated w.rows.epoch q x) (tick_seated w h ticks))
+    (fits_more w (ticked w ticks) [] w.master (sym (append-nil w.messages)) h.fits) refl (noted_ticked w h ticks w.master h.noted) (fair_ticked w ticks w.master fair)
+
+-- ---- the master takes and sweeps
+
+fits_at : (w : WorldState) (o : Option MasterState) (s : MasterState) → o ≡ Some s → Fits w o → FitsMessages w.messages s
+fits_at w o s e k = rw e at k
+
+pub agrees_at : (w : WorldState) (o : Option MasterState) (s : MasterState) → o ≡ Some s → Agrees w o → IsKept w.cell w.rows s
+agrees_at w o s e k = rw e at k
+
+pub fair_at : (w : WorldState) (o : Option MasterState) (s : MasterState) → o ≡ Some s → AreFair w o → (number : ℕ) (seat : Seat) → seat_of w number ≡ Some seat → IsFairSince w.clock seat
+fair_at w o s e k = rw e at k
+
+noted_at : (now : ℕ) (o : Option MasterState) (s : MasterState) → o ≡ Some s → IsNoted now o → s.clock ≤ now
+noted_at now o s e k = rw e at k
+
+pub noted_fits : (w : WorldState) → IsConsistent w → (s : MasterState) → w.master ≡ Some s → FitsMessages w.messages (noted s w.clock)
+noted_fits w h s up = let f = fits_at w w.master s up h.fits in record { queue = f.queue; kept = f.kept; turns = f.turns }
 
 repeated_grants : (epoch : ℕ) (reply : Option Reply) → AreGrantsIn epoch (repeated_reply reply).outs
 repeated_grants epoch None = tt
@@ -341,90 +514,137 @@ repeated_grants epoch (Some reply) = (tt, tt)
 
 taken_grants : (epoch : ℕ) (s : MasterState) (request : Request) (c : TakeCase s request) → AreGrantsIn epoch (taken_by s request c).1.outs
 taken_grants epoch s request (Repeated message kept heard is number) = repeated_grants epoch kept.reply
-taken_grants epoch s request (StartQueued start is may room) = tt
-taken_grants epoch s request (Waits message note touched new admitted) = tt
+taken_grants epoch s request (StartQueued start is may serving room) = tt
+taken_grants epoch s request (BeatParked beat is same taken) = tt
+taken_grants epoch s request (Waits message note touched new serving admitted) = tt
 taken_grants epoch s request _ = (tt, tt)
 
 swept_grants : (s : MasterState) (c : SweepCase s) → AreGrantsIn s.epoch (swept_by s c).1.outs
 swept_grants s (Quiet none) = tt
-swept_grants s (StartedAgain front back task principal turn work may live) = (omega arith, tt)
-swept_grants s (StartedFirst front back task principal turn work may live) = (omega arith, tt)
+swept_grants s (Recovers recovering heard) = tt
+swept_grants s (Expires client session due) = tt
+swept_grants s (StartedAgain front back task principal received session turn work found live) = (least s.epoch, tt)
+swept_grants s (StartedFirst front back task principal received turn work none) = (least s.epoch, tt)
+swept_grants s (OfEnded front back task call turn work gone) = tt
 swept_grants s _ = (tt, tt)
+
+-- ---- the rows behind a sweep
 
 mod_epoch : (rows : Rows) (change : Mod) (next : ℕ) → (changed_rows rows (edit_of change ∷ NextInstance next ∷ [])).epoch ≡ rows.epoch
 mod_epoch rows (Put name view) next = refl
 mod_epoch rows (Gone name) next = refl
 
+-- a session that ends takes its locks along
+pub expired_rows : (rows : Rows) (keys : List LockKey) (client : ℕ) (session : stored.Session) → (locks : StoredLocks) × (changed_rows rows (map RemoveLock keys ++ PutSession client session ∷ []) ≡ record rows { sessions = insert_entry nat_cmp rows.sessions client session; locks = locks })
+expired_rows rows [] client session = (rows.locks, refl)
+expired_rows rows (key ∷ keys) client session = expired_rows (edited rows (RemoveLock key)) keys client session
+
 pub swept_epoch : (rows : Rows) (s : MasterState) (c : SweepCase s) → (changed_rows rows (swept_edits s c)).epoch ≡ rows.epoch
-swept_epoch rows s (Applied front back task call note change answer turn work made) = mod_epoch rows change.change change.next_instance
+swept_epoch rows s (Expires client session due) =
+    ap (λ (r : Rows). r.epoch) (expired_rows rows (locks_of client s.held_locks) client (record { principal = session.principal; live = false })).1
+swept_epoch rows s (Applied front back task call note change answer turn work live made) = mod_epoch rows change.change change.next_instance
 swept_epoch rows s _ = refl
 
+-- ---- the moment that a master knows
+
+note_clock : (s : MasterState) (note : Option Note) → (with_note s note).clock ≡ s.clock
+note_clock s None = refl
+note_clock s (Some note) = refl
+
+pub taken_clock : (s : MasterState) (request : Request) (c : TakeCase s request) → (taken_by s request c).0.clock ≡ s.clock
+taken_clock s request (Answered message note answer new serving answered) = note_clock s note
+taken_clock s request (Waits message note touched new serving admitted) = note_clock s note
+taken_clock s request _ = refl
+
+pub swept_clock : (s : MasterState) (c : SweepCase s) → (swept_by s c).0.clock ≡ s.clock
+swept_clock s (Ended front back task call None answer turn work live made) = refl
+swept_clock s (Ended front back task call (Some note) answer turn work live made) = refl
+swept_clock s (Applied front back task call None change answer turn work live made) = refl
+swept_clock s (Applied front back task call (Some note) change answer turn work live made) = refl
+swept_clock s _ = refl
+
 module _ (w : WorldState) (h : IsConsistent w) (s : MasterState) (up : w.master ≡ Some s) where
+  -- the present moment is the last that it is told
+  within : (noted s w.clock).clock ≤ w.clock
+  within = let k = noted_at w.clock w.master s up h.noted in omega (arith, k)
+
   take_holds : (at : ℕ) (request : Request) (c : TakeCase (noted s w.clock) request) → request_at w.messages at ≡ Some request → Becomes (record w { master = Some (taken_by (noted s w.clock) request c).0; messages = w.messages ++ map ToClient (taken_by (noted s w.clock) request c).1.outs })
-  take_holds at request c found agrees =
+  take_holds at request c found =
       let sent : List Out = (taken_by (noted s w.clock) request c).1.outs in
       let new : WorldState = record w { master = Some (taken_by (noted s w.clock) request c).0; messages = w.messages ++ map ToClient sent } in
       let asked = λ (call : CallMessage) (e : request ≡ requests.Call call). h.named at call (found ∙ ap (λ r. Some r) e) in
       let fits = take_fits w.messages (noted s w.clock) request c (noted_fits w h s up) asked in
-      all_consistent w new (map ToClient sent) h (same_clients w new refl (least w.rows.epoch)) (outs_fresh w new sent refl (taken_grants w.rows.epoch (noted s w.clock) request c)) (same_seats w new h refl (least w.rows.epoch))
-      (fits_stays w.messages (map ToClient sent) (taken_by (noted s w.clock) request c).0 fits) agrees
+      let clock = taken_clock (noted s w.clock) request c in
+      let early = within in
+      all_consistent w new (map ToClient sent) h (same_clients w new refl (least w.rows.epoch) refl) (outs_fresh w new sent refl (taken_grants w.rows.epoch (noted s w.clock) request c)) (same_seats w new h refl (least w.rows.epoch))
+      (fits_stays w.messages (map ToClient sent) (taken_by (noted s w.clock) request c).0 fits) refl (omega (arith, clock, early)) (fair_at w w.master s up h.fair)
 
   sweep_holds : (c : SweepCase (noted s w.clock)) → Becomes (record w { rows = changed_rows w.rows (swept_edits (noted s w.clock) c); master = Some (swept_by (noted s w.clock) c).0; messages = w.messages ++ map ToClient (swept_by (noted s w.clock) c).1.outs })
-  sweep_holds c agrees =
+  sweep_holds c =
       let sent : List Out = (swept_by (noted s w.clock) c).1.outs in
       let new : WorldState = record w { rows = changed_rows w.rows (swept_edits (noted s w.clock) c); master = Some (swept_by (noted s w.clock) c).0; messages = w.messages ++ map ToClient sent } in
       let stays : new.rows.epoch ≡ w.rows.epoch = swept_epoch w.rows (noted s w.clock) c in
-      let epoch : s.epoch ≡ new.rows.epoch = agrees_at w h w.master s up h.master ∙ sym stays in
+      let epoch : s.epoch ≡ new.rows.epoch = (agrees_at w w.master s up h.master).epoch ∙ sym stays in
       let grants : AreGrantsIn new.rows.epoch sent = subst (λ n. AreGrantsIn n sent) epoch (swept_grants (noted s w.clock) c) in
       let fits = sweep_fits w.messages (noted s w.clock) c (noted_fits w h s up) in
-      let least : w.rows.epoch ≤ new.rows.epoch = omega arith in
-      all_consistent w new (map ToClient sent) h (same_clients w new refl least) (outs_fresh w new sent refl grants) (same_seats w new h refl least)
-      (fits_stays w.messages (map ToClient sent) (swept_by (noted s w.clock) c).0 fits) agrees
+      let no_less : w.rows.epoch ≤ new.rows.epoch = omega (arith, stays) in
+      let clock = swept_clock (noted s w.clock) c in
+      let early = within in
+      all_consistent w new (map ToClient sent) h (same_clients w new refl no_less refl) (outs_fresh w new sent refl grants) (same_seats w new h refl no_less)
+      (fits_stays w.messages (map ToClient sent) (swept_by (noted s w.clock) c).0 fits) refl (omega (arith, clock, early)) (fair_at w w.master s up h.fair)
 
 -- ---- a step
 
 case_holds : (old : WorldState) (step : Step) (new : WorldState) (printed : List Line) → IsConsistent old → WorldCase old step new printed → Becomes new
 case_holds old step new printed h (ComesUp u) = subst Becomes (sym u.is) (up_holds old h u.now)
 case_holds old step new printed h (Joins j) = subst Becomes (sym j.is) (join_holds old h j.number j.principal j.free)
-case_holds old step new printed h (Calls c) = subst Becomes (sym c.is) (call_holds old h c.number c.seat c.client c.found c.call c.made)
-case_holds old step new printed h (Starts c) = subst Becomes (sym c.is) (start_holds old h c.number c.seat c.client c.found c.start c.made)
-case_holds old step new printed h (Acts c) = subst Becomes (sym c.is) (own_holds old h c.number c.seat c.client c.found c.made)
-case_holds old step new printed h (Grants c) = subst Becomes (sym c.is) (grant_holds old h c.number c.seat c.client c.found c.at c.started c.was_sent c.made)
+case_holds old step new printed h (Asks a) = own_holds old new printed h (asks_own old step new printed a)
+case_holds old step new printed h (Beats b) = own_holds old new printed h (beats_own old step new printed b)
+case_holds old step new printed h (Gives g) = own_holds old new printed h (gives_own old step new printed g)
+case_holds old step new printed h (Ticks t) = subst Becomes (sym t.is) (tick_holds old h t.ticks t.fair)
 case_holds old step new printed h (Takes t) = subst Becomes (sym t.is) (take_holds old h t.master t.is_up t.at t.request t.case t.was_sent)
 case_holds old step new printed h (Sweeps t) = subst Becomes (sym t.is) (sweep_holds old h t.master t.is_up t.case)
 
 pub case_later : (old : WorldState) (step : Step) (new : WorldState) (printed : List Line) → IsConsistent old → WorldCase old step new printed → Later old new
-case_later old step new printed h (ComesUp u) = let e : old.rows.epoch ≤ old.rows.epoch + 1 = omega arith in subst (Later old) (sym u.is) (same_clients old _ refl e)
+case_later old step new printed h (ComesUp u) = subst (Later old) (sym u.is) (up_later old h u.now)
 case_later old step new printed h (Joins j) = subst (Later old) (sym j.is) (join_later old h j.number j.principal j.free)
-case_later old step new printed h (Calls c) =
-    subst (Later old) (sym c.is) (later_as old (with_client old c.number c.seat c.client) _ refl refl (call_later old h c.number c.seat c.client c.found c.call c.made))
-case_later old step new printed h (Starts c) =
-    subst (Later old) (sym c.is) (later_as old (with_client old c.number c.seat c.client) _ refl refl (follows_later old h c.number c.seat c.client c.found c.made.calls))
-case_later old step new printed h (Acts c) = subst (Later old) (sym c.is) (follows_later old h c.number c.seat c.client c.found c.made.calls)
-case_later old step new printed h (Grants c) = subst (Later old) (sym c.is) (follows_later old h c.number c.seat c.client c.found c.made.calls)
-case_later old step new printed h (Takes t) = subst (Later old) (sym t.is) (same_clients old _ refl (least old.rows.epoch))
+case_later old step new printed h (Asks a) = own_goes old new printed h (asks_own old step new printed a)
+case_later old step new printed h (Beats b) = own_goes old new printed h (beats_own old step new printed b)
+case_later old step new printed h (Gives g) = own_goes old new printed h (gives_own old step new printed g)
+case_later old step new printed h (Ticks t) = subst (Later old) (sym t.is) (tick_later old h t.ticks)
+case_later old step new printed h (Takes t) = subst (Later old) (sym t.is) (same_clients old _ refl (least old.rows.epoch) refl)
 case_later old step new printed h (Sweeps t) =
     let e = swept_epoch old.rows (noted t.master old.clock) t.case in
-    let l : old.rows.epoch ≤ (changed_rows old.rows (swept_edits (noted t.master old.clock) t.case)).epoch = omega arith in
-    subst (Later old) (sym t.is) (same_clients old _ refl l)
+    let l : old.rows.epoch ≤ (changed_rows old.rows (swept_edits (noted t.master old.clock) t.case)).epoch = omega (arith, e) in
+    subst (Later old) (sym t.is) (same_clients old _ refl l refl)
 
-pub step_holds : (old new : WorldView) (step : Step) (edits : List Edit) (r : Result (List Line) Fault) → IsConsistent old.world → Agrees new.world new.world.master → IfOk r (λ printed. world_step old.world step ≡ Ok (new.world, printed)) → OnErr r (IsLeft edits old new) → IsConsistent new.world
-step_holds old new step edits (Ok printed) h agrees made left = case_holds old.world step new.world printed h (world_case old.world step new.world printed made) agrees
-step_holds old new step edits (Err fault) h agrees made left = subst IsConsistent (sym left.same) h
+-- to each client the world behind a step is what some schedule leads to
+abbrev pub LeadsOn : Type 0
+LeadsOn = (old : WorldState) (step : Step) (new : WorldState) (printed : List Line) → IsConsistent old → WorldCase old step new printed → (client : ℕ) → Reached (slice client new)
 
-pub swept_holds : (old new : WorldView) (edits : List Edit) (r : Result Turn Fault) → IsConsistent old.world → Agrees new.world new.world.master → IfOk r (λ turn. world_sweep old.world old.world.master ≡ Ok (new.world, turn)) → OnErr r (IsLeft edits old new) → IsConsistent new.world
+pub step_holds : LeadsOn → (old new : WorldView) (step : Step) (edits : List Edit) (r : Result (List Line) Fault) → IsConsistent old.world → Agrees new.world new.world.master → IfOk r (λ printed. world_step old.world step ≡ Ok (new.world, printed)) → OnErr r (IsLeft edits old new) → IsConsistent new.world
+step_holds leads old new step edits (Ok printed) h agrees made left =
+    let c = world_case old.world step new.world printed h.master made in
+    case_holds old.world step new.world printed h c agrees (leads old.world step new.world printed h c)
+step_holds leads old new step edits (Err fault) h agrees made left = subst IsConsistent (sym left.same) h
+
+pub swept_holds : LeadsOn → (old new : WorldView) (edits : List Edit) (r : Result Turn Fault) → IsConsistent old.world → Agrees new.world new.world.master → IfOk r (λ turn. world_sweep old.world old.world.master ≡ Ok (new.world, turn)) → OnErr r (IsLeft edits old new) → IsConsistent new.world
 unfolding world_step
-swept_holds old new edits (Ok turn) h agrees made left =
-    case_holds old.world steps.Sweep new.world turn.lines h (world_case old.world steps.Sweep new.world turn.lines (ap without_quiet made)) agrees
-swept_holds old new edits (Err fault) h agrees made left = subst IsConsistent (sym left.same) h
+swept_holds leads old new edits (Ok turn) h agrees made left =
+    step_holds leads old new steps.Sweep edits (Ok turn.lines) h agrees (ap without_quiet made) tt
+swept_holds leads old new edits (Err fault) h agrees made left = subst IsConsistent (sym left.same) h
 
 -- nothing was sent yet
-pub new_holds : (cell : List ℕ) (rows : Rows) (lease : ℕ) → IsConsistent (new_world cell rows lease)
-new_holds cell rows lease = record {
+pub new_holds : (cell : List ℕ) (rows : Rows) (lease : ℕ) → lease ≤ longest_lease → IsConsistent (new_world cell rows lease)
+new_holds cell rows lease range = record {
   clients = λ number seat is. cc;
   named = λ at call is. none_sent at (requests.Call call) is;
   sent = λ client number call is. cc;
   started = λ at started is. none_out at (outs.Started started) is;
   master = tt;
   fits = tt;
+  lease = range;
+  noted = tt;
+  fair = tt;
+  reached = λ client. reached_at_start tt (standing_in rows client) rows.epoch;
 }

@@ -1,31 +1,39 @@
 -- What waits and what is kept fits the messages, whatever the master takes or sweeps.
-use Rattle.std.proofs.Common.{◌≡◌, ◌≢◌, ℕ, ◌+◌, ◌<◌, List, [], ◌∷◌, ◌++◌, Bool, true, false, cond, Option, Some, None, refl, sym, ap, ◌∙◌, arith, eqb, subst}
-use Rattle.std.specs.Prelude.{◌==◌, is_none}
+use Rattle.std.proofs.Common.{◌≡◌, ◌≢◌, ℕ, ◌+◌, ◌<◌, List, [], ◌∷◌, ◌++◌, Bool, true, false, cond, Option, Some, None, refl, sym, ap, ◌∙◌, inl, inr, arith, subst}
+use Rattle.std.specs.Prelude.{◌==◌}
+use Rattle.std.specs.Option.{option_map_or}
 use Rattle.std.proofs.lemmas.Bool.Decides.{nat_tests}
 use Rattle.std.proofs.lemmas.List.{append-nil}
-use Rattle.plain.proofs.OneKey.{lookup_put, lookup_put_apart}
 use Rattle.tags_cell.specs.declared.calls.Call.{Call}
 use Rattle.tags_cell.specs.declared.requests.Request.{Request}
 use Rattle.tags_cell.specs.declared.requests.Request.TheVariants as requests
 use Rattle.tags_cell.specs.declared.requests.CallMessage.{CallMessage}
 use Rattle.tags_cell.specs.declared.outs.CallResult.{CallResult}
+use Rattle.tags_cell.specs.declared.outs.CallResult.TheVariants as results
+use Rattle.tags_cell.specs.declared.beats.Beat.{Beat}
+use Rattle.node_core.specs.declared.refusals.Fault.TheVariants as faults
 use Rattle.tags_cell.specs.declared.outs.Reply.{Reply}
 use Rattle.gate_core.specs.declared.pending.Waiting.{Waiting}
+use Rattle.session_core.specs.declared.records.Kept.{Kept}
+use Rattle.session_core.specs.declared.records.Session.{Session}
+use Rattle.session_core.specs.Session.{keeping, beaten, prolonged, answered, session_until}
+use Rattle.session_core.specs.Session as of_session
+use Rattle.session_core.specs.Sessions.{with_session, with_new}
 use Rattle.cell_core.specs.declared.handles.Note.{Note}
-use Rattle.cell_core.specs.declared.pending.Kept.{Kept}
 use Rattle.cell_core.specs.declared.pending.Task.{Task}
 use Rattle.cell_core.specs.declared.pending.Work.{Work}
 use Rattle.cell_core.specs.declared.pending.Work.TheVariants as works
 use Rattle.cell_core.specs.State.{MasterState}
-use Rattle.cell_core.specs.Step.{kept_of, reply_of, answered_by, recorded, queued, replied, waits, with_note}
+use Rattle.cell_core.specs.Step.{session_of, kept_of, is_live, reply_of, answered_by, recorded, queued, parked, replied, waits, with_note}
 use Rattle.cell_core.specs.Cases.{IsBehind, IsHeard, IsNew, TakeCase, taken_by}
-use Rattle.cell_core.specs.Cases.TakeCase.{StartQueued, Answered, Waits}
-use Rattle.over_core.specs.SweepCase.{IsTurn, SweepCase, swept_by, rest, ended, mapped}
-use Rattle.over_core.specs.SweepCase.SweepCase.{Quiet, TurnedAway, StartedAgain, Started as StartedFirst, Ended, Applied}
+use Rattle.cell_core.specs.Cases.TakeCase.{StartQueued, BeatParked, Recovering, Answered, Waits}
+use Rattle.over_core.specs.SweepCase.{IsTurn, IsDueToEnd, IsDue, SweepCase, swept_by, rest, ended, mapped}
+use Rattle.over_core.specs.SweepCase.SweepCase.{Quiet, Recovers, Expires, AnswersBeat, TurnedAway, StartedAgain, Started as StartedFirst, OfEnded, Ended, Applied}
 use Rattle.world_cell.specs.declared.mail.Message.{Message}
 use Rattle.world_cell.specs.Messages.{call_of}
-use Rattle.world_cell.specs.Consistent.{put_waiting, waiting, IsInTurn, IsOfMessage, AreOfMessages, WasSent, FitsMessages}
+use Rattle.world_cell.specs.Consistent.{put_waiting, waiting, IsWaiting, IsLastInTurn, IsInTurn, IsOfMessage, AreOfMessages, WasSent, FitsMessages}
 use Rattle.world_cell.proofs.MessagesGrow.{call_stays}
+use Rattle.world_cell.proofs.OneSession.{at_each, kept_in, each_apart, each_session, each_with_new, answered_so}
 
 -- a change that waits
 abbrev pub waits_as : ℕ → List (List ℕ) → Task → Waiting Task
@@ -34,7 +42,7 @@ waits_as number touched task = record { number = number; change = record { touch
 -- ---- more messages
 
 work_stays : (xs ys : List Message) (epoch client number : ℕ) (work : Work) → IsOfMessage xs epoch client number work → IsOfMessage (xs ++ ys) epoch client number work
-work_stays xs ys epoch client number (works.Starts principal) h = tt
+work_stays xs ys epoch client number (works.Starts principal received) h = tt
 work_stays xs ys epoch client number (works.Calls call) h = call_stays xs ys client number (record { client = client; epoch = epoch; number = number; call = call }) h
 
 queue_stays : (xs ys : List Message) (epoch : ℕ) (queue : List (Waiting Task)) → AreOfMessages xs epoch queue → AreOfMessages (xs ++ ys) epoch queue
@@ -48,33 +56,10 @@ fits_stays xs ys s h = record {
   turns = h.turns;
 }
 
--- ---- what is kept of a client
-
-pub same : (n m : ℕ) → eqb n m ≡ true → n ≡ m
-same n m h = grind (arith, nat_tests)
-
-pub other : (n m : ℕ) → eqb n m ≡ false → n ≢ m
-other n m h = grind (arith, nat_tests)
-
--- one's own entry is the new one, and another client's stays
-pub kept_own : (s : MasterState) (client : ℕ) (kept : Kept) → kept_of (recorded s client kept) client ≡ Some kept
-kept_own s client kept = lookup_put client s.kept kept
-
-pub kept_other : (s : MasterState) (client q : ℕ) (kept : Kept) → eqb q client ≡ false → kept_of (recorded s client kept) q ≡ kept_of s q
-kept_other s client q kept h = lookup_put_apart client q (other q client h) s.kept kept
-
--- what holds of the new entry and held of all others holds of all
-pub each_kept : (P : ℕ → Option Kept → Type 0) (s : MasterState) (client : ℕ) (kept : Kept) → P client (Some kept) → ((q : ℕ) → q ≢ client → P q (kept_of s q)) → (q : ℕ) → P q (kept_of (recorded s client kept) q)
-each_kept P s client kept h k q =
-    (elim (eqb q client) as (λ b. eqb q client ≡ b → P q (kept_of (recorded s client kept) q)) [
-      | true ↦ (λ e. rw (same q client e, kept_own s client kept) h)
-      | false ↦ (λ e. rw (kept_other s client q kept e) (k q (other q client e)))
-    ]) refl
-
 -- ---- the queue
 
 put_push : (client whose number : ℕ) (work : Work) (xs ys : List ℕ) → put_waiting client whose number work (xs ++ ys) ≡ put_waiting client whose number work xs ++ ys
-put_push client whose number (works.Starts principal) xs ys = refl
+put_push client whose number (works.Starts principal received) xs ys = refl
 put_push client whose number (works.Calls call) xs ys =
     elim (whose == client) as (λ b. cond b (number ∷ (xs ++ ys)) (xs ++ ys) ≡ cond b (number ∷ xs) xs ++ ys) [ true ↦ refl | false ↦ refl ]
 
@@ -95,12 +80,103 @@ pub waits_own : (client number : ℕ) (call : Call) (xs : List ℕ) → put_wait
 waits_own client number call xs = rw (itself client) refl
 
 pub waits_other : (q client number : ℕ) (work : Work) (xs : List ℕ) → q ≢ client → put_waiting q client number work xs ≡ xs
-waits_other q client number (works.Starts principal) xs h = refl
+waits_other q client number (works.Starts principal received) xs h = refl
 waits_other q client number (works.Calls call) xs h = rw (differs client q h) refl
 
 queue_push : (sent : List Message) (epoch : ℕ) (ws : List (Waiting Task)) (w : Waiting Task) → AreOfMessages sent epoch ws → IsOfMessage sent epoch w.change.body.client w.change.body.number w.change.body.work → AreOfMessages sent epoch (ws ++ w ∷ [])
 queue_push sent epoch [] w h k = (k, tt)
 queue_push sent epoch (x ∷ xs) w h k = (h.0, queue_push sent epoch xs w h.1 k)
+
+-- ---- a session's call
+
+-- once the session has ended
+ended_waiting : (live : Bool) (number : ℕ) (o : Option Reply) (numbers : List ℕ) → IsWaiting live number o numbers → IsWaiting false number o numbers
+ended_waiting true number None numbers h = inl h
+ended_waiting false number None numbers h = h
+ended_waiting true number (Some reply) numbers h = h
+ended_waiting false number (Some reply) numbers h = h
+
+ended_turn : (live : Bool) (o : Option (Kept Reply)) (numbers : List ℕ) → IsLastInTurn live o numbers → IsLastInTurn false o numbers
+ended_turn live None numbers h = h
+ended_turn live (Some kept) numbers h = ended_waiting live kept.number kept.reply numbers h
+
+-- one that has its reply doesn't wait
+replied_waiting : (live : Bool) (number : ℕ) (reply : Reply) (numbers : List ℕ) → numbers ≡ [] → IsWaiting live number (Some reply) numbers
+replied_waiting true number reply numbers h = h
+replied_waiting false number reply numbers h = h
+
+none_replied : (live : Bool) (number : ℕ) (reply : Reply) (numbers : List ℕ) → IsWaiting live number (Some reply) numbers → numbers ≡ []
+none_replied true number reply numbers h = h
+none_replied false number reply numbers h = h
+
+-- one without waits while the session lives
+live_waiting : (live : Bool) (number : ℕ) (numbers : List ℕ) → live ≡ true → numbers ≡ number ∷ [] → IsWaiting live number None numbers
+live_waiting true number numbers live h = h
+live_waiting false number numbers live h = cc
+
+-- behind a call that has its reply nothing waits
+none_kept : (live : Bool) (o : Option (Kept Reply)) (number : ℕ) (numbers : List ℕ) → IsLastInTurn live o numbers → IsBehind o number → numbers ≡ []
+none_kept live None number numbers h k = h
+none_kept live (Some kept) number numbers h k = none_replied live kept.number k.0 numbers (subst (λ o. IsWaiting live kept.number o numbers) k.1 h)
+
+pub none_waits : (o : Option (Session Reply)) (number : ℕ) (numbers : List ℕ) → IsInTurn o numbers → IsBehind (kept_in o) number → numbers ≡ []
+none_waits None number numbers h k = h
+none_waits (Some session) number numbers h k = none_kept session.live session.kept number numbers h k
+
+-- ---- a step of a session
+
+-- whether it lives, and what is kept of it, decide
+same_turn : (session new : Session Reply) (numbers : List ℕ) → new.live ≡ session.live → new.kept ≡ session.kept → IsInTurn (Some session) numbers → IsInTurn (Some new) numbers
+same_turn session new numbers live kept h =
+    subst (λ b. IsLastInTurn b new.kept numbers) (sym live) (subst (λ o. IsLastInTurn session.live o numbers) (sym kept) h)
+
+-- what is kept of a session was sent
+abbrev pub IsKeptSent : List Message → ℕ → ℕ → Option (Session Reply) → Type 0
+IsKeptSent sent epoch client o = (kept : Kept Reply) → kept_in o ≡ Some kept → WasSent sent epoch client kept.number
+
+module _ (sent : List Message) (s : MasterState) (h : FitsMessages sent s) where
+  -- a step that keeps what is kept of calls
+  stepped_fits : (client : ℕ) (step : Session Reply → Session Reply) → ((session : Session Reply) → (step session).kept ≡ session.kept) → ((session : Session Reply) (numbers : List ℕ) → IsInTurn (Some session) numbers → IsInTurn (Some (step session)) numbers) → FitsMessages sent (record s { sessions = with_session s.sessions client step })
+  stepped_fits client step kept turn = record {
+    queue = h.queue;
+    kept = each_session (λ q o. IsKeptSent sent s.epoch q o) s.sessions client h.kept step (λ session is was e. h.kept client was (ap kept_in is ∙ sym (kept session) ∙ e));
+    turns = each_session (λ q o. IsInTurn o (waiting q s.gate.waiting)) s.sessions client h.turns step
+        (λ session is. turn session (waiting client s.gate.waiting) (subst (λ o. IsInTurn o (waiting client s.gate.waiting)) is (h.turns client)));
+  }
+
+  prolonged_fits : (client moment : ℕ) → FitsMessages sent (record s { sessions = with_session s.sessions client (prolonged moment) })
+  prolonged_fits client moment = stepped_fits client (prolonged moment) (λ session. refl) (λ session numbers k. same_turn session (prolonged moment session) numbers refl refl k)
+
+  answered_fits : (client lease now : ℕ) → FitsMessages sent (record s { sessions = with_session s.sessions client (answered lease now) })
+  answered_fits client lease now =
+      stepped_fits client (answered lease now) (λ session. (answered_so lease now session).kept)
+      (λ session numbers k. same_turn session (answered lease now session) numbers (answered_so lease now session).live (answered_so lease now session).kept k)
+
+  expired_fits : (client : ℕ) → FitsMessages sent (record s { sessions = with_session s.sessions client of_session.ended })
+  expired_fits client = stepped_fits client of_session.ended (λ session. refl) (λ session numbers k. ended_turn session.live session.kept numbers k)
+
+  begun_fits : (client : ℕ) (principal : List ℕ) (moment : ℕ) → session_of s client ≡ None → FitsMessages sent (record s { sessions = with_new s.sessions client (session_until principal true moment) })
+  begun_fits client principal moment none = record {
+    queue = h.queue;
+    kept = each_with_new (λ q o. IsKeptSent sent s.epoch q o) s.sessions client h.kept (session_until principal true moment) (λ was e. cc);
+    turns = each_with_new (λ q o. IsInTurn o (waiting q s.gate.waiting)) s.sessions client h.turns (session_until principal true moment)
+        (subst (λ o. IsInTurn o (waiting client s.gate.waiting)) none (h.turns client));
+  }
+
+  -- a call of the client is recorded
+  is_recorded : (client number : ℕ) (reply : Option Reply) → WasSent sent s.epoch client number → (q : ℕ) → IsKeptSent sent s.epoch q (session_of (recorded s client (record { number = number; reply = reply })) q)
+  is_recorded client number reply was =
+      each_session (λ q o. IsKeptSent sent s.epoch q o) s.sessions client h.kept (keeping (record { number = number; reply = reply }))
+      (λ session is kept e. let n : number ≡ kept.number = cc in subst (λ k. WasSent sent s.epoch client k) n was)
+
+-- a live session is there, and lives
+no_session : (s : MasterState) (client : ℕ) → is_live s client ≡ true → session_of s client ≡ None → ⊥
+no_session s client live none =
+    let e : false ≡ true = subst (λ (o : Option (Session Reply)). option_map_or (λ (x : Session Reply). x.live) o false ≡ true) none live in cc
+
+live_session : (s : MasterState) (client : ℕ) (session : Session Reply) → is_live s client ≡ true → session_of s client ≡ Some session → session.live ≡ true
+live_session s client session live is =
+    subst (λ (o : Option (Session Reply)). option_map_or (λ (x : Session Reply). x.live) o false ≡ true) is live
 
 -- ---- a message is taken
 
@@ -108,85 +184,90 @@ pub fits_note : (sent : List Message) (s : MasterState) (note : Option Note) →
 fits_note sent s None h = h
 fits_note sent s (Some note) h = record { queue = h.queue; kept = h.kept; turns = h.turns }
 
-behind_note : (s : MasterState) (note : Option Note) (client number : ℕ) → IsBehind (kept_of s client) number → IsBehind (kept_of (with_note s note) client) number
+pub behind_note : (s : MasterState) (note : Option Note) (client number : ℕ) → IsBehind (kept_of s client) number → IsBehind (kept_of (with_note s note) client) number
 behind_note s None client number h = h
 behind_note s (Some note) client number h = h
 
-epoch_note : (s : MasterState) (note : Option Note) → (with_note s note).epoch ≡ s.epoch
+pub live_note : (s : MasterState) (note : Option Note) (client : ℕ) → is_live s client ≡ true → is_live (with_note s note) client ≡ true
+live_note s None client h = h
+live_note s (Some note) client h = h
+
+pub epoch_note : (s : MasterState) (note : Option Note) → (with_note s note).epoch ≡ s.epoch
 epoch_note s None = refl
 epoch_note s (Some note) = refl
 
--- behind a call that has its result nothing waits
-pub none_waits : (o : Option Kept) (number : ℕ) (xs : List ℕ) → IsInTurn o xs → IsBehind o number → xs ≡ []
-none_waits None number xs h k = h
-none_waits (Some kept) number xs h k = rw k.1 at h
-
--- the call is recorded
-is_recorded : (sent : List Message) (s : MasterState) (client number : ℕ) (reply : Option Reply) → FitsMessages sent s → WasSent sent s.epoch client number → (q : ℕ) (kept : Kept) → kept_of (recorded s client (record { number = number; reply = reply })) q ≡ Some kept → WasSent sent s.epoch q kept.number
-is_recorded sent s client number reply h was =
-    let P : ℕ → Option Kept → Type 0 = λ q o. (kept : Kept) → o ≡ Some kept → WasSent sent s.epoch q kept.number in
-    each_kept P s client (record { number = number; reply = reply })
-    (λ kept is. let e : number ≡ kept.number = cc in rw (← e) was)
-    (λ q apart kept is. h.kept q kept is)
-
-module _ (sent : List Message) (s : MasterState) (client number : ℕ) (h : FitsMessages sent s) (behind : IsBehind (kept_of s client) number) where
+module _ (sent : List Message) (s : MasterState) (client number : ℕ) (h : FitsMessages sent s) (live : is_live s client ≡ true) (behind : IsBehind (kept_of s client) number) where
   free : waiting client s.gate.waiting ≡ []
-  free = none_waits (kept_of s client) number (waiting client s.gate.waiting) (h.turns client) behind
+  free = none_waits (session_of s client) number (waiting client s.gate.waiting) (h.turns client) behind
 
   replied_fits : (result : CallResult) → WasSent sent s.epoch client number → FitsMessages sent (replied s client number result).0
   replied_fits result was = record {
     queue = h.queue;
-    kept = is_recorded sent s client number (Some (reply_of s client number result)) h was;
-    turns = each_kept (λ q o. IsInTurn o (waiting q s.gate.waiting)) s client (answered_by (reply_of s client number result)) free (λ q apart. h.turns q);
+    kept = is_recorded sent s h client number (Some (reply_of s client number result)) was;
+    turns = each_session (λ q o. IsInTurn o (waiting q s.gate.waiting)) s.sessions client h.turns (keeping (answered_by (reply_of s client number result)))
+        (λ session is. replied_waiting session.live number (reply_of s client number result) (waiting client s.gate.waiting) free);
   }
 
   waits_fits : (call : Call) (touched : List (List ℕ)) → call_of sent client number ≡ Some (record { client = client; epoch = s.epoch; number = number; call = call }) → FitsMessages sent (waits s client number call touched).0
   waits_fits call touched found =
       let w : Waiting Task = waits_as (s.gate.pushed + 1) touched (record { client = client; number = number; work = works.Calls call }) in
+      let own : waiting client (s.gate.waiting ++ w ∷ []) ≡ number ∷ [] =
+      waiting_append client s.gate.waiting (w ∷ []) ∙ ap (λ xs. xs ++ waiting client (w ∷ [])) free ∙ waits_own client number call [] in
+      let others = λ (q : ℕ) (apart : q ≢ client).
+      subst (λ xs. IsInTurn (session_of s q) xs)
+      (sym (waiting_append q s.gate.waiting (w ∷ []) ∙ ap (λ xs. waiting q s.gate.waiting ++ xs) (waits_other q client number (works.Calls call) [] apart) ∙ append-nil (waiting q s.gate.waiting)))
+      (h.turns q) in
       record {
         queue = queue_push sent s.epoch s.gate.waiting w h.queue found;
-        kept = is_recorded sent s client number None h (record { call = record { client = client; epoch = s.epoch; number = number; call = call }; found = found; same = refl });
-        turns = each_kept (λ q o. IsInTurn o (waiting q (s.gate.waiting ++ w ∷ []))) s client (record { number = number; reply = None })
-            (waiting_append client s.gate.waiting (w ∷ []) ∙ ap (λ xs. xs ++ waiting client (w ∷ [])) free ∙ waits_own client number call [])
-            (λ q apart.
-            let e : waiting q (s.gate.waiting ++ w ∷ []) ≡ waiting q s.gate.waiting = waiting_append q s.gate.waiting (w ∷ []) ∙ ap (λ xs. waiting q s.gate.waiting ++ xs) (waits_other q client number (works.Calls call) [] apart) ∙ append-nil (waiting q s.gate.waiting) in
-            subst (λ xs. IsInTurn (kept_of s q) xs) (sym e) (h.turns q));
+        kept = is_recorded sent s h client number None (record { call = record { client = client; epoch = s.epoch; number = number; call = call }; found = found; same = refl });
+        turns = each_apart (λ q o. IsInTurn o (waiting q (s.gate.waiting ++ w ∷ []))) s.sessions client (keeping (record { number = number; reply = None })) others
+            (λ none. absurd (no_session s client live none))
+            (λ session is. live_waiting session.live number (waiting client (s.gate.waiting ++ w ∷ [])) (live_session s client session live is) own);
       }
 
-start_fits : (sent : List Message) (s : MasterState) (client number : ℕ) (principal : List ℕ) → FitsMessages sent s → FitsMessages sent (queued s [] (record { client = client; number = number; work = works.Starts principal }))
-start_fits sent s client number principal h =
-    let w : Waiting Task = waits_as (s.gate.pushed + 1) [] (record { client = client; number = number; work = works.Starts principal }) in
+start_fits : (sent : List Message) (s : MasterState) (client number : ℕ) (principal : List ℕ) (received : ℕ) → FitsMessages sent s → FitsMessages sent (queued s [] (record { client = client; number = number; work = works.Starts principal received }))
+start_fits sent s client number principal received h =
+    let w : Waiting Task = waits_as (s.gate.pushed + 1) [] (record { client = client; number = number; work = works.Starts principal received }) in
     record {
       queue = queue_push sent s.epoch s.gate.waiting w h.queue tt;
       kept = h.kept;
-      turns = λ q. subst (λ xs. IsInTurn (kept_of s q) xs) (sym (waiting_append q s.gate.waiting (w ∷ []) ∙ append-nil (waiting q s.gate.waiting))) (h.turns q);
+      turns = λ q. subst (λ xs. IsInTurn (session_of s q) xs) (sym (waiting_append q s.gate.waiting (w ∷ []) ∙ append-nil (waiting q s.gate.waiting))) (h.turns q);
     }
+
+-- it acknowledges, and is parked
+beat_fits : (sent : List Message) (s : MasterState) (beat : Beat) → FitsMessages sent s → FitsMessages sent (parked s beat)
+beat_fits sent s beat h =
+    stepped_fits sent s h beat.client (beaten beat s.clock) (λ session. refl) (λ session numbers k. same_turn session (beaten beat s.clock session) numbers refl refl k)
 
 -- the request was sent, if it is a call
 abbrev pub WasAsked : List Message → Request → Type 0
 WasAsked sent request = (call : CallMessage) → request ≡ requests.Call call → call_of sent call.client call.number ≡ Some call
 
 pub take_fits : (sent : List Message) (s : MasterState) (request : Request) (c : TakeCase s request) → FitsMessages sent s → WasAsked sent request → FitsMessages sent (taken_by s request c).0
-take_fits sent s request (StartQueued start is may room) h asked = start_fits sent s start.client start.number start.principal h
-take_fits sent s request (Answered message note answer new answered) h asked =
+take_fits sent s request (StartQueued start is may serving room) h asked = start_fits sent s start.client start.number start.principal s.clock h
+take_fits sent s request (BeatParked beat is epoch taken) h asked = beat_fits sent s beat h
+take_fits sent s request (Recovering message new recovering) h asked =
+    replied_fits sent s message.client message.number h new.heard.live new.behind (results.Refused faults.Recovering)
+    (record { call = message; found = asked message new.heard.is_call; same = new.heard.epoch })
+take_fits sent s request (Answered message note answer new serving answered) h asked =
     let t = with_note s note in
     let epoch : message.epoch ≡ t.epoch = new.heard.epoch ∙ sym (epoch_note s note) in
-    replied_fits sent t message.client message.number (fits_note sent s note h) (behind_note s note message.client message.number new.behind) answer
+    replied_fits sent t message.client message.number (fits_note sent s note h) (live_note s note message.client new.heard.live) (behind_note s note message.client message.number new.behind) answer
     (record { call = message; found = asked message new.heard.is_call; same = epoch })
-take_fits sent s request (Waits message note touched new admitted) h asked =
+take_fits sent s request (Waits message note touched new serving admitted) h asked =
     let t = with_note s note in
     let epoch : message.epoch ≡ t.epoch = new.heard.epoch ∙ sym (epoch_note s note) in
-    waits_fits sent t message.client message.number (fits_note sent s note h) (behind_note s note message.client message.number new.behind) message.call touched
+    waits_fits sent t message.client message.number (fits_note sent s note h) (live_note s note message.client new.heard.live) (behind_note s note message.client message.number new.behind) message.call touched
     (rw (← epoch) (asked message new.heard.is_call))
 take_fits sent s request _ h asked = h
 
 -- ---- a sweep
 
 -- the call whose turn it is has no reply yet, and none waits beside it
-pub record IsItsTurn (o : Option Kept) (number : ℕ) (before behind : List ℕ) : Type 0 where
+pub record IsItsTurn (o : Option (Kept Reply)) (number : ℕ) (before behind : List ℕ) : Type 0 where
   pub front : before ≡ []
   pub back : behind ≡ []
-  pub kept : Kept
+  pub kept : Kept Reply
   pub is_kept : o ≡ Some kept
   pub no_reply : kept.reply ≡ None
   pub same : kept.number ≡ number
@@ -199,14 +280,40 @@ one_but : (xs ys : List ℕ) (n m : ℕ) → xs ++ n ∷ ys ≡ m ∷ [] → (xs
 one_but [] ys n m h = (refl, cc, cc)
 one_but (x ∷ xs) ys n m h = let t : xs ++ n ∷ ys ≡ [] = cc in absurd (none_but xs ys n t)
 
-kept_turn : (kept : Kept) (number : ℕ) (xs ys : List ℕ) (o : Option Reply) → kept.reply ≡ o → xs ++ number ∷ ys ≡ cond (is_none o) (kept.number ∷ []) [] → IsItsTurn (Some kept) number xs ys
-kept_turn kept number xs ys None is h =
-    let t = one_but xs ys number kept.number h in record { front = t.0; back = t.1; kept = kept; is_kept = refl; no_reply = is; same = t.2 }
-kept_turn kept number xs ys (Some reply) is h = absurd (none_but xs ys number h)
+-- a call that waits is the one without a reply
+waiting_one : (live : Bool) (number : ℕ) (o : Option Reply) (n : ℕ) (xs ys : List ℕ) → IsWaiting live number o (xs ++ n ∷ ys) → (o ≡ None) × (xs ++ n ∷ ys ≡ number ∷ [])
+waiting_one true number None n xs ys h = (refl, h)
+waiting_one false number None n xs ys (inl h) = (refl, h)
+waiting_one false number None n xs ys (inr h) = absurd (none_but xs ys n h)
+waiting_one true number (Some reply) n xs ys h = absurd (none_but xs ys n h)
+waiting_one false number (Some reply) n xs ys h = absurd (none_but xs ys n h)
 
-its_turn : (o : Option Kept) (number : ℕ) (xs ys : List ℕ) → IsInTurn o (xs ++ number ∷ ys) → IsItsTurn o number xs ys
+kept_turn : (live : Bool) (o : Option (Kept Reply)) (number : ℕ) (xs ys : List ℕ) → IsLastInTurn live o (xs ++ number ∷ ys) → IsItsTurn o number xs ys
+kept_turn live None number xs ys h = absurd (none_but xs ys number h)
+kept_turn live (Some kept) number xs ys h =
+    let w = waiting_one live kept.number kept.reply number xs ys h in
+    let t = one_but xs ys number kept.number w.1 in
+    record { front = t.0; back = t.1; kept = kept; is_kept = refl; no_reply = w.0; same = t.2 }
+
+its_turn : (o : Option (Session Reply)) (number : ℕ) (xs ys : List ℕ) → IsInTurn o (xs ++ number ∷ ys) → IsItsTurn (kept_in o) number xs ys
 its_turn None number xs ys h = absurd (none_but xs ys number h)
-its_turn (Some kept) number xs ys h = kept_turn kept number xs ys kept.reply refl h
+its_turn (Some session) number xs ys h = kept_turn session.live session.kept number xs ys h
+
+-- that of an ended session leaves without a reply
+left_waiting : (live : Bool) (number : ℕ) (o : Option Reply) → live ≡ false → o ≡ None → IsWaiting live number o []
+left_waiting true number o gone none = cc
+left_waiting false number None gone none = inr refl
+left_waiting false number (Some reply) gone none = refl
+
+left_kept : (live : Bool) (o : Option (Kept Reply)) (number : ℕ) (xs ys : List ℕ) → live ≡ false → IsItsTurn o number xs ys → IsLastInTurn live o []
+left_kept live None number xs ys gone t = refl
+left_kept live (Some kept) number xs ys gone t =
+    let is : kept ≡ t.kept = let e = t.is_kept in cc in
+    left_waiting live kept.number kept.reply gone (ap (λ (k : Kept Reply). k.reply) is ∙ t.no_reply)
+
+left_turn : (o : Option (Session Reply)) (number : ℕ) (xs ys : List ℕ) → option_map_or (λ (x : Session Reply). x.live) o false ≡ false → IsItsTurn (kept_in o) number xs ys → IsInTurn o []
+left_turn None number xs ys gone t = refl
+left_turn (Some session) number xs ys gone t = left_kept session.live session.kept number xs ys gone t
 
 -- the one that has its turn, and the others
 queue_at : (sent : List Message) (epoch : ℕ) (front : List (Waiting Task)) (w : Waiting Task) (back : List (Waiting Task)) → AreOfMessages sent epoch (front ++ w ∷ back) → IsOfMessage sent epoch w.change.body.client w.change.body.number w.change.body.work × AreOfMessages sent epoch (front ++ back)
@@ -225,15 +332,15 @@ module _ (sent : List Message) (s : MasterState) (front : List (Waiting Task)) (
   pub turn_sent : (call : Call) → task.work ≡ works.Calls call → call_of sent task.client task.number ≡ Some (record { client = task.client; epoch = s.epoch; number = task.number; call = call })
   turn_sent call work = subst (λ x. IsOfMessage sent s.epoch task.client task.number x) work at_turn.0
 
-  in_turn : (q : ℕ) → IsInTurn (kept_of s q) (waiting q front ++ put_waiting q task.client task.number task.work (waiting q back))
-  in_turn q = subst (λ xs. IsInTurn (kept_of s q) xs) (ap (waiting q) turn.waited ∙ waiting_append q front (w ∷ back)) (h.turns q)
+  in_turn : (q : ℕ) → IsInTurn (session_of s q) (waiting q front ++ put_waiting q task.client task.number task.work (waiting q back))
+  in_turn q = subst (λ xs. IsInTurn (session_of s q) xs) (ap (waiting q) turn.waited ∙ waiting_append q front (w ∷ back)) (h.turns q)
 
   -- what is not the client's waits as before
-  others : (q : ℕ) → put_waiting q task.client task.number task.work (waiting q back) ≡ waiting q back → IsInTurn (kept_of s q) (waiting q (front ++ back))
-  others q same = subst (λ xs. IsInTurn (kept_of s q) xs) (ap (λ ys. waiting q front ++ ys) same ∙ sym (waiting_append q front back)) (in_turn q)
+  others : (q : ℕ) → put_waiting q task.client task.number task.work (waiting q back) ≡ waiting q back → IsInTurn (session_of s q) (waiting q (front ++ back))
+  others q same = subst (λ xs. IsInTurn (session_of s q) xs) (ap (λ ys. waiting q front ++ ys) same ∙ sym (waiting_append q front back)) (in_turn q)
 
-  start_left : (principal : List ℕ) → task.work ≡ works.Starts principal → FitsMessages sent (rest s front back)
-  start_left principal work = record {
+  start_left : (principal : List ℕ) (received : ℕ) → task.work ≡ works.Starts principal received → FitsMessages sent (rest s front back)
+  start_left principal received work = record {
     queue = at_turn.1;
     kept = h.kept;
     turns = λ q. others q (ap (λ x. put_waiting q task.client task.number x (waiting q back)) work);
@@ -241,27 +348,53 @@ module _ (sent : List Message) (s : MasterState) (front : List (Waiting Task)) (
 
   pub call_turn : (call : Call) → task.work ≡ works.Calls call → IsItsTurn (kept_of s task.client) task.number (waiting task.client front) (waiting task.client back)
   call_turn call work =
-      its_turn (kept_of s task.client) task.number (waiting task.client front) (waiting task.client back)
-      (subst (λ xs. IsInTurn (kept_of s task.client) (waiting task.client front ++ xs)) (ap (λ x. put_waiting task.client task.client task.number x (waiting task.client back)) work ∙ waits_own task.client task.number call (waiting task.client back)) (in_turn task.client))
+      its_turn (session_of s task.client) task.number (waiting task.client front) (waiting task.client back)
+      (subst (λ xs. IsInTurn (session_of s task.client) (waiting task.client front ++ xs)) (ap (λ x. put_waiting task.client task.client task.number x (waiting task.client back)) work ∙ waits_own task.client task.number call (waiting task.client back)) (in_turn task.client))
 
-  call_left : (call : Call) (answer : CallResult) (note : Option Note) → task.work ≡ works.Calls call → FitsMessages sent (ended (rest s front back) task note answer)
-  call_left call answer note work =
-      let kept : Kept = answered_by (reply_of s task.client task.number answer) in
+  -- no call of the client waits then
+  none_left : (call : Call) → task.work ≡ works.Calls call → waiting task.client (front ++ back) ≡ []
+  none_left call work =
       let t = call_turn call work in
+      waiting_append task.client front back ∙ ap (λ xs. xs ++ waiting task.client back) t.front ∙ t.back
+
+  others_left : (q : ℕ) → q ≢ task.client → IsInTurn (session_of s q) (waiting q (front ++ back))
+  others_left q apart = others q (waits_other q task.client task.number task.work (waiting q back) apart)
+
+  ended_left : (call : Call) → task.work ≡ works.Calls call → is_live s task.client ≡ false → FitsMessages sent (rest s front back)
+  ended_left call work gone = record {
+    queue = at_turn.1;
+    kept = h.kept;
+    turns = at_each (λ q. IsInTurn (session_of s q) (waiting q (front ++ back))) task.client
+        (subst (λ xs. IsInTurn (session_of s task.client) xs) (sym (none_left call work))
+        (left_turn (session_of s task.client) task.number (waiting task.client front) (waiting task.client back) gone (call_turn call work)))
+        others_left;
+  }
+
+  call_left : (call : Call) (answer : CallResult) (note : Option Note) → task.work ≡ works.Calls call → is_live s task.client ≡ true → FitsMessages sent (ended (rest s front back) task note answer)
+  call_left call answer note work live =
+      let kept : Kept Reply = answered_by (reply_of s task.client task.number answer) in
       fits_note sent (recorded (rest s front back) task.client kept) note (record {
         queue = at_turn.1;
-        kept = is_recorded sent s task.client task.number (Some (reply_of s task.client task.number answer)) h (record { call = record { client = task.client; epoch = s.epoch; number = task.number; call = call }; found = turn_sent call work; same = refl });
-        turns = each_kept (λ q o. IsInTurn o (waiting q (front ++ back))) s task.client kept (waiting_append task.client front back ∙ ap (λ xs. xs ++ waiting task.client back) t.front ∙ t.back)
-            (λ q apart. others q (waits_other q task.client task.number task.work (waiting q back) apart));
+        kept = is_recorded sent s h task.client task.number (Some (reply_of s task.client task.number answer)) (record { call = record { client = task.client; epoch = s.epoch; number = task.number; call = call }; found = turn_sent call work; same = refl });
+        turns = each_apart (λ q o. IsInTurn o (waiting q (front ++ back))) s.sessions task.client (keeping kept) others_left
+            (λ none. absurd (no_session s task.client live none))
+            (λ session is. replied_waiting session.live task.number (reply_of s task.client task.number answer) (waiting task.client (front ++ back)) (none_left call work));
       })
 
 pub sweep_fits : (sent : List Message) (s : MasterState) (c : SweepCase s) → FitsMessages sent s → FitsMessages sent (swept_by s c).0
 sweep_fits sent s (Quiet none) h = h
-sweep_fits sent s (TurnedAway front back task principal turn work may) h = start_left sent s front task back turn h principal work
-sweep_fits sent s (StartedAgain front back task principal turn work may live) h = start_left sent s front task back turn h principal work
-sweep_fits sent s (StartedFirst front back task principal turn work may live) h =
-    let f = start_left sent s front task back turn h principal work in record { queue = f.queue; kept = f.kept; turns = f.turns }
-sweep_fits sent s (Ended front back task call note answer turn work made) h = call_left sent s front task back turn h call answer note work
-sweep_fits sent s (Applied front back task call note change answer turn work made) h =
-    let f = call_left sent s front task back turn h call answer None work in
+sweep_fits sent s (Recovers recovering heard) h = record { queue = h.queue; kept = h.kept; turns = h.turns }
+sweep_fits sent s (Expires client session due) h = expired_fits sent s h client
+sweep_fits sent s (AnswersBeat client session beat due) h = answered_fits sent s h client s.sessions.lease s.clock
+sweep_fits sent s (TurnedAway front back task principal received turn work may) h = start_left sent s front task back turn h principal received work
+sweep_fits sent s (StartedAgain front back task principal received session turn work found live) h =
+    let t : MasterState = record s { sessions = with_session s.sessions task.client (prolonged (s.clock + s.sessions.lease)) } in
+    start_left sent t front task back (record { number = turn.number; touched = turn.touched; waited = turn.waited }) (prolonged_fits sent s h task.client (s.clock + s.sessions.lease)) principal received work
+sweep_fits sent s (StartedFirst front back task principal received turn work none) h =
+    let t : MasterState = record s { sessions = with_new s.sessions task.client (session_until principal true (s.clock + s.sessions.lease)) } in
+    start_left sent t front task back (record { number = turn.number; touched = turn.touched; waited = turn.waited }) (begun_fits sent s h task.client principal (s.clock + s.sessions.lease) none) principal received work
+sweep_fits sent s (OfEnded front back task call turn work gone) h = ended_left sent s front task back turn h call work gone
+sweep_fits sent s (Ended front back task call note answer turn work live made) h = call_left sent s front task back turn h call answer note work live
+sweep_fits sent s (Applied front back task call note change answer turn work live made) h =
+    let f = call_left sent s front task back turn h call answer None work live in
     fits_note sent (recorded (mapped (rest s front back) change) task.client (answered_by (reply_of s task.client task.number answer))) note (record { queue = f.queue; kept = f.kept; turns = f.turns })

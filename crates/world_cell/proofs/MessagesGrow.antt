@@ -68,6 +68,7 @@ first_of None later = later
 put_first : (client number : ℕ) (m : Message) (a b : Option CallMessage) → put_call client number m (first_of a b) ≡ first_of (put_call client number m a) b
 put_first client number (ToClient out) a b = refl
 put_first client number (ToMaster (requests.Start start)) a b = refl
+put_first client number (ToMaster (requests.Beat beat)) a b = refl
 put_first client number (ToMaster (requests.Call call)) a b =
     elim (call.client == client && call.number == number) as (λ t. cond t (Some call) (first_of a b) ≡ first_of (cond t (Some call) a) b) [ true ↦ refl | false ↦ refl ]
 

@@ -1,9 +1,6 @@
 -- Why each call is applied at most once.
 use Rattle.std.proofs.Common.{◌≡◌, ℕ, ◌+◌, ◌<◌, ◌≤◌, List, [], ◌∷◌, ◌++◌, Bool, true, false, cond, Option, Some, None, refl, sym, ap, ◌∙◌, inl, inr, arith, eqb, subst, map}
 use Rattle.std.specs.Prelude.{◌==◌}
-use Rattle.std.specs.Map.{lookup}
-use Rattle.std.specs.BTreeMap.{is_at}
-use Rattle.std.specs.Ordering.{nat_cmp}
 use Rattle.std.proofs.lemmas.Bool.Decides.{nat_tests}
 use Rattle.std.proofs.lemmas.List.{append-nil}
 use Rattle.node_core.specs.declared.lines.Line.{Line}
@@ -14,18 +11,23 @@ use Rattle.tags_cell.specs.declared.requests.CallMessage.{CallMessage}
 use Rattle.tags_cell.specs.declared.calls.Call.{Call}
 use Rattle.tags_cell.specs.declared.outs.Out.{Out}
 use Rattle.tags_cell.specs.declared.outs.CallResult.{CallResult}
+use Rattle.tags_cell.specs.declared.outs.CallResult.TheVariants as results
+use Rattle.node_core.specs.declared.refusals.Fault.TheVariants as faults
 use Rattle.tags_cell.specs.declared.outs.Reply.{Reply}
 use Rattle.cell_core.specs.declared.handles.Note.{Note}
-use Rattle.cell_core.specs.declared.pending.Kept.{Kept}
+use Rattle.session_core.specs.declared.records.Kept.{Kept}
+use Rattle.session_core.specs.Session.{beaten, prolonged, answered, session_until}
+use Rattle.session_core.specs.Session as of_session
+use Rattle.session_core.specs.Sessions as of_sessions
 use Rattle.gate_core.specs.declared.pending.Waiting.{Waiting}
 use Rattle.cell_core.specs.declared.pending.Task.{Task}
 use Rattle.cell_core.specs.declared.pending.Work.TheVariants as works
 use Rattle.cell_core.specs.State.{MasterState}
-use Rattle.cell_core.specs.Step.{kept_of, reply_of, answered_by, recorded, repeated_reply, with_note, noted}
+use Rattle.cell_core.specs.Step.{kept_of, is_live, reply_of, answered_by, recorded, repeated_reply, with_note, noted}
 use Rattle.cell_core.specs.Cases.{IsBehind, TakeCase, taken_by}
 use Rattle.over_core.specs.SweepCase.{IsTurn, SweepCase, swept_by, rest, ended, mapped}
-use Rattle.cell_core.specs.Cases.TakeCase.{Answered, Waits, StartRefused, OldEpoch, NoSession, Repeated, OlderCall, Outstanding}
-use Rattle.over_core.specs.SweepCase.SweepCase.{Ended, Applied, Quiet, TurnedAway, StartedAgain, Started as StartedFirst}
+use Rattle.cell_core.specs.Cases.TakeCase.{StartRefused, OldBeat, BeatRefused, BeatParked, OldEpoch, NoSession, Repeated, OlderCall, Outstanding, Recovering, Answered, Waits}
+use Rattle.over_core.specs.SweepCase.SweepCase.{Quiet, Recovers, Expires, AnswersBeat, TurnedAway, StartedAgain, Started as StartedFirst, OfEnded, Ended, Applied}
 use Rattle.world_cell.specs.declared.steps.Step.{Step}
 use Rattle.client_core.specs.State.{ClientState}
 use Rattle.world_cell.specs.declared.seats.Seat.{Seat}
@@ -35,12 +37,16 @@ use Rattle.world_cell.specs.Messages.{call_of}
 use Rattle.world_cell.specs.World.{WorldState, WorldView, seat_of}
 use Rattle.world_cell.specs.Consistent.{FitsMessages, Agrees, Fits, IsConsistent}
 use Rattle.world_cell.specs.Runs.{Does, Run, applied, put_number, IsAbove, RisesFrom, Rises}
-use Rattle.world_cell.proofs.ClientCases.{IsSilentLine, IsSilent, SendsCall}
+use Rattle.world_cell.proofs.SilentLines.{IsSilentLine, IsSilent}
 use Rattle.world_cell.proofs.MessagesGrow.{call_more, no_call, one_call}
-use Rattle.world_cell.proofs.MasterFits.{same, kept_own, kept_other, turn_sent, call_turn, WasAsked}
-use Rattle.world_cell.proofs.WorldCases.{IsCall, WorldCase, world_case}
-use Rattle.world_cell.proofs.WorldCases.WorldCase.{ComesUp, Joins, Calls, Starts, Acts, Grants, Takes, Sweeps}
-use Rattle.world_cell.proofs.ConsistentSteps.{HasLater, Later, case_later, noted_fits, agrees_at}
+use Rattle.world_cell.proofs.OneSession.{same, other, kept_own, kept_other, kept_stays, kept_begins, answered_so}
+use Rattle.world_cell.proofs.MasterFits.{turn_sent, call_turn, WasAsked, live_note, behind_note, epoch_note}
+use Rattle.world_cell.proofs.WorldCases.{WorldCase, world_case}
+use Rattle.world_cell.proofs.WorldCases.WorldCase.{ComesUp, Joins, Asks, Beats, Gives, Ticks, Takes, Sweeps}
+use Rattle.world_cell.proofs.OwnSteps.{IsNextCall, Sends, sending, IsOwn, asks_own, beats_own, gives_own}
+use Rattle.world_cell.proofs.OwnSteps.Sends.{Nothing, NoCall, NextCall}
+use Rattle.world_cell.proofs.SeatsFound.{some_same}
+use Rattle.world_cell.proofs.ConsistentSteps.{Later, own_goes, case_later, noted_fits, no_call_found, all_first}
 
 abbrev last_after : Option ℕ → List ℕ → Option ℕ
 last_after last [] = last
@@ -61,7 +67,7 @@ PastResult number None last = IsAbove last number
 PastResult number (Some reply) last = IsFrom last number
 
 -- the call that waits, or else each one that the master may still take
-abbrev PastKept : List Message → ℕ → ℕ → Option Kept → Option ℕ → Type 0
+abbrev PastKept : List Message → ℕ → ℕ → Option (Kept Reply) → Option ℕ → Type 0
 PastKept sent epoch client None last = (number : ℕ) (call : CallMessage) → call_of sent client number ≡ Some call → call.epoch ≡ epoch → IsAbove last number
 PastKept sent epoch client (Some kept) last = PastResult kept.number kept.reply last
 
@@ -72,10 +78,16 @@ abbrev PastIn : List Message → ℕ → Option MasterState → Option ℕ → T
 PastIn sent client None last = Unit {0}
 PastIn sent client (Some s) last = PastMaster sent client s last
 
+-- the client is there, and has made that many calls at least
+record HasMade (w : WorldState) (client calls : ℕ) : Type 0 where
+  seat : Seat
+  there : seat_of w client ≡ Some seat
+  more : calls ≤ seat.client.calls
+
 -- the client numbered that far
 abbrev IsCounted : WorldState → ℕ → Option ℕ → Type 0
 IsCounted w client None = Unit {0}
-IsCounted w client (Some last) = HasLater w client last
+IsCounted w client (Some last) = HasMade w client last
 
 -- last: the number of the client's call that was applied last
 record Past (w : WorldState) (client : ℕ) (last : Option ℕ) : Type 0 where
@@ -89,10 +101,10 @@ counted_later old new client None l h = tt
 counted_later old new client (Some last) l h =
     let y = l.clients client h.seat h.there in
     let a = h.more in
-    let b = y.more in
-    record { seat = y.seat; there = y.there; more = omega arith }
+    let b = y.calls in
+    record { seat = y.next; there = y.there; more = omega arith }
 
-kept_later : (xs ys : List Message) (epoch client : ℕ) (o : Option Kept) (last : Option ℕ) → ((number : ℕ) (call : CallMessage) → call_of ys client number ≡ Some call → IsAbove last number) → PastKept xs epoch client o last → PastKept (xs ++ ys) epoch client o last
+kept_later : (xs ys : List Message) (epoch client : ℕ) (o : Option (Kept Reply)) (last : Option ℕ) → ((number : ℕ) (call : CallMessage) → call_of ys client number ≡ Some call → IsAbove last number) → PastKept xs epoch client o last → PastKept (xs ++ ys) epoch client o last
 kept_later xs ys epoch client (Some kept) last fresh h = h
 kept_later xs ys epoch client None last fresh h = λ number call is of.
     elim (call_more xs ys client number call is) [ inl a ↦ h number call a of | inr b ↦ fresh number call b ]
@@ -108,7 +120,7 @@ outs_later xs sent client s last h =
 -- ---- a message is taken
 
 -- a new call is above the last one
-new_above : (sent : List Message) (epoch client number : ℕ) (o : Option Kept) (last : Option ℕ) (call : CallMessage) → IsBehind o number → call_of sent client number ≡ Some call → call.epoch ≡ epoch → PastKept sent epoch client o last → IsAbove last number
+new_above : (sent : List Message) (epoch client number : ℕ) (o : Option (Kept Reply)) (last : Option ℕ) (call : CallMessage) → IsBehind o number → call_of sent client number ≡ Some call → call.epoch ≡ epoch → PastKept sent epoch client o last → IsAbove last number
 new_above sent epoch client number None last call behind found of h = h number call found of
 new_above sent epoch client number (Some kept) None call behind found of h = tt
 new_above sent epoch client number (Some kept) (Some l) call behind found of h =
@@ -117,24 +129,19 @@ new_above sent epoch client number (Some kept) (Some l) call behind found of h =
     let k : PastResult kept.number (Some behind.0) (Some l) = rw e at h in omega arith
 
 -- what is kept of one client is the new entry, or as it was
-put_past : (sent : List Message) (s : MasterState) (whose client : ℕ) (kept : Kept) (last : Option ℕ) → (whose ≡ client → PastResult kept.number kept.reply last) → PastMaster sent client s last → PastKept sent s.epoch client (kept_of (recorded s whose kept) client) last
-put_past sent s whose client kept last own h =
+put_past : (sent : List Message) (s : MasterState) (whose client : ℕ) (kept : Kept Reply) (last : Option ℕ) → is_live s whose ≡ true → (whose ≡ client → PastResult kept.number kept.reply last) → PastMaster sent client s last → PastKept sent s.epoch client (kept_of (recorded s whose kept) client) last
+put_past sent s whose client kept last live own h =
     (elim (eqb client whose) as (λ b. eqb client whose ≡ b → PastKept sent s.epoch client (kept_of (recorded s whose kept) client) last) [
-      | true ↦ (λ e. let n : client ≡ whose = same client whose e in rw (n, kept_own s whose kept) (own (sym n)))
-      | false ↦ (λ e. rw (kept_other s whose client kept e) h)
+      | true ↦ (λ e.
+          let n : client ≡ whose = same client whose e in
+          subst (λ q. PastKept sent s.epoch client (kept_of (recorded s whose kept) q) last) (sym n)
+          (subst (λ o. PastKept sent s.epoch client o last) (sym (kept_own s.sessions whose kept live)) (own (sym n))))
+      | false ↦ (λ e. subst (λ o. PastKept sent s.epoch client o last) (sym (kept_other s.sessions whose client kept (other client whose e))) h)
     ]) refl
 
 note_past : (sent : List Message) (s : MasterState) (note : Option Note) (client : ℕ) (last : Option ℕ) → PastMaster sent client s last → PastMaster sent client (with_note s note) last
 note_past sent s None client last h = h
 note_past sent s (Some note) client last h = h
-
-epoch_note : (s : MasterState) (note : Option Note) → (with_note s note).epoch ≡ s.epoch
-epoch_note s None = refl
-epoch_note s (Some note) = refl
-
-behind_note : (s : MasterState) (note : Option Note) (client number : ℕ) → IsBehind (kept_of s client) number → IsBehind (kept_of (with_note s note) client) number
-behind_note s None client number h = h
-behind_note s (Some note) client number h = h
 
 -- a new call of whichever client
 call_above : (sent : List Message) (t : MasterState) (client : ℕ) (last : Option ℕ) (message : CallMessage) → IsBehind (kept_of t message.client) message.number → call_of sent message.client message.number ≡ Some message → message.epoch ≡ t.epoch → PastMaster sent client t last → message.client ≡ client → IsAbove last message.number
@@ -142,17 +149,26 @@ call_above sent t client last message behind found of h is =
     let k : PastMaster sent message.client t last = rw (← is) at h in
     new_above sent t.epoch message.client message.number (kept_of t message.client) last message behind found of k
 
+-- a step that keeps what is kept of calls
+same_past : (sent : List Message) (epoch client : ℕ) (a b : Option (Kept Reply)) (last : Option ℕ) → b ≡ a → PastKept sent epoch client a last → PastKept sent epoch client b last
+same_past sent epoch client a b last is h = subst (λ o. PastKept sent epoch client o last) (sym is) h
+
 take_past : (sent : List Message) (s : MasterState) (request : Request) (c : TakeCase s request) (client : ℕ) (last : Option ℕ) → WasAsked sent request → PastMaster sent client s last → PastMaster sent client (taken_by s request c).0 last
-take_past sent s request (Answered message note answer new answered) client last asked h =
+take_past sent s request (BeatParked beat is epoch taken) client last asked h =
+    same_past sent s.epoch client (kept_of s client) _ last (kept_stays s.sessions beat.client (beaten beat s.clock) (λ session. refl) client) h
+take_past sent s request (Recovering message new recovering) client last asked h =
+    put_past sent s message.client client (answered_by (reply_of s message.client message.number (results.Refused faults.Recovering))) last new.heard.live
+    (λ is. above_from last message.number (call_above sent s client last message new.behind (asked message new.heard.is_call) new.heard.epoch h is)) h
+take_past sent s request (Answered message note answer new serving answered) client last asked h =
     let t = with_note s note in
     let past : PastMaster sent client t last = note_past sent s note client last h in
-    put_past sent t message.client client (answered_by (reply_of t message.client message.number answer)) last
+    put_past sent t message.client client (answered_by (reply_of t message.client message.number answer)) last (live_note s note message.client new.heard.live)
     (λ is. above_from last message.number (call_above sent t client last message (behind_note s note message.client message.number new.behind) (asked message new.heard.is_call) (new.heard.epoch ∙ sym (epoch_note s note)) past is))
     past
-take_past sent s request (Waits message note touched new admitted) client last asked h =
+take_past sent s request (Waits message note touched new serving admitted) client last asked h =
     let t = with_note s note in
     let past : PastMaster sent client t last = note_past sent s note client last h in
-    put_past sent t message.client client (record { number = message.number; reply = None }) last
+    put_past sent t message.client client (record { number = message.number; reply = None }) last (live_note s note message.client new.heard.live)
     (λ is. call_above sent t client last message (behind_note s note message.client message.number new.behind) (asked message new.heard.is_call) (new.heard.epoch ∙ sym (epoch_note s note)) past is)
     past
 take_past sent s request _ client last asked h = h
@@ -164,6 +180,8 @@ repeated_silent (Some reply) = tt
 -- taking a message applies nothing
 pub taken_silent : (s : MasterState) (request : Request) (c : TakeCase s request) → IsSilent (taken_by s request c).1.lines
 taken_silent s request (StartRefused start is may) = (tt, tt)
+taken_silent s request (OldBeat beat is apart) = (tt, tt)
+taken_silent s request (BeatRefused beat fault is of refused) = (tt, tt)
 taken_silent s request (OldEpoch message is apart) = (tt, tt)
 taken_silent s request (NoSession message is of dead) = (tt, tt)
 taken_silent s request (Repeated message kept heard is number) = repeated_silent kept.reply
@@ -189,36 +207,50 @@ module _ (sent : List Message) (s : MasterState) (client : ℕ) (last : Option �
       subst (λ n. PastResult n None last) t.same v
 
   -- t: the master behind the change, without what is noted of a handle
-  end_past : (t : MasterState) (task : Task) (note : Option Note) (answer : CallResult) (next : Option ℕ) → t.kept ≡ s.kept → t.epoch ≡ s.epoch → (task.client ≡ client → IsFrom next task.number) → (eqb client task.client ≡ false → next ≡ last) → PastMaster sent client (ended t task note answer) next
-  end_past t task note answer next same_kept same_epoch own apart =
-      let kept : Kept = answered_by (reply_of t task.client task.number answer) in
-      let before : PastKept sent t.epoch client (lookup (is_at (nat_cmp client)) t.kept) last = rw (same_kept, same_epoch) h in
+  end_past : (t : MasterState) (task : Task) (note : Option Note) (answer : CallResult) (next : Option ℕ) → t.sessions ≡ s.sessions → t.epoch ≡ s.epoch → is_live s task.client ≡ true → (task.client ≡ client → IsFrom next task.number) → (eqb client task.client ≡ false → next ≡ last) → PastMaster sent client (ended t task note answer) next
+  end_past t task note answer next same_sessions same_epoch live own apart =
+      let kept : Kept Reply = answered_by (reply_of t task.client task.number answer) in
+      let lives : is_live t task.client ≡ true = subst (λ x. of_sessions.is_live x task.client ≡ true) (sym same_sessions) live in
+      let before : PastKept sent t.epoch client (kept_of t client) last = subst (λ x. PastKept sent t.epoch client (of_sessions.kept_of x client) last) (sym same_sessions) (subst (λ n. PastKept sent n client (kept_of s client) last) (sym same_epoch) h) in
       note_past sent (recorded t task.client kept) note client next
       ((elim (eqb client task.client) as (λ b. eqb client task.client ≡ b → PastKept sent t.epoch client (kept_of (recorded t task.client kept) client) next) [
-        | true ↦ (λ e. let n : client ≡ task.client = same client task.client e in rw (n, kept_own t task.client kept) (own (sym n)))
-        | false ↦ (λ e. rw (kept_other t task.client client kept e, apart e) before)
+        | true ↦ (λ e.
+            let n : client ≡ task.client = same client task.client e in
+            subst (λ q. PastKept sent t.epoch client (kept_of (recorded t task.client kept) q) next) (sym n)
+            (subst (λ o. PastKept sent t.epoch client o next) (sym (kept_own t.sessions task.client kept lives)) (own (sym n))))
+        | false ↦ (λ e.
+            subst (λ o. PastKept sent t.epoch client o next) (sym (kept_other t.sessions task.client client kept (other client task.client e)))
+            (subst (λ l. PastKept sent t.epoch client (kept_of t client) l) (sym (apart e)) before))
       ]) refl)
 
   differ : (n m : ℕ) → eqb n m ≡ false → (m == n) ≡ false
   differ n m e = grind (arith, nat_tests)
 
-  applied_past : (t : MasterState) (front back : List (Waiting Task)) (task : Task) (call : Call) (note : Option Note) (answer : CallResult) → t.kept ≡ s.kept → t.epoch ≡ s.epoch → IsTurn s front task back → task.work ≡ works.Calls call → (b : Bool) → (task.client == client) ≡ b → RisesFrom last (cond b (task.number ∷ []) []) × PastMaster sent client (ended t task note answer) (last_after last (cond b (task.number ∷ []) []))
-  applied_past t front back task call note answer same_kept same_epoch turn work true e =
+  applied_past : (t : MasterState) (front back : List (Waiting Task)) (task : Task) (call : Call) (note : Option Note) (answer : CallResult) → t.sessions ≡ s.sessions → t.epoch ≡ s.epoch → is_live s task.client ≡ true → IsTurn s front task back → task.work ≡ works.Calls call → (b : Bool) → (task.client == client) ≡ b → RisesFrom last (cond b (task.number ∷ []) []) × PastMaster sent client (ended t task note answer) (last_after last (cond b (task.number ∷ []) []))
+  applied_past t front back task call note answer same_sessions same_epoch live turn work true e =
       let n : task.client ≡ client = same task.client client e in
-      ((turn_above front back task call turn work n, tt), end_past t task note answer (Some task.number) same_kept same_epoch (λ own. omega arith) (λ apart. let d = differ client task.client apart in cc))
-  applied_past t front back task call note answer same_kept same_epoch turn work false e =
-      (tt, end_past t task note answer last same_kept same_epoch (λ own. above_from last task.number (turn_above front back task call turn work own)) (λ apart. refl))
+      ((turn_above front back task call turn work n, tt), end_past t task note answer (Some task.number) same_sessions same_epoch live (λ own. omega arith) (λ apart. let d = differ client task.client apart in cc))
+  applied_past t front back task call note answer same_sessions same_epoch live turn work false e =
+      (tt, end_past t task note answer last same_sessions same_epoch live (λ own. above_from last task.number (turn_above front back task call turn work own)) (λ apart. refl))
 
   sweep_past : (c : SweepCase s) → SweptOn sent client last (swept_by s c).1.lines (swept_by s c).0
-  sweep_past (Ended front back task call note answer turn work made) =
-      record { rises = tt; past = end_past (rest s front back) task note answer last refl refl (λ own. above_from last task.number (turn_above front back task call turn work own)) (λ apart. refl) }
-  sweep_past (Applied front back task call note change answer turn work made) =
-      let t = applied_past (mapped (rest s front back) change) front back task call note answer refl refl turn work (task.client == client) refl in
-      record { rises = t.0; past = t.1 }
   sweep_past (Quiet none) = record { rises = tt; past = h }
-  sweep_past (TurnedAway front back task principal turn work may) = record { rises = tt; past = h }
-  sweep_past (StartedAgain front back task principal turn work may live) = record { rises = tt; past = h }
-  sweep_past (StartedFirst front back task principal turn work may live) = record { rises = tt; past = h }
+  sweep_past (Recovers recovering heard) = record { rises = tt; past = h }
+  sweep_past (Expires whose session due) =
+      record { rises = tt; past = same_past sent s.epoch client (kept_of s client) _ last (kept_stays s.sessions whose of_session.ended (λ session. refl) client) h }
+  sweep_past (AnswersBeat whose session beat due) =
+      record { rises = tt; past = same_past sent s.epoch client (kept_of s client) _ last (kept_stays s.sessions whose (answered s.sessions.lease s.clock) (λ session. (answered_so s.sessions.lease s.clock session).kept) client) h }
+  sweep_past (TurnedAway front back task principal received turn work may) = record { rises = tt; past = h }
+  sweep_past (StartedAgain front back task principal received session turn work found live) =
+      record { rises = tt; past = same_past sent s.epoch client (kept_of s client) _ last (kept_stays s.sessions task.client (prolonged (s.clock + s.sessions.lease)) (λ session. refl) client) h }
+  sweep_past (StartedFirst front back task principal received turn work none) =
+      record { rises = tt; past = same_past sent s.epoch client (kept_of s client) _ last (kept_begins s.sessions task.client (session_until principal true (s.clock + s.sessions.lease)) none refl client) h }
+  sweep_past (OfEnded front back task call turn work gone) = record { rises = tt; past = h }
+  sweep_past (Ended front back task call note answer turn work live made) =
+      record { rises = tt; past = end_past (rest s front back) task note answer last refl refl live (λ own. above_from last task.number (turn_above front back task call turn work own)) (λ apart. refl) }
+  sweep_past (Applied front back task call note change answer turn work live made) =
+      let t = applied_past (mapped (rest s front back) change) front back task call note answer refl refl live turn work (task.client == client) refl in
+      record { rises = t.0; past = t.1 }
 
 -- ---- a step
 
@@ -240,7 +272,7 @@ silent_on client new printed last silent h =
 
 -- what a sweep applied was sent
 applied_counted : (w : WorldState) (h : IsConsistent w) (s : MasterState) (c : SweepCase s) (client : ℕ) (last : Option ℕ) → FitsMessages w.messages s → IsCounted w client last → IsCounted w client (last_after last (applied client (swept_by s c).1.lines))
-applied_counted w h s (Applied front back task call note change answer turn work made) client last fits counted =
+applied_counted w h s (Applied front back task call note change answer turn work live made) client last fits counted =
     let sent = h.sent task.client task.number (record { client = task.client; epoch = s.epoch; number = task.number; call = call }) (turn_sent w.messages s front task back turn fits call work) in
     (elim (task.client == client) as (λ b. (task.client == client) ≡ b → IsCounted w client (last_after last (cond b (task.number ∷ []) []))) [
       | true ↦ (λ e. let n : task.client ≡ client = same task.client client e in rw (← n) (record { seat = sent.seat; there = sent.joined; more = sent.within }))
@@ -251,13 +283,10 @@ applied_counted w h s _ client last fits counted = counted
 past_master : (sent : List Message) (client : ℕ) (last : Option ℕ) (m : Option MasterState) (s : MasterState) → m ≡ Some s → PastIn sent client m last → PastMaster sent client s last
 past_master sent client last m s e k = rw e at k
 
-some_same : {X : Type 0} (a b : X) → ◌≡◌ {A = Option X} (Some a) (Some b) → a ≡ b
-some_same a b h = cc
-
 -- a call that is sent now is above all that were
-sent_above : (w : WorldState) → IsConsistent w → (number client : ℕ) (seat : Seat) (next : ClientState) (call : CallMessage) (last : Option ℕ) → seat_of w number ≡ Some seat → SendsCall seat.client next call → IsCounted w client last → call.client ≡ client → IsAbove last call.number
-sent_above w h number client seat next call None found made counted of = tt
-sent_above w h number client seat next call (Some l) found made counted of =
+sent_above : (w : WorldState) → IsConsistent w → (number client : ℕ) (seat : Seat) (call : CallMessage) (last : Option ℕ) → seat_of w number ≡ Some seat → IsNextCall seat.client call → IsCounted w client last → call.client ≡ client → IsAbove last call.number
+sent_above w h number client seat call None found made counted of = tt
+sent_above w h number client seat call (Some l) found made counted of =
     let n : client ≡ number = sym of ∙ made.client ∙ (h.clients number seat found).own in
     let there = counted.there in
     let i : seat_of w number ≡ Some counted.seat = rw n at there in
@@ -267,6 +296,18 @@ sent_above w h number client seat next call (Some l) found made counted of =
     let is_next = made.number in
     omega arith
 
+-- and so is each call in what a client sends
+sending_above : (w : WorldState) → IsConsistent w → (number client : ℕ) (seat : Seat) (new : ClientState) (sent : Option Request) (last : Option ℕ) → seat_of w number ≡ Some seat → Sends seat.client new sent → IsCounted w client last → (n : ℕ) (call : CallMessage) → call_of (sending sent) client n ≡ Some call → IsAbove last n
+sending_above w h number client seat new sent last found (Nothing e calls) counted n call is =
+    let k : call_of [] client n ≡ Some call = subst (λ o. call_of (sending o) client n ≡ Some call) e is in cc
+sending_above w h number client seat new sent last found (NoCall request e none calls) counted n call is =
+    let k : call_of (ToMaster request ∷ []) client n ≡ Some call = subst (λ o. call_of (sending o) client n ≡ Some call) e is in
+    let nothing = no_call_found request client n none in cc
+sending_above w h number client seat new sent last found (NextCall next e m calls) counted n call is =
+    let k : call_of (ToMaster (requests.Call next) ∷ []) client n ≡ Some call = subst (λ o. call_of (sending o) client n ≡ Some call) e is in
+    let t = one_call next call client n k in
+    subst (λ x. IsAbove last x) t.2 (sent_above w h number client seat next last found m counted t.1)
+
 module _ (client : ℕ) (last : Option ℕ) (old : WorldState) (step : Step) (new : WorldState) (printed : List Line) (h : IsConsistent old) (p : Past old client last) where
   counted_on : WorldCase old step new printed → IsCounted new client last
   counted_on c = counted_later old new client last (case_later old step new printed h c) p.counted
@@ -275,26 +316,26 @@ module _ (client : ℕ) (last : Option ℕ) (old : WorldState) (step : Step) (ne
   same_master : (more : List Message) → new.messages ≡ old.messages ++ more → new.master ≡ old.master → ((number : ℕ) (call : CallMessage) → call_of more client number ≡ Some call → IsAbove last number) → PastIn new.messages client new.master last
   same_master more messages master fresh = rw (messages, master) (in_later old.messages more client old.master last fresh p.master)
 
+  own_on : IsOwn old new printed → StepsOn client last printed new
+  own_on o =
+      silent_on client new printed last o.silent (record {
+        counted = counted_later old new client last (own_goes old new printed h o) p.counted;
+        master = same_master (sending o.sent) o.grown (ap (λ (w : WorldState). w.master) o.is) (λ number call is. sending_above old h o.number client o.seat o.client o.sent last o.found o.sends p.counted number call is);
+      })
+
   step_on : WorldCase old step new printed → StepsOn client last printed new
   step_on (ComesUp u) =
       let past : PastIn new.messages client new.master last = subst (λ (x : WorldState). PastIn x.messages client x.master last) (sym u.is)
-      (λ number call is of. let before = (h.sent client number call is).past in absurd (omega arith)) in
+      (same_past old.messages (old.rows.epoch + 1) client None _ last (all_first u.now old.rows.sessions client).0
+      (λ number call is of. let before = (h.sent client number call is).past in absurd (omega arith))) in
       record { rises = rw u.tells tt; past = rw u.tells (record { counted = counted_on (ComesUp u); master = past }) }
   step_on (Joins j) =
       silent_on client new printed last (rw j.tells tt) (record { counted = counted_on (Joins j); master = same_master [] (rw j.is (sym (append-nil old.messages))) (rw j.is refl) (λ number call is. cc) })
-  step_on (Calls c) =
-      silent_on client new printed last (rw c.tells tt) (record {
-        counted = counted_on (Calls c);
-        master = same_master (ToMaster (requests.Call c.call) ∷ []) (rw c.is refl) (rw c.is refl) (λ number call is.
-            let t = one_call c.call call client number is in
-            rw (← t.2) (sent_above old h c.number client c.seat c.client c.call last c.found c.made p.counted t.1));
-      })
-  step_on (Starts c) =
-      silent_on client new printed last (rw c.tells tt) (record { counted = counted_on (Starts c); master = same_master (ToMaster (requests.Start c.start) ∷ []) (rw c.is refl) (rw c.is refl) (λ number call is. cc) })
-  step_on (Acts c) =
-      silent_on client new printed last c.silent (record { counted = counted_on (Acts c); master = same_master [] (rw c.is (sym (append-nil old.messages))) (rw c.is refl) (λ number call is. cc) })
-  step_on (Grants c) =
-      silent_on client new printed last (rw c.tells tt) (record { counted = counted_on (Grants c); master = same_master [] (rw c.is (sym (append-nil old.messages))) (rw c.is refl) (λ number call is. cc) })
+  step_on (Asks a) = own_on (asks_own old step new printed a)
+  step_on (Beats b) = own_on (beats_own old step new printed b)
+  step_on (Gives g) = own_on (gives_own old step new printed g)
+  step_on (Ticks t) =
+      silent_on client new printed last (rw t.tells tt) (record { counted = counted_on (Ticks t); master = same_master [] (rw t.is (sym (append-nil old.messages))) (rw t.is refl) (λ number call is. cc) })
   step_on (Takes t) =
       let s = noted t.master old.clock in
       let asked = λ (call : CallMessage) (e : t.request ≡ requests.Call call). h.named t.at call (t.was_sent ∙ ap (λ r. Some r) e) in
@@ -319,7 +360,7 @@ module _ (client : ℕ) (last : Option ℕ) (old : WorldState) (step : Step) (ne
       })
 
 does_on : (client : ℕ) (last : Option ℕ) (old : WorldView) (step : Step) (new : WorldView) (printed : List Line) → IsConsistent old.world → Past old.world client last → Does old step new printed → StepsOn client last printed new.world
-does_on client last old step new printed h p (inl m) = step_on client last old.world step new.world printed h p (world_case old.world step new.world printed m.is_step)
+does_on client last old step new printed h p (inl m) = step_on client last old.world step new.world printed h p (world_case old.world step new.world printed h.master m.is_step)
 does_on client last old step new printed h p (inr r) =
     silent_on client new.world printed last (rw r.line (tt, tt)) (subst (λ (x : WorldState). Past x client last) (sym r.left.same) p)
 
@@ -349,7 +390,7 @@ first_result : (number : ℕ) (o : Option Reply) → PastResult number o None
 first_result number None = tt
 first_result number (Some reply) = tt
 
-first_kept : (sent : List Message) (epoch client : ℕ) (o : Option Kept) → PastKept sent epoch client o None
+first_kept : (sent : List Message) (epoch client : ℕ) (o : Option (Kept Reply)) → PastKept sent epoch client o None
 first_kept sent epoch client None = λ number call is of. tt
 first_kept sent epoch client (Some kept) = first_result kept.number kept.reply
 

@@ -1,5 +1,5 @@
 -- What the printed lines tell of the rows.
-use Rattle.std.proofs.Common.{◌≡◌, ℕ, List, [], ◌∷◌, ◌++◌, refl, sym, ap, ◌∙◌, inl, inr}
+use Rattle.std.proofs.Common.{◌≡◌, ℕ, List, [], ◌∷◌, ◌++◌, false, refl, sym, ap, ◌∙◌, inl, inr}
 use Rattle.node_core.specs.declared.lines.Line.{Line}
 use Rattle.node_core.specs.declared.lines.Line.TheVariants as lines
 use Rattle.node_core.specs.declared.views.Mod.{Mod}
@@ -9,18 +9,21 @@ use Rattle.rows_cell.specs.declared.tables.Rows.{Rows}
 use Rattle.rows_cell.specs.declared.tables.Edit.TheVariants.{NextInstance}
 use Rattle.rows_cell.specs.Rows.{changed_rows, map_of}
 use Rattle.rows_cell.proofs.RowViews.{views_put, views_gone}
-use Rattle.cell_core.specs.State.{MasterState}
+use Rattle.cell_core.specs.State.{MasterState, locks_of}
 use Rattle.cell_core.specs.Step.{noted}
 use Rattle.cell_core.specs.Deeds.{edit_of}
 use Rattle.over_core.specs.SweepCase.{SweepCase, swept_by, swept_edits}
-use Rattle.over_core.specs.SweepCase.SweepCase.{Applied}
+use Rattle.over_core.specs.SweepCase.SweepCase.{Expires, Applied}
 use Rattle.world_cell.specs.declared.steps.Step.{Step}
 use Rattle.world_cell.specs.World.{WorldState, WorldView}
+use Rattle.world_cell.specs.Consistent.{IsConsistent}
 use Rattle.world_cell.specs.Runs.{Does, Run, map_by, map_at, epoch_by, epoch_at}
-use Rattle.world_cell.proofs.ClientCases.{IsSilentLine, IsSilent}
+use Rattle.world_cell.proofs.SilentLines.{IsSilentLine, IsSilent}
 use Rattle.world_cell.proofs.OnceByRuns.{taken_silent}
 use Rattle.world_cell.proofs.WorldCases.{WorldCase, world_case}
-use Rattle.world_cell.proofs.WorldCases.WorldCase.{ComesUp, Joins, Calls, Starts, Acts, Grants, Takes, Sweeps}
+use Rattle.world_cell.proofs.WorldCases.WorldCase.{ComesUp, Joins, Asks, Beats, Gives, Ticks, Takes, Sweeps}
+use Rattle.world_cell.proofs.OwnSteps.{IsOwn, asks_own, beats_own, gives_own}
+use Rattle.world_cell.proofs.ConsistentSteps.{expired_rows}
 
 -- the new rows are those that the lines make of the former ones
 pub record Tells (old new : Rows) (printed : List Line) : Type 0 where
@@ -59,23 +62,29 @@ mod_tells rows client number (Gone name) next = record { is_map = views_gone row
 
 -- what a sweep commits is what it prints
 swept_tells : (rows : Rows) (s : MasterState) (c : SweepCase s) → Tells rows (changed_rows rows (swept_edits s c)) (swept_by s c).1.lines
-swept_tells rows s (Applied front back task call note change answer turn work made) = mod_tells rows task.client task.number change.change change.next_instance
+swept_tells rows s (Expires client session due) =
+    let t = expired_rows rows (locks_of client s.held_locks) client (record { principal = session.principal; live = false }) in
+    record { is_map = ap (λ r. map_of r) t.1; is_epoch = ap (λ (r : Rows). r.epoch) t.1 }
+swept_tells rows s (Applied front back task call note change answer turn work live made) = mod_tells rows task.client task.number change.change change.next_instance
 swept_tells rows s _ = record { is_map = refl; is_epoch = refl }
+
+own_tells : (old new : WorldState) (printed : List Line) → IsOwn old new printed → Tells old.rows new.rows printed
+own_tells old new printed o = silent_tells old.rows new.rows printed o.silent (ap (λ (w : WorldState). w.rows) o.is)
 
 case_tells : (old : WorldState) (step : Step) (new : WorldState) (printed : List Line) → WorldCase old step new printed → Tells old.rows new.rows printed
 case_tells old step new printed (ComesUp u) = rw (u.tells, u.is) (record { is_map = refl; is_epoch = refl })
 case_tells old step new printed (Joins j) = silent_tells old.rows new.rows printed (rw j.tells tt) (rw j.is refl)
-case_tells old step new printed (Calls c) = silent_tells old.rows new.rows printed (rw c.tells tt) (rw c.is refl)
-case_tells old step new printed (Starts c) = silent_tells old.rows new.rows printed (rw c.tells tt) (rw c.is refl)
-case_tells old step new printed (Acts c) = silent_tells old.rows new.rows printed c.silent (rw c.is refl)
-case_tells old step new printed (Grants c) = silent_tells old.rows new.rows printed (rw c.tells tt) (rw c.is refl)
+case_tells old step new printed (Asks a) = own_tells old new printed (asks_own old step new printed a)
+case_tells old step new printed (Beats b) = own_tells old new printed (beats_own old step new printed b)
+case_tells old step new printed (Gives g) = own_tells old new printed (gives_own old step new printed g)
+case_tells old step new printed (Ticks t) = silent_tells old.rows new.rows printed (rw t.tells tt) (rw t.is refl)
 case_tells old step new printed (Takes t) =
     silent_tells old.rows new.rows printed (rw t.tells (taken_silent (noted t.master old.clock) t.request t.case)) (rw t.is refl)
 case_tells old step new printed (Sweeps t) = rw (t.tells, t.is) (swept_tells old.rows (noted t.master old.clock) t.case)
 
-pub step_tells : (old : WorldView) (step : Step) (new : WorldView) (printed : List Line) → Does old step new printed → Tells old.world.rows new.world.rows printed
-step_tells old step new printed (inl m) = case_tells old.world step new.world printed (world_case old.world step new.world printed m.is_step)
-step_tells old step new printed (inr r) = silent_tells old.world.rows new.world.rows printed (rw r.line (tt, tt)) (ap (λ (w : WorldState). w.rows) r.left.same)
+pub step_tells : (old : WorldView) (step : Step) (new : WorldView) (printed : List Line) → IsConsistent old.world → Does old step new printed → Tells old.world.rows new.world.rows printed
+step_tells old step new printed h (inl m) = case_tells old.world step new.world printed (world_case old.world step new.world printed h.master m.is_step)
+step_tells old step new printed h (inr r) = silent_tells old.world.rows new.world.rows printed (rw r.line (tt, tt)) (ap (λ (w : WorldState). w.rows) r.left.same)
 
 -- ---- a run
 
@@ -93,7 +102,7 @@ tells_more old mid new xs ys h k = record {
   is_epoch = k.is_epoch ∙ ap (λ e. epoch_at e ys) h.is_epoch ∙ sym (epoch_more old.epoch xs ys);
 }
 
-pub run_tells : (old : WorldView) (steps : List Step) (printed : List Line) (new : WorldView) → Run old steps printed new → Tells old.world.rows new.world.rows printed
-run_tells old [] printed new h = rw (h.0, h.1) (record { is_map = refl; is_epoch = refl })
-run_tells old (step ∷ steps) printed new h =
-    rw h.6 (tells_more old.world.rows h.0.world.rows new.world.rows h.1 h.2 (step_tells old step h.0 h.1 h.3) (run_tells h.0 steps h.2 new h.5))
+pub run_tells : (old : WorldView) (steps : List Step) (printed : List Line) (new : WorldView) → IsConsistent old.world → Run old steps printed new → Tells old.world.rows new.world.rows printed
+run_tells old [] printed new h run = rw (run.0, run.1) (record { is_map = refl; is_epoch = refl })
+run_tells old (step ∷ steps) printed new h run =
+    rw run.6 (tells_more old.world.rows run.0.world.rows new.world.rows run.1 run.2 (step_tells old step run.0 run.1 h run.3) (run_tells run.0 steps run.2 new run.4 run.5))

@@ -61,6 +61,6 @@ pub beat_end : (client : ClientState) (now : ℕ) → AllLeave client (beat_step
 unfolding beat_step
 beat_end client now fault new h = grind (arith, common_steps)
 
-pub give_end : (client : ClientState) (now : ℕ) (out : Out) → AllLeave client (give_step client now out)
+pub give_end : (client : ClientState) (now : ℕ) (out : Out) → EndLeaves client (give_step client now out)
 unfolding give_step
-give_end client now out fault new h = grind (arith, common_steps)
+give_end client now out fault new h e = grind (arith, common_steps)

@@ -1,22 +1,29 @@
 -- What holds of every world: how its clients, its messages and its master fit one another.
-use Rattle.std.specs.Prelude.{◌≡◌, ℕ, ◌≤◌, ◌==◌, List, [], ◌∷◌, Option, Some, None, if◌then◌else◌, is_none}
+use Rattle.std.specs.Prelude.{◌≡◌, ◌⊎◌, ℕ, ◌+◌, ◌*◌, Bool, true, false, ◌≤◌, ◌==◌, List, [], ◌∷◌, Option, Some, None, if◌then◌else◌}
 use Rattle.tags_cell.specs.declared.calls.Call.{Call}
 use Rattle.tags_cell.specs.declared.requests.Request.TheVariants as requests
 use Rattle.tags_cell.specs.declared.requests.CallMessage.{CallMessage}
 use Rattle.tags_cell.specs.declared.outs.Out.TheVariants as outs
 use Rattle.tags_cell.specs.declared.outs.Started.{Started}
-use Rattle.cell_core.specs.declared.pending.Kept.{Kept}
+use Rattle.session_core.specs.declared.records.Kept.{Kept}
+use Rattle.session_core.specs.declared.records.Session.{Session}
+use Rattle.tags_cell.specs.declared.outs.Reply.{Reply}
+use Rattle.lease_core.specs.Lease.{longest_lease}
+use Rattle.coherence.specs.Slice.{Reached}
+use Rattle.client_core.specs.declared.sessions.Session.TheVariants as sessions
 use Rattle.gate_core.specs.declared.pending.Waiting.{Waiting}
 use Rattle.cell_core.specs.declared.pending.Task.{Task}
 use Rattle.cell_core.specs.declared.pending.Work.{Work}
 use Rattle.cell_core.specs.declared.pending.Work.TheVariants as works
 use Rattle.cell_core.specs.State.{MasterState}
-use Rattle.cell_core.specs.Step.{kept_of}
+use Rattle.cell_core.specs.Step.{session_of, kept_of}
 use Rattle.over_core.specs.Kept.{IsKept}
 use Rattle.world_cell.specs.declared.mail.Message.{Message}
 use Rattle.world_cell.specs.declared.seats.Seat.{Seat}
 use Rattle.world_cell.specs.Messages.{request_at, out_at, call_of}
+use Rattle.world_cell.specs.Seats.{is_fair}
 use Rattle.world_cell.specs.World.{WorldState, seat_of}
+use Rattle.world_cell.specs.Slices.{slice}
 
 -- ---- clients
 
@@ -24,6 +31,9 @@ use Rattle.world_cell.specs.World.{WorldState, seat_of}
 pub record IsSeated (epoch number : ℕ) (seat : Seat) : Type 0 where
   pub own : seat.client.number ≡ number
   pub past : seat.client.epoch ≤ epoch
+  pub unstarted : seat.client.session ≡ sessions.Unstarted → seat.client.epoch ≡ 0
+  -- it knows no moment to come
+  pub noted : seat.client.clock ≤ seat.clock
 
 -- ---- messages
 
@@ -39,20 +49,30 @@ pub record HasSent (w : WorldState) (client number : ℕ) (call : CallMessage) :
 -- the numbers of a client's calls that wait; the number of a Start is of another count
 abbrev pub put_waiting : ℕ → ℕ → ℕ → Work → List ℕ → List ℕ
 put_waiting client whose number (works.Calls call) numbers = if whose == client then number ∷ numbers else numbers
-put_waiting client whose number (works.Starts principal) numbers = numbers
+put_waiting client whose number (works.Starts principal received) numbers = numbers
 
 abbrev pub waiting : ℕ → List (Waiting Task) → List ℕ
 waiting client [] = []
 waiting client (w ∷ ws) = put_waiting client w.change.body.client w.change.body.number w.change.body.work (waiting client ws)
 
--- of a client's calls the last one waits until it has its reply, and no other does
-abbrev pub IsInTurn : Option Kept → List ℕ → Type 0
+-- the last call of a client waits until it has its reply; once the session has ended, at most until its turn
+abbrev pub IsWaiting : Bool → ℕ → Option Reply → List ℕ → Type 0
+IsWaiting live number (Some reply) numbers = numbers ≡ []
+IsWaiting true number None numbers = numbers ≡ number ∷ []
+IsWaiting false number None numbers = (numbers ≡ number ∷ []) ⊎ (numbers ≡ [])
+
+abbrev pub IsLastInTurn : Bool → Option (Kept Reply) → List ℕ → Type 0
+IsLastInTurn live None numbers = numbers ≡ []
+IsLastInTurn live (Some kept) numbers = IsWaiting live kept.number kept.reply numbers
+
+-- and no other call of the client waits
+abbrev pub IsInTurn : Option (Session Reply) → List ℕ → Type 0
 IsInTurn None numbers = numbers ≡ []
-IsInTurn (Some kept) numbers = numbers ≡ (if is_none kept.reply then kept.number ∷ [] else [])
+IsInTurn (Some session) numbers = IsLastInTurn session.live session.kept numbers
 
 -- a call that waits was sent in the master's epoch
 abbrev pub IsOfMessage : List Message → ℕ → ℕ → ℕ → Work → Type 0
-IsOfMessage sent epoch client number (works.Starts principal) = Unit {0}
+IsOfMessage sent epoch client number (works.Starts principal received) = Unit {0}
 IsOfMessage sent epoch client number (works.Calls call) = call_of sent client number ≡ Some (record { client = client; epoch = epoch; number = number; call = call })
 
 abbrev pub AreOfMessages : List Message → ℕ → List (Waiting Task) → Type 0
@@ -68,8 +88,8 @@ pub record WasSent (sent : List Message) (epoch client number : ℕ) : Type 0 wh
 -- what waits and what is kept fits the messages
 pub record FitsMessages (sent : List Message) (s : MasterState) : Type 0 where
   pub queue : AreOfMessages sent s.epoch s.gate.waiting
-  pub kept : (client : ℕ) (kept : Kept) → kept_of s client ≡ Some kept → WasSent sent s.epoch client kept.number
-  pub turns : (client : ℕ) → IsInTurn (kept_of s client) (waiting client s.gate.waiting)
+  pub kept : (client : ℕ) (kept : Kept Reply) → kept_of s client ≡ Some kept → WasSent sent s.epoch client kept.number
+  pub turns : (client : ℕ) → IsInTurn (session_of s client) (waiting client s.gate.waiting)
 
 -- what it knows of the rows is what they hold
 abbrev pub Agrees : WorldState → Option MasterState → Type 0
@@ -79,6 +99,23 @@ Agrees w (Some s) = IsKept w.cell w.rows s
 abbrev pub Fits : WorldState → Option MasterState → Type 0
 Fits w None = Unit {0}
 Fits w (Some s) = FitsMessages w.messages s
+
+-- ---- clocks
+
+-- the master knows no moment to come
+abbrev pub IsNoted : ℕ → Option MasterState → Type 0
+IsNoted now None = Unit {0}
+IsNoted now (Some s) = s.clock ≤ now
+
+-- a client's clock and the master's are fair since the point of their least lead, and the lead isn't less now
+pub record IsFairSince (now : ℕ) (seat : Seat) : Type 0 where
+  pub fair : is_fair now seat.clock seat ≡ true
+  pub least : 16 * seat.least_now + 17 * seat.clock ≤ 16 * now + 17 * seat.least_clock
+
+-- the clocks of each client and of the master
+abbrev pub AreFair : WorldState → Option MasterState → Type 0
+AreFair w None = Unit {0}
+AreFair w (Some s) = (number : ℕ) (seat : Seat) → seat_of w number ≡ Some seat → IsFairSince w.clock seat
 
 -- ---- all of it
 
@@ -95,3 +132,9 @@ pub record IsConsistent (w : WorldState) : Type 0 where
   pub master : Agrees w w.master
   -- and with the messages
   pub fits : Fits w w.master
+  -- no master gives a longer lease than the longest
+  pub lease : w.lease ≤ longest_lease
+  pub noted : IsNoted w.clock w.master
+  pub fair : AreFair w w.master
+  -- to each client the world is what some schedule leads to
+  pub reached : (client : ℕ) → Reached (slice client w)

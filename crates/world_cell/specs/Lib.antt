@@ -3,6 +3,8 @@ pub use Rattle.names_cell.specs.Text
 pub use Rattle.node_core.specs.Nodes
 pub use Rattle.rows_cell.specs.Rows
 pub use Rattle.rows_cell.specs.Sound
+pub use Rattle.coherence.specs.Slice
+pub use Rattle.session_core.specs.Sessions
 pub use Rattle.cell_core.specs.State
 pub use Rattle.cell_core.specs.Step
 pub use Rattle.over_core.specs.Effect
@@ -19,5 +21,6 @@ pub use Rattle.client_core.specs.Gives
 pub mod Messages
 pub mod Seats
 pub mod World
+pub mod Slices
 pub mod Consistent
 pub mod Runs

@@ -33,6 +33,7 @@ out_at sent number = option_map_or as_out (message_at sent number) None
 
 abbrev pub put_request : ℕ → ℕ → Request → Option CallMessage → Option CallMessage
 put_request client number (requests.Start start) later = later
+put_request client number (requests.Beat beat) later = later
 put_request client number (requests.Call call) later = if call.client == client && call.number == number then Some call else later
 
 abbrev pub put_call : ℕ → ℕ → Message → Option CallMessage → Option CallMessage

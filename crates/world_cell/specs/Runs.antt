@@ -1,5 +1,5 @@
 -- Whole runs of a world.
-use Rattle.std.specs.Prelude.{◌≡◌, ◌⊎◌, ℕ, ◌<◌, ◌==◌, List, [], ◌∷◌, ◌++◌, Option, Some, None, Ok, if◌then◌else◌}
+use Rattle.std.specs.Prelude.{◌≡◌, ◌⊎◌, ℕ, ◌+◌, ◌-◌, ◌*◌, ◌<◌, ◌≤◌, ◌==◌, Bool, true, false, List, [], ◌∷◌, ◌++◌, Option, Some, None, Ok, if◌then◌else◌}
 use Rattle.std.specs.Option.{option_map}
 use Rattle.node_core.specs.declared.refusals.Fault.{Fault}
 use Rattle.node_core.specs.declared.lines.Line.{Line}
@@ -18,7 +18,13 @@ use Rattle.over_core.specs.Effect.{effect}
 use Rattle.world_cell.specs.declared.steps.Step.{Step}
 use Rattle.world_cell.specs.declared.steps.Step.TheVariants.{Take, Sweep}
 use Rattle.world_cell.specs.Messages.{request_at, call_of}
-use Rattle.world_cell.specs.World.{WorldView, world_step, step_edits, IsStored, IsLeft, MayRefuseStep}
+use Rattle.lease_core.specs.Lease.{IsUnexpired}
+use Rattle.rows_cell.specs.Sound.{is_live_in}
+use Rattle.tags_cell.specs.declared.outs.Reply.{Reply}
+use Rattle.session_core.specs.declared.records.Session.{Session}
+use Rattle.cell_core.specs.Step.{session_of}
+use Rattle.world_cell.specs.declared.seats.Seat.{Seat}
+use Rattle.world_cell.specs.World.{WorldState, WorldView, seat_of, world_step, step_edits, IsStored, IsLeft, MayRefuseStep}
 use Rattle.world_cell.specs.Consistent.{IsConsistent}
 
 -- ---- runs
@@ -63,6 +69,40 @@ epoch_by epoch _ = epoch
 abbrev pub epoch_at : ℕ → List Line → ℕ
 epoch_at epoch [] = epoch
 epoch_at epoch (line ∷ rest) = epoch_at (epoch_by epoch line) rest
+
+-- ---- sessions
+
+abbrev pub live_by : ℕ → Bool → Line → Bool
+live_by client live (lines.Started whose) = if whose == client then true else live
+live_by client live (lines.Ended whose) = if whose == client then false else live
+live_by client live _ = live
+
+-- whether a client's session is live, by the lines and by whether it was before
+abbrev pub live_at : ℕ → Bool → List Line → Bool
+live_at client live [] = live
+live_at client live (line ∷ rest) = live_at client (live_by client live line) rest
+
+-- the rows hold the session as live, and where a master is up, that one may not end it yet
+pub record HasSession (w : WorldState) (number : ℕ) : Type 0 where
+  pub live : is_live_in w.rows number ≡ true
+  pub in_time : (master : MasterState) (session : Session Reply) → w.master ≡ Some master → session_of master number ≡ Some session → w.clock < session.timeout
+
+-- a client whose lease runs by its own clock has its session
+abbrev pub LeasesKeepSessions : WorldState → Type 0
+LeasesKeepSessions w = (number : ℕ) (seat : Seat) → seat_of w number ≡ Some seat → IsUnexpired seat.client.lease.sent seat.client.lease.span seat.clock → HasSession w number
+
+-- ---- clocks
+
+-- at two points of one master's life, for a client that had joined by the first
+abbrev pub AreFairClocks : WorldState → WorldState → Type 0
+AreFairClocks here later =
+    (master successor : MasterState) → here.master ≡ Some master → later.master ≡ Some successor → successor.epoch ≡ master.epoch → (number : ℕ) (seat moved : Seat)
+    → seat_of here number ≡ Some seat → seat_of later number ≡ Some moved → 16 * (later.clock - here.clock) ≤ 17 * ((moved.clock - seat.clock) + 1)
+
+-- from each point of a run to its end
+abbrev pub KeepsClocksFair : WorldView → List Step → WorldView → Type 0
+KeepsClocksFair old steps new =
+    (front rest : List Step) (here : WorldView) (before after : List Line) → steps ≡ front ++ rest → Run old front before here → Run here rest after new → AreFairClocks here.world new.world
 
 -- ---- each call at most once
 

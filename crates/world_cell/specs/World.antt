@@ -1,6 +1,8 @@
 -- A world: the rows, the master while one is up, the clients, and all messages; and what each step does.
-use Rattle.std.specs.Prelude.{◌≡◌, ◌⊎◌, ℕ, List, [], ◌∷◌, ◌++◌, map, Option, Some, None, Result, Ok, Err, if◌then◌else◌, is_some}
+use Rattle.std.specs.Prelude.{◌≡◌, ◌⊎◌, ℕ, ◌+◌, Bool, true, false, not, ◌&&◌, ◌||◌, nat_lt, nat_le, List, [], ◌∷◌, ◌++◌, map, Option, Some, None, Result, Ok, Err, if◌then◌else◌, is_some}
 use Rattle.std.specs.Option.{option_map_or}
+use Rattle.std.specs.List.{list_all, list_any}
+use Rattle.lease_core.specs.Lease.{moment_limit}
 use Rattle.std.specs.Map.{lookup}
 use Rattle.std.specs.BTreeMap.{is_at, insert_entry}
 use Rattle.std.specs.Ordering.{nat_cmp}
@@ -34,7 +36,8 @@ use Rattle.world_cell.specs.declared.seats.Seat.{Seat}
 use Rattle.world_cell.specs.declared.steps.Step.{Step}
 use Rattle.world_cell.specs.declared.steps.Step.TheVariants as steps
 use Rattle.world_cell.specs.declared.worlds.Turn.{Turn}
-use Rattle.world_cell.specs.Seats.{Clients, new_seat, seated}
+use Rattle.world_cell.specs.declared.steps.Ticks.{Ticks}
+use Rattle.world_cell.specs.Seats.{Clients, new_seat, seated, each_seat, at_up, is_fair, moved_beside, moved_alone}
 use Rattle.world_cell.specs.Messages.{request_at, out_at}
 
 -- cell: its name, by the settings of its store. rows: those that stand. clock: the master's, in milliseconds. clients: by number, each with its own clock. messages: all that were sent, in
@@ -91,7 +94,7 @@ Outcome = Result (WorldState × List Line) Fault
 abbrev pub came_up : WorldState → ℕ → Result MasterState Fault → Outcome
 came_up w now (Err fault) = Err fault
 came_up w now (Ok master) =
-    Ok (record w { rows = changed_rows w.rows (up_edits w.rows); master = Some master; clock = now }, lines.Up master.epoch ∷ [])
+    Ok (record w { rows = changed_rows w.rows (up_edits w.rows); master = Some master; clock = now; clients = each_seat (λ number. at_up now) w.clients }, lines.Up master.epoch ∷ [])
 
 -- one master at a time
 abbrev pub world_up : WorldState → ℕ → Option MasterState → Outcome
@@ -107,7 +110,7 @@ seat_of w number = lookup (is_at (nat_cmp number)) w.clients
 abbrev pub world_join : WorldState → ℕ → List ℕ → Outcome
 world_join w number principal =
     if is_some (seat_of w number) then Err faults.Exists
-    else Ok (record w { clients = insert_entry nat_cmp w.clients number (new_seat number principal) }, [])
+    else Ok (record w { clients = insert_entry nat_cmp w.clients number (new_seat number principal w.clock) }, [])
 
 abbrev pub with_client : WorldState → ℕ → Seat → ClientState → WorldState
 with_client w number seat client = record w { clients = seated w.clients number seat client }
@@ -143,6 +146,54 @@ beaten w number seat step = beaten_by (with_client w number seat step.0) step.1
 abbrev pub world_beat : WorldState → ℕ → Outcome
 world_beat w number = option_map_or (λ seat. beaten w number seat (beat_step seat.client seat.clock)) (seat_of w number) (Err faults.NoSession)
 
+-- ---- clocks move
+
+-- by how much a client's clock moves: its own step where it has one, else that of all
+abbrev pub own_step : Ticks → ℕ → ℕ
+own_step ticks number = option_map_or (λ step. step) (lookup (is_at (nat_cmp number)) ticks.own) ticks.clients
+
+-- where a client's clock is then
+abbrev pub clock_then : Ticks → ℕ → Seat → ℕ
+clock_then ticks number seat = seat.clock + own_step ticks number
+
+-- each step of its own is of a client that has joined
+abbrev pub are_joined : WorldState → List (ℕ × ℕ) → Bool
+are_joined w own = list_all (λ entry. is_some (seat_of w entry.0)) own
+
+-- the clocks of a client and of a master that is up stay fair
+abbrev pub stays_fair : WorldState → Ticks → ℕ × Seat → Bool
+stays_fair w ticks entry = is_fair (w.clock + ticks.master) (clock_then ticks entry.0 entry.1) entry.1
+
+-- a clock goes past the end of moments
+abbrev pub goes_past_end : WorldState → Ticks → Bool
+goes_past_end w ticks =
+    nat_le moment_limit (w.clock + ticks.master) || list_any (λ entry. nat_le moment_limit (clock_then ticks entry.0 entry.1)) w.clients
+
+-- the clients' clocks, by whether a master is up
+abbrev pub moved : Option MasterState → WorldState → Ticks → ℕ → Seat → Seat
+moved None w ticks number seat = moved_alone (clock_then ticks number seat) seat
+moved (Some master) w ticks number seat = moved_beside (w.clock + ticks.master) (clock_then ticks number seat) seat
+
+abbrev pub ticked : WorldState → Ticks → WorldState
+ticked w ticks = record w { clock = w.clock + ticks.master; clients = each_seat (moved w.master w ticks) w.clients }
+
+-- a clock of no master doesn't move
+abbrev pub moves_nobody : Option MasterState → Ticks → Bool
+moves_nobody None ticks = nat_lt 0 ticks.master
+moves_nobody (Some master) ticks = false
+
+abbrev pub are_fair : Option MasterState → WorldState → Ticks → Bool
+are_fair None w ticks = true
+are_fair (Some master) w ticks = list_all (stays_fair w ticks) w.clients
+
+abbrev pub world_tick : WorldState → Ticks → Outcome
+world_tick w ticks =
+    if moves_nobody w.master ticks then Err faults.MasterDown
+    else if not (are_joined w ticks.own) then Err faults.NoSession
+    else if not (are_fair w.master w ticks) then Err faults.UnfairClock
+    else if goes_past_end w ticks then Err faults.Exhausted
+    else Ok (ticked w ticks, [])
+
 -- ---- messages are delivered
 
 abbrev pub took : WorldState → Result (MasterState × Taken) Fault → Outcome
@@ -155,7 +206,7 @@ world_take w number (Some master) = option_map_or (λ request. took w (take_step
 
 abbrev pub gave_by : WorldState → Result (List Line) Fault → Outcome
 gave_by w (Ok printed) = Ok (w, printed)
-gave_by w (Err fault) = Err fault
+gave_by w (Err fault) = own_refusal w fault
 
 abbrev pub gave : WorldState → ℕ → Seat → ClientState × Result (List Line) Fault → Outcome
 gave w number seat step = gave_by (with_client w number seat step.0) step.1
@@ -194,6 +245,7 @@ world_step w (steps.Up now) = world_up w now w.master
 world_step w (steps.Join number principal) = world_join w number principal
 world_step w (steps.Ask number ask) = world_ask w number ask
 world_step w (steps.Beat number) = world_beat w number
+world_step w (steps.Tick ticks) = world_tick w ticks
 world_step w (steps.Take number) = world_take w number w.master
 world_step w (steps.Give number) = world_give w number
 world_step w steps.Sweep = without_quiet (world_sweep w w.master)

@@ -4,7 +4,8 @@ ghost use Rattle.rows_cell.specs.Rows.{map_of};
 ghost use Rattle.node_core.specs.declared.lines.Line.{Line as PrintedLine};
 ghost use Rattle.node_core.specs.declared.views.Mod.{Mod};
 ghost use Rattle.world_cell.specs.Consistent.{IsConsistent};
-ghost use Rattle.world_cell.specs.Runs.{Does, Run, map_at, epoch_at, applied, Rises, IsOfCall};
+ghost use Rattle.rows_cell.specs.Sound.{is_live_in};
+ghost use Rattle.world_cell.specs.Runs.{Does, Run, map_at, epoch_at, live_at, LeasesKeepSessions, KeepsClocksFair, applied, Rises, IsOfCall};
 
 use crate::steps::Step;
 use crate::worlds::World;
@@ -29,6 +30,13 @@ impl<R: Records + Drop> World<R> {
         // master took it before.
         ensures calls { IfOk result (λ lines. (before rest : List PrintedLine) (client number : ℕ) (change : Mod) →
             lines ≡ before ++ Line.Applied client number change ∷ rest → IsOfCall self.old steps.now before client number change rest self.new) }
+        // A client's session is live in the rows where the lines of its start and its end make it so.
+        ensures sessions { IfOk result (λ lines. (client : ℕ) → is_live_in self.new.world.rows client ≡ live_at client (is_live_in self.old.world.rows client) lines) }
+        // Whatever the schedule, a client whose lease runs by its own clock has its session.
+        ensures leases { LeasesKeepSessions self.new.world }
+        // From each point of the run to its end, where one master was up from first to last, its clock moved by a
+        // sixteenth more than a client's at most, and a millisecond.
+        ensures clocks { KeepsClocksFair self.old steps.now self.new }
     {
         self.consistent();
         let mut lines = Items::new(self.alloc());

@@ -1,13 +1,15 @@
 //! The parts of a world, and what each step does to them.
-ghost use Rattle.std.specs.Prelude.{◌≡◌, [], ◌∷◌, Some, None, Ok, Err, IfOk, IfErr, OnOk, OnErr, is_some};
-ghost use Rattle.world_cell.specs.World.{opened, store_in, world_step, world_up, world_join, world_ask, world_beat, world_take, world_give, world_sweep, step_edits, IsStored, IsLeft, MayRefuseStep};
+ghost use Rattle.lease_core.specs.Lease.{longest_lease};
+ghost use Rattle.std.specs.Prelude.{◌≡◌, ◌≤◌, [], ◌∷◌, false, Some, None, Ok, Err, IfOk, IfErr, OnOk, OnErr, is_some};
+ghost use Rattle.world_cell.specs.World.{opened, store_in, world_step, world_up, world_join, world_ask, world_beat, world_tick, world_take, world_give, world_sweep, moves_nobody, are_fair, goes_past_end, ticked, step_edits, IsStored, IsLeft, MayRefuseStep};
 ghost use Rattle.world_cell.specs.Consistent.{Agrees};
 
 use crate::mail::{self, Message};
 use crate::seats::Seats;
-use crate::steps::Step;
+use crate::steps::{Step, Ticks};
 use crate::worlds::Turn;
 use client_core::{Ask, Asked};
+use lease_core::MOMENT_LIMIT;
 use names_cell::Principal;
 use node_core::{Fault, Line};
 use over_core::Cell;
@@ -46,7 +48,8 @@ impl<R: Records> Model for Stage<R> {
 
 impl<R: Records + Drop> Stage<R> {
     pub(crate) fn new(alloc: Global, records: R, settings: &Settings) -> Stage<R>
-        ensures { result ≡ opened (R.store records) settings.now.lease }
+        ensures is { result ≡ opened (R.store records) settings.now.lease }
+        ensures range { settings.now.lease ≤ longest_lease }
     {
         Stage {
             alloc,
@@ -71,6 +74,7 @@ impl<R: Records + Drop> Stage<R> {
             Step::Join(number, principal) => self.join(*number, principal),
             Step::Ask(number, ask) => self.ask(*number, ask),
             Step::Beat(number) => self.beat(*number),
+            Step::Tick(ticks) => self.tick(ticks),
             Step::Take(number) => self.take(*number),
             Step::Give(number) => self.give(*number),
             Step::Sweep => Ok(self.sweep()?.lines),
@@ -154,6 +158,7 @@ impl<R: Records + Drop> Stage<R> {
                     lines.set(0, Line::Up(cell.epoch()));
                     drop(self.master.replace(cell));
                     self.clock = now;
+                    self.clients.come_up(now);
                     Ok(lines)
                 }
                 Err((fault, records)) => {
@@ -173,7 +178,7 @@ impl<R: Records + Drop> Stage<R> {
         if self.clients.is_taken(number) {
             return Err(Fault::Exists);
         }
-        self.clients.join(number, principal)?;
+        self.clients.join(number, principal, self.clock)?;
         Ok(Items::new(self.alloc))
     }
 
@@ -220,6 +225,69 @@ impl<R: Records + Drop> Stage<R> {
         }
     }
 
+    fn tick(&mut self, ticks: &Ticks) -> Result<Items<Line>, Fault>
+        ensures ok { IfOk result (λ lines. world_tick self.old.world ticks.now ≡ Ok (self.new.world, lines)) }
+        ensures stored { OnOk result (IsStored [] self.old self.new) }
+        ensures fault { IfErr result (λ e. MayRefuseStep (world_tick self.old.world ticks.now) (Step.Tick ticks.now) e self.old self.new) }
+        ensures left { OnErr result (IsLeft [] self.old self.new) }
+    {
+        if self.moves_nobody(ticks) {
+            return Err(Fault::MasterDown);
+        }
+        if !self.clients.are_joined(ticks.own.as_slice()) {
+            return Err(Fault::NoSession);
+        }
+        if !self.are_fair(ticks) {
+            return Err(Fault::UnfairClock);
+        }
+        if self.goes_past_end(ticks) {
+            return Err(Fault::Exhausted);
+        }
+        self.move_clocks(ticks);
+        Ok(Items::new(self.alloc))
+    }
+
+    // Whether it would move the clock of a master where none is up.
+    fn moves_nobody(&self, ticks: &Ticks) -> bool
+        ensures { result ≡ moves_nobody self.now.world.master ticks.now }
+    {
+        match &self.master {
+            None => 0 < ticks.master,
+            Some(_) => false,
+        }
+    }
+
+    fn are_fair(&self, ticks: &Ticks) -> bool
+        ensures { result ≡ are_fair self.now.world.master self.now.world ticks.now }
+    {
+        match &self.master {
+            None => true,
+            Some(_) => self.clients.stay_fair(ticks, self.clock),
+        }
+    }
+
+    fn goes_past_end(&self, ticks: &Ticks) -> bool
+        ensures { result ≡ goes_past_end self.now.world ticks.now }
+    {
+        let then = self.clock as u128 + ticks.master as u128;
+        if MOMENT_LIMIT as u128 <= then {
+            return true;
+        }
+        self.clients.any_goes_past_end(ticks)
+    }
+
+    // The clocks move, where none goes past the end of moments.
+    fn move_clocks(&mut self, ticks: &Ticks)
+        ensures { goes_past_end self.old.world ticks.now ≡ false → self.new ≡ record self.old { world = ticked self.old.world ticks.now } }
+    {
+        let now = self.clock.saturating_add(ticks.master);
+        self.clock = now;
+        match &self.master {
+            None => self.clients.move_alone(ticks),
+            Some(_) => self.clients.move_beside(ticks, now),
+        }
+    }
+
     #[tactic(auto, using(crate::proofs::OneMessage::take_few))]
     fn take(&mut self, number: u64) -> Result<Items<Line>, Fault>
         ensures ok { IfOk result (λ lines. world_take self.old.world number self.old.world.master ≡ Ok (self.new.world, lines)) }
@@ -247,13 +315,19 @@ impl<R: Records + Drop> Stage<R> {
         ensures fault { IfErr result (λ e. MayRefuseStep (world_give self.old.world number) (Step.Give number) e self.old self.new) }
         ensures left { OnErr result (IsLeft [] self.old self.new) }
     {
+        let mut lines = room(self.alloc)?;
         let Some(out) = mail::out_at(self.messages.as_slice(), number) else {
             return Err(Fault::NoSuchMessage);
         };
         match self.clients.give(out.client(), out) {
             None => Err(Fault::NoSession),
-            Some(Ok(lines)) => Ok(lines),
-            Some(Err(fault)) => Err(fault),
+            Some(Ok(told)) => Ok(told),
+            Some(Err(Fault::NoMemory)) => Err(Fault::NoMemory),
+            Some(Err(Fault::Exhausted)) => Err(Fault::Exhausted),
+            Some(Err(fault)) => {
+                lines.set(0, Line::Refused(fault));
+                Ok(lines)
+            }
         }
     }
 }

@@ -1,7 +1,19 @@
 //! What may be done in a world.
 use client_core::Ask;
 use names_cell::Principal;
+use plain::Items;
 use tags_cell::ClientNumber;
+
+/// How the clocks move, in milliseconds.
+#[derive(Debug, Drop)]
+pub struct Ticks {
+    /// The master's.
+    pub master: u64,
+    /// That of each client that has no step of its own.
+    pub clients: u64,
+    /// Steps of single clients, by their numbers. The first of a number counts.
+    pub own: Items<(u64, u64)>,
+}
 
 /// What may be done in a world. Messages are numbered from 1 in the order in which they were sent, in both directions
 /// together, and may be delivered in any order, any number of times, or never.
@@ -15,6 +27,8 @@ pub enum Step {
     Ask(u64, Ask),
     /// The client of this number is asked for what keeps its session.
     Beat(u64),
+    /// The clocks move.
+    Tick(Ticks),
     /// The message of this number comes to the master.
     Take(u64),
     /// The message of this number comes to its client.

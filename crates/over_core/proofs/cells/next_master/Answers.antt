@@ -1,4 +1,5 @@
 use Rattle.std.proofs.Common.{rules}
+use Rattle.over_core.proofs.KeptByUps.{up_stands}
 use Rattle.over_core.proofs.cells.next_master.Goals as goal
 
 pub returns-then-now-ge-MOMENT_LIMIT-clause-fault : goal.returns-then-now-ge-MOMENT_LIMIT-clause-fault
@@ -10,8 +11,9 @@ commit_epoch-requires g c = search rules
 pub returns-in-Ok-clause-ok : goal.returns-in-Ok-clause-ok
 returns-in-Ok-clause-ok g c = search rules
 
-pub returns-in-Ok-clause-sound : goal.returns-in-Ok-clause-sound
-returns-in-Ok-clause-sound g c = search rules
+pub returns-in-Ok-clause-kept : goal.returns-in-Ok-clause-kept
+returns-in-Ok-clause-kept g c =
+    up_stands (g.R.Records.store c.args.records.now) (g.R.Records.store c.next_rows.new.records) (g.R.Records.store c.commit_epoch.new.records) c.in_ok-rows.rows c.in_ok-master.master c.args.lease c.args.now c.in_ok-rows.ensures.sound c.in_ok-rows.ensures.next c.in_ok-rows.ensures.sessions c.in_ok-rows.ensures.locks c.in_ok-rows.ensures.ok_stays c.in_ok-master.ensures c.in-Ok.ensures
 
 pub returns-in-Ok-clause-committed : goal.returns-in-Ok-clause-committed
 returns-in-Ok-clause-committed g c = search rules

@@ -1,5 +1,10 @@
-use Rattle.std.proofs.Common.{subst, rules}
+use Rattle.std.proofs.Common.{◌≡◌, subst, rules}
+use Rattle.std.specs.Prelude.{◌⊎◌, Err, IfErr, OnOk}
 use Rattle.node_core.specs.Nodes.{Nodes, HasNamesInOrder}
+use Rattle.rows_cell.specs.Stores.{IsCommitted, IsRefused}
+use Rattle.over_core.specs.Kept.{CellState}
+use Rattle.over_core.specs.Sweep.{sweep_edits, sweep_step}
+use Rattle.over_core.proofs.SweepRefused.{refused_so}
 use Rattle.over_core.proofs.KeptBySweeps.{sweep_sound, swept_kept}
 use Rattle.over_core.proofs.cells.Cell.sweep.Goals as goal
 
@@ -17,3 +22,15 @@ invariant_of-self g c =
 
 pub returns-clause-ok : goal.returns-clause-ok
 returns-clause-ok g c = search rules
+
+pub returns-clause-committed : goal.returns-clause-committed
+returns-clause-committed g c =
+    let P : CellState → Type 0 = λ s. OnOk c.sweep_by.result (IsCommitted (sweep_edits s.master c.args.now) s.store (g.R.Records.store c.sweep_by.new.records)) in
+    subst P c.self.view_is c.sweep_by.ensures.committed
+
+pub returns-clause-fault : goal.returns-clause-fault
+returns-clause-fault g c =
+    let new : CellState = record { master = c.sweep_by.new.master; store = g.R.Records.store c.sweep_by.new.records } in
+    let old : CellState = record { master = c.self.inside.master; store = g.R.Records.store c.self.inside.records } in
+    let P : CellState → Type 0 = λ s. IfErr c.sweep_by.result (λ e. (sweep_step s.master c.args.now ≡ Err e × new ≡ s) ⊎ IsRefused e (sweep_edits s.master c.args.now) s.store new.store) in
+    subst P c.self.view_is (refused_so old new c.args.now c.sweep_by.result c.sweep_by.ensures.err c.sweep_by.ensures.fault)

@@ -5,4 +5,4 @@ use Rattle.world_cell.proofs.ConsistentSteps.{new_holds}
 use Rattle.world_cell.proofs.worlds.World.new.Goals as goal
 
 pub invariant_of-result : goal.invariant_of-result
-invariant_of-result g c = subst (λ (v : WorldView). IsConsistent v.world) (sym c.new.ensures) (new_holds _ _ _)
+invariant_of-result g c = subst (λ (v : WorldView). IsConsistent v.world) (sym c.new.ensures.is) (new_holds _ _ _ c.new.ensures.range)

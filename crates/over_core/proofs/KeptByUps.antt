@@ -1,0 +1,99 @@
+-- A master that comes up stands beside its rows.
+use Rattle.std.proofs.Common.{◌≡◌, ℕ, List, [], ◌∷◌, Bool, true, false, cond, Some, refl, sym, ap, subst, ◌∙◌, arith}
+use Rattle.std.specs.Prelude.{◌+◌, ◌||◌, ◌≤◌, not, map, filter}
+use Rattle.std.specs.List.{list_any}
+use Rattle.std.specs.List.Sorted.{IsStrictlySortedBy}
+use Rattle.std.specs.Map.{keys_of, lookup}
+use Rattle.std.specs.BTreeMap.{is_at}
+use Rattle.std.specs.Cmp.{tied_itself}
+use Rattle.std.specs.Ordering.{nat_cmp}
+use Rattle.rows_cell.specs.declared.keys.LockKey.{LockKey}
+use Rattle.rows_cell.specs.declared.tables.LockRow.{LockRow}
+use Rattle.rows_cell.specs.declared.tables.Session as stored
+use Rattle.rows_cell.specs.declared.tables.Rows.{Rows}
+use Rattle.rows_cell.specs.Keys.{lock_order}
+use Rattle.rows_cell.specs.declared.tables.Edit.TheVariants.{Epoch}
+use Rattle.rows_cell.specs.Rows.{StoredLocks, changed_rows}
+use Rattle.rows_cell.specs.Sound.{sound}
+use Rattle.rows_cell.specs.Stores.{Store, IsCommitted}
+use Rattle.rows_cell.proofs.PutEntries.{all_more}
+use Rattle.rows_cell.proofs.SoundEnds.{locks_total}
+use Rattle.tags_cell.specs.declared.outs.Reply.{Reply}
+use Rattle.session_core.specs.declared.records.Session.{Session}
+use Rattle.session_core.proofs.RowsOfSessions.{rows_of}
+use Rattle.cell_core.specs.State.{MasterState, is_held, taken_over, row_of, master_of}
+use Rattle.over_core.specs.Kept.{IsKept, is_known, are_known}
+use Rattle.over_core.specs.Up.{up_edits}
+
+-- the sessions that a master takes over are those of its rows
+same_rows : (now : ℕ) (es : List (ℕ × stored.Session)) → rows_of row_of (map (taken_over now) es) ≡ es
+same_rows now [] = refl
+same_rows now (e ∷ es) = ap (λ (xs : List (ℕ × stored.Session)). e ∷ xs) (same_rows now es)
+
+-- none of them has acknowledged an event
+none_acknowledged : (now : ℕ) (es : List (ℕ × stored.Session)) (client : ℕ) (session : Session Reply) → lookup (is_at (nat_cmp client)) (map (taken_over now) es) ≡ Some session → session.events.acknowledged ≡ 0
+none_acknowledged now [] client session h = absurd (cc)
+none_acknowledged now (e ∷ es) client session h =
+    (elim (is_at (nat_cmp client) e.0) as (λ b. cond b (Some (taken_over now e).1) (lookup (is_at (nat_cmp client)) (map (taken_over now) es)) ≡ Some session → session.events.acknowledged ≡ 0) [
+      | true ↦ (λ k. let same : (taken_over now e).1 ≡ session = cc in ap (λ (x : Session Reply). x.events.acknowledged) (sym same))
+      | false ↦ (λ k. none_acknowledged now es client session k)
+    ]) h
+
+none_counts : {P : Type 0} (n : ℕ) → n ≡ 0 → 1 ≤ n → P
+none_counts n none some = absurd (omega arith)
+
+-- ---- the held locks
+
+abbrev held_keys : StoredLocks → List LockKey
+held_keys locks = map (λ entry. entry.0) (filter is_held locks)
+
+one_more : (a b c : Bool) → (a || c) ≡ true → (a || (b || c)) ≡ true
+one_more true b c h = refl
+one_more false true c h = refl
+one_more false false c h = h
+
+known_more : (key : LockKey) (known : List LockKey) (locks : StoredLocks) → are_known known locks ≡ true → are_known (key ∷ known) locks ≡ true
+known_more key known locks h =
+    all_more (is_known known) (is_known (key ∷ known)) locks (λ e k. one_more (not (is_held e)) (is_at (lock_order e.0) key) (list_any (is_at (lock_order e.0)) known) k) h
+
+held_known : (locks : StoredLocks) → are_known (held_keys locks) locks ≡ true
+held_known [] = refl
+held_known (e ∷ es) =
+    let itself : is_at (lock_order e.0) e.0 ≡ true = rw (tied_itself locks_total e.0) refl in
+    (elim (is_held e) as (λ b. is_held e ≡ b → are_known (map (λ (entry : LockKey × LockRow). entry.0) (cond b (e ∷ filter is_held es) (filter is_held es))) (e ∷ es) ≡ true) [
+      | true ↦ (λ h. rw (h, itself) (known_more e.0 (held_keys es) es (held_known es)))
+      | false ↦ (λ h. rw h (held_known es))
+    ]) refl
+
+-- ---- the master
+
+pub up_kept : (cell : List ℕ) (rows : Rows) (lease now : ℕ) → sound cell rows ≡ true → IsStrictlySortedBy nat_cmp (keys_of rows.sessions) → IsStrictlySortedBy lock_order (keys_of rows.locks) → IsKept cell rows (master_of rows lease now)
+up_kept cell rows lease now h sessions locks = record {
+  name = refl;
+  secret = refl;
+  epoch = refl;
+  next_instance = refl;
+  nodes = refl;
+  sessions = same_rows now rows.sessions;
+  sound_rows = h;
+  waiting = refl;
+  held_locks = held_known rows.locks;
+  sessions_in_order = sessions;
+  locks_in_order = locks;
+  recovery_is_empty = λ recovering. refl;
+  by_beats = λ client session found some. none_counts session.events.acknowledged (none_acknowledged now rows.sessions client session found) some;
+}
+
+-- the same of a store that was read and then commits the epoch
+pub up_stands : (old read new : Store) (rows : Rows) (s : MasterState) (lease now : ℕ) → sound old.cell (changed_rows old.rows (up_edits old.rows)) ≡ true → rows ≡ changed_rows old.rows (up_edits old.rows) → IsStrictlySortedBy nat_cmp (keys_of rows.sessions) → IsStrictlySortedBy lock_order (keys_of rows.locks) → read ≡ old → s ≡ master_of rows lease now → IsCommitted (Epoch rows.epoch ∷ []) read new → IsKept old.cell new.rows s
+up_stands old read new rows s lease now h next sessions locks stays is committed =
+    let epoch : rows.epoch ≡ old.rows.epoch + 1 = ap (λ (r : Rows). r.epoch) next in
+    let same : new.rows ≡ rows =
+    committed.rows
+    ∙ ap (λ (store : Store). changed_rows store.rows (Epoch rows.epoch ∷ [])) stays
+    ∙ ap (λ n. changed_rows old.rows (Epoch n ∷ [])) epoch
+    ∙ sym next in
+    let P : Rows → Type 0 = λ r. sound old.cell r ≡ true in
+    let Q : Rows → Type 0 = λ r. IsKept old.cell r s in
+    let T : MasterState → Type 0 = IsKept old.cell rows in
+    subst Q (sym same) (subst T (sym is) (up_kept old.cell rows lease now (subst P (sym next) h) sessions locks))

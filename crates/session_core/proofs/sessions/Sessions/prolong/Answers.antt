@@ -1,0 +1,8 @@
+use Rattle.std.proofs.Common.{rules}
+use Rattle.session_core.proofs.Quiet.{kept_changed}
+use Rattle.session_core.proofs.sessions.Sessions.prolong.Goals as goal
+
+pub invariant_of-self-2 : goal.invariant_of-self-2
+invariant_of-self-2 g c =
+    kept_changed c.self.inside.lease c.self.inside.quiet c.quiet_until.result c.min-self-inside.result c.args.client (record c.in-Some.session.now { timeout = c.max-session.result }) c.self.inside.map.entries (c.get_mut.follows.lender (record c.in-Some.session.now { timeout = c.max-session.result })).entries c.self.invariant
+    (search rules) (search rules) (search rules)

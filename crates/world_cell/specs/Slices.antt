@@ -1,0 +1,181 @@
+-- What a world shows of one client: its slice. Rights to cache, entries and grants aren't there yet, so a slice shows no name.
+use Rattle.std.specs.Prelude.{ℕ, Bool, true, false, not, ◌&&◌, ◌||◌, ◌==◌, nat_le, List, [], ◌∷◌, ◌++◌, fold, Option, Some, None, if◌then◌else◌}
+use Rattle.std.specs.Map.{lookup}
+use Rattle.std.specs.BTreeMap.{is_at}
+use Rattle.std.specs.Ordering.{nat_cmp}
+use Rattle.coherence.specs.Slice as one
+use Rattle.coherence.specs.Slice.{Slice, nobody}
+use Rattle.rows_cell.specs.declared.tables.Session as of_rows
+use Rattle.rows_cell.specs.declared.tables.Rows.{Rows}
+use Rattle.tags_cell.specs.declared.requests.Request.{Request}
+use Rattle.tags_cell.specs.declared.requests.Request.TheVariants as requests
+use Rattle.tags_cell.specs.declared.outs.Out.{Out}
+use Rattle.tags_cell.specs.declared.outs.Out.TheVariants as outs
+use Rattle.tags_cell.specs.declared.outs.Reply.{Reply}
+use Rattle.session_core.specs.declared.records.Parked.{Parked}
+use Rattle.session_core.specs.declared.records.Session.{Session}
+use Rattle.gate_core.specs.declared.pending.Waiting.{Waiting}
+use Rattle.cell_core.specs.declared.pending.Task.{Task}
+use Rattle.cell_core.specs.declared.pending.Work.{Work}
+use Rattle.cell_core.specs.declared.pending.Work.TheVariants as works
+use Rattle.cell_core.specs.State.{MasterState}
+use Rattle.cell_core.specs.Step.{session_of}
+use Rattle.world_cell.specs.declared.mail.Message.{Message}
+use Rattle.world_cell.specs.declared.mail.Message.TheVariants as messages
+use Rattle.world_cell.specs.declared.seats.Seat.{Seat}
+use Rattle.world_cell.specs.World.{WorldState, seat_of}
+
+-- ---- the rows
+
+abbrev pub standing_so : Bool → one.Session
+standing_so true = one.Live
+standing_so false = one.Ended
+
+-- what the rows say of a client's session
+abbrev pub standing_of : Option of_rows.Session → one.Session
+standing_of None = one.Never
+standing_of (Some session) = standing_so session.live
+
+abbrev pub standing_in : Rows → ℕ → one.Session
+standing_in rows client = standing_of (lookup (is_at (nat_cmp client)) rows.sessions)
+
+-- ---- the master's session
+
+-- what is seen of a client's session in the master, or of there being none
+pub record Seen : Type 0 where
+  pub live : Bool
+  pub timeout : ℕ
+  pub issued : ℕ
+  pub acknowledged : ℕ
+  -- a Beat of this epoch was taken
+  pub beaten : Bool
+  pub parked : List one.Receipt
+
+abbrev pub parked_list : Option Parked → List one.Receipt
+parked_list None = []
+parked_list (Some beat) = record { number = beat.number; moment = beat.received } ∷ []
+
+abbrev pub seen_of : Option (Session Reply) → Seen
+seen_of None = record { live = false; timeout = 0; issued = 0; acknowledged = 0; beaten = false; parked = [] }
+seen_of (Some session) = record {
+  live = session.live;
+  timeout = session.timeout;
+  issued = session.invalidations.issued;
+  acknowledged = session.invalidations.acknowledged;
+  beaten = nat_le 1 session.newest_beat;
+  parked = parked_list session.parked;
+}
+
+-- no Start is committed during recovery, so a live session is known then by a Beat alone
+abbrev pub heard_from : Bool → Seen → Bool
+heard_from recovering seen = seen.live && (not recovering || seen.beaten)
+
+-- ---- Starts that wait
+
+abbrev pub put_start : ℕ → ℕ → ℕ → Work → List one.Receipt
+put_start client whose number (works.Starts principal received) = if client == whose then record { number = number; moment = received } ∷ [] else []
+put_start client whose number (works.Calls call) = []
+
+abbrev pub start_of : ℕ → Task → List one.Receipt
+start_of client task = put_start client task.client task.number task.work
+
+-- the receipts of a client's Starts that wait
+abbrev pub starts_of : ℕ → List (Waiting Task) → List one.Receipt
+starts_of client [] = []
+starts_of client (w ∷ ws) = start_of client w.change.body ++ starts_of client ws
+
+-- ---- the messages, the newest first
+
+abbrev pub beat_of : ℕ → Request → List one.Beat → List one.Beat
+beat_of client (requests.Start start) beats = if client == start.client then record { epoch = 0; number = start.number; processed = 0 } ∷ beats else beats
+beat_of client (requests.Beat beat) beats =
+    if client == beat.client then record { epoch = beat.epoch; number = beat.number; processed = beat.invalidations } ∷ beats else beats
+beat_of client (requests.Call call) beats = beats
+
+abbrev pub put_beat : ℕ → List one.Beat → Message → List one.Beat
+put_beat client beats (messages.ToMaster request) = beat_of client request beats
+put_beat client beats (messages.ToClient out) = beats
+
+-- the Starts and Beats that a client has sent
+abbrev pub beats_of : ℕ → List Message → List one.Beat
+beats_of client sent = fold (put_beat client) [] sent
+
+abbrev pub offer_of : ℕ → Out → List one.Offer → List one.Offer
+offer_of client (outs.Started started) offers =
+    if client == started.client then record { epoch = started.epoch; number = started.number; span = started.span; last_invalidation = 0; name_invalidation = 0 } ∷ offers else offers
+offer_of client (outs.Alive alive) offers =
+    if client == alive.client then record { epoch = alive.epoch; number = alive.number; span = alive.span; last_invalidation = 0; name_invalidation = 0 } ∷ offers else offers
+offer_of client (outs.Reply reply) offers = offers
+offer_of client (outs.Refused refused) offers = offers
+
+abbrev pub put_offer : ℕ → List one.Offer → Message → List one.Offer
+put_offer client offers (messages.ToMaster request) = offers
+put_offer client offers (messages.ToClient out) = offer_of client out offers
+
+-- the leases that were offered to a client
+abbrev pub offers_of : ℕ → List Message → List one.Offer
+offers_of client sent = fold (put_offer client) [] sent
+
+-- ---- the slice
+
+-- a client's clock and the master's, at points of the master's life
+pub record Clocks : Type 0 where
+  pub client_when_up : ℕ
+  pub least_now : ℕ
+  pub least_client : ℕ
+
+-- the clock of a client that hasn't joined stands at 0
+abbrev pub clocks_of : ℕ → Option Seat → Clocks
+clocks_of now None = record { client_when_up = 0; least_now = now; least_client = 0 }
+clocks_of now (Some seat) = record { client_when_up = seat.clock_when_up; least_now = seat.least_now; least_client = seat.least_clock }
+
+-- now: the master's clock
+abbrev pub master_part : ℕ → ℕ → MasterState → Seen → Clocks → one.Master
+master_part client now s seen clocks = record {
+  up = true;
+  now = now;
+  lease_length = s.sessions.lease;
+  recovering = s.recovering;
+  client_when_up = clocks.client_when_up;
+  least_now = clocks.least_now;
+  least_client = clocks.least_client;
+  received = seen.parked ++ starts_of client s.gate.waiting;
+  timeout = seen.timeout;
+  heard_from = heard_from s.recovering seen;
+  issued = seen.issued;
+  acknowledged = seen.acknowledged;
+  held = false;
+  asked_back = 0;
+  given_back = 0;
+  pending = 0;
+}
+
+abbrev pub master_of : ℕ → ℕ → Option Seat → Option MasterState → one.Master
+master_of client now seat None = nobody
+master_of client now seat (Some s) = master_part client now s (seen_of (session_of s client)) (clocks_of now seat)
+
+-- without a cache
+abbrev pub client_of : Option Seat → one.Client (Unit {0})
+client_of None = record { now = 0; newest = 0; newest_sent = 0; epoch = 0; processed = 0; lease_sent = 0; lease_span = 0; entry = None }
+client_of (Some seat) = record {
+  now = seat.clock;
+  newest = seat.client.beats;
+  newest_sent = seat.client.sent;
+  epoch = seat.client.epoch;
+  processed = 0;
+  lease_sent = seat.client.lease.sent;
+  lease_span = seat.client.lease.span;
+  entry = None;
+}
+
+abbrev pub slice : ℕ → WorldState → Slice (Unit {0})
+slice client w = record {
+  present = tt;
+  session = standing_in w.rows client;
+  epoch = w.rows.epoch;
+  master = master_of client w.clock (seat_of w client) w.master;
+  client = client_of (seat_of w client);
+  beats = beats_of client w.messages;
+  offers = offers_of client w.messages;
+  grants = [];
+}
