@@ -22,7 +22,7 @@ use Rattle.tags_cell.specs.declared.outs.CallResult.{CallResult}
 use Rattle.tags_cell.specs.declared.outs.CallResult.TheVariants as results
 use Rattle.cell_core.specs.declared.admissions.Admission.{Admission}
 use Rattle.cell_core.specs.State.{MasterState}
-use Rattle.cell_core.specs.Step.{own_handle, shown_handle, node_of_handle, is_usable, handle_state_of, key_of, bytes_of, touched_by, viewed_name, told_by_open, needing, write_fault, list_answer, answer_on, answer_on_node, missing_right, new_handle, open_present, plain_open, opened_answer, handle_admission, admission_of_open, open_admission, admission_of, is_of_cell}
+use Rattle.cell_core.specs.Step.{own_handle, shown_handle, node_of_handle, is_usable, handle_state_of, key_of, touched_by, viewed_name, told_by_open, needing, write_fault, list_answer, answer_on, answer_on_node, missing_right, open_present, plain_open, opened_answer, handle_admission, admission_of_open, admission_of, is_of_cell}
 use Rattle.cell_core.specs.Names.{name_changed, name_asked, shown_by}
 
 -- a handle that is shown is the one whose bytes are shown
