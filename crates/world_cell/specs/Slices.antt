@@ -85,13 +85,13 @@ heard_from recovering seen = seen.live && (not recovering || seen.beaten)
 -- ---- the client's right to the name
 
 -- what is seen of it in the master, and how many invalidations the client was issued
-pub record Right : Type 0 where
+pub record SeenRight : Type 0 where
   pub issued : ℕ
   pub held : Bool
   pub asked_back : ℕ
   pub given_back : ℕ
 
-abbrev pub right_of : ℕ → List ℕ → List CacheRight → Right
+abbrev pub right_of : ℕ → List ℕ → List CacheRight → SeenRight
 right_of client name rights = record {
   issued = invalidations_of client rights;
   held = holds client name rights;
@@ -189,11 +189,11 @@ grant_of client name secret before (outs.Reply reply) grants = reply_grant clien
 grant_of client name secret before (outs.Refused refused) grants = grants
 
 -- the messages that were looked at, and the grants among them
-pub record Granted : Type 0 where
+pub record GrantsSoFar : Type 0 where
   pub before : List Message
   pub grants : Grants
 
-abbrev pub put_grant : ℕ → List ℕ → List ℕ → Granted → Message → Granted
+abbrev pub put_grant : ℕ → List ℕ → List ℕ → GrantsSoFar → Message → GrantsSoFar
 put_grant client name secret granted (messages.ToMaster request) = record { before = granted.before ++ messages.ToMaster request ∷ []; grants = granted.grants }
 put_grant client name secret granted (messages.ToClient out) =
     record { before = granted.before ++ messages.ToClient out ∷ []; grants = grant_of client name secret granted.before out granted.grants }
@@ -216,7 +216,7 @@ clocks_of now None = record { client_when_up = 0; least_now = now; least_client 
 clocks_of now (Some seat) = record { client_when_up = seat.clock_when_up; least_now = seat.least_now; least_client = seat.least_clock }
 
 -- now: the master's clock
-abbrev pub master_part : ℕ → List ℕ → ℕ → MasterState → Seen → Right → Clocks → one.Master
+abbrev pub master_part : ℕ → List ℕ → ℕ → MasterState → Seen → SeenRight → Clocks → one.Master
 master_part client name now s seen right clocks = record {
   up = true;
   now = now;
