@@ -48,6 +48,7 @@ pub struct Client {
     pub(crate) sent: u64,
     pub(crate) session: Session,
     pub(crate) epoch: u64,
+    pub(crate) processed: u64,
     pub(crate) lease: Lease,
     pub(crate) calls: u64,
     pub(crate) outstanding: Option<Outstanding>,
@@ -68,6 +69,7 @@ impl Model for Client {
       sent = c.sent;
       session = c.session;
       epoch = c.epoch;
+      processed = c.processed;
       lease = c.lease;
       calls = c.calls;
       outstanding = c.outstanding;
@@ -93,6 +95,7 @@ impl Client {
             sent: 0,
             session: Session::Unstarted,
             epoch: 0,
+            processed: 0,
             lease: first_lease(),
             calls: 0,
             outstanding: None,
@@ -266,12 +269,13 @@ impl Client {
         };
         let client = self.number;
         let epoch = self.epoch;
+        let invalidations = self.processed;
         self.count_beat(moment);
         Ok(Some(Request::Beat(Beat {
             client,
             epoch,
             number,
-            invalidations: 0,
+            invalidations,
             events: 0,
         })))
     }
