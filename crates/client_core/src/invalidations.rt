@@ -18,12 +18,11 @@ pub(crate) fn is_in_order(processed: u64, invalidations: &[Invalidation]) -> boo
 }
 
 // Whether the numbers rise by one from behind this one on.
-fn follow(last: u64, invalidations: &[Invalidation]) -> bool
+fn follow(mut last: u64, invalidations: &[Invalidation]) -> bool
     ensures { result ≡ follow last invalidations.now }
 {
-    let mut last = last;
     for next in invalidations {
-        if last.checked_add(1) != Some(next.number) {
+        if next.number.checked_sub(1) != Some(last) {
             return false;
         }
         last = next.number;
@@ -35,8 +34,8 @@ fn follow(last: u64, invalidations: &[Invalidation]) -> bool
 pub(crate) fn last_number(invalidations: &[Invalidation]) -> u64
     ensures { result ≡ last_number 0 invalidations.now }
 {
-    match invalidations.last() {
-        Some(last) => last.number,
-        None => 0,
+    match invalidations {
+        [] => 0,
+        [.., last] => last.number,
     }
 }
