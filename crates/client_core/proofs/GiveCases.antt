@@ -20,7 +20,7 @@ use Rattle.client_core.specs.declared.targets.Target.TheVariants as targets
 use Rattle.client_core.specs.declared.targets.Outstanding.{Outstanding}
 use Rattle.client_core.specs.State.{ClientState}
 use Rattle.client_core.specs.Gives.{is_live, is_unstarted, is_span, offered, begun, is_in_order, with_processed, with_lease, target_for, awaited, reply_for, session_without, session_after, lose_step, told, taken, taken_own, give_at, give_step}
-use Rattle.client_core.specs.Cases.{IsHeard, IsStarted, IsAlive, IsTaken, IsPassed, IsAwaited, GiveCase, given_in, noted}
+use Rattle.client_core.specs.Cases.{IsHeard, IsStarted, IsAlive, IsAwaited, GiveCase, given_in, noted}
 use Rattle.client_core.specs.Cases.GiveCase.{GivenTooLate, OfAnother, Started, StartedUnfit, StartedDropped, LeaseTaken, LeaseStays, AliveUnfit, AliveDropped, Replied, ReplyDropped, NotAwaited, Lost, TurnedAway, RefusalDropped}
 use Rattle.client_core.proofs.AskCases.{either, less, not_less}
 

@@ -93,7 +93,7 @@ abbrev pub with_lease : ClientState → Alive → ClientState
 with_lease s message =
     if message.number == s.beats && is_better (offered s message.span) s.lease then record s { lease = offered s message.span } else s
 
--- one of another epoch is dropped, and one with a gap is no master's
+-- one of another epoch is dropped; one whose span or whose numbers no master sends is refused
 abbrev pub alive_step : ClientState → Alive → ClientState × Result (List Line) Fault
 alive_step s message =
     if is_live s.session && message.epoch == s.epoch
