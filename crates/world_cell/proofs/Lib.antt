@@ -10,6 +10,7 @@ pub mod WorldCases
 pub mod OwnSteps
 pub mod PartsOfRuns
 pub mod MessagesGrow
+pub mod GrantsSent
 pub mod MasterFits
 pub mod ConsistentSteps
 pub mod OnceByRuns
