@@ -18,6 +18,7 @@ pub mod RowsByRuns
 pub mod CallsByRuns
 pub mod SessionsByRuns
 pub mod ClocksByRuns
+pub mod RightsByRuns
 pub mod Slices
 pub mod SliceTicks
 pub mod SliceClients
