@@ -79,23 +79,25 @@ new_told client name rights =
     ap (option_and_then (λ told. rights_at told [])) (one_more (map told_of rights) (length rights + 1) client name next)
     ∙ ap (λ told. Some told) (sym (map-append told_of rights (new_right (length rights + 1) client name ∷ [])))
 
-granted_told : (client : ℕ) (name : List ℕ) (rights : List CacheRight) → rights_at (map told_of rights) (granted_lines client name (grant_answer client name rights)) ≡ Some (map told_of (granted client name rights))
-granted_told client name rights = found (find (is_held_at client name) rights)
-  where
-    abbrev Tells : Result Grant Fault → Type 0
-    Tells answer = rights_at (map told_of rights) (granted_lines client name answer) ≡ Some (map told_of (with_granted answer client name rights))
+-- the line of an answer tells of the right that it grants, if it does
+abbrev TellsAnswer : ℕ → List ℕ → List CacheRight → Result Grant Fault → Type 0
+TellsAnswer client name rights answer = rights_at (map told_of rights) (granted_lines client name answer) ≡ Some (map told_of (with_granted answer client name rights))
 
-    spent : (b : Bool) → Tells (cond b (Err faults.Exhausted) (Ok (grants.Granted (length rights + 1))))
-    spent true = refl
-    spent false = new_told client name rights
+module _ (client : ℕ) (name : List ℕ) (rights : List CacheRight) where
+  spent_told : (b : Bool) → TellsAnswer client name rights (cond b (Err faults.Exhausted) (Ok (grants.Granted (length rights + 1))))
+  spent_told true = refl
+  spent_told false = new_told client name rights
 
-    full : (b : Bool) → Tells (cond b (Ok grants.Full) (cond (nat_le number_limit (length rights)) (Err faults.Exhausted) (Ok (grants.Granted (length rights + 1)))))
-    full true = refl
-    full false = spent (nat_le number_limit (length rights))
+  full_told : (b : Bool) → TellsAnswer client name rights (cond b (Ok grants.Full) (cond (nat_le number_limit (length rights)) (Err faults.Exhausted) (Ok (grants.Granted (length rights + 1)))))
+  full_told true = refl
+  full_told false = spent_told (nat_le number_limit (length rights))
 
-    found : (o : Option CacheRight) → Tells (answer_beside o rights)
-    found (Some right) = refl
-    found None = full (nat_le held_limit (count_held rights))
+  answer_told : (o : Option CacheRight) → TellsAnswer client name rights (answer_beside o rights)
+  answer_told (Some right) = refl
+  answer_told None = full_told (nat_le held_limit (count_held rights))
+
+  granted_told : TellsAnswer client name rights (grant_answer client name rights)
+  granted_told = answer_told (find (is_held_at client name) rights)
 
 -- ---- rights end
 
