@@ -102,8 +102,11 @@ fits_more old new more None e h = tt
 fits_more old new more (Some s) e h = subst (λ (xs : List Message). FitsMessages xs s) (sym e) (fits_stays old.messages more s h)
 
 -- a world that agrees with its rows, and that schedules lead to, is consistent
-pub record Becomes (w : WorldState) : Type 0 where
-  pub consistent : Agrees w w.master → ((client : ℕ) (name : List ℕ) → Reached (slice client name w)) → IsConsistent w
+pub data Becomes (w : WorldState) : Type 0 where
+  OnceReached : (Agrees w w.master → ((client : ℕ) (name : List ℕ) → Reached (slice client name w)) → IsConsistent w) → Becomes w
+
+once_reached : (w : WorldState) → Becomes w → Agrees w w.master → ((client : ℕ) (name : List ℕ) → Reached (slice client name w)) → IsConsistent w
+once_reached w (Becomes.OnceReached consistent) = consistent
 
 module _ (old new : WorldState) (more : List Message) (h : IsConsistent old) (later : Later old new) (fresh : AreFresh old new more) where
   sent_later : (client number : ℕ) (call : CallMessage) → HasSent old client number call → HasSent new client number call
@@ -140,20 +143,18 @@ module _ (old new : WorldState) (more : List Message) (h : IsConsistent old) (la
       ]
 
   all_consistent : ((number : ℕ) (seat : Seat) → seat_of new number ≡ Some seat → IsSeated new.rows.epoch number seat) → Fits new new.master → new.lease ≡ old.lease → IsNoted new.clock new.master → AreFair new new.master → Becomes new
-  all_consistent clients fits lease noted fair = record {
-    consistent = λ master reached. record {
-      clients = clients;
-      named = all_named;
-      sent = all_sent;
-      started = all_started;
-      master = master;
-      fits = fits;
-      lease = subst (λ n. n ≤ longest_lease) (sym lease) h.lease;
-      noted = noted;
-      fair = fair;
-      reached = reached;
-    };
-  }
+  all_consistent clients fits lease noted fair = Becomes.OnceReached (λ master reached. record {
+    clients = clients;
+    named = all_named;
+    sent = all_sent;
+    started = all_started;
+    master = master;
+    fits = fits;
+    lease = subst (λ n. n ≤ longest_lease) (sym lease) h.lease;
+    noted = noted;
+    fair = fair;
+    reached = reached;
+  })
 
 -- ---- messages that are no calls
 
@@ -639,7 +640,7 @@ LeadsOn = (old : WorldState) (step : Step) (new : WorldState) (printed : List Li
 pub step_holds : LeadsOn → (old new : WorldView) (step : Step) (edits : List Edit) (r : Result (List Line) Fault) → IsConsistent old.world → Agrees new.world new.world.master → IfOk r (λ printed. world_step old.world step ≡ Ok (new.world, printed)) → OnErr r (IsLeft edits old new) → IsConsistent new.world
 step_holds leads old new step edits (Ok printed) h agrees made left =
     let c = world_case old.world step new.world printed h.master made in
-    (case_holds old.world step new.world printed h c).consistent agrees (leads old.world step new.world printed h c)
+    once_reached new.world (case_holds old.world step new.world printed h c) agrees (leads old.world step new.world printed h c)
 step_holds leads old new step edits (Err fault) h agrees made left = subst IsConsistent (sym left.same) h
 
 pub swept_holds : LeadsOn → (old new : WorldView) (edits : List Edit) (r : Result Turn Fault) → IsConsistent old.world → Agrees new.world new.world.master → IfOk r (λ turn. world_sweep old.world old.world.master ≡ Ok (new.world, turn)) → OnErr r (IsLeft edits old new) → IsConsistent new.world
