@@ -1,6 +1,9 @@
+mod EachSession
 mod FitsByEffects
 pub mod KeptBySweeps
 mod KeptByTakes
 mod KeptByUps
+mod OrderlyChanges
+pub mod OwnedRights
 mod SweepRefused
 pub mod SweepCases
