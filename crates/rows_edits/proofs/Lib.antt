@@ -1,0 +1,12 @@
+pub mod Meaning
+pub mod Columns
+pub mod Casts
+pub mod Trees
+pub mod Query
+pub mod Deletes
+pub mod Updates
+pub mod Stores
+pub mod Runs
+pub mod SetNumbers
+pub mod NumbersSaid
+pub mod Steps

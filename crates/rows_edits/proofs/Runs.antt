@@ -1,0 +1,37 @@
+-- What a statement makes of the store that updates a table.
+use Rattle.std.proofs.Common.{◌≡◌, ℕ, List, [], map, slice_get, Option, Some, None, Ok, refl, sym, subst}
+use Rattle.sqlite_value.specs.Order.{Row}
+use Rattle.sqlite.specs.Term.{Term}
+use Rattle.sqlite.specs.Program.{overlay}
+use Rattle.sqlite.specs.Table.{Table}
+use Rattle.sqlite.specs.Command.TheVariants.{Update}
+use Rattle.sqlite_schema.specs.declared.program.Program.{Program}
+use Rattle.sqlite.specs.Listing.{understood}
+use Rattle.sqlite.specs.Given.{IsPlain}
+use Rattle.sqlite.specs.State.{State, Executes, Writes}
+use Rattle.sqlite.proofs.Callers.{command_of, runs_as, statement_of}
+use Rattle.rows_schema.specs.OurSchema.{the_schema}
+use Rattle.rows_read.specs.Commands.{over}
+use Rattle.rows_edits.specs.Ongoing.{IsStore}
+use Rattle.rows_edits.proofs.Trees.{renewed}
+use Rattle.rows_edits.proofs.Query.{passes}
+use Rattle.rows_edits.proofs.Deletes as deletes
+use Rattle.rows_edits.proofs.Stores.{Rewrote, still_store}
+use Rattle.rows_edits.proofs.Updates as updates
+
+module _ (at : ℕ) (table : Table) (placed : slice_get the_schema.tables at ≡ Some table) (sql : List ℕ) (terms project : List Term) (params : Row) (old new : State)
+    (plainly : overlay old.now.trees [] table.tree ≡ old.now.trees table.tree) where
+  abbrev q : Program
+  q = record { lets = []; body = over table.tree terms project }
+
+  pub ran_update : command_of (understood the_schema sql) ≡ Update at q → IsPlain (understood the_schema sql) → (becomes : Row → Row) → IsStore old.now
+      → updates.Renews old.step_limit table params params old.now.trees terms project plainly becomes → (count : ℕ) → Executes sql params old new (Ok count)
+      → Rewrote table.tree (map (renewed (passes table.tree terms project params) becomes) (old.now.trees table.tree)) old.now new.now
+  ran_update is plain becomes store how count ran =
+      let text = statement_of sql (understood the_schema sql) in
+      let w : Writes old new None (Update at q) text params count = runs_as sql params old new the_schema store.schema (Update at q) is plain count ran in
+      let wrote = deletes.wrote at table placed text params old new store.schema (Update at q) count w (λ _ _ _. refl) in
+      let u = updates.updated old.step_limit table params params old.now.trees terms project plainly wrote.written wrote.did in
+      let v = subst (updates.Updated old.step_limit table params params old.now.trees terms project plainly) (sym wrote.trees) u in
+      let r = updates.renewed_by old.step_limit table params params old.now.trees terms project plainly becomes new.now.trees how v in
+      record { store = still_store table.tree old.now new.now store wrote.schema w.sound r.shaped r.others; rows = r.rows; others = r.others }

@@ -1,0 +1,101 @@
+//! Edits in a transaction.
+ghost use Rattle.std.specs.Prelude.{◌≡◌, ◌∷◌, [], ℕ, false, IfOk, OnOk, OnErr};
+ghost use Rattle.sqlite.specs.Values.{bound};
+ghost use Rattle.sqlite.specs.State.{HasCleanDisk, KeepsCommit, Survives};
+ghost use Rattle.sqlite.specs.Held.{state};
+ghost use Rattle.rows_cell.specs.declared.tables.Edit.TheVariants.{Epoch, NextInstance};
+ghost use Rattle.rows_edits.specs.Numbers.{IsNumber};
+ghost use Rattle.rows_edits.specs.Ongoing.{RanInside, Changed, Committed, MayCommit};
+
+use rows_cell::Edit;
+use sqlite::{Alter, Connection, Error, Transaction};
+use sqlite_value::value::ValueRef;
+
+// A number as SQL has it.
+fn number<'a>(x: u64) -> Result<ValueRef<'a>, Error>
+    ensures { IfOk result (λ v. IsNumber v x) }
+{
+    match i64::try_from(x) {
+        Ok(n) => Ok(ValueRef::Int(n)),
+        Err(_) => Err(Error::IntegralValueOutOfRange(0)),
+    }
+}
+
+// Runs one statement in a transaction.
+fn run<S: Alter>(
+    tx: &mut Transaction<'_, S>,
+    sql: &str,
+    params: &[ValueRef<'_>],
+) -> Result<(), Error>
+    ensures same { tx.new.conn.ghost_name ≡ tx.old.conn.ghost_name }
+    ensures ok { HasCleanDisk (state S.Store tx.new.conn.now) → OnOk result (RanInside sql.now (bound params.now) (state S.Store tx.old.conn.now) (state S.Store tx.new.conn.now)) }
+    ensures kept { HasCleanDisk (state S.Store tx.new.conn.now) → KeepsCommit (state S.Store tx.old.conn.now) (state S.Store tx.new.conn.now) }
+    ensures survives { Survives (state S.Store tx.old.conn.now) (state S.Store tx.new.conn.now) (λ _. ⊥) }
+{
+    tx.execute(sql, params)?;
+    Ok(())
+}
+
+fn set_epoch<S: Alter>(tx: &mut Transaction<'_, S>, epoch: u64) -> Result<(), Error>
+    ensures same { tx.new.conn.ghost_name ≡ tx.old.conn.ghost_name }
+    ensures ok { HasCleanDisk (state S.Store tx.new.conn.now) → OnOk result (Changed (Epoch epoch ∷ []) (state S.Store tx.old.conn.now) (state S.Store tx.new.conn.now)) }
+    ensures kept { HasCleanDisk (state S.Store tx.new.conn.now) → KeepsCommit (state S.Store tx.old.conn.now) (state S.Store tx.new.conn.now) }
+    ensures survives { Survives (state S.Store tx.old.conn.now) (state S.Store tx.new.conn.now) (λ _. ⊥) }
+{
+    let epoch = number(epoch)?;
+    run(tx, "UPDATE meta SET epoch = ?1 WHERE id = 1", &[epoch])
+}
+
+fn set_next_instance<S: Alter>(tx: &mut Transaction<'_, S>, next: u64) -> Result<(), Error>
+    ensures same { tx.new.conn.ghost_name ≡ tx.old.conn.ghost_name }
+    ensures ok { HasCleanDisk (state S.Store tx.new.conn.now) → OnOk result (Changed (NextInstance next ∷ []) (state S.Store tx.old.conn.now) (state S.Store tx.new.conn.now)) }
+    ensures kept { HasCleanDisk (state S.Store tx.new.conn.now) → KeepsCommit (state S.Store tx.old.conn.now) (state S.Store tx.new.conn.now) }
+    ensures survives { Survives (state S.Store tx.old.conn.now) (state S.Store tx.new.conn.now) (λ _. ⊥) }
+{
+    let next = number(next)?;
+    run(
+        tx,
+        "UPDATE meta SET next_instance = ?1 WHERE id = 1",
+        &[next],
+    )
+}
+
+// Does one edit. So far the two numbers of the cell alone: each other edit is refused.
+fn edit<S: Alter>(tx: &mut Transaction<'_, S>, edit: &Edit) -> Result<(), Error>
+    ensures same { tx.new.conn.ghost_name ≡ tx.old.conn.ghost_name }
+    ensures ok { HasCleanDisk (state S.Store tx.new.conn.now) → OnOk result (Changed (edit.now ∷ []) (state S.Store tx.old.conn.now) (state S.Store tx.new.conn.now)) }
+    ensures kept { HasCleanDisk (state S.Store tx.new.conn.now) → KeepsCommit (state S.Store tx.old.conn.now) (state S.Store tx.new.conn.now) }
+    ensures survives { Survives (state S.Store tx.old.conn.now) (state S.Store tx.new.conn.now) (λ _. ⊥) }
+{
+    match edit {
+        Edit::Epoch(epoch) => set_epoch(tx, *epoch),
+        Edit::NextInstance(next) => set_next_instance(tx, *next),
+        _ => Err(Error::InvalidQuery),
+    }
+}
+
+// Does the edits in order.
+fn edit_all<S: Alter>(tx: &mut Transaction<'_, S>, change: &[Edit]) -> Result<(), Error>
+    ensures same { tx.new.conn.ghost_name ≡ tx.old.conn.ghost_name }
+    ensures ok { HasCleanDisk (state S.Store tx.new.conn.now) → OnOk result (Changed change.now (state S.Store tx.old.conn.now) (state S.Store tx.new.conn.now)) }
+    ensures kept { HasCleanDisk (state S.Store tx.new.conn.now) → KeepsCommit (state S.Store tx.old.conn.now) (state S.Store tx.new.conn.now) }
+    ensures survives { Survives (state S.Store tx.old.conn.now) (state S.Store tx.new.conn.now) (λ _. ⊥) }
+{
+    for it in change {
+        edit(tx, it)?;
+    }
+    Ok(())
+}
+
+/// Does the edits in order, in one transaction: all of them or, where the database refuses one, none.
+pub fn commit_all<S: Alter>(conn: &mut Connection<S>, change: &[Edit]) -> Result<(), Error>
+    requires { conn.old.in_transaction ≡ false }
+    ensures ended { conn.new.in_transaction ≡ false }
+    ensures ok { HasCleanDisk (state S.Store conn.new) → OnOk result (Committed change.now (state S.Store conn.old) (state S.Store conn.new)) }
+    ensures err { HasCleanDisk (state S.Store conn.new) → OnErr result (KeepsCommit (state S.Store conn.old) (state S.Store conn.new)) }
+    ensures survives { Survives (state S.Store conn.old) (state S.Store conn.new) (MayCommit change.now (state S.Store conn.old)) }
+{
+    let mut tx = conn.transaction();
+    edit_all(&mut tx, change)?;
+    tx.commit()
+}
