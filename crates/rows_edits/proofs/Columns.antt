@@ -1,6 +1,6 @@
 -- The types of the columns, and when two of them are equal.
 use Rattle.std.proofs.Common.{◌≡◌, ℕ, ◌+◌, zero, suc, ℤ, Bool, true, false, not, ◌&&◌, ◌||◌, List, [], ◌∷◌, drop, add-one, Option, Some, None, refl, sym, ap, ◌∙◌, subst, true≢false}
-use Rattle.std.specs.Prelude.{bytes_eq, unwrap_or}
+use Rattle.std.specs.Prelude.{bytes_eq, unwrap_or, if◌then◌else◌}
 use Rattle.std.specs.List.{list_all}
 use Rattle.std.specs.Ordering.{is_eq, int_eq, nat_cmp}
 use Rattle.std.specs.Cmp.Lexicographic.{slice_cmp}
@@ -17,7 +17,7 @@ use Rattle.sqlite.specs.Kind.{Kind}
 use Rattle.sqlite.specs.Kind.TheVariants as kind
 use Rattle.sqlite_schema.specs.declared.schema.Column.{Column}
 use Rattle.sqlite_schema.specs.Names.{is_key}
-use Rattle.sqlite_schema.specs.Rules.{equal, is_of, suits, are_typed, are_present}
+use Rattle.sqlite_schema.specs.Rules.{equal, is_of, has_affinity, suits, are_typed, are_present}
 use Rattle.sqlite.specs.Edit.{id_in}
 use Rattle.rows_schema.specs.OurSchema.{meta, nodes, sessions, locks}
 
@@ -100,7 +100,7 @@ present : (key : Bool) (c : Column) (v : Value) → (c.is_strict && c.not_null) 
 present true c v n p t = tt
 present false c v n p t =
     let both = and_parts _ _ n in
-    is_in c.kind v (ap (λ s. if s then is_of c.kind v else _) (sym both.0) ∙ t) (not-true _ (ap (λ b. not b || not (is_null v)) (sym both.1) ∙ p))
+    is_in c.kind v (ap (λ s. if s then is_of c.kind v else has_affinity c.kind v) (sym both.0) ∙ t) (not-true _ (ap (λ b. not b || not (is_null v)) (sym both.1) ∙ p))
 
 typed : (cs : List Column) (key : Option ℕ) (at : ℕ) (r vs : Row) → list_all is_needed cs ≡ true → drop (at + 1) r ≡ vs → are_typed key at cs vs ≡ true → are_present key at cs r ≡ true → AreOf key at cs r
 typed [] key at r vs needed is t p = tt

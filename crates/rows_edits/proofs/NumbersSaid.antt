@@ -1,5 +1,5 @@
 -- What the tables say once a number of the cell was set.
-use Rattle.std.proofs.Common.{◌≡◌, ℕ, ℤ, pos, Bool, true, false, ◌&&◌, List, [], ◌∷◌, map, Option, Some, None, refl, sym, ap, ◌∙◌, cond}
+use Rattle.std.proofs.Common.{◌≡◌, ℕ, ℤ, pos, Bool, true, false, ◌&&◌, List, [], ◌∷◌, map, Option, Some, None, refl, sym, ap, ◌∙◌, cond, subst}
 use Rattle.std.specs.Ordering.{int_eq}
 use Rattle.std.proofs.lemmas.Bool.{and_parts}
 use Rattle.std.proofs.Common.{inl, arith}
@@ -49,7 +49,7 @@ module _ (old : Database) (store : IsStore old) (n : ℤ) (project : List Term) 
       → map meta_in (map meta_shown (map (renewed (passes 0 terms project (params n)) becomes) (old.trees 0))) ≡ Some after ∷ []
   set_says changes said =
       let one = one_mapped (λ r. meta_in (meta_shown r)) (old.trees 0) (Some m) (sym (map-map meta_in meta_shown (old.trees 0)) ∙ said) in
-      let there : Has (old.trees 0) one.0 = rw one.1 (inl refl) in
+      let there : Has (old.trees 0) one.0 = subst (λ xs. Has xs one.0) (sym one.1) (inl refl) in
       let became = changes one.0 there one.2 in
       let goes : passes 0 terms project (params n) one.0 ≡ true = goes_is n old store project one.0 there ∙ (and_parts _ _ became.0).0 in
       ap (λ xs. map meta_in (map meta_shown (map (renewed (passes 0 terms project (params n)) becomes) xs))) one.1

@@ -34,4 +34,4 @@ module _ (at : ℕ) (table : Table) (placed : slice_get the_schema.tables at ≡
       let u = updates.updated old.step_limit table params params old.now.trees terms project plainly wrote.written wrote.did in
       let v = subst (updates.Updated old.step_limit table params params old.now.trees terms project plainly) (sym wrote.trees) u in
       let r = updates.renewed_by old.step_limit table params params old.now.trees terms project plainly becomes new.now.trees how v in
-      record { store = still_store table.tree old.now new.now store wrote.schema w.sound r.shaped r.others; rows = r.rows; others = r.others }
+      record { store = still_store table.tree old.now new.now store wrote.schema w.sound r.shaped r.others; tree = r.rows; others = r.others }

@@ -27,8 +27,8 @@ SameOthers at old new = AllByRecursion (λ (t : Table). t.tree ≢ at → new.tr
 
 stays : (at t : ℕ) (old new : Database) → IsShaped shape.Table (new.trees at) → (t ≢ at → new.trees t ≡ old.trees t) → IsShaped shape.Table (old.trees t) → IsShaped shape.Table (new.trees t)
 stays at t old new shaped same was = elim (cases_Bool (t == at)) [
-  | inl yes ↦ let is : t ≡ at = grind (arith, nat_tests) in subst (λ k. IsShaped shape.Table (new.trees k)) (sym is) shaped
-  | inr no ↦ let apart : t ≢ at = λ e. grind (arith, nat_tests) in subst (IsShaped shape.Table) (sym (same apart)) was
+  | inl same_tree ↦ let is : t ≡ at = grind (arith, nat_tests) in subst (λ k. IsShaped shape.Table (new.trees k)) (sym is) shaped
+  | inr other_tree ↦ let apart : t ≢ at = λ e. grind (arith, nat_tests) in subst (IsShaped shape.Table) (sym (same apart)) was
 ]
 
 -- it is a store still
@@ -63,7 +63,7 @@ module _ (db : Database) (store : IsStore db) where
 -- one tree has these rows, and the other tables are as before
 pub record Rewrote (at : ℕ) (rows : List Row) (old new : Database) : Type 0 where
   pub store : IsStore new
-  pub rows : new.trees at ≡ rows
+  pub tree : new.trees at ≡ rows
   pub others : SameOthers at old new
 
 -- ---- what the tables say once one of them was written
@@ -73,7 +73,7 @@ module _ (old new : Database) (rows : List Row) where
   pub metas_say : Rewrote 0 rows old new → (was is : Rows) → Says (tables_of old.trees) was → is.nodes ≡ was.nodes → is.sessions ≡ was.sessions → is.locks ≡ was.locks
       → map meta_in (map meta_shown rows) ≡ Some (meta_of is) ∷ [] → Says (tables_of new.trees) is
   metas_say done was is h n s l said = record {
-    meta = ap (λ rs. map meta_in (map meta_shown rs)) done.rows ∙ said;
+    meta = ap (λ rs. map meta_in (map meta_shown rs)) done.tree ∙ said;
     nodes = subst (HoldsNodes _) (sym n) (subst (λ rs. HoldsNodes (map node_shown rs) was.nodes) (sym (done.others.1.0 (λ x. absurd (omega (arith, x))))) h.nodes);
     sessions = subst (HoldsSessions _) (sym s) (subst (λ rs. HoldsSessions (map session_shown rs) was.sessions) (sym (done.others.1.1.0 (λ x. absurd (omega (arith, x))))) h.sessions);
     locks = subst (HoldsLocks _) (sym l) (subst (λ rs. HoldsLocks (map lock_shown rs) was.locks) (sym (done.others.1.1.1.0 (λ x. absurd (omega (arith, x))))) h.locks);

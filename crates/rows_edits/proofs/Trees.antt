@@ -56,9 +56,9 @@ module _ {X : Type 0} (test : X → Bool) (f : X → X) where
   none_renewed [] none = (refl, refl)
   none_renewed (x ∷ xs) none = elim (cases_Bool (test x)) [
     | inl t ↦ absurd (none_is x (filter test xs) (ap (λ b. if b then x ∷ filter test xs else filter test xs) (sym t) ∙ none))
-    | inr no ↦
-        let later = none_renewed xs (ap (λ b. if b then x ∷ filter test xs else filter test xs) (sym no) ∙ none) in
-        (rw (no, later.0) refl, rw (no, later.1) refl)
+    | inr not_it ↦
+        let later = none_renewed xs (ap (λ b. if b then x ∷ filter test xs else filter test xs) (sym not_it) ∙ none) in
+        (rw (not_it, later.0) refl, rw (not_it, later.1) refl)
   ]
 
   -- where one does, that is to take it out and to put the changed one to the others
@@ -70,9 +70,9 @@ module _ {X : Type 0} (test : X → Bool) (f : X → X) where
         let later = none_renewed xs parts.1 in
         let front : IsPermutation (xs ++ f one ∷ []) (f one ∷ xs) = IsPermutation-to_front xs (f one) in
         rw (t, later.0, later.1, parts.0) front
-    | inr no ↦
-        let later = one_renewed xs one (ap (λ b. if b then x ∷ filter test xs else filter test xs) (sym no) ∙ found) in
-        rw no (IsPermutation-cons x (filter (λ y. not (test y)) xs ++ f one ∷ []) (map renewed xs) later)
+    | inr not_it ↦
+        let later = one_renewed xs one (ap (λ b. if b then x ∷ filter test xs else filter test xs) (sym not_it) ∙ found) in
+        rw not_it (IsPermutation-cons x (filter (λ y. not (test y)) xs ++ f one ∷ []) (map renewed xs) later)
   ]
 
 -- ---- rows and their rowids
@@ -139,7 +139,7 @@ put_fresh new (x ∷ es) free =
     let parts = no_or (is_eq (value_cmp (rowid x) (rowid new))) (is_taken es new) free in
     (elim (value_cmp (rowid x) (rowid new)) as (λ o. is_eq o ≡ false → IsPermutation (x ∷ (es ++ new ∷ [])) (match_ordering o (x ∷ put_row new es) (new ∷ es) (new ∷ x ∷ es))) [
       | Less ↦ (λ _. IsPermutation-cons x (es ++ new ∷ []) (put_row new es) (put_fresh new es parts.1))
-      | Equal ↦ (λ no. absurd (true≢false no))
+      | Equal ↦ (λ differs. absurd (true≢false differs))
       | Greater ↦ (λ _. IsPermutation-to_front (x ∷ es) new)
     ]) parts.0
 
