@@ -9,4 +9,5 @@ pub mod Stores
 pub mod Runs
 pub mod SetNumbers
 pub mod NumbersSaid
+pub mod Entries
 pub mod Steps
