@@ -1,5 +1,5 @@
 //! What a master does with a message.
-ghost use Rattle.std.specs.Prelude.{◌≡◌, ◌≢◌, ◌-◌, ◌<◌, ◌^◌, [], true, false, Some, None, Ok, Err, IfOk, IfErr, OnOk, OnErr};
+ghost use Rattle.std.specs.Prelude.{◌≡◌, ◌≢◌, true, false, Some, None, Ok, Err, IfOk, IfErr, OnOk, OnErr};
 ghost use Rattle.cell_core.specs.Step.{take_step, take_at, start_step, beat_step, call_step, kept_step, kept_of, new_call, with_note, admit_step, telling, granting, is_cachable, waits, recorded, queued, is_full, is_spent, replied};
 ghost use Rattle.session_core.specs.Session.{kept_answer};
 
@@ -15,9 +15,7 @@ use plain::Items;
 use rights_core::Ending;
 use session_core::Kept;
 use std::alloc::AllocError;
-use tags_cell::{
-    Beat, CallMessage, CallResult, ClientNumber, MessageNumber, Reply, Request, Start,
-};
+use tags_cell::{Beat, CallMessage, CallResult, ClientNumber, MessageNumber, Request, Start};
 
 impl Cell {
     /// One step by a request that came. A moment, in milliseconds, that is earlier than the last one counts as that;
