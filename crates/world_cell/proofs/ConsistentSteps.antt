@@ -1,7 +1,7 @@
 -- Why a step of a consistent world leads to a consistent one.
-use Rattle.std.proofs.Common.{◌≡◌, ◌≢◌, ℕ, ◌+◌, ◌*◌, ◌≤◌, max, List, [], ◌∷◌, ◌++◌, Bool, true, false, cond, Option, Some, None, Result, Ok, Err, refl, sym, ap, ◌∙◌, inl, inr, arith, subst, map, zero, suc}
+use Rattle.std.proofs.Common.{◌≡◌, ◌≢◌, ℕ, ◌+◌, ◌*◌, ◌≤◌, max, List, [], ◌∷◌, ◌++◌, true, false, cond, Option, Some, None, Result, Ok, Err, refl, sym, ap, ◌∙◌, inl, inr, arith, subst, map, zero, suc}
 use Rattle.std.specs.Prelude.{IfOk, OnErr}
-use Rattle.std.specs.List.{slice_get, list_all}
+use Rattle.std.specs.List.{slice_get}
 use Rattle.std.specs.Option.{option_map}
 use Rattle.std.specs.Map.{lookup}
 use Rattle.std.specs.BTreeMap.{is_at, insert_entry}
@@ -38,7 +38,7 @@ use Rattle.cell_core.specs.Deeds.{edit_of}
 use Rattle.cell_core.specs.Cases.{TakeCase, taken_by}
 use Rattle.over_core.specs.SweepCase.{SweepCase, swept_by, swept_edits}
 use Rattle.cell_core.specs.Cases.TakeCase.{Repeated, StartQueued, BeatParked, Answered, Granted, Waits}
-use Rattle.over_core.specs.SweepCase.SweepCase.{Quiet, Recovers, Expires, AnswersBeat, StartedAgain, Started as StartedFirst, OfEnded, Ended, Applied}
+use Rattle.over_core.specs.SweepCase.SweepCase.{Quiet, Recovers, Expires, StartedAgain, Started as StartedFirst, OfEnded, Ended, Applied}
 use Rattle.over_core.specs.Kept.{IsKept}
 use Rattle.over_core.specs.Up.{up_edits}
 use Rattle.client_core.specs.declared.sessions.Session.TheVariants as sessions
@@ -52,14 +52,14 @@ use Rattle.world_cell.specs.declared.mail.Message.TheVariants.{ToMaster, ToClien
 use Rattle.world_cell.specs.declared.seats.Seat.{Seat}
 use Rattle.world_cell.specs.Seats.{Clients, new_seat, seated, each_seat, at_up}
 use Rattle.world_cell.specs.Messages.{request_at, out_at, call_of}
-use Rattle.world_cell.specs.World.{WorldState, WorldView, seat_of, new_world, world_step, world_sweep, without_quiet, IsLeft, clock_then, own_step, stays_fair, are_fair, moved, ticked}
+use Rattle.world_cell.specs.World.{WorldState, WorldView, seat_of, new_world, world_step, world_sweep, without_quiet, IsLeft, clock_then, stays_fair, are_fair, moved, ticked}
 use Rattle.world_cell.specs.Slices.{slice, standing_in}
 use Rattle.world_cell.specs.Consistent.{IsSeated, HasSent, FitsMessages, Agrees, Fits, IsNoted, IsInTurn, IsFairSince, AreFair, IsConsistent}
 use Rattle.world_cell.proofs.MessagesGrow.{none_sent, none_out, request_more, out_more, call_stays, call_more, call_new, no_call, no_request, one_call, its_call, one_request, one_no_out, out_among}
 use Rattle.world_cell.proofs.OneSession.{at_each, kept_in}
 use Rattle.world_cell.proofs.MasterFits.{fits_stays, take_fits, sweep_fits}
 use Rattle.world_cell.proofs.SeatsFound.{some_same, own_seat, other_seat, at_seats, each_found, at_each_seat, all_found, moves_so, fair_at_once, fair_beside}
-use Rattle.world_cell.proofs.WorldCases.{IsUp, IsJoin, IsTick, IsTake, IsSweep, WorldCase, world_case}
+use Rattle.world_cell.proofs.WorldCases.{WorldCase, world_case}
 use Rattle.world_cell.proofs.WorldCases.WorldCase.{ComesUp, Joins, Asks, Beats, Gives, Ticks, Takes, Sweeps}
 use Rattle.world_cell.proofs.OwnSteps.{IsNoCall, IsNextCall, Sends, OfEpoch, sending, IsOwn, asks_own, beats_own, gives_own}
 use Rattle.world_cell.proofs.OwnSteps.Sends.{Nothing, NoCall, NextCall}
