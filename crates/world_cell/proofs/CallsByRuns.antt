@@ -1,12 +1,10 @@
 -- Why each applied change is the effect of a call that was sent and taken.
 use Rattle.std.proofs.Common.{◌≡◌, ℕ, ◌+◌, List, [], ◌∷◌, ◌++◌, Option, Some, None, refl, sym, ap, ◌∙◌, inl, inr, append_assoc, subst, map}
 use Rattle.std.specs.Prelude.{◌⊎◌}
-use Rattle.std.specs.Option.{option_map}
 use Rattle.std.proofs.lemmas.List.{append-nil}
 use Rattle.node_core.specs.declared.lines.Line.{Line}
 use Rattle.node_core.specs.declared.lines.Line.TheVariants as lines
 use Rattle.node_core.specs.declared.views.Mod.{Mod}
-use Rattle.rows_cell.specs.Rows.{map_of}
 use Rattle.tags_cell.specs.declared.calls.Call.{Call}
 use Rattle.tags_cell.specs.declared.calls.Call.TheVariants as calls
 use Rattle.tags_cell.specs.declared.requests.Request.{Request}
@@ -29,17 +27,17 @@ use Rattle.cell_core.specs.Cases.TakeCase.{StartQueued, Answered, Granted, Waits
 use Rattle.over_core.specs.SweepCase.SweepCase.{Quiet, Recovers, Expires, AnswersBeat, TurnedAway, StartedAgain, Started as StartedFirst, OfEnded, Ended, Applied}
 use Rattle.over_core.specs.Kept.{IsKept}
 use Rattle.world_cell.specs.declared.steps.Step.{Step}
-use Rattle.world_cell.specs.declared.steps.Step.TheVariants.{Take, Sweep}
+use Rattle.world_cell.specs.declared.steps.Step.TheVariants.{Take}
 use Rattle.world_cell.specs.Messages.{call_of}
 use Rattle.world_cell.specs.World.{WorldState, WorldView}
 use Rattle.world_cell.specs.Consistent.{Agrees, IsConsistent}
-use Rattle.world_cell.specs.Runs.{IsMade, Does, Run, map_at, epoch_at, change_of, IsTaken, HasWaited, IsOfCall}
+use Rattle.world_cell.specs.Runs.{IsMade, Does, Run, change_of, IsTaken, HasWaited, IsOfCall}
 use Rattle.world_cell.proofs.SilentLines.{IsSilent}
 use Rattle.world_cell.proofs.PartsOfRuns.{run_push}
 use Rattle.world_cell.proofs.MasterFits.{waits_as, turn_sent}
 use Rattle.world_cell.proofs.WorldCases.{IsTake, IsSweep, WorldCase, world_case}
 use Rattle.world_cell.proofs.WorldCases.WorldCase.{ComesUp, Joins, Asks, Beats, Gives, Ticks, Takes, Sweeps}
-use Rattle.world_cell.proofs.OwnSteps.{IsOwn, own_silent, asks_own, beats_own, gives_own}
+use Rattle.world_cell.proofs.OwnSteps.{own_silent, asks_own, beats_own, gives_own}
 use Rattle.world_cell.proofs.ConsistentSteps.{noted_fits}
 use Rattle.world_cell.proofs.OnceByRuns.{taken_silent}
 use Rattle.world_cell.proofs.RowsByRuns.{run_tells}

@@ -1,7 +1,7 @@
 -- Why a step of a consistent world leads to a consistent one.
-use Rattle.std.proofs.Common.{◌≡◌, ◌≢◌, ℕ, ◌+◌, ◌*◌, ◌≤◌, max, List, [], ◌∷◌, ◌++◌, Bool, true, false, cond, Option, Some, None, Result, Ok, Err, refl, sym, ap, ◌∙◌, inl, inr, arith, subst, map, zero, suc}
+use Rattle.std.proofs.Common.{◌≡◌, ◌≢◌, ℕ, ◌+◌, ◌*◌, ◌≤◌, max, List, [], ◌∷◌, ◌++◌, true, false, cond, Option, Some, None, Result, Ok, Err, refl, sym, ap, ◌∙◌, inl, inr, arith, subst, map, zero, suc}
 use Rattle.std.specs.Prelude.{IfOk, OnErr}
-use Rattle.std.specs.List.{slice_get, list_all}
+use Rattle.std.specs.List.{slice_get}
 use Rattle.std.specs.Option.{option_map}
 use Rattle.std.specs.Map.{lookup}
 use Rattle.std.specs.BTreeMap.{is_at, insert_entry}
@@ -38,7 +38,7 @@ use Rattle.cell_core.specs.Deeds.{edit_of}
 use Rattle.cell_core.specs.Cases.{TakeCase, taken_by}
 use Rattle.over_core.specs.SweepCase.{SweepCase, swept_by, swept_edits}
 use Rattle.cell_core.specs.Cases.TakeCase.{Repeated, StartQueued, BeatParked, Answered, Granted, Waits}
-use Rattle.over_core.specs.SweepCase.SweepCase.{Quiet, Recovers, Expires, AnswersBeat, StartedAgain, Started as StartedFirst, OfEnded, Ended, Applied}
+use Rattle.over_core.specs.SweepCase.SweepCase.{Quiet, Recovers, Expires, StartedAgain, Started as StartedFirst, OfEnded, Ended, Applied}
 use Rattle.over_core.specs.Kept.{IsKept}
 use Rattle.over_core.specs.Up.{up_edits}
 use Rattle.client_core.specs.declared.sessions.Session.TheVariants as sessions
@@ -52,14 +52,14 @@ use Rattle.world_cell.specs.declared.mail.Message.TheVariants.{ToMaster, ToClien
 use Rattle.world_cell.specs.declared.seats.Seat.{Seat}
 use Rattle.world_cell.specs.Seats.{Clients, new_seat, seated, each_seat, at_up}
 use Rattle.world_cell.specs.Messages.{request_at, out_at, call_of}
-use Rattle.world_cell.specs.World.{WorldState, WorldView, seat_of, new_world, world_step, world_sweep, without_quiet, IsLeft, clock_then, own_step, stays_fair, are_fair, moved, ticked}
+use Rattle.world_cell.specs.World.{WorldState, WorldView, seat_of, new_world, world_step, world_sweep, without_quiet, IsLeft, clock_then, stays_fair, are_fair, moved, ticked}
 use Rattle.world_cell.specs.Slices.{slice, standing_in}
 use Rattle.world_cell.specs.Consistent.{IsSeated, HasSent, FitsMessages, Agrees, Fits, IsNoted, IsInTurn, IsFairSince, AreFair, IsConsistent}
 use Rattle.world_cell.proofs.MessagesGrow.{none_sent, none_out, request_more, out_more, call_stays, call_more, call_new, no_call, no_request, one_call, its_call, one_request, one_no_out, out_among}
 use Rattle.world_cell.proofs.OneSession.{at_each, kept_in}
 use Rattle.world_cell.proofs.MasterFits.{fits_stays, take_fits, sweep_fits}
 use Rattle.world_cell.proofs.SeatsFound.{some_same, own_seat, other_seat, at_seats, each_found, at_each_seat, all_found, moves_so, fair_at_once, fair_beside}
-use Rattle.world_cell.proofs.WorldCases.{IsUp, IsJoin, IsTick, IsTake, IsSweep, WorldCase, world_case}
+use Rattle.world_cell.proofs.WorldCases.{WorldCase, world_case}
 use Rattle.world_cell.proofs.WorldCases.WorldCase.{ComesUp, Joins, Asks, Beats, Gives, Ticks, Takes, Sweeps}
 use Rattle.world_cell.proofs.OwnSteps.{IsNoCall, IsNextCall, Sends, OfEpoch, sending, IsOwn, asks_own, beats_own, gives_own}
 use Rattle.world_cell.proofs.OwnSteps.Sends.{Nothing, NoCall, NextCall}
@@ -102,8 +102,11 @@ fits_more old new more None e h = tt
 fits_more old new more (Some s) e h = subst (λ (xs : List Message). FitsMessages xs s) (sym e) (fits_stays old.messages more s h)
 
 -- a world that agrees with its rows, and that schedules lead to, is consistent
-pub record Becomes (w : WorldState) : Type 0 where
-  pub consistent : Agrees w w.master → ((client : ℕ) (name : List ℕ) → Reached (slice client name w)) → IsConsistent w
+pub data Becomes (w : WorldState) : Type 0 where
+  OnceReached : (Agrees w w.master → ((client : ℕ) (name : List ℕ) → Reached (slice client name w)) → IsConsistent w) → Becomes w
+
+once_reached : (w : WorldState) → Becomes w → Agrees w w.master → ((client : ℕ) (name : List ℕ) → Reached (slice client name w)) → IsConsistent w
+once_reached w (Becomes.OnceReached consistent) = consistent
 
 module _ (old new : WorldState) (more : List Message) (h : IsConsistent old) (later : Later old new) (fresh : AreFresh old new more) where
   sent_later : (client number : ℕ) (call : CallMessage) → HasSent old client number call → HasSent new client number call
@@ -140,20 +143,18 @@ module _ (old new : WorldState) (more : List Message) (h : IsConsistent old) (la
       ]
 
   all_consistent : ((number : ℕ) (seat : Seat) → seat_of new number ≡ Some seat → IsSeated new.rows.epoch number seat) → Fits new new.master → new.lease ≡ old.lease → IsNoted new.clock new.master → AreFair new new.master → Becomes new
-  all_consistent clients fits lease noted fair = record {
-    consistent = λ master reached. record {
-      clients = clients;
-      named = all_named;
-      sent = all_sent;
-      started = all_started;
-      master = master;
-      fits = fits;
-      lease = subst (λ n. n ≤ longest_lease) (sym lease) h.lease;
-      noted = noted;
-      fair = fair;
-      reached = reached;
-    };
-  }
+  all_consistent clients fits lease noted fair = Becomes.OnceReached (λ master reached. record {
+    clients = clients;
+    named = all_named;
+    sent = all_sent;
+    started = all_started;
+    master = master;
+    fits = fits;
+    lease = subst (λ n. n ≤ longest_lease) (sym lease) h.lease;
+    noted = noted;
+    fair = fair;
+    reached = reached;
+  })
 
 -- ---- messages that are no calls
 
@@ -639,7 +640,7 @@ LeadsOn = (old : WorldState) (step : Step) (new : WorldState) (printed : List Li
 pub step_holds : LeadsOn → (old new : WorldView) (step : Step) (edits : List Edit) (r : Result (List Line) Fault) → IsConsistent old.world → Agrees new.world new.world.master → IfOk r (λ printed. world_step old.world step ≡ Ok (new.world, printed)) → OnErr r (IsLeft edits old new) → IsConsistent new.world
 step_holds leads old new step edits (Ok printed) h agrees made left =
     let c = world_case old.world step new.world printed h.master made in
-    (case_holds old.world step new.world printed h c).consistent agrees (leads old.world step new.world printed h c)
+    once_reached new.world (case_holds old.world step new.world printed h c) agrees (leads old.world step new.world printed h c)
 step_holds leads old new step edits (Err fault) h agrees made left = subst IsConsistent (sym left.same) h
 
 pub swept_holds : LeadsOn → (old new : WorldView) (edits : List Edit) (r : Result Turn Fault) → IsConsistent old.world → Agrees new.world new.world.master → IfOk r (λ turn. world_sweep old.world old.world.master ≡ Ok (new.world, turn)) → OnErr r (IsLeft edits old new) → IsConsistent new.world

@@ -1,5 +1,5 @@
 -- What was granted by the messages, as they grow.
-use Rattle.std.proofs.Common.{◌≡◌, ℕ, List, [], ◌∷◌, ◌++◌, Bool, true, false, cond, Option, Some, None, refl, sym, ap, ◌∙◌, inl, inr, append_assoc, subst}
+use Rattle.std.proofs.Common.{◌≡◌, ℕ, List, [], ◌∷◌, ◌++◌, true, false, cond, Option, Some, None, refl, sym, ap, ◌∙◌, inl, inr, append_assoc, subst}
 use Rattle.std.specs.Prelude.{◌==◌, ◌&&◌, fold}
 use Rattle.std.proofs.lemmas.List.{append-nil}
 use Rattle.coherence.specs.Slice as one

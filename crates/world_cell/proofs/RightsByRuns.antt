@@ -21,10 +21,10 @@ use Rattle.rights_core.specs.declared.endings.Ending.TheVariants as endings
 use Rattle.rights_core.specs.declared.grants.Grant.{Grant}
 use Rattle.rights_core.specs.declared.grants.Grant.TheVariants as grants
 use Rattle.rights_core.specs.declared.totals.Totals.{Totals}
-use Rattle.rights_core.specs.Rights.{held_limit, stands, is_held, is_acknowledged, is_expired, count_held, is_held_at, new_right, answer_beside, grant_answer, with_granted, granted, is_to_ask, next_invalidation, with_next, asked_back, is_held_by, is_ended_by, ends, status_after, with_end, ended, numbers_ending, totals_of, AreNumbered, IsRecorded}
+use Rattle.rights_core.specs.Rights.{held_limit, stands, is_held, is_acknowledged, is_expired, count_held, is_held_at, new_right, answer_beside, grant_answer, with_granted, is_to_ask, next_invalidation, with_next, is_ended_by, ends, status_after, ended, numbers_ending, totals_of, AreNumbered, IsRecorded}
 use Rattle.cell_core.specs.declared.handles.Note.{Note}
 use Rattle.cell_core.specs.State.{MasterState}
-use Rattle.cell_core.specs.Step.{granted_lines, acknowledgement, with_call, asking_for, repeated_reply, with_note, noted}
+use Rattle.cell_core.specs.Step.{granted_lines, with_call, asking_for, repeated_reply, with_note, noted}
 use Rattle.cell_core.specs.Cases.{TakeCase, taken_by}
 use Rattle.cell_core.specs.Cases.TakeCase.{BeatParked, Repeated, Answered, Granted, Waits}
 use Rattle.over_core.specs.SweepCase.{SweepCase, swept_by}

@@ -2,8 +2,6 @@
 use Rattle.std.proofs.Common.{◌≡◌, ℕ, List, [], ◌∷◌, ◌++◌, Bool, true, false, cond, refl, sym, ap, ◌∙◌, inl, inr, subst, arith, map}
 use Rattle.std.specs.Prelude.{◌==◌}
 use Rattle.std.specs.Option.{option_map_or}
-use Rattle.std.specs.BTreeMap.{insert_entry}
-use Rattle.std.specs.Ordering.{nat_cmp}
 use Rattle.std.proofs.lemmas.Bool.Decides.{nat_tests}
 use Rattle.plain.proofs.OneKey.{lookup_put, lookup_put_apart}
 use Rattle.node_core.specs.declared.lines.Line.{Line}
@@ -21,7 +19,7 @@ use Rattle.cell_core.specs.State.{MasterState, locks_of}
 use Rattle.cell_core.specs.Step.{noted}
 use Rattle.cell_core.specs.Deeds.{edit_of}
 use Rattle.over_core.specs.SweepCase.{SweepCase, swept_by, swept_edits}
-use Rattle.over_core.specs.SweepCase.SweepCase.{Quiet, Recovers, Expires, Started as StartedFirst, Applied}
+use Rattle.over_core.specs.SweepCase.SweepCase.{Expires, Started as StartedFirst, Applied}
 use Rattle.world_cell.specs.declared.steps.Step.{Step}
 use Rattle.world_cell.specs.World.{WorldState, WorldView}
 use Rattle.world_cell.specs.Consistent.{IsConsistent}
