@@ -10,6 +10,7 @@ pub mod WorldCases
 pub mod OwnSteps
 pub mod PartsOfRuns
 pub mod MessagesGrow
+pub mod GrantsSent
 pub mod MasterFits
 pub mod ConsistentSteps
 pub mod OnceByRuns
@@ -17,6 +18,7 @@ pub mod RowsByRuns
 pub mod CallsByRuns
 pub mod SessionsByRuns
 pub mod ClocksByRuns
+pub mod RightsByRuns
 pub mod Slices
 pub mod SliceTicks
 pub mod SliceClients

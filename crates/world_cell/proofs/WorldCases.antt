@@ -30,7 +30,6 @@ use Rattle.over_core.proofs.SweepCases.{swept_case}
 use Rattle.over_core.specs.Kept.{IsKept}
 use Rattle.over_core.specs.Up.{up_edits, master_by}
 use Rattle.client_core.specs.declared.asks.Ask.{Ask}
-use Rattle.client_core.specs.declared.asks.Asked.{Asked}
 use Rattle.client_core.specs.Asks.{ask_step}
 use Rattle.client_core.specs.Beats.{beat_step}
 use Rattle.client_core.specs.Gives.{give_step}
@@ -151,10 +150,13 @@ not_false : (b : Bool) → not b ≡ false → b ≡ true
 not_false true h = refl
 not_false false h = cc
 
+kept_at : (w : WorldState) (m : Option MasterState) (s : MasterState) → m ≡ Some s → Agrees w m → IsKept w.cell w.rows s
+kept_at w m s up agrees = rw up at agrees
+
 -- the sessions of a master are in the order of those of its rows
 in_order : (w : WorldState) (m : Option MasterState) (s : MasterState) → m ≡ Some s → Agrees w m → IsStrictlySortedBy nat_cmp (keys_of s.sessions.sessions)
 in_order w m s up agrees =
-    let kept : IsKept w.cell w.rows s = rw up at agrees in
+    let kept = kept_at w m s up agrees in
     subst (λ ks. IsStrictlySortedBy nat_cmp ks) (ap keys_of (sym kept.sessions) ∙ keys_of-map_values row_of s.sessions.sessions) kept.sessions_in_order
 
 module _ (w : WorldState) (step : Step) (new : WorldState) (printed : List Line) where
@@ -249,7 +251,7 @@ module _ (w : WorldState) (step : Step) (new : WorldState) (printed : List Line)
   swept_row : (master : MasterState) (r : Result (MasterState × Swept) Fault) → Agrees w w.master → step ≡ steps.Sweep → w.master ≡ Some master → sweep_step master w.clock ≡ r → without_quiet (swept w master r) ≡ Ok (new, printed) → WorldCase w step new printed
   swept_row master (Err fault) agrees is up step_is h = cc
   swept_row master (Ok p) agrees is up step_is h =
-      let t = swept_case master p.0 w.clock p.1 (in_order w w.master master up agrees) step_is in
+      let t = swept_case master p.0 w.clock p.1 (in_order w w.master master up agrees) (kept_at w w.master master up agrees).orderly step_is in
       let made : p ≡ swept_by (noted master w.clock) t.0 = t.1 in
       let q = ok_pair (record w { rows = changed_rows w.rows (sweep_edits master w.clock); master = Some p.0; messages = w.messages ++ map ToClient p.1.outs }, p.1.lines) new printed h in
       Sweeps (record {

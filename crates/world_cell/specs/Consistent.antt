@@ -1,6 +1,5 @@
 -- What holds of every world: how its clients, its messages and its master fit one another.
 use Rattle.std.specs.Prelude.{◌≡◌, ◌⊎◌, ℕ, ◌+◌, ◌*◌, Bool, true, false, ◌≤◌, ◌==◌, List, [], ◌∷◌, Option, Some, None, if◌then◌else◌}
-use Rattle.tags_cell.specs.declared.calls.Call.{Call}
 use Rattle.tags_cell.specs.declared.requests.Request.TheVariants as requests
 use Rattle.tags_cell.specs.declared.requests.CallMessage.{CallMessage}
 use Rattle.tags_cell.specs.declared.outs.Out.TheVariants as outs
@@ -86,6 +85,11 @@ pub record WasSent (sent : List Message) (epoch client number : ℕ) : Type 0 wh
   pub found : call_of sent client number ≡ Some call
   pub same : call.epoch ≡ epoch
 
+-- a reply is to the call of this client and number
+pub record IsReplyTo (client number : ℕ) (reply : Reply) : Type 0 where
+  pub to : reply.client ≡ client
+  pub answered : reply.number ≡ number
+
 -- a reply that is kept was sent: what it grants was granted
 abbrev pub HasGranted : List Message → List ℕ → ℕ → Reply → Type 0
 HasGranted sent secret client reply =
@@ -94,8 +98,9 @@ HasGranted sent secret client reply =
 -- what waits and what is kept fits the messages
 pub record FitsMessages (sent : List Message) (s : MasterState) : Type 0 where
   pub queue : AreOfMessages sent s.epoch s.gate.waiting
-  pub granted : (client : ℕ) (kept : Kept Reply) (reply : Reply) → kept_of s client ≡ Some kept → kept.reply ≡ Some reply → HasGranted sent s.secret client reply
   pub kept : (client : ℕ) (kept : Kept Reply) → kept_of s client ≡ Some kept → WasSent sent s.epoch client kept.number
+  pub replies : (client : ℕ) (kept : Kept Reply) (reply : Reply) → kept_of s client ≡ Some kept → kept.reply ≡ Some reply → IsReplyTo client kept.number reply
+  pub granted : (client : ℕ) (kept : Kept Reply) (reply : Reply) → kept_of s client ≡ Some kept → kept.reply ≡ Some reply → HasGranted sent s.secret client reply
   pub turns : (client : ℕ) → IsInTurn (session_of s client) (waiting client s.gate.waiting)
 
 -- what it knows of the rows is what they hold
