@@ -1,5 +1,5 @@
 //! What a master does with a message.
-ghost use Rattle.std.specs.Prelude.{◌≡◌, ◌≢◌, ◌-◌, ◌<◌, ◌^◌, [], true, false, Some, None, Ok, Err, IfOk, IfErr, OnOk, OnErr};
+ghost use Rattle.std.specs.Prelude.{◌≡◌, ◌≢◌, true, false, Some, None, Ok, Err, IfOk, IfErr, OnOk, OnErr};
 ghost use Rattle.cell_core.specs.Step.{take_step, take_at, start_step, beat_step, call_step, kept_step, kept_of, new_call, with_note, admit_step, telling, granting, is_cachable, waits, recorded, queued, is_full, is_spent, replied};
 ghost use Rattle.session_core.specs.Session.{kept_answer};
 

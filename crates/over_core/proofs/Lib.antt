@@ -7,3 +7,5 @@ mod OrderlyChanges
 pub mod OwnedRights
 mod SweepRefused
 pub mod SweepCases
+pub mod Touching
+pub mod Unacknowledged

@@ -1,5 +1,5 @@
 -- The rights of one client: whether there are any, and what follows where there are none.
-use Rattle.std.proofs.Common.{◌≡◌, ℕ, ◌+◌, Bool, true, false, cond, List, [], ◌∷◌, ◌++◌, Option, None, Result, Ok, Err, arith, refl, ap, ◌∙◌}
+use Rattle.std.proofs.Common.{◌≡◌, ℕ, ◌+◌, Bool, true, false, cond, List, [], ◌∷◌, ◌++◌, None, Result, Ok, Err, arith, refl, ap, ◌∙◌}
 use Rattle.std.specs.Prelude.{◌&&◌, ◌||◌, ◌==◌, max, map, is_some}
 use Rattle.std.specs.List.{list_any}
 use Rattle.std.proofs.lemmas.List.Sums.{sum_by-cons}
@@ -9,7 +9,7 @@ use Rattle.rights_core.specs.declared.endings.Ending.{Ending}
 use Rattle.rights_core.specs.declared.grants.Grant.{Grant}
 use Rattle.rights_core.specs.declared.grants.Grant.TheVariants as grants
 use Rattle.rights_core.specs.Rights.{is_held_on, holds, new_right, grant_answer, with_granted, granted, was_asked, invalidations_of, with_next, asked_back, with_end, ended}
-use Rattle.rights_core.specs.Laws.{asked_for, number_or_0, is_given_back, given_back_of}
+use Rattle.rights_core.specs.Laws.{asked_for, number_or_0, given_back_of}
 use Rattle.rights_core.proofs.OneName.{asked_unheld, new_right_is_held}
 use Rattle.rights_core.proofs.Recorded.{next_keeps, end_keeps, none_of, or_none}
 use Rattle.over_core.specs.Kept.{is_of}

@@ -5,6 +5,7 @@ use Rattle.std.specs.Ordering.{nat_cmp}
 use Rattle.std.specs.Map.{lookup, keys_of, set_value}
 use Rattle.std.specs.BTreeMap.{is_at}
 use Rattle.std.specs.List.Sorted.{IsStrictlySortedBy}
+use Rattle.std.proofs.lemmas.Map.{keys-set_value}
 use Rattle.session_core.specs.declared.records.Session.{Session}
 use Rattle.session_core.specs.Session.{issued_through}
 use Rattle.session_core.specs.Sessions.{SessionTable, session_of, with_session, with_issued, issued_by}
@@ -23,6 +24,16 @@ lease_of_one {K} s client step = elim (session_of s client) as (λ (o : Option (
 pub lease_stays_issued : {K : Type 0} (s : SessionTable K) (asked : List (ℕ × ℕ)) → (issued_by asked s).lease ≡ s.lease
 lease_stays_issued s [] = refl
 lease_stays_issued s (entry ∷ asked) = lease_stays_issued (with_issued s entry) asked ∙ lease_of_one s entry.0 (issued_through entry.1)
+
+clients_of_one : {K : Type 0} (s : SessionTable K) (client : ℕ) (step : Session K → Session K) → keys_of (with_session s client step).sessions ≡ keys_of s.sessions
+clients_of_one {K} s client step = elim (session_of s client) as (λ (o : Option (Session K)). keys_of (option_map_or (λ session. record s { sessions = set_value (is_at (nat_cmp client)) s.sessions (step session) }) o s).sessions ≡ keys_of s.sessions) [
+  | None ↦ refl
+  | Some session ↦ keys-set_value (is_at (nat_cmp client)) s.sessions (step session)
+]
+
+pub clients_stay_issued : {K : Type 0} (s : SessionTable K) (asked : List (ℕ × ℕ)) → keys_of (issued_by asked s).sessions ≡ keys_of s.sessions
+clients_stay_issued s [] = refl
+clients_stay_issued s (entry ∷ asked) = clients_stay_issued (with_issued s entry) asked ∙ clients_of_one s entry.0 (issued_through entry.1)
 
 -- what no number of invalidations changes of a session stays in the table
 pub rows_stay_issued : {K B : Type 0} (f : Session K → B) → ((number : ℕ) (session : Session K) → f (issued_through number session) ≡ f session) → (s : SessionTable K) (asked : List (ℕ × ℕ)) → rows_of f (issued_by asked s).sessions ≡ rows_of f s.sessions

@@ -76,7 +76,9 @@ abbrev pub issued_at : {K : Type 0} → Option ℕ → Session K → Session K
 issued_at None session = session
 issued_at (Some number) session = issued_through number session
 
--- each client of a table was issued the invalidations up to its number, and no other client any
+-- each client of a table was issued the invalidations up to its number, and no other client any; the same clients have sessions, under
+-- the same lease
 pub record IssuesToEach (K : Type 0) : Type 0 where
   pub each : (s : SessionTable K) (asked : List (ℕ × ℕ)) (client : ℕ) → IsStrictlySortedBy nat_cmp (keys_of asked) → session_of (issued_by asked s) client ≡ option_map (issued_at (lookup (is_at (nat_cmp client)) asked)) (session_of s client)
+  pub clients : (s : SessionTable K) (asked : List (ℕ × ℕ)) → keys_of (issued_by asked s).sessions ≡ keys_of s.sessions
   pub lease : (s : SessionTable K) (asked : List (ℕ × ℕ)) → (issued_by asked s).lease ≡ s.lease
