@@ -161,7 +161,7 @@ module _ (c : ℕ) (x name : List ℕ) (rights : List CacheRight) (recorded : Is
   pub other_is_issued : is_asked_now c name rights ≡ true → bytes_eq x name ≡ false → right_of c x (asked_back name rights) ≡ record (right_of c x rights) { issued = next_invalidation c rights }
   other_is_issued t e = asked_right (next_invalidation c rights) (number_or_0 (asked_for c x rights)) (counts true t) (ap number_or_0 (of_other e))
 
-  other_stays : is_asked_now c name rights ≡ false → bytes_eq x name ≡ false → right_of c x (asked_back name rights) ≡ right_of c x rights
+  pub other_stays : is_asked_now c name rights ≡ false → bytes_eq x name ≡ false → right_of c x (asked_back name rights) ≡ right_of c x rights
   other_stays t e = asked_right (invalidations_of c rights) (number_or_0 (asked_for c x rights)) (omega (arith, counts false t)) (ap number_or_0 (of_other e))
 
 module _ (c : ℕ) (name : List ℕ) (rights : List CacheRight) (recorded : IsRecorded rights) where
