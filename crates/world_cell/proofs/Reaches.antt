@@ -14,5 +14,5 @@ leads_on old step new printed h (Asks a) client name = reached_behind_ask old h 
 leads_on old step new printed h (Beats b) client name = reached_behind_beat old h client name new b.number b.seat printed b.case b.found b.is
 leads_on old step new printed h (Gives g) client name = reached_behind_give old h client name new g.seat g.at g.out printed g.case g.was_sent g.found g.is
 leads_on old step new printed h (Ticks t) client name = subst (λ z. Reached (slice client name z)) (sym t.is) (reached_behind_ticks old h client name t.ticks t.fair)
-leads_on old step new printed h (Takes t) client name = subst (λ z. Reached (slice client name z)) (sym t.is) (reached_behind_take old h client name t.master t.at t.request t.case t.is_up t.was_sent)
+leads_on old step new printed h (Takes t) client name = subst (λ z. Reached (slice client name z)) (sym t.is) (reached_behind_take old h client name t.master t.at t.request t.case t.is_up t.was_sent t.unspent)
 leads_on old step new printed h (Sweeps t) client name = subst (λ z. Reached (slice client name z)) (sym t.is) (reached_behind_sweep old h client name t.master t.case t.is_up)

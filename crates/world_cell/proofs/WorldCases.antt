@@ -20,12 +20,12 @@ use Rattle.tags_cell.specs.Messages.{out_client}
 use Rattle.cell_core.specs.declared.pending.Taken.{Taken}
 use Rattle.over_core.specs.declared.sweeps.Swept.{Swept}
 use Rattle.cell_core.specs.State.{MasterState, master_of, row_of}
-use Rattle.cell_core.specs.Step.{take_step, is_past_end, noted}
+use Rattle.cell_core.specs.Step.{take_step, is_past_end, is_spent, noted}
 use Rattle.over_core.specs.Effect.{is_last}
 use Rattle.over_core.specs.Sweep.{sweep_step, sweep_edits}
 use Rattle.cell_core.specs.Cases.{TakeCase, taken_by}
 use Rattle.over_core.specs.SweepCase.{SweepCase, swept_by, swept_edits}
-use Rattle.cell_core.proofs.TakeCases.{taken_case}
+use Rattle.cell_core.proofs.TakeCases.{taken_case, taken_unspent}
 use Rattle.over_core.proofs.SweepCases.{swept_case}
 use Rattle.over_core.specs.Kept.{IsKept}
 use Rattle.over_core.specs.Up.{up_edits, master_by}
@@ -117,6 +117,8 @@ pub record IsTake (old : WorldState) (step : Step) (new : WorldState) (printed :
   pub is_up : old.master ≡ Some master
   pub request : Request
   pub was_sent : request_at old.messages at ≡ Some request
+  -- no count is at its end
+  pub unspent : is_spent master ≡ false
   pub case : TakeCase (noted master old.clock) request
   pub is : new ≡ record old { master = Some (taken_by (noted master old.clock) request case).0; messages = old.messages ++ map ToClient (taken_by (noted master old.clock) request case).1.outs }
   pub tells : printed ≡ (taken_by (noted master old.clock) request case).1.lines
@@ -233,6 +235,7 @@ module _ (w : WorldState) (step : Step) (new : WorldState) (printed : List Line)
         is_up = up;
         request = request;
         was_sent = sent;
+        unspent = taken_unspent master p.0 w.clock request p.1 step_is;
         case = t.0;
         is = sym q.0 ∙ ap (λ (x : MasterState × Taken). record w { master = Some x.0; messages = w.messages ++ map ToClient x.1.outs }) made;
         tells = sym q.1 ∙ ap (λ (x : MasterState × Taken). x.1.lines) made;
