@@ -23,6 +23,7 @@ pub mod Slices
 pub mod SliceTicks
 pub mod SliceClients
 pub mod SliceTakes
+pub mod SweptNames
 pub mod SliceSweeps
 pub mod SliceLeases
 pub mod SliceSteps
