@@ -1,11 +1,7 @@
 -- From a consistent world each step leads to where the slice of each client and name is reached.
-use Rattle.std.proofs.Common.{◌≡◌, ℕ, true, List, Ok, Some, None, subst}
+use Rattle.std.proofs.Common.{◌≡◌, ℕ, true, false, List, Ok, Some, None, subst}
 use Rattle.coherence.specs.Slice.{Reached}
-use Rattle.coherence.proofs.Reached.{reached_at_start}
 use Rattle.node_core.specs.declared.lines.Line.{Line}
-use Rattle.node_core.specs.Nodes.{get_node}
-use Rattle.rows_cell.specs.declared.tables.Rows.{Rows}
-use Rattle.rows_cell.specs.Rows.{map_of}
 use Rattle.tags_cell.specs.declared.requests.Request.{Request}
 use Rattle.tags_cell.specs.declared.outs.Out.{Out}
 use Rattle.tags_cell.specs.Messages.{out_client}
@@ -18,17 +14,13 @@ use Rattle.over_core.specs.SweepCase.{SweepCase}
 use Rattle.world_cell.specs.declared.seats.Seat.{Seat}
 use Rattle.world_cell.specs.declared.steps.Ticks.{Ticks}
 use Rattle.world_cell.specs.Messages.{request_at, out_at}
-use Rattle.world_cell.specs.World.{WorldState, new_world, seat_of, asked, beaten, gave, ticked, are_fair}
-use Rattle.world_cell.specs.Slices.{slice, standing_in}
+use Rattle.world_cell.specs.World.{WorldState, seat_of, asked, beaten, gave, ticked, are_fair}
+use Rattle.world_cell.specs.Slices.{slice}
 use Rattle.world_cell.specs.Consistent.{IsConsistent, Agrees, Fits, IsNoted}
 use Rattle.world_cell.proofs.SliceTicks.{behind_up, behind_join, reached_stays_at_ticks, reached_stays_at_up, reached_stays_at_join}
 use Rattle.world_cell.proofs.SliceClients.{reached_stays_at_ask, reached_stays_at_beat, reached_stays_at_give}
 use Rattle.world_cell.proofs.SliceTakes.{behind_take, reached_stays_at_take}
 use Rattle.world_cell.proofs.SliceSweeps.{behind_sweep, reached_stays_at_sweep}
-
--- at the start no client has done anything, whatever the rows say
-pub reached_at_first : (c : ℕ) (x cell : List ℕ) (rows : Rows) (lease : ℕ) → Reached (slice c x (new_world cell rows lease))
-reached_at_first c x cell rows lease = reached_at_start (get_node (map_of rows) x) (standing_in rows c) rows.epoch
 
 module _ (w : WorldState) (fits : IsConsistent w) (c : ℕ) (x : List ℕ) where
   pub reached_behind_ticks : (ticks : Ticks) → are_fair w.master w ticks ≡ true → Reached (slice c x (ticked w ticks))
