@@ -1,9 +1,8 @@
 -- To each client, and of each name, what a call that the master takes is.
 use Rattle.std.proofs.Common.{◌≡◌, ◌≢◌, ℕ, ◌+◌, ◌<◌, Bool, true, false, cond, List, [], ◌∷◌, ◌++◌, map, length, Option, Some, None, Result, Ok, Err, inl, inr, arith, refl, sym, ap, ◌∙◌, subst}
-use Rattle.std.specs.Prelude.{◌⊎◌, ◌==◌, ◌&&◌, ◌||◌, not, nat_le, fold, find, is_none}
+use Rattle.std.specs.Prelude.{◌==◌, ◌&&◌, ◌||◌, not, nat_le, fold, find, is_none}
 use Rattle.std.specs.Option.{option_map, option_map_or}
 use Rattle.std.specs.Str.{bytes_eq}
-use Rattle.std.specs.BTreeMap.{insert_entry}
 use Rattle.coherence.specs.Slice as one
 use Rattle.coherence.specs.Slice.{IsIn, Slice, Event, QueueChange, AskBack, IssueOthers, SendGrant, Reorder, Live, Leads}
 use Rattle.coherence.proofs.Reached.{leads_both}
@@ -28,31 +27,29 @@ use Rattle.session_core.proofs.IssuedBy.{lease_stays_issued}
 use Rattle.rights_core.specs.declared.cache_rights.CacheRight.{CacheRight}
 use Rattle.rights_core.specs.declared.grants.Grant.{Grant}
 use Rattle.rights_core.specs.declared.grants.Grant.TheVariants as grants
-use Rattle.rights_core.specs.Rights.{holds, held_limit, count_held, answer_beside, grant_answer, is_held_at, invalidations_of, next_invalidation, clients_to_ask, asked_back, IsRecorded}
+use Rattle.rights_core.specs.Rights.{holds, held_limit, count_held, answer_beside, grant_answer, is_held_at, invalidations_of, next_invalidation, clients_to_ask, asked_back}
 use Rattle.rights_core.specs.Laws.{asked_for, number_or_0}
-use Rattle.gate_core.specs.declared.pending.Pending.{Pending}
 use Rattle.gate_core.specs.declared.pending.Waiting.{Waiting}
-use Rattle.gate_core.specs.Gate.{uncachable, with_change}
-use Rattle.gate_core.specs.Laws.{touching, is_touched}
+use Rattle.gate_core.specs.Gate.{uncachable}
+use Rattle.gate_core.specs.Laws.{touching}
 use Rattle.gate_core.proofs.OneChange.{push_touches, uncachable_is_touched, cachable_is_granted}
 use Rattle.cell_core.specs.declared.handles.HandleKey.{HandleKey}
 use Rattle.cell_core.specs.declared.handles.HandleState.{HandleState}
 use Rattle.cell_core.specs.declared.pending.Task.{Task}
 use Rattle.cell_core.specs.declared.pending.Work.TheVariants as works
 use Rattle.cell_core.specs.State.{MasterState, row_of}
-use Rattle.cell_core.specs.Step.{session_of, kept_of, is_live, reply_of, issued_to, stamped_reply, answered_by, replied, is_cachable, granting, queued, names_of, with_call, waits, repeated_reply, is_spent}
+use Rattle.cell_core.specs.Step.{session_of, is_live, reply_of, issued_to, stamped_reply, answered_by, replied, is_cachable, granting, names_of, with_call, waits, is_spent}
 use Rattle.cell_core.specs.Names.{name_asked, shown_by}
 use Rattle.over_core.specs.Kept.{AreIssued, AreOwned}
 use Rattle.over_core.proofs.OwnedRights.{none_issued}
-use Rattle.world_cell.specs.declared.mail.Message.{Message}
 use Rattle.world_cell.specs.declared.mail.Message.TheVariants.{ToClient}
 use Rattle.world_cell.specs.Messages.{call_of}
 use Rattle.world_cell.specs.World.{WorldState}
-use Rattle.world_cell.specs.Slices.{Shown, Grants, SeenRight, standing_so, standing_of, standing_in, seen_of, heard_from, right_of, start_of, starts_of, put_offer, offers_of, asks_for, stamped_grant, grant_of, grants_of}
+use Rattle.world_cell.specs.Slices.{Shown, Grants, SeenRight, standing_so, standing_of, seen_of, heard_from, right_of, starts_of, put_offer, offers_of, asks_for, stamped_grant, grant_of, grants_of}
 use Rattle.world_cell.specs.Consistent.{HasGranted, IsReplyTo}
 use Rattle.world_cell.proofs.GrantsSent.{grant_front, unstamped}
 use Rattle.world_cell.proofs.SliceRights.{is_asked_now, other_is_issued, other_stays, own_is_asked, own_stays, granted_to_another, granted_to_own}
-use Rattle.world_cell.proofs.Slices.{by_test, both, is_same, same_test, two_same, three_same, in_either, beats_stay, offers_more, grants_then, grants_more, UpParts, AreSame, alike, parts_of, here, there, shown, Goes, goes, goes_unseen, standing_kept, lease_stays, seen_stays, IsKnown, first_of, none_more, no_start}
+use Rattle.world_cell.proofs.Slices.{by_test, both, is_same, two_same, three_same, in_either, beats_stay, offers_more, grants_then, grants_more, UpParts, alike, here, shown, Goes, goes, goes_unseen, standing_kept, lease_stays, seen_stays, IsKnown, first_of, none_more, no_start}
 
 -- events lead from the one to the other
 abbrev Led : Slice Shown → Slice Shown → Type 0

@@ -1,19 +1,17 @@
 -- What is seen of a client's right to a name, where a step on the rights leaves it.
-use Rattle.std.proofs.Common.{◌≡◌, ◌≢◌, ◌⊎◌, inl, inr, ℕ, ◌+◌, ◌<◌, ◌≤◌, max, Bool, true, false, cond, List, Option, Some, None, Result, Ok, Err, arith, refl, sym, ap, ◌∙◌}
-use Rattle.std.specs.Prelude.{◌==◌, ◌&&◌, ◌||◌, not, nat_le, nat_lt, length, is_none}
+use Rattle.std.proofs.Common.{◌≡◌, ◌≢◌, ◌⊎◌, inl, inr, ℕ, ◌+◌, ◌<◌, ◌≤◌, max, Bool, true, false, cond, List, Option, Some, None, Result, Ok, Err, arith, refl, ap, ◌∙◌}
+use Rattle.std.specs.Prelude.{◌==◌, ◌&&◌, ◌||◌, not, is_none}
 use Rattle.std.specs.List.{list_any}
 use Rattle.std.specs.Str.{bytes_eq}
 use Rattle.std.proofs.lemmas.Bool.Decides.{nat_tests}
 use Rattle.node_core.specs.declared.refusals.Fault.{Fault}
-use Rattle.node_core.specs.declared.refusals.Fault.TheVariants as faults
-use Rattle.node_core.specs.Limits.{number_limit}
 use Rattle.plain.proofs.Keys.{same_number, bytes_self}
 use Rattle.rights_core.specs.declared.cache_rights.CacheRight.{CacheRight}
 use Rattle.rights_core.specs.declared.endings.Ending.{Ending}
 use Rattle.rights_core.specs.declared.endings.Ending.TheVariants as endings
 use Rattle.rights_core.specs.declared.grants.Grant.{Grant}
 use Rattle.rights_core.specs.declared.grants.Grant.TheVariants as grants
-use Rattle.rights_core.specs.Rights.{is_ended_by, holds, held_limit, count_held, grant_answer, with_granted, granted, invalidations_of, next_invalidation, asked_back, ended, AreHeldOnce, IsRecorded}
+use Rattle.rights_core.specs.Rights.{is_ended_by, holds, grant_answer, with_granted, granted, invalidations_of, next_invalidation, asked_back, ended, IsRecorded}
 use Rattle.rights_core.specs.Laws.{asked_for, given_back_of, number_or_0}
 use Rattle.rights_core.proofs.OneName.{new_right_is_held, known_right_is_held, asking_numbers_rights, asking_counts, ending_frees}
 use Rattle.rights_core.proofs.GivenBack.{asking_gives_nothing_back, expiry_gives_nothing_back, acknowledgement_gives_back, granting_gives_nothing_back}

@@ -1,7 +1,6 @@
 -- To each client, and of each name, what a message that the master takes is.
 use Rattle.std.proofs.Common.{◌≡◌, ℕ, ◌+◌, Bool, true, false, cond, List, [], ◌∷◌, ◌++◌, map, Option, Some, None, inl, inr, arith, refl, sym, ap, ◌∙◌, subst}
-use Rattle.std.specs.Prelude.{◌⊎◌, ◌==◌, ◌&&◌, ◌||◌, not, nat_le, ◌≤◌, fold}
-use Rattle.std.specs.Option.{option_map, option_map_or}
+use Rattle.std.specs.Prelude.{◌⊎◌, ◌==◌, ◌&&◌, ◌||◌, not, nat_le, ◌≤◌}
 use Rattle.std.specs.BTreeMap.{insert_entry}
 use Rattle.std.proofs.lemmas.Bool.Decides.{nat_tests}
 use Rattle.coherence.specs.Slice as one
@@ -14,7 +13,6 @@ use Rattle.tags_cell.specs.declared.requests.Start.{Start}
 use Rattle.tags_cell.specs.declared.requests.CallMessage.{CallMessage}
 use Rattle.tags_cell.specs.declared.requests.Request.{Request}
 use Rattle.tags_cell.specs.declared.requests.Request.TheVariants as requests
-use Rattle.tags_cell.specs.declared.outs.Out.{Out}
 use Rattle.tags_cell.specs.declared.outs.CallResult.{CallResult}
 use Rattle.tags_cell.specs.declared.outs.CallResult.TheVariants as results
 use Rattle.tags_cell.specs.declared.outs.Reply.{Reply}
@@ -22,7 +20,6 @@ use Rattle.session_core.specs.declared.records.Kept.{Kept}
 use Rattle.session_core.specs.declared.records.Session.{Session}
 use Rattle.session_core.specs.Session.{beat_fault, live_beat_fault, beaten}
 use Rattle.session_core.proofs.OneClient.{other_session}
-use Rattle.rights_core.specs.Laws.{asked_for, number_or_0}
 use Rattle.gate_core.specs.declared.pending.Waiting.{Waiting}
 use Rattle.gate_core.specs.Laws.{touching}
 use Rattle.gate_core.proofs.OneChange.{push_touches}
@@ -30,8 +27,8 @@ use Rattle.cell_core.specs.declared.handles.Note.{Note}
 use Rattle.cell_core.specs.declared.pending.Task.{Task}
 use Rattle.cell_core.specs.declared.pending.Work.TheVariants as works
 use Rattle.cell_core.specs.Keys.{handle_order}
-use Rattle.cell_core.specs.State.{MasterState, row_of}
-use Rattle.cell_core.specs.Step.{session_of, kept_of, noted, with_note, acknowledgement, replied, granting, queued, waits, parked, repeated_reply, is_cachable, is_spent, admission_of}
+use Rattle.cell_core.specs.State.{MasterState}
+use Rattle.cell_core.specs.Step.{session_of, kept_of, noted, with_note, acknowledgement, replied, granting, queued, waits, parked, repeated_reply, is_cachable, is_spent}
 use Rattle.cell_core.specs.Names.{name_asked, shown_by}
 use Rattle.cell_core.specs.Cases.{IsHeard, IsGranted, TakeCase, taken_by}
 use Rattle.cell_core.specs.Cases.TakeCase.{StartQueued, BeatParked, Repeated, Recovering, Answered, Granted, Waits}
@@ -40,10 +37,10 @@ use Rattle.over_core.specs.Kept.{IsKept}
 use Rattle.world_cell.specs.Messages.{request_at, call_of}
 use Rattle.world_cell.specs.World.{WorldState}
 use Rattle.world_cell.specs.declared.mail.Message.TheVariants.{ToClient}
-use Rattle.world_cell.specs.Slices.{Shown, SeenRight, slice, standing_so, standing_of, parked_list, seen_of, right_of, start_of, starts_of, beats_of, grants_of}
+use Rattle.world_cell.specs.Slices.{Shown, SeenRight, slice, standing_so, parked_list, seen_of, right_of, start_of, starts_of, beats_of}
 use Rattle.world_cell.specs.Consistent.{FitsMessages, HasGranted}
 use Rattle.world_cell.proofs.SliceRights.{right_of_another, given_back_right, acknowledges, beat_gives_back, beat_leaves, is_asked, is_processed}
-use Rattle.world_cell.proofs.Slices.{LeadsTo, reached_stays, by_test, is_same, is_other, same_test, in_front, in_back, in_either, beat_sent, beats_stay, offers_more, grants_more, UpParts, AreSame, alike, here, there, shown, Goes, goes, with_found, is_found, with_master, lease_stays, own_found, IsKnown, known, first_in, none_more, no_start}
+use Rattle.world_cell.proofs.Slices.{LeadsTo, reached_stays, by_test, is_same, is_other, same_test, in_front, in_back, in_either, beat_sent, beats_stay, offers_more, grants_more, UpParts, alike, here, shown, goes, with_found, is_found, with_master, lease_stays, own_found, IsKnown, known, first_in, none_more, no_start}
 use Rattle.world_cell.proofs.SliceCalls.{Comes, comes_unseen, call_replied, reply_again, call_waits, IsGranting, call_granted}
 
 -- ---- lists
