@@ -20,8 +20,10 @@ pub mod SessionsByRuns
 pub mod ClocksByRuns
 pub mod RightsByRuns
 pub mod Slices
+pub mod SliceRights
 pub mod SliceTicks
 pub mod SliceClients
+pub mod SliceCalls
 pub mod SliceTakes
 pub mod SweptNames
 pub mod SliceSweeps
