@@ -19,9 +19,12 @@ pub mod CallsByRuns
 pub mod SessionsByRuns
 pub mod ClocksByRuns
 pub mod RightsByRuns
+pub mod SliceRights
 pub mod Slices
+pub mod SliceRights
 pub mod SliceTicks
 pub mod SliceClients
+pub mod SliceCalls
 pub mod SliceTakes
 pub mod SweptNames
 pub mod SliceSweeps

@@ -1,7 +1,6 @@
 -- To each client, and of each name, a world behind a step is what some schedule leads to.
-use Rattle.std.proofs.Common.{◌≡◌, sym, subst}
+use Rattle.std.proofs.Common.{sym, subst}
 use Rattle.coherence.specs.Slice.{Reached}
-use Rattle.world_cell.specs.World.{WorldState}
 use Rattle.world_cell.specs.Slices.{slice}
 use Rattle.world_cell.proofs.SliceSteps.{reached_behind_ticks, reached_behind_up, reached_behind_join, reached_behind_ask, reached_behind_beat, reached_behind_give, reached_behind_take, reached_behind_sweep}
 use Rattle.world_cell.proofs.WorldCases.WorldCase.{ComesUp, Joins, Asks, Beats, Gives, Ticks, Takes, Sweeps}

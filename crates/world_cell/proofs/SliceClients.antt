@@ -1,6 +1,6 @@
 -- To each client, and of each name, what a client's own steps are: a call that it is asked for, a Start or a Beat, and a message that it is given.
 use Rattle.std.proofs.Common.{◌≡◌, ◌≢◌, ℕ, ◌+◌, ◌≤◌, false, max, List, [], ◌∷◌, Result, Ok, Err, Option, Some, inl, inr, arith, refl, sym, ap, ◌∙◌, subst}
-use Rattle.std.specs.Prelude.{◌⊎◌, ◌==◌}
+use Rattle.std.specs.Prelude.{◌==◌}
 use Rattle.std.specs.Option.{option_map}
 use Rattle.std.proofs.lemmas.Bool.Decides.{nat_tests}
 use Rattle.lease_core.specs.Lease.{LeaseTerms}
@@ -37,7 +37,7 @@ use Rattle.world_cell.specs.Consistent.{IsSeated}
 use Rattle.world_cell.specs.Slices.{Shown, Grants, slice, beat_of, beats_of, name_number, offers_of, grants_of, client_of}
 use Rattle.world_cell.proofs.GrantsSent.{grants_request}
 use Rattle.world_cell.proofs.SliceRights.{four_same}
-use Rattle.world_cell.proofs.Slices.{LeadsTo, reached_stays, unseen, by_test, is_same, is_other, same_test, two_same, three_same, beats_more, offers_stay, offer_sent, seated_as, latest, first_of, none_more, first_in}
+use Rattle.world_cell.proofs.Slices.{LeadsTo, reached_stays, unseen, by_test, is_same, is_other, same_test, three_same, beats_more, offers_stay, offer_sent, seated_as, latest, first_of, none_more, first_in}
 
 -- ---- a client's state that its slice doesn't tell from another
 

@@ -1,19 +1,17 @@
 -- What is seen of a client's right to a name, where a step on the rights leaves it.
-use Rattle.std.proofs.Common.{◌≡◌, ◌≢◌, ◌⊎◌, inl, inr, ℕ, ◌+◌, ◌<◌, ◌≤◌, max, Bool, true, false, cond, List, Option, Some, None, Result, Ok, Err, arith, refl, sym, ap, ◌∙◌}
-use Rattle.std.specs.Prelude.{◌==◌, ◌&&◌, ◌||◌, not, nat_le, nat_lt, length, is_none}
+use Rattle.std.proofs.Common.{◌≡◌, ◌≢◌, ◌⊎◌, inl, inr, ℕ, ◌+◌, ◌<◌, ◌≤◌, max, Bool, true, false, cond, List, Option, Some, None, Result, Ok, Err, arith, refl, ap, ◌∙◌}
+use Rattle.std.specs.Prelude.{◌==◌, ◌&&◌, ◌||◌, not, is_none}
 use Rattle.std.specs.List.{list_any}
 use Rattle.std.specs.Str.{bytes_eq}
 use Rattle.std.proofs.lemmas.Bool.Decides.{nat_tests}
 use Rattle.node_core.specs.declared.refusals.Fault.{Fault}
-use Rattle.node_core.specs.declared.refusals.Fault.TheVariants as faults
-use Rattle.node_core.specs.Limits.{number_limit}
 use Rattle.plain.proofs.Keys.{same_number, bytes_self}
 use Rattle.rights_core.specs.declared.cache_rights.CacheRight.{CacheRight}
 use Rattle.rights_core.specs.declared.endings.Ending.{Ending}
 use Rattle.rights_core.specs.declared.endings.Ending.TheVariants as endings
 use Rattle.rights_core.specs.declared.grants.Grant.{Grant}
 use Rattle.rights_core.specs.declared.grants.Grant.TheVariants as grants
-use Rattle.rights_core.specs.Rights.{is_ended_by, holds, held_limit, count_held, grant_answer, with_granted, granted, invalidations_of, next_invalidation, asked_back, ended, AreHeldOnce, IsRecorded}
+use Rattle.rights_core.specs.Rights.{is_ended_by, holds, grant_answer, with_granted, granted, invalidations_of, next_invalidation, asked_back, ended, IsRecorded}
 use Rattle.rights_core.specs.Laws.{asked_for, given_back_of, number_or_0}
 use Rattle.rights_core.proofs.OneName.{new_right_is_held, known_right_is_held, asking_numbers_rights, asking_counts, ending_frees}
 use Rattle.rights_core.proofs.GivenBack.{asking_gives_nothing_back, expiry_gives_nothing_back, acknowledgement_gives_back, granting_gives_nothing_back}
@@ -161,7 +159,7 @@ module _ (c : ℕ) (x name : List ℕ) (rights : List CacheRight) (recorded : Is
   pub other_is_issued : is_asked_now c name rights ≡ true → bytes_eq x name ≡ false → right_of c x (asked_back name rights) ≡ record (right_of c x rights) { issued = next_invalidation c rights }
   other_is_issued t e = asked_right (next_invalidation c rights) (number_or_0 (asked_for c x rights)) (counts true t) (ap number_or_0 (of_other e))
 
-  other_stays : is_asked_now c name rights ≡ false → bytes_eq x name ≡ false → right_of c x (asked_back name rights) ≡ right_of c x rights
+  pub other_stays : is_asked_now c name rights ≡ false → bytes_eq x name ≡ false → right_of c x (asked_back name rights) ≡ right_of c x rights
   other_stays t e = asked_right (invalidations_of c rights) (number_or_0 (asked_for c x rights)) (omega (arith, counts false t)) (ap number_or_0 (of_other e))
 
 module _ (c : ℕ) (name : List ℕ) (rights : List CacheRight) (recorded : IsRecorded rights) where

@@ -1,5 +1,5 @@
 -- From a consistent world each step leads to where the slice of each client and name is reached.
-use Rattle.std.proofs.Common.{◌≡◌, ℕ, true, false, List, Ok, Some, None, ap, ◌∙◌, subst}
+use Rattle.std.proofs.Common.{◌≡◌, ℕ, true, false, List, Ok, Some, None, subst}
 use Rattle.coherence.specs.Slice.{Reached}
 use Rattle.node_core.specs.declared.lines.Line.{Line}
 use Rattle.tags_cell.specs.declared.requests.Request.{Request}
@@ -42,9 +42,10 @@ module _ (w : WorldState) (fits : IsConsistent w) (c : ℕ) (x : List ℕ) where
   reached_behind_give new seat at out printed case sent found made = reached_stays_at_give c x w new seat at out printed case sent found (fits.clients (out_client out) seat found) made (fits.reached c x)
 
   pub reached_behind_take : (s : MasterState) (at : ℕ) (request : Request) (case : TakeCase (noted s w.clock) request) → w.master ≡ Some s → request_at w.messages at ≡ Some request → is_spent s ≡ false → Reached (slice c x (behind_take w s request case))
-  reached_behind_take s at request case up sent unspent =
-      reached_stays_at_take c x w s at request case up (subst (IsNoted w.clock) up fits.noted) (subst (Agrees w) up fits.master) (subst (Fits w) up fits.fits) unspent sent
-      (λ call is. fits.named at call (sent ∙ ap (λ r. Some r) is)) (fits.reached c x)
+  reached_behind_take s at request case up sent room =
+      reached_stays_at_take c x w s at request case up (subst (IsNoted w.clock) up fits.noted) (subst (Agrees w) up fits.master)
+      (record { fits = subst (Fits w) up fits.fits; named = fits.named; room = room })
+      sent (fits.reached c x)
 
   pub reached_behind_sweep : (s : MasterState) (case : SweepCase (noted s w.clock)) → w.master ≡ Some s → Reached (slice c x (behind_sweep w s case))
   reached_behind_sweep s case up = reached_stays_at_sweep c x w s case up (subst (IsNoted w.clock) up fits.noted) (subst (Agrees w) up fits.master) (fits.reached c x)

@@ -1,6 +1,6 @@
 -- What a world shows of one client and one name where a step leaves it, and how their slice is led on.
 use Rattle.std.proofs.Common.{◌≡◌, ◌≢◌, ℕ, ◌-◌, ◌≤◌, max, Bool, true, false, cond, List, [], ◌∷◌, ◌++◌, map, zero, suc, Option, Some, None, inl, inr, arith, refl, sym, ap, ◌∙◌, subst}
-use Rattle.std.specs.Prelude.{◌⊎◌, ◌==◌, ◌&&◌, fold, All}
+use Rattle.std.specs.Prelude.{◌⊎◌, ◌==◌, ◌&&◌, fold}
 use Rattle.std.specs.Option.{option_map, option_map_or}
 use Rattle.std.specs.List.{slice_get, list_all}
 use Rattle.std.specs.Map.{lookup, set_value}
@@ -37,7 +37,7 @@ use Rattle.world_cell.specs.declared.mail.Message.TheVariants.{ToMaster, ToClien
 use Rattle.world_cell.specs.declared.seats.Seat.{Seat}
 use Rattle.world_cell.specs.Messages.{message_at, as_request, as_out, request_at, out_at}
 use Rattle.world_cell.specs.World.{WorldState, seat_of}
-use Rattle.world_cell.specs.Slices.{Seen, SeenRight, Shown, Grants, GrantsSoFar, Clocks, slice, standing_of, standing_in, seen_of, heard_from, right_of, start_of, starts_of, beat_of, put_beat, beats_of, name_number, offer_of, put_offer, offers_of, grant_of, put_grant, grants_of, clocks_of, client_of, master_of}
+use Rattle.world_cell.specs.Slices.{Seen, SeenRight, Shown, Grants, GrantsSoFar, Clocks, slice, standing_of, standing_in, seen_of, heard_from, right_of, start_of, starts_of, beat_of, put_beat, beats_of, name_number, offer_of, put_offer, offers_of, put_grant, grants_of, clocks_of, client_of, master_of}
 use Rattle.world_cell.proofs.GrantsSent.{granted_by, looked_at}
 
 -- to the client, and of the name, the one world leads to the other

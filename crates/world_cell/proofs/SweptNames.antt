@@ -1,10 +1,10 @@
 -- What the turn of a change, and the invalidations that an Alive carries, are to one name.
-use Rattle.std.proofs.Common.{◌≡◌, ℕ, ◌+◌, ◌-◌, ◌<◌, ◌≤◌, Bool, true, false, cond, List, [], ◌∷◌, ◌++◌, map, Option, Some, None, Ordering, Equal, inl, inr, arith, refl, sym, ap, ◌∙◌, subst}
-use Rattle.std.specs.Prelude.{◌⊎◌, ◌==◌, ◌&&◌, ◌||◌, count_by, All}
+use Rattle.std.proofs.Common.{◌≡◌, ℕ, ◌+◌, ◌≤◌, Bool, true, false, cond, List, [], ◌∷◌, ◌++◌, Option, Some, Equal, arith, refl, sym, ap, ◌∙◌}
+use Rattle.std.specs.Prelude.{◌==◌, ◌||◌, count_by, All}
 use Rattle.std.specs.List.{list_any, list_all}
 use Rattle.std.specs.Map.{lookup, remove_entry}
-use Rattle.std.specs.BTreeMap.{is_at, insert_entry}
-use Rattle.std.specs.Ordering.{is_eq, nat_cmp}
+use Rattle.std.specs.BTreeMap.{is_at}
+use Rattle.std.specs.Ordering.{nat_cmp}
 use Rattle.std.specs.Cmp.{tied_itself}
 use Rattle.std.specs.Cmp.Lexicographic.{slice_cmp, nat_list_cmp_total}
 use Rattle.std.specs.Str.{bytes_eq}
@@ -17,13 +17,12 @@ use Rattle.std.proofs.lemmas.Map.Lookups.{exact_bytes}
 use Rattle.plain.proofs.Entries.{lookup_put, eq_at}
 use Rattle.plain.proofs.Keys.{bytes_self, bytes_same}
 use Rattle.node_core.specs.Nodes.{Nodes, get_node, changed, name_of}
-use Rattle.node_core.specs.declared.views.View.{View}
 use Rattle.node_core.specs.declared.views.Mod.{Mod}
 use Rattle.node_core.specs.declared.views.Mod.TheVariants.{Put, Gone}
 use Rattle.tags_cell.specs.declared.beats.Invalidation.{Invalidation}
 use Rattle.rights_core.specs.declared.cache_rights.CacheRight.{CacheRight}
 use Rattle.rights_core.specs.Rights.{holds, held_on, invalidations_of}
-use Rattle.rights_core.specs.Laws.{asked_for, number_or_0}
+use Rattle.rights_core.specs.Laws.{asked_for}
 use Rattle.rights_core.proofs.OneName.{free_name_is_held_by_none}
 use Rattle.gate_core.specs.declared.pending.Waiting.{Waiting}
 use Rattle.gate_core.specs.Gate.{touches, is_free}
