@@ -21,7 +21,6 @@ pub mod ClocksByRuns
 pub mod RightsByRuns
 pub mod SliceRights
 pub mod Slices
-pub mod SliceRights
 pub mod SliceTicks
 pub mod SliceClients
 pub mod SliceCalls

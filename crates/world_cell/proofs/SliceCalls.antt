@@ -390,7 +390,7 @@ module _ (w : WorldState) (s : MasterState) (knows : IsKnown w s) (handles : Lis
   pub call_granted : (c : ℕ) (x : List ℕ) → Comes c x w s granted_then sent_then
   call_granted c x = by_test (bytes_eq x name && c == client)
       (λ own.
-          let p = both (bytes_eq x name) (c == client) own in
-          subst (λ (z : ℕ). Comes z x w s granted_then sent_then) (sym (is_same c client p.1))
-          (subst (λ (y : List ℕ). Comes client y w s granted_then sent_then) (sym (bytes_same x name p.0)) own_grant))
+      let p = both (bytes_eq x name) (c == client) own in
+      subst (λ (z : ℕ). Comes z x w s granted_then sent_then) (sym (is_same c client p.1))
+      (subst (λ (y : List ℕ). Comes client y w s granted_then sent_then) (sym (bytes_same x name p.0)) own_grant))
       (λ other. other_grant c x other)
