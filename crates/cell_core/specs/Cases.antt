@@ -16,7 +16,7 @@ use Rattle.session_core.specs.declared.records.Kept.{Kept}
 use Rattle.session_core.specs.Session.{beat_fault}
 use Rattle.cell_core.specs.declared.pending.Work.TheVariants as works
 use Rattle.cell_core.specs.State.{MasterState}
-use Rattle.cell_core.specs.Step.{session_of, kept_of, is_live, is_full, may_start, nothing, turned_away, refusal, repeated, queued, parked, replied, waits, with_note, admission_of}
+use Rattle.cell_core.specs.Step.{session_of, kept_of, is_live, is_full, may_start, nothing, turned_away, refusal, repeated, queued, parked, acked, replied, is_cachable, granting, waits, with_note, admission_of}
 
 -- ---- a message
 
@@ -36,14 +36,26 @@ pub record IsNew (s : MasterState) (request : Request) (message : CallMessage) :
   pub heard : IsHeard s request message
   pub behind : IsBehind (kept_of s message.client) message.number
 
+-- its answer may not be kept in a cache: it tells of no name, or of one that isn't cachable
+abbrev pub IsUnkept : MasterState → ℕ → Option (List ℕ) → Type 0
+IsUnkept s client None = Unit {0}
+IsUnkept s client (Some name) = is_cachable s client name ≡ false
+
 -- what is noted of its handle first, and what it is answered at once: by its tests, or as Busy where it would wait and there is no room
 pub record IsAnswered (s : MasterState) (message : CallMessage) (note : Option Note) (answer : CallResult) : Type 0 where
   pub is_noted : note ≡ (admission_of s message.client message.number message.call).note
-  pub is_answer : ((admission_of s message.client message.number message.call).answer ≡ Some answer)
+  pub is_answer : (((admission_of s message.client message.number message.call).answer ≡ Some answer) × IsUnkept (with_note s note) message.client (admission_of s message.client message.number message.call).told)
       ⊎ (((admission_of s message.client message.number message.call).answer ≡ None) × (is_full (with_note s note) ≡ true) × (answer ≡ results.Refused faults.Busy))
 
--- it passes its tests, and there is room; what it touches
-pub record IsAdmitted (s : MasterState) (message : CallMessage) (note : Option Note) (touched : List (List ℕ)) : Type 0 where
+-- what is noted of its handle first, and what it is answered at once, which tells what a name shows, and may be kept in the client's cache
+pub record IsGranted (s : MasterState) (message : CallMessage) (note : Option Note) (answer : CallResult) (name : List ℕ) : Type 0 where
+  pub is_noted : note ≡ (admission_of s message.client message.number message.call).note
+  pub is_answer : (admission_of s message.client message.number message.call).answer ≡ Some answer
+  pub is_told : (admission_of s message.client message.number message.call).told ≡ Some name
+  pub cachable : is_cachable (with_note s note) message.client name ≡ true
+
+-- it passes its tests, and there is room; what name it touches
+pub record IsAdmitted (s : MasterState) (message : CallMessage) (note : Option Note) (touched : Option (List ℕ)) : Type 0 where
   pub is_touched : touched ≡ (admission_of s message.client message.number message.call).touched
   pub is_noted : note ≡ (admission_of s message.client message.number message.call).note
   pub passes : (admission_of s message.client message.number message.call).answer ≡ None
@@ -67,7 +79,8 @@ pub data TakeCase (s : MasterState) (request : Request) : Type 0 where
   Outstanding : (message : CallMessage) (kept : Kept Reply) → IsHeard s request message → kept_of s message.client ≡ Some kept → kept.number < message.number → kept.reply ≡ None → TakeCase s request
   Recovering : (message : CallMessage) → IsNew s request message → s.recovering ≡ true → TakeCase s request
   Answered : (message : CallMessage) (note : Option Note) (answer : CallResult) → IsNew s request message → s.recovering ≡ false → IsAnswered s message note answer → TakeCase s request
-  Waits : (message : CallMessage) (note : Option Note) (touched : List (List ℕ)) → IsNew s request message → s.recovering ≡ false → IsAdmitted s message note touched → TakeCase s request
+  Granted : (message : CallMessage) (note : Option Note) (answer : CallResult) (name : List ℕ) → IsNew s request message → s.recovering ≡ false → IsGranted s message note answer name → TakeCase s request
+  Waits : (message : CallMessage) (note : Option Note) (touched : Option (List ℕ)) → IsNew s request message → s.recovering ≡ false → IsAdmitted s message note touched → TakeCase s request
 
 -- what the master is then, prints and sends
 abbrev pub taken_by : (s : MasterState) (request : Request) → TakeCase s request → MasterState × Taken
@@ -78,7 +91,7 @@ taken_by s request (StartQueued start is may serving room) =
     (queued s [] (record { client = start.client; number = start.number; work = works.Starts start.principal s.clock }), nothing)
 taken_by s request (OldBeat beat is other) = (s, refusal s beat.client beat.number (faults.OldEpoch s.epoch))
 taken_by s request (BeatRefused beat fault is same refused) = (s, refusal s beat.client beat.number fault)
-taken_by s request (BeatParked beat is same taken) = (parked s beat, nothing)
+taken_by s request (BeatParked beat is same taken) = (parked s beat, acked s beat)
 taken_by s request (OldEpoch message is other) = (s, refusal s message.client message.number (faults.OldEpoch s.epoch))
 taken_by s request (NoSession message is same ended) = (s, refusal s message.client message.number faults.NoSession)
 taken_by s request (Repeated message kept heard is same) = (s, repeated kept)
@@ -86,4 +99,5 @@ taken_by s request (OlderCall message kept heard is less) = (s, refusal s messag
 taken_by s request (Outstanding message kept heard is more none) = (s, refusal s message.client message.number faults.CallOutstanding)
 taken_by s request (Recovering message new recovering) = replied s message.client message.number (results.Refused faults.Recovering)
 taken_by s request (Answered message note answer new serving answered) = replied (with_note s note) message.client message.number answer
+taken_by s request (Granted message note answer name new serving granted) = granting (with_note s note) message.client message.number answer name
 taken_by s request (Waits message note touched new serving admitted) = waits (with_note s note) message.client message.number message.call touched

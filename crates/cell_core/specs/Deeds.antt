@@ -10,6 +10,8 @@ use Rattle.node_core.specs.declared.views.Mod.{Mod}
 use Rattle.node_core.specs.declared.views.Mod.TheVariants.{Put, Gone}
 use Rattle.rows_cell.specs.declared.tables.Edit.{Edit}
 use Rattle.rows_cell.specs.declared.tables.Edit.TheVariants.{NextInstance, PutNode, RemoveNode, PutSession, RemoveLock}
+use Rattle.rights_core.specs.declared.endings.Ending.TheVariants as endings
+use Rattle.rights_core.specs.Rights as of_rights
 use Rattle.gate_core.specs.Gate as of_gate
 use Rattle.session_core.specs.Session.{session_until, prolonged, ended, answered}
 use Rattle.session_core.specs.Sessions.{with_session, with_new, without}
@@ -70,7 +72,7 @@ undone s former = without_begun (without_note (without_node s former.node) forme
 
 -- ---- what is done behind the commit
 
--- what is left to be done to a session
+-- what is left to be done to a session; one that ends holds no right any more
 abbrev pub session_rest : Option SessionDeed → Option SessionDeed
 session_rest (Some (Begins client principal)) = None
 session_rest deed = deed
@@ -89,7 +91,8 @@ rest_of deed = record { session = session_rest deed.session; kept = deed.kept; m
 
 abbrev pub with_session_rest : MasterState → Option SessionDeed → MasterState
 with_session_rest s (Some (Prolongs client)) = record s { sessions = with_session s.sessions client (prolonged (s.clock + s.sessions.lease)) }
-with_session_rest s (Some (Ends client principal locks)) = record s { sessions = with_session s.sessions client ended }
+with_session_rest s (Some (Ends client principal locks)) =
+    record s { sessions = with_session s.sessions client ended; rights = of_rights.ended client endings.Expiry s.rights }
 with_session_rest s (Some (Answers client)) = record s { sessions = with_session s.sessions client (answered s.sessions.lease s.clock) }
 with_session_rest s _ = s
 

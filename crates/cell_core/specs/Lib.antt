@@ -1,6 +1,7 @@
 pub use Rattle.plain.specs.Results
 pub use Rattle.names_cell.specs.Text
 pub use Rattle.node_core.specs.Nodes
+pub use Rattle.rights_core.specs.Rights
 pub use Rattle.gate_core.specs.Gate
 pub use Rattle.lease_core.specs.Lease
 pub use Rattle.session_core.specs.Session
@@ -9,5 +10,6 @@ pub mod Handles
 pub mod Keys
 pub mod State
 pub mod Step
+pub mod Names
 pub mod Cases
 pub mod Deeds

@@ -1,5 +1,5 @@
 -- What a master is.
-use Rattle.std.specs.Prelude.{ℕ, Bool, not, List, [], ◌∷◌, map, filter, ◌==◌, true, false, fold, Option, Some, None}
+use Rattle.std.specs.Prelude.{ℕ, Bool, not, List, [], map, filter, ◌==◌, true, false, fold, Option}
 use Rattle.std.specs.Option.{option_map}
 use Rattle.std.specs.BTreeMap.{insert_entry}
 use Rattle.std.specs.Ordering.{nat_cmp}
@@ -12,8 +12,9 @@ use Rattle.rows_cell.specs.declared.tables.LockState.TheVariants.{Lapsed, Exclus
 use Rattle.rows_cell.specs.declared.keys.LockKey.{LockKey}
 use Rattle.rows_cell.specs.declared.tables.Rows.{Rows}
 use Rattle.rows_cell.specs.Rows.{map_of}
+use Rattle.rights_core.specs.declared.cache_rights.CacheRight.{CacheRight}
 use Rattle.gate_core.specs.declared.pending.Waiting.{Waiting}
-use Rattle.gate_core.specs.Gate.{GateState, change_at}
+use Rattle.gate_core.specs.Gate.{GateState, change_at, ready}
 use Rattle.session_core.specs.declared.records.Session.{Session}
 use Rattle.session_core.specs.Session.{recovered_session}
 use Rattle.session_core.specs.Sessions.{SessionTable, all_heard}
@@ -48,7 +49,7 @@ locks_of client keys = filter (λ key. key.client == client) keys
 
 -- name: the cell's. secret: what check digits are made over. nodes: the map. lock_generations: by instance, of the nodes that the rows held when it came up. held_locks: those that were held then. sessions: also those
 -- that have ended, each with the last call of its client and the reply to it. recovering: some session of an earlier master has neither been heard from nor expired. handles: those that
--- were opened, shown or closed in this epoch. gate: the changes that wait, in order of their coming. clock: the last moment that the master was told
+-- were opened, shown or closed in this epoch. rights: those to cache a name that it granted in this epoch, in order of granting, those that have ended included. gate: the changes that wait, in order of their coming. clock: the last moment that the master was told
 pub record MasterState : Type 0 where
   pub name : List ℕ
   pub secret : List ℕ
@@ -60,15 +61,15 @@ pub record MasterState : Type 0 where
   pub sessions : SessionTable Reply
   pub recovering : Bool
   pub handles : List (HandleKey × HandleState)
+  pub rights : List CacheRight
   pub gate : GateState Task
   pub clock : ℕ
 
 -- ---- the changes that wait
 
--- the number of the first
-abbrev pub first_number : List (Waiting Task) → Option ℕ
-first_number [] = None
-first_number (w ∷ ws) = Some w.number
+-- the number of the first that no right holds up
+abbrev pub next_change : MasterState → Option ℕ
+next_change s = ready s.rights s.gate.waiting
 
 -- what the change of a number does
 abbrev pub task_at : ℕ → List (Waiting Task) → Option Task
@@ -90,7 +91,7 @@ row_of session = record { principal = session.principal; live = session.live }
 abbrev pub session_rows : SessionTable Reply → List (ℕ × stored.Session)
 session_rows table = map (λ entry. (entry.0, row_of entry.1)) table.sessions
 
--- a master that comes up with these rows: nothing waits, and it knows of no call and of no handle. It is in recovery where a session of the rows is live
+-- a master that comes up with these rows: nothing waits, no right is held, and it knows of no call and of no handle. It is in recovery where a session of the rows is live
 abbrev pub master_of : Rows → ℕ → ℕ → MasterState
 master_of rows lease now = record {
   name = rows.cell;
@@ -103,6 +104,7 @@ master_of rows lease now = record {
   sessions = sessions_of rows lease now;
   recovering = not (all_heard (sessions_of rows lease now));
   handles = [];
+  rights = [];
   gate = record { waiting = []; pushed = 0 };
   clock = now;
 }

@@ -1,6 +1,6 @@
 -- What a master does with a message.
-use Rattle.std.specs.Prelude.{ℕ, Bool, false, not, ◌&&◌, ◌||◌, ◌==◌, nat_lt, nat_le, max, List, [], ◌∷◌, length, Option, Some, None, Result, Ok, Err, if◌then◌else◌, is_none}
-use Rattle.std.specs.Option.{option_map_or}
+use Rattle.std.specs.Prelude.{ℕ, Bool, false, not, ◌&&◌, ◌||◌, ◌==◌, nat_lt, nat_le, max, List, [], ◌∷◌, length, map, Option, Some, None, Result, Ok, Err, if◌then◌else◌, is_none}
+use Rattle.std.specs.Option.{option_map_or, option_and_then}
 use Rattle.std.specs.Map.{lookup}
 use Rattle.std.specs.BTreeMap.{is_at, insert_entry}
 use Rattle.std.specs.Ordering.{nat_cmp}
@@ -8,6 +8,7 @@ use Rattle.std.specs.Str.{bytes_eq}
 use Rattle.names_cell.specs.Text.{cell_of}
 use Rattle.node_core.specs.declared.refusals.Fault.{Fault}
 use Rattle.node_core.specs.declared.refusals.Fault.TheVariants as faults
+use Rattle.node_core.specs.declared.lines.Line.{Line}
 use Rattle.node_core.specs.declared.lines.Line.TheVariants as lines
 use Rattle.node_core.specs.declared.views.View.{View}
 use Rattle.node_core.specs.declared.kinds.Kind.{Kind}
@@ -19,6 +20,12 @@ use Rattle.lease_core.specs.Lease.{moment_limit}
 use Rattle.node_core.specs.Limits.{content_limit, number_limit}
 use Rattle.node_core.specs.Nodes.{get_node, children}
 use Rattle.node_core.specs.Access.{permitted}
+use Rattle.rights_core.specs.declared.endings.Ending.{Ending}
+use Rattle.rights_core.specs.declared.endings.Ending.TheVariants as endings
+use Rattle.rights_core.specs.declared.grants.Grant.{Grant}
+use Rattle.rights_core.specs.declared.grants.Grant.TheVariants as grants
+use Rattle.rights_core.specs.Rights.{grant_answer, granted, clients_to_ask, asked_back, numbers_ending, ended}
+use Rattle.gate_core.specs.Gate as of_gate
 use Rattle.gate_core.specs.Gate.{pending_limit, with_change}
 use Rattle.tags_cell.specs.Modes.{Rights, has_right}
 use Rattle.tags_cell.specs.Handles.{is_ordinal, handle_bytes, read_handle}
@@ -45,7 +52,7 @@ use Rattle.session_core.specs.declared.records.Session.{Session}
 use Rattle.session_core.specs.Session as of_session
 use Rattle.session_core.specs.Session.{beat_fault, beaten, kept_answer, keeping}
 use Rattle.session_core.specs.Sessions as of_sessions
-use Rattle.session_core.specs.Sessions.{with_session}
+use Rattle.session_core.specs.Sessions.{with_session, issued_by}
 use Rattle.cell_core.specs.declared.pending.Task.{Task}
 use Rattle.cell_core.specs.declared.pending.Work.TheVariants as works
 use Rattle.cell_core.specs.declared.handles.HandleState.{HandleState}
@@ -89,9 +96,17 @@ abbrev pub refusal : MasterState → ℕ → ℕ → Fault → Taken
 refusal s client number fault =
     record { lines = lines.Refused fault ∷ []; outs = outs.Refused (record { client = client; epoch = s.epoch; number = number; fault = fault }) ∷ [] }
 
--- what is sent of a call's result, and kept of it
+-- what is sent of a call's result, and kept of it: an answer that no client may keep in its cache
 abbrev pub reply_of : MasterState → ℕ → ℕ → CallResult → Reply
-reply_of s client number result = record { client = client; epoch = s.epoch; number = number; result = result }
+reply_of s client number result = record { client = client; epoch = s.epoch; number = number; stamp = None; result = result }
+
+-- how many invalidations were issued to a client's session
+abbrev pub issued_to : MasterState → ℕ → ℕ
+issued_to s client = option_map_or (λ session. session.invalidations.issued) (session_of s client) 0
+
+-- an answer that its client may keep in its cache, unless it has processed an invalidation that is issued later
+abbrev pub stamped_reply : MasterState → ℕ → ℕ → CallResult → Reply
+stamped_reply s client number result = record (reply_of s client number result) { stamp = Some (issued_to s client) }
 
 abbrev pub sends : Reply → Taken
 sends reply = record { lines = []; outs = outs.Reply reply ∷ [] }
@@ -117,10 +132,46 @@ queued s touched task = record s { gate = with_change (record { touched = touche
 abbrev pub answered_by : Reply → Kept Reply
 answered_by reply = record { number = reply.number; reply = Some reply }
 
--- a call that is answered at once: its reply is recorded, and sent
+-- a call that is answered at once, by what may not be kept in a cache: its reply is recorded, and sent
 abbrev pub replied : MasterState → ℕ → ℕ → CallResult → MasterState × Taken
 replied s client number result =
     (recorded s client (answered_by (reply_of s client number result)), sends (reply_of s client number result))
+
+-- ---- rights to keep a name in a cache
+
+-- a client's answer on a name may be kept: no change that waits touches the name, and the client holds it already or there is room for one more right
+abbrev pub is_cachable : MasterState → ℕ → List ℕ → Bool
+is_cachable s client name = of_gate.is_cachable client name s.rights s.gate.waiting
+
+-- a new right is printed; one that the client holds already isn't
+abbrev pub granted_lines : ℕ → List ℕ → Result Grant Fault → List Line
+granted_lines client name (Ok (grants.Granted number)) = lines.Granted number client name ∷ []
+granted_lines client name (Ok (grants.Already number)) = []
+granted_lines client name (Ok grants.Full) = []
+granted_lines client name (Err fault) = []
+
+abbrev pub with_right : MasterState → ℕ → List ℕ → MasterState
+with_right s client name = record s { rights = granted client name s.rights }
+
+-- an answer that tells what a name shows, and that its client may keep: it holds the name from then on
+abbrev pub granting : MasterState → ℕ → ℕ → CallResult → List ℕ → MasterState × Taken
+granting s client number result name = (
+  recorded (with_right s client name) client (answered_by (stamped_reply s client number result)),
+  record { lines = granted_lines client name (grant_answer client name s.rights); outs = outs.Reply (stamped_reply s client number result) ∷ [] },
+)
+
+-- by the name of which an answer tells what it shows, if it does
+abbrev pub telling : MasterState → ℕ → ℕ → CallResult → Option (List ℕ) → MasterState × Taken
+telling s client number result None = replied s client number result
+telling s client number result (Some name) = if is_cachable s client name then granting s client number result name else replied s client number result
+
+-- each client that holds the name is asked for it by its next invalidation, unless it was asked already
+abbrev pub asking : MasterState → List ℕ → MasterState
+asking s name = record s { rights = asked_back name s.rights; sessions = issued_by (clients_to_ask name s.rights) s.sessions }
+
+abbrev pub asking_for : MasterState → Option (List ℕ) → MasterState
+asking_for s None = s
+asking_for s (Some name) = asking s name
 
 -- ---- Starts
 
@@ -135,19 +186,30 @@ start_step s start =
 
 -- ---- Beats
 
--- it acknowledges, and is parked
+-- it acknowledges invalidations
+abbrev pub acknowledgement : Beat → Ending
+acknowledgement beat = endings.Acknowledgement beat.invalidations
+
+-- which ends the rights that they asked back, and it is parked
 abbrev pub parked : MasterState → Beat → MasterState
-parked s beat = record s { sessions = with_session s.sessions beat.client (beaten beat s.clock) }
+parked s beat = record s {
+  sessions = with_session s.sessions beat.client (beaten beat s.clock);
+  rights = ended beat.client (acknowledgement beat) s.rights;
+}
+
+-- each right that ends is printed
+abbrev pub acked : MasterState → Beat → Taken
+acked s beat = record { lines = map lines.Acked (numbers_ending beat.client (acknowledgement beat) s.rights); outs = [] }
 
 abbrev pub beat_by : MasterState → Beat → Option Fault → MasterState × Taken
 beat_by s beat (Some fault) = (s, refusal s beat.client beat.number fault)
-beat_by s beat None = (parked s beat, nothing)
+beat_by s beat None = (parked s beat, acked s beat)
 
 abbrev pub beat_step : MasterState → Beat → MasterState × Taken
 beat_step s beat =
     if beat.epoch == s.epoch then beat_by s beat (beat_fault (session_of s beat.client) beat) else (s, refusal s beat.client beat.number (faults.OldEpoch s.epoch))
 
--- ---- rights
+-- ---- access
 
 -- the client's principal is permitted the right to a node with this view
 abbrev pub may : MasterState → ℕ → View → Right → Bool
@@ -299,25 +361,40 @@ answer_on s handle call =
 
 -- ---- the tests of a new call
 
+-- a read tells what its node's name shows
+abbrev pub viewed_name : List ℕ → CallResult → Option (List ℕ)
+viewed_name name (results.Viewed view) = Some name
+viewed_name name _ = None
+
+-- an Open that finds nothing tells that
+abbrev pub absent_name : List ℕ → Fault → Option (List ℕ)
+absent_name name faults.NotFound = Some name
+absent_name name _ = None
+
+abbrev pub told_by_open : List ℕ → Result Handle Fault → Option (List ℕ)
+told_by_open name (Ok handle) = None
+told_by_open name (Err fault) = absent_name name fault
+
 abbrev pub admission_of_open : MasterState → ℕ → ℕ → Open → Option Create → Admission
-admission_of_open s client number opening (Some create) = record { note = None; touched = opening.name ∷ []; answer = node_fault create.node }
+admission_of_open s client number opening (Some create) = record { note = None; touched = Some opening.name; told = None; answer = node_fault create.node }
 admission_of_open s client number opening None = record {
-  touched = [];
   note = opened_note s (plain_open s client number opening);
+  touched = None;
+  told = told_by_open opening.name (plain_open s client number opening);
   answer = Some (opened_answer s (plain_open s client number opening));
 }
 
 abbrev pub open_admission : MasterState → ℕ → ℕ → Open → Admission
 open_admission s client number opening =
     if is_of_cell s opening.name then admission_of_open s client number opening opening.create
-    else record { note = None; touched = []; answer = Some (results.Refused faults.OtherCell) }
+    else record { note = None; touched = None; told = None; answer = Some (results.Refused faults.OtherCell) }
 
--- the names that a call on a node touches: whose view it may change
-abbrev pub touched_by : Handle → Call → List (List ℕ)
-touched_by handle (calls.Set bytes content generation) = handle.name ∷ []
-touched_by handle (calls.SetAcl bytes acls generation) = handle.name ∷ []
-touched_by handle (calls.Delete bytes) = handle.name ∷ []
-touched_by handle _ = []
+-- the name that a call on a node touches: whose view it may change
+abbrev pub touched_by : Handle → Call → Option (List ℕ)
+touched_by handle (calls.Set bytes content generation) = Some handle.name
+touched_by handle (calls.SetAcl bytes acls generation) = Some handle.name
+touched_by handle (calls.Delete bytes) = Some handle.name
+touched_by handle _ = None
 
 -- the bytes that a call on a node shows
 abbrev pub bytes_of : Call → List ℕ
@@ -336,9 +413,13 @@ shown_note s handle bytes = if is_none (handle_state_of s (key_of handle)) then 
 
 -- it is noted also where the call is refused
 abbrev pub handle_admission : MasterState → Call → Option Handle → Admission
-handle_admission s call None = record { note = None; touched = []; answer = Some (results.Refused faults.BadHandle) }
-handle_admission s call (Some handle) =
-    record { note = shown_note s handle (bytes_of call); touched = touched_by handle call; answer = answer_on s handle call }
+handle_admission s call None = record { note = None; touched = None; told = None; answer = Some (results.Refused faults.BadHandle) }
+handle_admission s call (Some handle) = record {
+  note = shown_note s handle (bytes_of call);
+  touched = touched_by handle call;
+  told = option_and_then (viewed_name handle.name) (answer_on s handle call);
+  answer = answer_on s handle call;
+}
 
 abbrev pub admission_of : MasterState → ℕ → ℕ → Call → Admission
 admission_of s client number (calls.Open opening) = open_admission s client number opening
@@ -346,18 +427,26 @@ admission_of s client number call = handle_admission s call (shown_handle s clie
 
 -- ---- calls
 
-abbrev pub waits : MasterState → ℕ → ℕ → Call → List (List ℕ) → MasterState × Taken
-waits s client number call touched =
-    (queued (recorded s client (record { number = number; reply = None })) touched (record { client = client; number = number; work = works.Calls call }), nothing)
+abbrev pub names_of : Option (List ℕ) → List (List ℕ)
+names_of None = []
+names_of (Some name) = name ∷ []
+
+abbrev pub with_call : MasterState → ℕ → ℕ → Call → Option (List ℕ) → MasterState
+with_call s client number call touched =
+    queued (recorded s client (record { number = number; reply = None })) (names_of touched) (record { client = client; number = number; work = works.Calls call })
+
+-- who holds the name that it touches is asked for it
+abbrev pub waits : MasterState → ℕ → ℕ → Call → Option (List ℕ) → MasterState × Taken
+waits s client number call touched = (asking_for (with_call s client number call touched) touched, nothing)
 
 -- a call that is answered at once, or waits where there is room
-abbrev pub admit_step : MasterState → ℕ → ℕ → Call → List (List ℕ) → Option CallResult → MasterState × Taken
-admit_step s client number call touched (Some result) = replied s client number result
-admit_step s client number call touched None =
+abbrev pub admit_step : MasterState → ℕ → ℕ → Call → Option (List ℕ) → Option (List ℕ) → Option CallResult → MasterState × Taken
+admit_step s client number call touched told (Some result) = telling s client number result told
+admit_step s client number call touched told None =
     if is_full s then replied s client number (results.Refused faults.Busy) else waits s client number call touched
 
 abbrev pub new_call_by : MasterState → ℕ → ℕ → Call → Admission → MasterState × Taken
-new_call_by s client number call admission = admit_step (with_note s admission.note) client number call admission.touched admission.answer
+new_call_by s client number call admission = admit_step (with_note s admission.note) client number call admission.touched admission.told admission.answer
 
 -- during recovery every new call is refused, and that is its recorded result
 abbrev pub new_call : MasterState → ℕ → ℕ → Call → MasterState × Taken
@@ -392,9 +481,9 @@ is_past_end now = nat_le moment_limit now
 abbrev pub noted : MasterState → ℕ → MasterState
 noted s now = record s { clock = max s.clock now }
 
--- the count of all changes that ever waited is at its end
+-- the count of all changes that ever waited, or of all rights that were ever granted, is at its end
 abbrev pub is_spent : MasterState → Bool
-is_spent s = nat_le number_limit s.gate.pushed
+is_spent s = nat_le number_limit s.gate.pushed || nat_le number_limit (length s.rights)
 
 unfoldable pub take_step : MasterState → ℕ → Request → Result (MasterState × Taken) Fault
 take_step s now request = if is_past_end now || is_spent s then Err faults.Exhausted else Ok (take_at (noted s now) request)

@@ -25,7 +25,7 @@ use Rattle.client_core.specs.declared.targets.Outstanding.{Outstanding}
 use Rattle.client_core.specs.State.{ClientState}
 use Rattle.client_core.specs.Asks.{session_fault, handle_of, open_bytes, usable_handle, usable_bytes, call_on, send_plan, close_plan, poison_plan, node_plan, session_plan, plan_in, plan_of, message_of, with_call, send_step, ask_by, ask_at, ask_step}
 use Rattle.client_core.specs.Beats.{start_message, beat_message, with_beat, sends, beat_by, beat_at, beat_step}
-use Rattle.client_core.specs.Cases.{IsSendable, AskCase, asked_in, BeatCase, beaten_in, noted}
+use Rattle.client_core.specs.Cases.{IsSendable, AskCase, asked_in, BeatCase, beaten_in}
 use Rattle.client_core.specs.Cases.AskCase.{AskedTooLate, Refused, OutOfCalls, Sent, Poisoned}
 use Rattle.client_core.specs.Cases.BeatCase.{BeatTooLate, OutOfBeats, Starts, Beats, Quiet}
 

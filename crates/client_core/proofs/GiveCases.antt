@@ -1,5 +1,5 @@
 -- The arm of the table by which a client is given a message.
-use Rattle.std.proofs.Common.{◌≡◌, ◌≢◌, ℕ, ◌<◌, ◌≤◌, max, Bool, true, false, cond, List, [], Option, Some, None, Result, Ok, Err, refl, arith, eqb}
+use Rattle.std.proofs.Common.{◌≡◌, ◌≢◌, inl, inr, ℕ, ◌<◌, ◌≤◌, max, Bool, true, false, cond, List, [], Option, Some, None, Result, Ok, Err, refl, arith, eqb}
 use Rattle.std.specs.Prelude.{◌==◌, ◌&&◌, nat_lt, nat_le}
 use Rattle.std.proofs.lemmas.Bool.Decides.{nat_tests}
 use Rattle.lease_core.specs.Lease.{moment_limit, is_better}
@@ -19,8 +19,8 @@ use Rattle.client_core.specs.declared.targets.Target.{Target}
 use Rattle.client_core.specs.declared.targets.Target.TheVariants as targets
 use Rattle.client_core.specs.declared.targets.Outstanding.{Outstanding}
 use Rattle.client_core.specs.State.{ClientState}
-use Rattle.client_core.specs.Gives.{is_live, is_unstarted, is_span, offered, begun, with_lease, target_for, awaited, reply_for, session_without, session_after, lose_step, told, taken, taken_own, give_at, give_step}
-use Rattle.client_core.specs.Cases.{IsHeard, IsStarted, IsAlive, IsTaken, IsPassed, IsAwaited, GiveCase, given_in, noted}
+use Rattle.client_core.specs.Gives.{is_live, is_unstarted, is_span, offered, begun, is_in_order, with_processed, with_lease, target_for, awaited, reply_for, session_without, session_after, lose_step, told, taken, taken_own, give_at, give_step}
+use Rattle.client_core.specs.Cases.{IsHeard, IsStarted, IsAlive, IsAwaited, GiveCase, given_in, noted}
 use Rattle.client_core.specs.Cases.GiveCase.{GivenTooLate, OfAnother, Started, StartedUnfit, StartedDropped, LeaseTaken, LeaseStays, AliveUnfit, AliveDropped, Replied, ReplyDropped, NotAwaited, Lost, TurnedAway, RefusalDropped}
 use Rattle.client_core.proofs.AskCases.{either, less, not_less}
 
@@ -64,21 +64,25 @@ started_case s now out message sessions.TurnedAway heard is at = (StartedDropped
 
 -- ---- an Alive
 
-better_case : (s : ClientState) (now : ℕ) (out : Out) (message : AliveMessage) (b : Bool) → IsHeard s now out → out ≡ outs.Alive message → IsAlive s message → message.span < moment_limit → message.number ≡ s.beats → is_better (offered s message.span) s.lease ≡ b → IsGiven s now out (cond b (record (noted s now) { lease = offered s message.span }) (noted s now), Ok [])
-better_case s now out message true heard is alive fits newest h = (LeaseTaken message heard is (record { alive = alive; fits = fits; newest = newest; better = h }), refl)
-better_case s now out message false heard is alive fits newest h = (LeaseStays message heard is (record { alive = alive; fits = fits; worse = λ e. h }), refl)
+better_case : (s : ClientState) (now : ℕ) (out : Out) (message : AliveMessage) (b : Bool) → IsHeard s now out → out ≡ outs.Alive message → IsAlive s message → message.span < moment_limit → is_in_order s.processed message.invalidations ≡ true → message.number ≡ s.beats → is_better (offered s message.span) s.lease ≡ b → IsGiven s now out (cond b (record (with_processed (noted s now) message) { lease = offered s message.span }) (with_processed (noted s now) message), Ok [])
+better_case s now out message true heard is alive fits in_order newest h = (LeaseTaken message heard is (record { alive = alive; fits = fits; in_order = in_order; newest = newest; better = h }), refl)
+better_case s now out message false heard is alive fits in_order newest h = (LeaseStays message heard is (record { alive = alive; fits = fits; in_order = in_order; worse = λ e. h }), refl)
 
-newest_beat_case : (s : ClientState) (now : ℕ) (out : Out) (message : AliveMessage) (b : Bool) → IsHeard s now out → out ≡ outs.Alive message → IsAlive s message → message.span < moment_limit → (message.number == s.beats) ≡ b → IsGiven s now out (cond (b && is_better (offered s message.span) s.lease) (record (noted s now) { lease = offered s message.span }) (noted s now), Ok [])
-newest_beat_case s now out message true heard is alive fits h = better_case s now out message (is_better (offered s message.span) s.lease) heard is alive fits (same message.number s.beats h) refl
-newest_beat_case s now out message false heard is alive fits h = (LeaseStays message heard is (record { alive = alive; fits = fits; worse = λ e. absurd (other message.number s.beats h e) }), refl)
+newest_beat_case : (s : ClientState) (now : ℕ) (out : Out) (message : AliveMessage) (b : Bool) → IsHeard s now out → out ≡ outs.Alive message → IsAlive s message → message.span < moment_limit → is_in_order s.processed message.invalidations ≡ true → (message.number == s.beats) ≡ b → IsGiven s now out (cond (b && is_better (offered s message.span) s.lease) (record (with_processed (noted s now) message) { lease = offered s message.span }) (with_processed (noted s now) message), Ok [])
+newest_beat_case s now out message true heard is alive fits in_order h = better_case s now out message (is_better (offered s message.span) s.lease) heard is alive fits in_order (same message.number s.beats h) refl
+newest_beat_case s now out message false heard is alive fits in_order h = (LeaseStays message heard is (record { alive = alive; fits = fits; in_order = in_order; worse = λ e. absurd (other message.number s.beats h e) }), refl)
 
 -- what an Alive of the client's epoch does
 abbrev prolong : ClientState → AliveMessage → ClientState × Result (List Line) Fault
-prolong s message = cond (is_span message.span) (with_lease s message, Ok []) (s, Err faults.ProtocolFault)
+prolong s message = cond (is_span message.span && is_in_order s.processed message.invalidations) (with_lease (with_processed s message) message, Ok []) (s, Err faults.ProtocolFault)
 
-fits_case : (s : ClientState) (now : ℕ) (out : Out) (message : AliveMessage) (b : Bool) → IsHeard s now out → out ≡ outs.Alive message → IsAlive s message → is_span message.span ≡ b → IsGiven s now out (cond b (with_lease (noted s now) message, Ok []) (noted s now, Err faults.ProtocolFault))
-fits_case s now out message true heard is alive h = newest_beat_case s now out message (message.number == s.beats) heard is alive (less message.span moment_limit h) refl
-fits_case s now out message false heard is alive h = (AliveUnfit message heard is alive (not_less message.span moment_limit h), refl)
+in_order_case : (s : ClientState) (now : ℕ) (out : Out) (message : AliveMessage) (b : Bool) → IsHeard s now out → out ≡ outs.Alive message → IsAlive s message → message.span < moment_limit → is_in_order s.processed message.invalidations ≡ b → IsGiven s now out (cond b (with_lease (with_processed (noted s now) message) message, Ok []) (noted s now, Err faults.ProtocolFault))
+in_order_case s now out message true heard is alive fits h = newest_beat_case s now out message (message.number == s.beats) heard is alive fits h refl
+in_order_case s now out message false heard is alive fits h = (AliveUnfit message heard is alive (inr h), refl)
+
+fits_case : (s : ClientState) (now : ℕ) (out : Out) (message : AliveMessage) (b : Bool) → IsHeard s now out → out ≡ outs.Alive message → IsAlive s message → is_span message.span ≡ b → IsGiven s now out (cond (b && is_in_order s.processed message.invalidations) (with_lease (with_processed (noted s now) message) message, Ok []) (noted s now, Err faults.ProtocolFault))
+fits_case s now out message true heard is alive h = in_order_case s now out message (is_in_order s.processed message.invalidations) heard is alive (less message.span moment_limit h) refl
+fits_case s now out message false heard is alive h = (AliveUnfit message heard is alive (inl (not_less message.span moment_limit h)), refl)
 
 own_epoch_case : (s : ClientState) (now : ℕ) (out : Out) (message : AliveMessage) (b : Bool) → IsHeard s now out → out ≡ outs.Alive message → s.session ≡ sessions.Live → (message.epoch == s.epoch) ≡ b → IsGiven s now out (cond b (prolong (noted s now) message) (noted s now, Ok []))
 own_epoch_case s now out message true heard is live h = fits_case s now out message (is_span message.span) heard is (record { live = live; epoch = same message.epoch s.epoch h }) refl

@@ -1,9 +1,11 @@
--- What the steps make of a client's clock, of its Starts and Beats, and of its lease: each by the cases of the step.
-use Rattle.std.proofs.Common.{◌≡◌, ◌≢◌, ◌⊎◌, inl, inr, ℕ, ◌<◌, ◌≤◌, max, Option, Some, None, Result, Ok, Err, refl, sym, ◌∙◌, subst, arith}
+-- What the steps make of a client's clock, of its Starts and Beats, of its lease, and of the invalidations that it has processed: each by the cases of the step.
+use Rattle.std.proofs.Common.{◌≡◌, ◌≢◌, ◌⊎◌, inl, inr, ℕ, ◌<◌, ◌≤◌, max, true, Option, Some, None, Result, Ok, Err, refl, sym, ap, ◌∙◌, subst, arith}
 use Rattle.lease_core.specs.Lease.{moment_limit}
 use Rattle.node_core.specs.declared.refusals.Fault.{Fault}
 use Rattle.node_core.specs.declared.refusals.Fault.TheVariants as faults
 use Rattle.tags_cell.specs.declared.requests.Request.{Request}
+use Rattle.tags_cell.specs.declared.requests.Request.TheVariants as requests
+use Rattle.tags_cell.specs.declared.beats.Beat.{Beat as BeatMessage}
 use Rattle.tags_cell.specs.declared.outs.Out.{Out}
 use Rattle.tags_cell.specs.declared.outs.Out.TheVariants as outs
 use Rattle.tags_cell.specs.declared.outs.Started.{Started as StartedMessage}
@@ -16,8 +18,8 @@ use Rattle.client_core.specs.declared.targets.Target.{Target}
 use Rattle.client_core.specs.State.{ClientState}
 use Rattle.client_core.specs.Asks.{ask_step}
 use Rattle.client_core.specs.Beats.{start_message, beat_message, with_beat, beat_step}
-use Rattle.client_core.specs.Gives.{offered, ended, give_step}
-use Rattle.client_core.specs.Cases.{IsStarted, IsTaken, AskCase, asked_in, BeatCase, beaten_in, GiveCase, given_in, noted}
+use Rattle.client_core.specs.Gives.{offered, is_in_order, last_number, ended, give_step}
+use Rattle.client_core.specs.Cases.{IsStarted, IsAlive, IsTaken, IsPassed, AskCase, asked_in, BeatCase, beaten_in, GiveCase, given_in, noted}
 use Rattle.client_core.specs.Cases.AskCase.{AskedTooLate, Refused, OutOfCalls, Sent, Poisoned}
 use Rattle.client_core.specs.Cases.BeatCase.{BeatTooLate, OutOfBeats, Starts, Beats, Quiet}
 use Rattle.client_core.specs.Cases.GiveCase.{GivenTooLate, OfAnother, Started, StartedUnfit, StartedDropped, LeaseTaken, LeaseStays, AliveUnfit, AliveDropped, Replied, ReplyDropped, NotAwaited, Lost, TurnedAway, RefusalDropped}
@@ -73,7 +75,7 @@ given_noted s now out (StartedUnfit message heard is standing long) = inr refl
 given_noted s now out (StartedDropped message heard is old) = inr refl
 given_noted s now out (LeaseTaken message heard is better) = inr refl
 given_noted s now out (LeaseStays message heard is passed) = inr refl
-given_noted s now out (AliveUnfit message heard is alive long) = inr refl
+given_noted s now out (AliveUnfit message heard is alive unfit) = inr refl
 given_noted s now out (AliveDropped message heard is strange) = inr refl
 given_noted s now out (Replied message call heard is for kept) = inr (ended_noted (noted s now) call.target message.result)
 given_noted s now out (ReplyDropped message call heard is for dropped) = inr refl
@@ -92,10 +94,11 @@ pub record KeepsBeats (s new : ClientState) : Type 0 where
   pub beats : new.beats ≡ s.beats
   pub sent : new.sent ≡ s.sent
 
--- it is the same session, with the same lease on it
+-- it is the same session, with the same lease on it, in which no more was processed
 pub record KeepsSession (s new : ClientState) : Type 0 where
   pub session : new.session ≡ s.session
   pub epoch : new.epoch ≡ s.epoch
+  pub processed : new.processed ≡ s.processed
   pub lease : new.lease ≡ s.lease
 
 -- both
@@ -104,17 +107,17 @@ pub record Keeps (s new : ClientState) : Type 0 where
   pub of_session : KeepsSession s new
 
 keeps : (s : ClientState) → Keeps s s
-keeps s = record { of_beats = record { beats = refl; sent = refl }; of_session = record { session = refl; epoch = refl; lease = refl } }
+keeps s = record { of_beats = record { beats = refl; sent = refl }; of_session = record { session = refl; epoch = refl; processed = refl; lease = refl } }
 
 noted_keeps : (s : ClientState) (now : ℕ) → Keeps s (noted s now)
-noted_keeps s now = record { of_beats = record { beats = refl; sent = refl }; of_session = record { session = refl; epoch = refl; lease = refl } }
+noted_keeps s now = record { of_beats = record { beats = refl; sent = refl }; of_session = record { session = refl; epoch = refl; processed = refl; lease = refl } }
 
 asked_keeps : (s : ClientState) (now : ℕ) (ask : Ask) (c : AskCase s now ask) → Keeps s (asked_in s now ask c).0
 asked_keeps s now ask (AskedTooLate late) = keeps s
 asked_keeps s now ask (Refused fault early is) = noted_keeps s now
 asked_keeps s now ask (OutOfCalls call target sendable last) = keeps s
-asked_keeps s now ask (Sent call target sendable room) = record { of_beats = record { beats = refl; sent = refl }; of_session = record { session = refl; epoch = refl; lease = refl } }
-asked_keeps s now ask (Poisoned number handle poisonable) = record { of_beats = record { beats = refl; sent = refl }; of_session = record { session = refl; epoch = refl; lease = refl } }
+asked_keeps s now ask (Sent call target sendable room) = record { of_beats = record { beats = refl; sent = refl }; of_session = record { session = refl; epoch = refl; processed = refl; lease = refl } }
+asked_keeps s now ask (Poisoned number handle poisonable) = record { of_beats = record { beats = refl; sent = refl }; of_session = record { session = refl; epoch = refl; processed = refl; lease = refl } }
 
 -- to be asked for a call changes none of these
 pub ask_keeps : (s : ClientState) (now : ℕ) (ask : Ask) → Keeps s (ask_step s now ask).0
@@ -138,26 +141,26 @@ pub beat_does : (s : ClientState) (now : ℕ) → BeatDoes s now (beat_step s no
 beat_does s now = let c = beat_case s now in subst (BeatDoes s now) (sym c.1) (beaten_does s now c.0)
 
 beaten_keeps_session : (s : ClientState) (now : ℕ) (c : BeatCase s now) → KeepsSession s (beaten_in s now c).0
-beaten_keeps_session s now (BeatTooLate late) = record { session = refl; epoch = refl; lease = refl }
-beaten_keeps_session s now (OutOfBeats early standing last) = record { session = refl; epoch = refl; lease = refl }
-beaten_keeps_session s now (Starts early unstarted room) = record { session = refl; epoch = refl; lease = refl }
-beaten_keeps_session s now (Beats early live room) = record { session = refl; epoch = refl; lease = refl }
-beaten_keeps_session s now (Quiet early standing started) = record { session = refl; epoch = refl; lease = refl }
+beaten_keeps_session s now (BeatTooLate late) = record { session = refl; epoch = refl; processed = refl; lease = refl }
+beaten_keeps_session s now (OutOfBeats early standing last) = record { session = refl; epoch = refl; processed = refl; lease = refl }
+beaten_keeps_session s now (Starts early unstarted room) = record { session = refl; epoch = refl; processed = refl; lease = refl }
+beaten_keeps_session s now (Beats early live room) = record { session = refl; epoch = refl; processed = refl; lease = refl }
+beaten_keeps_session s now (Quiet early standing started) = record { session = refl; epoch = refl; processed = refl; lease = refl }
 
 -- to be asked for a Start or a Beat changes no session
 pub beat_keeps_session : (s : ClientState) (now : ℕ) → KeepsSession s (beat_step s now).0
 beat_keeps_session s now = let c = beat_case s now in subst (λ p. KeepsSession s p.0) (sym c.1) (beaten_keeps_session s now c.0)
 
 ended_keeps : (s : ClientState) (target : Target) (result : CallResult) → Keeps s (ended s target result)
-ended_keeps s target (results.Opened handle) = record { of_beats = record { beats = refl; sent = refl }; of_session = record { session = refl; epoch = refl; lease = refl } }
-ended_keeps s target results.Closed = record { of_beats = record { beats = refl; sent = refl }; of_session = record { session = refl; epoch = refl; lease = refl } }
-ended_keeps s target _ = record { of_beats = record { beats = refl; sent = refl }; of_session = record { session = refl; epoch = refl; lease = refl } }
+ended_keeps s target (results.Opened handle) = record { of_beats = record { beats = refl; sent = refl }; of_session = record { session = refl; epoch = refl; processed = refl; lease = refl } }
+ended_keeps s target results.Closed = record { of_beats = record { beats = refl; sent = refl }; of_session = record { session = refl; epoch = refl; processed = refl; lease = refl } }
+ended_keeps s target _ = record { of_beats = record { beats = refl; sent = refl }; of_session = record { session = refl; epoch = refl; processed = refl; lease = refl } }
 
 -- the call ends at the noted time
 ended_then_keeps : (s t new : ClientState) → Keeps s t → Keeps t new → Keeps s new
 ended_then_keeps s t new h k = record {
   of_beats = record { beats = k.of_beats.beats ∙ h.of_beats.beats; sent = k.of_beats.sent ∙ h.of_beats.sent };
-  of_session = record { session = k.of_session.session ∙ h.of_session.session; epoch = k.of_session.epoch ∙ h.of_session.epoch; lease = k.of_session.lease ∙ h.of_session.lease };
+  of_session = record { session = k.of_session.session ∙ h.of_session.session; epoch = k.of_session.epoch ∙ h.of_session.epoch; processed = k.of_session.processed ∙ h.of_session.processed; lease = k.of_session.lease ∙ h.of_session.lease };
 }
 
 replied_keeps : (s : ClientState) (now : ℕ) (target : Target) (result : CallResult) → Keeps s (ended (noted s now) target result)
@@ -173,7 +176,7 @@ given_keeps_beats s now out (StartedUnfit message heard is standing long) = reco
 given_keeps_beats s now out (StartedDropped message heard is old) = record { beats = refl; sent = refl }
 given_keeps_beats s now out (LeaseTaken message heard is better) = record { beats = refl; sent = refl }
 given_keeps_beats s now out (LeaseStays message heard is passed) = record { beats = refl; sent = refl }
-given_keeps_beats s now out (AliveUnfit message heard is alive long) = record { beats = refl; sent = refl }
+given_keeps_beats s now out (AliveUnfit message heard is alive unfit) = record { beats = refl; sent = refl }
 given_keeps_beats s now out (AliveDropped message heard is strange) = record { beats = refl; sent = refl }
 given_keeps_beats s now out (Replied message call heard is for kept) = (replied_keeps s now call.target message.result).of_beats
 given_keeps_beats s now out (ReplyDropped message call heard is for dropped) = record { beats = refl; sent = refl }
@@ -186,36 +189,71 @@ given_keeps_beats s now out (RefusalDropped message heard is stays) = record { b
 pub give_keeps_beats : (s : ClientState) (now : ℕ) (out : Out) → KeepsBeats s (give_step s now out).0
 give_keeps_beats s now out = let c = give_case s now out in subst (λ p. KeepsBeats s p.0) (sym c.1) (given_keeps_beats s now out c.0)
 
--- what a message does to the session and the lease on it
+-- it has processed what it had, and what the Alive carries
+abbrev pub ProcessesMore : ClientState → AliveMessage → ClientState → Type 0
+ProcessesMore s message new = new.processed ≡ max s.processed (last_number 0 message.invalidations)
+
+-- what a message does to the session, to the lease on it, and to what was processed in it
 pub data LeaseDoes (s : ClientState) (out : Out) (new : ClientState) : Type 0 where
   -- nothing
   LeaseKept : KeepsSession s new → LeaseDoes s out new
   -- the client has none from here on: it lost it, or is told that it gets none
-  LeaseLeft : new.session ≢ sessions.Unstarted → new.session ≢ sessions.Live → new.epoch ≡ s.epoch → new.lease ≡ s.lease → LeaseDoes s out new
+  LeaseLeft : new.session ≢ sessions.Unstarted → new.session ≢ sessions.Live → new.epoch ≡ s.epoch → new.processed ≡ s.processed → new.lease ≡ s.lease → LeaseDoes s out new
   -- its newest Start is answered
-  LeaseBegun : (message : StartedMessage) → out ≡ outs.Started message → IsStarted s message → message.span < moment_limit → new.session ≡ sessions.Live → new.epoch ≡ message.epoch → new.lease ≡ offered s message.span → LeaseDoes s out new
-  -- its newest Beat is answered with a better lease
-  LeaseBettered : (message : AliveMessage) → out ≡ outs.Alive message → IsTaken s message → new.session ≡ s.session → new.epoch ≡ s.epoch → new.lease ≡ offered s message.span → LeaseDoes s out new
+  LeaseBegun : (message : StartedMessage) → out ≡ outs.Started message → IsStarted s message → message.span < moment_limit → new.session ≡ sessions.Live → new.epoch ≡ message.epoch → new.processed ≡ s.processed → new.lease ≡ offered s message.span → LeaseDoes s out new
+  -- invalidations are processed, and its newest Beat is answered with a better lease
+  LeaseBettered : (message : AliveMessage) → out ≡ outs.Alive message → IsTaken s message → new.session ≡ s.session → new.epoch ≡ s.epoch → ProcessesMore s message new → new.lease ≡ offered s message.span → LeaseDoes s out new
+  -- invalidations are processed, and no more
+  LeasePassed : (message : AliveMessage) → out ≡ outs.Alive message → IsPassed s message → new.session ≡ s.session → new.epoch ≡ s.epoch → ProcessesMore s message new → new.lease ≡ s.lease → LeaseDoes s out new
 
 given_lease : (s : ClientState) (now : ℕ) (out : Out) (c : GiveCase s now out) → LeaseDoes s out (given_in s now out c).0
 given_lease s now out (GivenTooLate late) = LeaseKept (keeps s).of_session
 given_lease s now out (OfAnother early other) = LeaseKept (noted_keeps s now).of_session
-given_lease s now out (Started message heard is standing fits) = LeaseBegun message is standing fits refl refl refl
+given_lease s now out (Started message heard is standing fits) = LeaseBegun message is standing fits refl refl refl refl
 given_lease s now out (StartedUnfit message heard is standing long) = LeaseKept (noted_keeps s now).of_session
 given_lease s now out (StartedDropped message heard is old) = LeaseKept (noted_keeps s now).of_session
-given_lease s now out (LeaseTaken message heard is better) = LeaseBettered message is better refl refl refl
-given_lease s now out (LeaseStays message heard is passed) = LeaseKept (noted_keeps s now).of_session
-given_lease s now out (AliveUnfit message heard is alive long) = LeaseKept (noted_keeps s now).of_session
+given_lease s now out (LeaseTaken message heard is better) = LeaseBettered message is better refl refl refl refl
+given_lease s now out (LeaseStays message heard is passed) = LeasePassed message is passed refl refl refl refl
+given_lease s now out (AliveUnfit message heard is alive unfit) = LeaseKept (noted_keeps s now).of_session
 given_lease s now out (AliveDropped message heard is strange) = LeaseKept (noted_keeps s now).of_session
 given_lease s now out (Replied message call heard is for kept) = LeaseKept (replied_keeps s now call.target message.result).of_session
-given_lease s now out (ReplyDropped message call heard is for dropped) = LeaseKept (record { session = refl; epoch = refl; lease = refl })
+given_lease s now out (ReplyDropped message call heard is for dropped) = LeaseKept (record { session = refl; epoch = refl; processed = refl; lease = refl })
 given_lease s now out (NotAwaited message heard is none) = LeaseKept (noted_keeps s now).of_session
-given_lease s now out (Lost message heard is loss) = LeaseLeft (λ e. cc) (λ e. cc) refl refl
-given_lease s now out (TurnedAway message heard is fault unstarted) = LeaseLeft (λ e. cc) (λ e. cc) refl refl
+given_lease s now out (Lost message heard is loss) = LeaseLeft (λ e. cc) (λ e. cc) refl refl refl
+given_lease s now out (TurnedAway message heard is fault unstarted) = LeaseLeft (λ e. cc) (λ e. cc) refl refl refl
 given_lease s now out (RefusalDropped message heard is stays) = LeaseKept (noted_keeps s now).of_session
 
 pub give_lease : (s : ClientState) (now : ℕ) (out : Out) → LeaseDoes s out (give_step s now out).0
 give_lease s now out = let c = give_case s now out in subst (λ p. LeaseDoes s out p.0) (sym c.1) (given_lease s now out c.0)
+
+-- ---- what was processed
+
+-- what a message does to what was processed, whatever becomes of the lease
+pub data ProcessedDoes (s : ClientState) (out : Out) (new : ClientState) : Type 0 where
+  ProcessedKept : new.processed ≡ s.processed → ProcessedDoes s out new
+  -- an Alive of the client's epoch, in its session, carries no number twice and leaves none out
+  ProcessedMore : (message : AliveMessage) → out ≡ outs.Alive message → IsAlive s message → is_in_order s.processed message.invalidations ≡ true → new.epoch ≡ s.epoch → ProcessesMore s message new → ProcessedDoes s out new
+
+pub processed_by : (s new : ClientState) (out : Out) → LeaseDoes s out new → ProcessedDoes s out new
+processed_by s new out (LeaseKept kept) = ProcessedKept kept.processed
+processed_by s new out (LeaseLeft standing live epoch processed lease) = ProcessedKept processed
+processed_by s new out (LeaseBegun message is standing fits live epoch processed lease) = ProcessedKept processed
+processed_by s new out (LeaseBettered message is taken session epoch processed lease) = ProcessedMore message is taken.alive taken.in_order epoch processed
+processed_by s new out (LeasePassed message is passed session epoch processed lease) = ProcessedMore message is passed.alive passed.in_order epoch processed
+
+pub give_processed : (s : ClientState) (now : ℕ) (out : Out) → ProcessedDoes s out (give_step s now out).0
+give_processed s now out = processed_by s (give_step s now out).0 out (give_lease s now out)
+
+acknowledges : (s : ClientState) (now : ℕ) (beat : BeatMessage) (c : BeatCase s now) → (beaten_in s now c).1 ≡ Ok (Some (requests.Beat beat)) → beat.invalidations ≡ s.processed
+acknowledges s now beat (BeatTooLate late) h = cc
+acknowledges s now beat (OutOfBeats early standing last) h = cc
+acknowledges s now beat (Starts early unstarted room) h = cc
+acknowledges s now beat (Beats early live room) h = cc
+acknowledges s now beat (Quiet early standing started) h = cc
+
+-- a Beat acknowledges what was processed
+pub beat_acknowledges : (s : ClientState) (now : ℕ) (beat : BeatMessage) → (beat_step s now).1 ≡ Ok (Some (requests.Beat beat)) → beat.invalidations ≡ s.processed
+beat_acknowledges s now beat h = let c = beat_case s now in acknowledges s now beat c.0 (ap (λ p. p.1) (sym c.1) ∙ h)
 
 -- ---- the epoch before the first session
 
@@ -234,9 +272,10 @@ beat_keeps_no_epoch s now h = no_epoch_kept s (beat_step s now).0 (beat_keeps_se
 
 no_epoch_behind : (s new : ClientState) (out : Out) → LeaseDoes s out new → HasNoEpoch s → HasNoEpoch new
 no_epoch_behind s new out (LeaseKept kept) h = no_epoch_kept s new kept h
-no_epoch_behind s new out (LeaseLeft standing live epoch lease) h = λ e. absurd (standing e)
-no_epoch_behind s new out (LeaseBegun message is standing fits live epoch lease) h = λ e. let two : sessions.Live ≡ sessions.Unstarted = sym live ∙ e in cc
-no_epoch_behind s new out (LeaseBettered message is taken session epoch lease) h = λ e. epoch ∙ h (sym session ∙ e)
+no_epoch_behind s new out (LeaseLeft standing live epoch processed lease) h = λ e. absurd (standing e)
+no_epoch_behind s new out (LeaseBegun message is standing fits live epoch processed lease) h = λ e. let two : sessions.Live ≡ sessions.Unstarted = sym live ∙ e in cc
+no_epoch_behind s new out (LeaseBettered message is taken session epoch processed lease) h = λ e. epoch ∙ h (sym session ∙ e)
+no_epoch_behind s new out (LeasePassed message is passed session epoch processed lease) h = λ e. epoch ∙ h (sym session ∙ e)
 
 pub give_keeps_no_epoch : (s : ClientState) (now : ℕ) (out : Out) → HasNoEpoch s → HasNoEpoch (give_step s now out).0
 give_keeps_no_epoch s now out h = no_epoch_behind s (give_step s now out).0 out (give_lease s now out) h

@@ -62,7 +62,7 @@ rises_in s new now client call handle out (StartedUnfit message heard is standin
 rises_in s new now client call handle out (StartedDropped message heard is old) h told = cc
 rises_in s new now client call handle out (LeaseTaken message heard is better) h told = cc
 rises_in s new now client call handle out (LeaseStays message heard is passed) h told = cc
-rises_in s new now client call handle out (AliveUnfit message heard is alive long) h told = cc
+rises_in s new now client call handle out (AliveUnfit message heard is alive unfit) h told = cc
 rises_in s new now client call handle out (AliveDropped message heard is strange) h told = cc
 rises_in s new now client call handle out (Replied message waiting heard is for kept) h told =
     reply_rises s (noted s now) new waiting.target message.result client message.number call handle refl h told
@@ -109,7 +109,7 @@ give_stays s now out (StartedUnfit message heard is standing long) = omega arith
 give_stays s now out (StartedDropped message heard is old) = omega arith
 give_stays s now out (LeaseTaken message heard is better) = omega arith
 give_stays s now out (LeaseStays message heard is passed) = omega arith
-give_stays s now out (AliveUnfit message heard is alive long) = omega arith
+give_stays s now out (AliveUnfit message heard is alive unfit) = omega arith
 give_stays s now out (AliveDropped message heard is strange) = omega arith
 give_stays s now out (Replied message waiting heard is for kept) = ended_stays (noted s now) waiting.target message.result
 give_stays s now out (ReplyDropped message waiting heard is for dropped) = omega arith
@@ -156,7 +156,7 @@ stale_in s new now reply printed (StartedUnfit message heard is standing long) h
 stale_in s new now reply printed (StartedDropped message heard is old) h told = cc
 stale_in s new now reply printed (LeaseTaken message heard is better) h told = cc
 stale_in s new now reply printed (LeaseStays message heard is passed) h told = cc
-stale_in s new now reply printed (AliveUnfit message heard is alive long) h told = cc
+stale_in s new now reply printed (AliveUnfit message heard is alive unfit) h told = cc
 stale_in s new now reply printed (AliveDropped message heard is strange) h told = cc
 stale_in s new now reply printed (Replied message waiting heard is for kept) h told =
     inr (none_awaited new reply (sym (ap (λ (t : ClientState). t.outstanding) h) ∙ ended_none (noted s now) waiting.target message.result))
@@ -201,7 +201,7 @@ dropped_in s now reply (StartedUnfit message heard is standing long) stale momen
 dropped_in s now reply (StartedDropped message heard is old) stale moment = refl
 dropped_in s now reply (LeaseTaken message heard is better) stale moment = cc
 dropped_in s now reply (LeaseStays message heard is passed) stale moment = cc
-dropped_in s now reply (AliveUnfit message heard is alive long) stale moment = cc
+dropped_in s now reply (AliveUnfit message heard is alive unfit) stale moment = cc
 dropped_in s now reply (AliveDropped message heard is strange) stale moment = cc
 dropped_in s now reply (Replied message waiting heard is for kept) stale moment = not_both s reply message waiting stale is heard.own for _
 dropped_in s now reply (ReplyDropped message waiting heard is for dropped) stale moment = not_both s reply message waiting stale is heard.own for _

@@ -28,7 +28,7 @@ use Rattle.client_core.specs.State.{ClientState, at_moment}
 use Rattle.client_core.specs.Asks.{handle_of, plan_of, message_of, with_call}
 use Rattle.client_core.specs.Poisons.{with_poisoned, poison_lines}
 use Rattle.client_core.specs.Beats.{start_message, beat_message, with_beat}
-use Rattle.client_core.specs.Gives.{offered, begun, awaited, answer_of, ended, session_after}
+use Rattle.client_core.specs.Gives.{offered, begun, is_in_order, with_processed, awaited, answer_of, ended, session_after}
 
 -- the client at the moment that it notes
 abbrev pub noted : ClientState → ℕ → ClientState
@@ -110,6 +110,7 @@ pub record IsAlive (s : ClientState) (message : AliveMessage) : Type 0 where
 pub record IsTaken (s : ClientState) (message : AliveMessage) : Type 0 where
   pub alive : IsAlive s message
   pub fits : message.span < moment_limit
+  pub in_order : is_in_order s.processed message.invalidations ≡ true
   pub newest : message.number ≡ s.beats
   pub better : is_better (offered s message.span) s.lease ≡ true
 
@@ -117,6 +118,7 @@ pub record IsTaken (s : ClientState) (message : AliveMessage) : Type 0 where
 pub record IsPassed (s : ClientState) (message : AliveMessage) : Type 0 where
   pub alive : IsAlive s message
   pub fits : message.span < moment_limit
+  pub in_order : is_in_order s.processed message.invalidations ≡ true
   pub worse : message.number ≡ s.beats → is_better (offered s message.span) s.lease ≡ false
 
 -- a reply in the client's session and of its epoch, to its outstanding call
@@ -142,7 +144,7 @@ pub data GiveCase (s : ClientState) (now : ℕ) (out : Out) : Type 0 where
   -- AN ALIVE
   LeaseTaken : (message : AliveMessage) → IsHeard s now out → out ≡ outs.Alive message → IsTaken s message → GiveCase s now out
   LeaseStays : (message : AliveMessage) → IsHeard s now out → out ≡ outs.Alive message → IsPassed s message → GiveCase s now out
-  AliveUnfit : (message : AliveMessage) → IsHeard s now out → out ≡ outs.Alive message → IsAlive s message → moment_limit ≤ message.span → GiveCase s now out
+  AliveUnfit : (message : AliveMessage) → IsHeard s now out → out ≡ outs.Alive message → IsAlive s message → (moment_limit ≤ message.span) ⊎ (is_in_order s.processed message.invalidations ≡ false) → GiveCase s now out
   AliveDropped : (message : AliveMessage) → IsHeard s now out → out ≡ outs.Alive message → (s.session ≡ sessions.Live → message.epoch ≢ s.epoch) → GiveCase s now out
   -- A REPLY
   Replied : (message : Reply) (call : Outstanding) → IsHeard s now out → out ≡ outs.Reply message → IsAwaited s message call → call.target ≢ targets.Dropped → GiveCase s now out
@@ -160,9 +162,9 @@ given_in s now out (OfAnother early other) = (noted s now, Ok [])
 given_in s now out (Started message heard is standing fits) = (begun (noted s now) message, Ok [])
 given_in s now out (StartedUnfit message heard is standing long) = (noted s now, Err faults.ProtocolFault)
 given_in s now out (StartedDropped message heard is old) = (noted s now, Ok [])
-given_in s now out (LeaseTaken message heard is taken) = (record (noted s now) { lease = offered s message.span }, Ok [])
-given_in s now out (LeaseStays message heard is passed) = (noted s now, Ok [])
-given_in s now out (AliveUnfit message heard is alive long) = (noted s now, Err faults.ProtocolFault)
+given_in s now out (LeaseTaken message heard is taken) = (record (with_processed (noted s now) message) { lease = offered s message.span }, Ok [])
+given_in s now out (LeaseStays message heard is passed) = (with_processed (noted s now) message, Ok [])
+given_in s now out (AliveUnfit message heard is alive unfit) = (noted s now, Err faults.ProtocolFault)
 given_in s now out (AliveDropped message heard is other) = (noted s now, Ok [])
 given_in s now out (Replied message call heard is for kept) =
     (ended (noted s now) call.target message.result, Ok (lines.Done s.number message.number (answer_of s message.result) ∷ []))

@@ -1,5 +1,5 @@
 -- A client is given a message of a master.
-use Rattle.std.specs.Prelude.{ℕ, ◌+◌, ◌==◌, ◌&&◌, nat_lt, nat_le, Bool, true, false, List, [], ◌∷◌, Option, Some, None, Result, Ok, Err, if◌then◌else◌}
+use Rattle.std.specs.Prelude.{ℕ, ◌+◌, ◌==◌, ◌&&◌, nat_lt, nat_le, max, Bool, true, false, List, [], ◌∷◌, Option, Some, None, Result, Ok, Err, if◌then◌else◌}
 use Rattle.std.specs.Option.{option_map_or}
 use Rattle.std.specs.Map.{remove_entry}
 use Rattle.std.specs.BTreeMap.{is_at, insert_entry}
@@ -15,6 +15,7 @@ use Rattle.tags_cell.specs.declared.outs.Out.{Out}
 use Rattle.tags_cell.specs.declared.outs.Out.TheVariants as outs
 use Rattle.tags_cell.specs.declared.outs.Started.{Started}
 use Rattle.tags_cell.specs.declared.beats.Alive.{Alive}
+use Rattle.tags_cell.specs.declared.beats.Invalidation.{Invalidation}
 use Rattle.tags_cell.specs.declared.outs.Reply.{Reply}
 use Rattle.tags_cell.specs.declared.outs.Refused.{Refused}
 use Rattle.tags_cell.specs.declared.outs.CallResult.{CallResult}
@@ -68,16 +69,35 @@ started_step s message =
 
 -- ---- Alive
 
+-- each number is one more than the one before
+abbrev pub follow : ℕ → List Invalidation → Bool
+follow last [] = true
+follow last (next ∷ others) = next.number == last + 1 && follow next.number others
+
+-- they rise by one, and begin at most one above what was processed
+abbrev pub is_in_order : ℕ → List Invalidation → Bool
+is_in_order processed [] = true
+is_in_order processed (first ∷ others) = nat_le first.number (processed + 1) && follow first.number others
+
+-- the last number, or this one where there is none
+abbrev pub last_number : ℕ → List Invalidation → ℕ
+last_number number [] = number
+last_number number (next ∷ others) = last_number next.number others
+
+-- an older message takes nothing back
+abbrev pub with_processed : ClientState → Alive → ClientState
+with_processed s message = record s { processed = max s.processed (last_number 0 message.invalidations) }
+
 -- only an offer for the newest Beat counts, and only a better one than the lease that there is
 abbrev pub with_lease : ClientState → Alive → ClientState
 with_lease s message =
     if message.number == s.beats && is_better (offered s message.span) s.lease then record s { lease = offered s message.span } else s
 
--- one of another epoch is dropped
+-- one of another epoch is dropped; one whose span or whose numbers no master sends is refused
 abbrev pub alive_step : ClientState → Alive → ClientState × Result (List Line) Fault
 alive_step s message =
     if is_live s.session && message.epoch == s.epoch
-    then (if is_span message.span then (with_lease s message, Ok []) else (s, Err faults.ProtocolFault))
+    then (if is_span message.span && is_in_order s.processed message.invalidations then (with_lease (with_processed s message) message, Ok []) else (s, Err faults.ProtocolFault))
     else (s, Ok [])
 
 -- ---- Reply

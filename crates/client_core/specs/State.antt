@@ -21,6 +21,8 @@ pub record ClientState : Type 0 where
   pub session : Session
   -- the epoch of the master that gave it its session, also once that is lost; 0 before
   pub epoch : ℕ
+  -- the number of the last invalidation that it has processed in its epoch, 0 before the first
+  pub processed : ℕ
   -- how long it may rely on its session; of span 0 before the first
   pub lease : LeaseTerms
   -- the number of its newest call, 0 before the first
@@ -39,7 +41,7 @@ no_lease = record { sent = 0; span = 0 }
 -- a client that has done nothing yet
 abbrev pub new_client : ℕ → List ℕ → ClientState
 new_client number principal =
-    record { number = number; principal = principal; clock = 0; beats = 0; sent = 0; session = sessions.Unstarted; epoch = 0; lease = no_lease; calls = 0; outstanding = None; handles = []; opened = 0 }
+    record { number = number; principal = principal; clock = 0; beats = 0; sent = 0; session = sessions.Unstarted; epoch = 0; processed = 0; lease = no_lease; calls = 0; outstanding = None; handles = []; opened = 0 }
 
 abbrev pub count_of : Option Outstanding → ℕ
 count_of None = 0

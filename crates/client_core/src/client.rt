@@ -36,6 +36,9 @@ use tags_cell::{
 /// master counts its promise from the receipt, which is no earlier (Gray and Cheriton 1989, section 2; Burrows 2006,
 /// section 2.8).
 ///
+/// It processes the invalidations that its master sends, in order of their numbers, and acknowledges them by its next
+/// Beat (Burrows 2006, section 2.7). It caches nothing yet, so to process one is to note its number.
+///
 /// What isn't there yet: a cache; jeopardy, and the loss of a session by time; events; locks; and a change of the
 /// master's epoch.
 #[derive(Drop)]
@@ -48,6 +51,7 @@ pub struct Client {
     pub(crate) sent: u64,
     pub(crate) session: Session,
     pub(crate) epoch: u64,
+    pub(crate) processed: u64,
     pub(crate) lease: Lease,
     pub(crate) calls: u64,
     pub(crate) outstanding: Option<Outstanding>,
@@ -68,6 +72,7 @@ impl Model for Client {
       sent = c.sent;
       session = c.session;
       epoch = c.epoch;
+      processed = c.processed;
       lease = c.lease;
       calls = c.calls;
       outstanding = c.outstanding;
@@ -93,6 +98,7 @@ impl Client {
             sent: 0,
             session: Session::Unstarted,
             epoch: 0,
+            processed: 0,
             lease: first_lease(),
             calls: 0,
             outstanding: None,
@@ -128,9 +134,9 @@ impl Client {
     }
 
     /// Asks for what keeps the session, under the next number: a Start until the client has a session, then a Beat, which
-    /// acknowledges nothing yet; where the session is lost, or the client was told that it gets none, nothing more. The
-    /// lease that it is answered with counts from the moment that is noted now. Behind the last number, 2^63-1, it is
-    /// refused as Exhausted, and nothing changes.
+    /// acknowledges the invalidations that it has processed, and no events yet; where the session is lost, or the client
+    /// was told that it gets none, nothing more. The lease that it is answered with counts from the moment that is noted
+    /// now. Behind the last number, 2^63-1, it is refused as Exhausted, and nothing changes.
     #[tactic(auto, unfolding(crate::specs::Beats::beat_step))]
     pub fn beat(&mut self, now: u64) -> Result<Option<Request>, Fault>
         ensures { Does self.old self.new result (beat_step self.old now) }
@@ -149,9 +155,14 @@ impl Client {
     /// Gives the client a message of a master, and answers the lines that are printed.
     ///
     /// A Started gives it the session that its newest Start asked for, with the lease on it. An Alive that answers its
-    /// newest Beat gives it a lease, if it is of the client's epoch and the lease ends later than the one that there is. In
-    /// that Started, and in every Alive of the client's epoch, a span of 2^53 or more is refused as ProtocolFault: no master
-    /// sends it, and it changes nothing but the noted time.
+    /// newest Beat gives it a lease, if it is of the client's epoch and the lease ends later than the one that there is.
+    /// Of every Alive of its epoch, whichever Beat that answers, it processes the invalidations, in order of their numbers,
+    /// and skips those that it has processed before (Burrows 2006, section 2.7). As it caches nothing yet, it only notes
+    /// the last number, to acknowledge it by its next Beat.
+    ///
+    /// Refused as ProtocolFault, since no master sends it: in that Started, and in every Alive of the client's epoch, a
+    /// span of 2^53 or more; and an Alive of its epoch in which the numbers of the invalidations don't rise by one, or
+    /// begin more than one above the last that it has processed. That changes nothing but the noted time.
     ///
     /// A Reply ends the outstanding call, if it is for that call and of the client's epoch; a handle gets the client's next
     /// number for it, none is given out twice, and the number of a closed handle is open no more. Where the call's handle
@@ -266,12 +277,13 @@ impl Client {
         };
         let client = self.number;
         let epoch = self.epoch;
+        let invalidations = self.processed;
         self.count_beat(moment);
         Ok(Some(Request::Beat(Beat {
             client,
             epoch,
             number,
-            invalidations: 0,
+            invalidations,
             events: 0,
         })))
     }

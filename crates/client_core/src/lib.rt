@@ -6,6 +6,7 @@
 mod asks;
 mod client;
 mod handles;
+mod invalidations;
 mod laws;
 mod offers;
 mod plans;

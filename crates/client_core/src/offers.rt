@@ -7,6 +7,7 @@ ghost use Rattle.client_core.specs.State.{no_lease, Does};
 ghost use Rattle.client_core.specs.Gives.{is_span, offered, started_step, alive_step};
 
 use crate::client::Client;
+use crate::invalidations::{is_in_order, last_number};
 use crate::sessions::Session;
 use lease_core::Lease;
 use node_core::{Fault, Line};
@@ -40,7 +41,8 @@ impl Client {
         Ok(Items::new(self.alloc))
     }
 
-    // Takes the lease that the newest Beat was answered with, if it is better than the present one.
+    // Processes the invalidations, and takes the lease that the newest Beat was answered with, if it is better than the
+    // present one.
     pub(crate) fn take_alive(&mut self, alive: &Alive) -> Result<Items<Line>, Fault>
         ensures { Does self.old self.new result (alive_step self.old alive.now) }
     {
@@ -50,6 +52,11 @@ impl Client {
         let Some(lease) = self.offered(alive.span) else {
             return Err(Fault::ProtocolFault);
         };
+        let invalidations = alive.invalidations.as_slice();
+        if !is_in_order(self.processed, invalidations) {
+            return Err(Fault::ProtocolFault);
+        }
+        self.processed = self.processed.max(last_number(invalidations));
         if alive.number.get() == self.beats && lease.better(self.lease) {
             self.lease = lease;
         }

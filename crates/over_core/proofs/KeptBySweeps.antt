@@ -36,6 +36,8 @@ use Rattle.rows_cell.proofs.SoundEnds.{changed_more, unlocked_by, unlocks, unloc
 use Rattle.rows_cell.proofs.SoundParts.{parts_of}
 use Rattle.rows_cell.proofs.SoundRemovals.{gone_sound, all_from_both, all_let_through}
 use Rattle.tags_cell.specs.declared.outs.Reply.{Reply}
+use Rattle.rights_core.specs.declared.endings.Ending.TheVariants as endings
+use Rattle.rights_core.specs.Rights as of_rights
 use Rattle.gate_core.specs.declared.pending.Waiting.{Waiting}
 use Rattle.session_core.specs.declared.records.Kept.{Kept}
 use Rattle.session_core.specs.declared.records.Parked.{Parked}
@@ -50,12 +52,15 @@ use Rattle.cell_core.specs.Step.{session_of, reply_of, answered_by, recorded, is
 use Rattle.cell_core.specs.Deeds.{edit_of}
 use Rattle.over_core.specs.declared.effects.Effect.{Effect}
 use Rattle.over_core.specs.declared.sweeps.Swept.{Swept}
-use Rattle.over_core.specs.Kept.{IsKept, is_known, are_known, waiting_fits}
+use Rattle.over_core.specs.Kept.{IsKept, AreTouching, names_touched, is_known, are_known, waiting_fits}
 use Rattle.over_core.specs.Sweep.{action_edits, first_action, sweep_edits, sweep_step}
 use Rattle.over_core.specs.SweepCase.{IsTurn, SweepCase, rest, mapped, swept_by, swept_edits}
 use Rattle.over_core.specs.SweepCase.SweepCase.{Quiet, Recovers, Expires, AnswersBeat, TurnedAway, StartedAgain, Started, OfEnded, Ended, Applied}
 use Rattle.over_core.proofs.FitsByEffects.{ModFits, EffectFits, effect_fits}
-use Rattle.over_core.proofs.KeptByTakes.{IsByBeats, step_by_beats, new_by_beats, stays, stepped_kept, note_kept, recorded_kept, clock_kept}
+use Rattle.over_core.proofs.EachSession.{step_each, step_without, new_each, new_without}
+use Rattle.over_core.proofs.KeptByTakes.{IsByBeats, IsIssued, HasNoRight, stays, stepped_kept, ended_kept, note_kept, recorded_kept, clock_kept}
+use Rattle.over_core.proofs.OrderlyChanges.{orderly_less, all_less}
+use Rattle.over_core.proofs.OwnedRights.{none_issued}
 use Rattle.over_core.proofs.SweepCases.{HasSessionsInOrder, sweep_case, swept_case}
 
 -- the sessions of a master stand in the order of those of its rows
@@ -177,8 +182,16 @@ module _ (cell : List ℕ) (rows : Rows) (s : MasterState) (k : IsKept cell rows
     sessions_in_order = sorted_put nat_cmp nat_cmp_total rows.sessions client put k.sessions_in_order;
     locks_in_order = unlocked_sorted keys rows.locks k.locks_in_order;
     recovery_is_empty = k.recovery_is_empty;
-    by_beats = step_by_beats s.sessions client of_session.ended (λ before there h. h) k.by_beats;
+    by_beats = step_each IsByBeats s.sessions client of_session.ended (λ before there h. h) k.by_beats;
+    recorded = k.recorded;
+    issued = step_each (IsIssued s.rights) s.sessions client of_session.ended (λ before there h. h) k.issued;
+    owned = step_without (HasNoRight s.rights) s.sessions client of_session.ended k.owned;
+    orderly = k.orderly;
+    touching = k.touching;
   }
+
+  rights_kept : IsKept cell ended_rows (record s { sessions = with_session s.sessions client of_session.ended; rights = of_rights.ended client endings.Expiry s.rights })
+  rights_kept = ended_kept cell ended_rows (record s { sessions = with_session s.sessions client of_session.ended }) client endings.Expiry expiry_kept
 
 -- ---- a Beat that is answered
 
@@ -186,9 +199,13 @@ answered_row : (lease now : ℕ) (session : Session Reply) → row_of (answered 
 answered_row lease now session =
     elim session.parked as (λ o. row_of (option_map_or (λ (beat : Parked). prolonged (now + lease) (record session { parked = None })) o session) ≡ row_of session) [ None ↦ refl | Some beat ↦ refl ]
 
-answered_by_beats : (lease now : ℕ) (session : Session Reply) → IsByBeats session → IsByBeats (answered lease now session)
-answered_by_beats lease now session h =
-    elim session.parked as (λ o. IsByBeats (option_map_or (λ (beat : Parked). prolonged (now + lease) (record session { parked = None })) o session)) [ None ↦ h | Some beat ↦ h ]
+answered_by_beats : (lease now client : ℕ) (session : Session Reply) → IsByBeats client session → IsByBeats client (answered lease now session)
+answered_by_beats lease now client session h =
+    elim session.parked as (λ o. IsByBeats client (option_map_or (λ (beat : Parked). prolonged (now + lease) (record session { parked = None })) o session)) [ None ↦ h | Some beat ↦ h ]
+
+answered_issued : (lease now : ℕ) (session : Session Reply) → (answered lease now session).invalidations.issued ≡ session.invalidations.issued
+answered_issued lease now session =
+    elim session.parked as (λ o. (option_map_or (λ (beat : Parked). prolonged (now + lease) (record session { parked = None })) o session).invalidations.issued ≡ session.invalidations.issued) [ None ↦ refl | Some beat ↦ refl ]
 
 -- ---- what is committed
 
@@ -206,6 +223,7 @@ module _ (cell : List ℕ) (rows : Rows) (s : MasterState) (k : IsKept cell rows
   rest_kept front back task turn =
       let t = parts front back task turn in
       let w : Waiting Task = record { number = turn.number; change = record { touched = turn.touched; body = task } } in
+      let Q : List (Waiting Task) → Type 0 = λ ws. AreTouching s.secret ws in
       stays cell rows s (rest s front back) k (record {
         name = refl;
         secret = refl;
@@ -217,6 +235,11 @@ module _ (cell : List ℕ) (rows : Rows) (s : MasterState) (k : IsKept cell rows
         waiting = t.1;
         recovery_is_empty = λ recovering. absurd (some_wait front w back (sym turn.waited ∙ k.recovery_is_empty recovering));
         by_beats = k.by_beats;
+        recorded = k.recorded;
+        issued = k.issued;
+        owned = k.owned;
+        orderly = orderly_less s.gate.waiting front w back s.gate.pushed turn.waited k.orderly;
+        touching = all_less (λ (x : Waiting Task). x.change.touched ≡ names_touched s.secret x.change.body.work) front w back (subst Q turn.waited k.touching);
       })
 
   case_sound : (c : SweepCase s) → HasNamesInOrder s.nodes → sound cell (changed_rows rows (swept_edits s c)) ≡ true
@@ -262,6 +285,11 @@ module _ (cell : List ℕ) (rows : Rows) where
     locks_in_order = k.locks_in_order;
     recovery_is_empty = k.recovery_is_empty;
     by_beats = k.by_beats;
+    recorded = k.recorded;
+    issued = k.issued;
+    owned = k.owned;
+    orderly = k.orderly;
+    touching = k.touching;
   }
   mapped_kept s (Gone name) next k h = record {
     name = k.name;
@@ -277,11 +305,16 @@ module _ (cell : List ℕ) (rows : Rows) where
     locks_in_order = order_left rows.locks (stored_node rows.nodes name) k.locks_in_order;
     recovery_is_empty = k.recovery_is_empty;
     by_beats = k.by_beats;
+    recorded = k.recorded;
+    issued = k.issued;
+    owned = k.owned;
+    orderly = k.orderly;
+    touching = k.touching;
   }
 
-  -- a session that begins
-  begun_kept : (s : MasterState) (client : ℕ) (principal : List ℕ) (timeout : ℕ) → IsKept cell rows s → sound cell (changed_rows rows (PutSession client (record { principal = principal; live = true }) ∷ [])) ≡ true → IsKept cell (changed_rows rows (PutSession client (record { principal = principal; live = true }) ∷ [])) (record s { sessions = with_new s.sessions client (session_until principal true timeout) })
-  begun_kept s client principal timeout k h =
+  -- a session that begins: its client was granted nothing
+  begun_kept : (s : MasterState) (client : ℕ) (principal : List ℕ) (timeout : ℕ) → session_of s client ≡ None → IsKept cell rows s → sound cell (changed_rows rows (PutSession client (record { principal = principal; live = true }) ∷ [])) ≡ true → IsKept cell (changed_rows rows (PutSession client (record { principal = principal; live = true }) ∷ [])) (record s { sessions = with_new s.sessions client (session_until principal true timeout) })
+  begun_kept s client principal timeout none k h =
       let new : Session Reply = session_until principal true timeout in
       let put : stored.Session = record { principal = principal; live = true } in
       record {
@@ -297,7 +330,12 @@ module _ (cell : List ℕ) (rows : Rows) where
         sessions_in_order = sorted_put nat_cmp nat_cmp_total rows.sessions client put k.sessions_in_order;
         locks_in_order = k.locks_in_order;
         recovery_is_empty = k.recovery_is_empty;
-        by_beats = new_by_beats s.sessions client new (λ none. none_of none) k.by_beats;
+        by_beats = new_each IsByBeats s.sessions client new (λ some. none_of some) k.by_beats;
+        recorded = k.recorded;
+        issued = new_each (IsIssued s.rights) s.sessions client new (sym (none_issued client s.rights (k.owned client none))) k.issued;
+        owned = new_without (HasNoRight s.rights) s.sessions client new k.owned;
+        orderly = k.orderly;
+        touching = k.touching;
       }
 
   case_kept : (s : MasterState) (c : SweepCase s) → IsKept cell rows s → sound cell (changed_rows rows (swept_edits s c)) ≡ true → IsKept cell (changed_rows rows (swept_edits s c)) (swept_by s c).0
@@ -313,17 +351,22 @@ module _ (cell : List ℕ) (rows : Rows) where
     waiting = k.waiting;
     recovery_is_empty = λ never. absurd (cc);
     by_beats = k.by_beats;
+    recorded = k.recorded;
+    issued = k.issued;
+    owned = k.owned;
+    orderly = k.orderly;
+    touching = k.touching;
   })
   case_kept s (Expires client session due) k h =
-      let P : Rows → Type 0 = λ r. IsKept cell r (record s { sessions = with_session s.sessions client of_session.ended }) in
-      subst P (sym (ended_is cell rows s k client session due.found)) (expiry_kept cell rows s k client session due.found)
+      let P : Rows → Type 0 = λ r. IsKept cell r (record s { sessions = with_session s.sessions client of_session.ended; rights = of_rights.ended client endings.Expiry s.rights }) in
+      subst P (sym (ended_is cell rows s k client session due.found)) (rights_kept cell rows s k client session due.found)
   case_kept s (AnswersBeat client session beat due) k h =
-      stepped_kept cell rows s client (answered s.sessions.lease s.clock) (answered_row s.sessions.lease s.clock) (λ before there. answered_by_beats s.sessions.lease s.clock before) k
+      stepped_kept cell rows s client (answered s.sessions.lease s.clock) (answered_row s.sessions.lease s.clock) (answered_issued s.sessions.lease s.clock) (λ before there. answered_by_beats s.sessions.lease s.clock client before) k
   case_kept s (TurnedAway front back task principal received turn work may) k h = rest_kept cell rows s k front back task turn
   case_kept s (StartedAgain front back task principal received session turn work found live) k h =
-      stepped_kept cell rows (rest s front back) task.client (prolonged (s.clock + s.sessions.lease)) (λ before. refl) (λ before there is. is) (rest_kept cell rows s k front back task turn)
+      stepped_kept cell rows (rest s front back) task.client (prolonged (s.clock + s.sessions.lease)) (λ before. refl) (λ before. refl) (λ before there is. is) (rest_kept cell rows s k front back task turn)
   case_kept s (Started front back task principal received turn work none) k h =
-      begun_kept (rest s front back) task.client principal (s.clock + s.sessions.lease) (rest_kept cell rows s k front back task turn) h
+      begun_kept (rest s front back) task.client principal (s.clock + s.sessions.lease) none (rest_kept cell rows s k front back task turn) h
   case_kept s (OfEnded front back task call turn work gone) k h = rest_kept cell rows s k front back task turn
   case_kept s (Ended front back task call note answer turn work live made) k h =
       let t = rest s front back in
@@ -340,7 +383,7 @@ module _ (cell : List ℕ) (rows : Rows) where
 pub sweep_sound : (cell : List ℕ) (rows : Rows) (s : MasterState) (now : ℕ) → IsKept cell rows s → HasNamesInOrder s.nodes → sound cell (changed_rows rows (sweep_edits s now)) ≡ true
 sweep_sound cell rows s now k order =
     let there = noted s now in
-    let c = sweep_case there (sessions_ordered cell rows s k) in
+    let c = sweep_case there (sessions_ordered cell rows s k) k.orderly in
     let P : List Edit → Type 0 = λ edits. sound cell (changed_rows rows edits) ≡ true in
     let swept = subst P (sym c.2) (case_sound cell rows there (clock_kept cell rows s (max s.clock now) k) c.0 order) in
     elim (is_past_end now) as (λ b. sound cell (changed_rows rows (if b then [] else action_edits there (first_action there))) ≡ true) [ true ↦ k.sound_rows | false ↦ swept ]
@@ -348,7 +391,7 @@ sweep_sound cell rows s now k order =
 sweep_kept : (cell : List ℕ) (rows : Rows) (s new : MasterState) (now : ℕ) (told : Swept) → IsKept cell rows s → HasNamesInOrder s.nodes → sweep_step s now ≡ Ok (new, told) → IsKept cell (changed_rows rows (sweep_edits s now)) new
 sweep_kept cell rows s new now told k order h =
     let there = noted s now in
-    let c = swept_case s new now told (sessions_ordered cell rows s k) h in
+    let c = swept_case s new now told (sessions_ordered cell rows s k) k.orderly h in
     let noted_kept = clock_kept cell rows s (max s.clock now) k in
     let is : new ≡ (swept_by there c.0).0 = ap (λ (p : MasterState × Swept). p.0) c.1 in
     let P : List Edit → Type 0 = λ edits. IsKept cell (changed_rows rows edits) (swept_by there c.0).0 in

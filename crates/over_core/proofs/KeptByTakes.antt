@@ -1,74 +1,69 @@
 -- What a master takes leaves it beside its rows.
-use Rattle.std.proofs.Common.{◌≡◌, ◌≢◌, ℕ, List, [], ◌∷◌, ◌++◌, Bool, true, false, cond, Option, Some, None, refl, sym, ap, ◌∙◌, subst, arith}
-use Rattle.std.specs.Prelude.{◌+◌, ◌^◌, ◌≤◌, ◌<◌, max, nat_le, Result, Ok, Err, IfOk, OnErr}
-use Rattle.std.specs.List.{list_all}
-use Rattle.std.specs.Option.{option_map}
+use Rattle.std.proofs.Common.{◌≡◌, ℕ, List, [], ◌∷◌, ◌++◌, Bool, true, false, cond, Option, Some, None, length, refl, sym, ap, ◌∙◌, subst, arith}
+use Rattle.std.specs.Prelude.{◌+◌, ◌^◌, ◌≤◌, ◌<◌, ◌&&◌, ◌||◌, ◌==◌, max, nat_le, is_none, Result, Ok, Err, IfOk, OnErr}
+use Rattle.std.specs.List.{list_all, list_any}
+use Rattle.std.specs.Map.{lookup}
 use Rattle.std.specs.BTreeMap.{is_at}
 use Rattle.std.specs.Ordering.{nat_cmp}
 use Rattle.std.proofs.lemmas.Bool.{and_parts, and_from}
 use Rattle.std.proofs.lemmas.Bool.Decides.{nat_tests}
+use Rattle.std.proofs.lemmas.List.Elements.{All-push}
+use Rattle.plain.proofs.Keys.{number_same}
+use Rattle.node_core.specs.Limits.{number_limit}
 use Rattle.node_core.specs.declared.refusals.Fault.{Fault}
 use Rattle.node_core.specs.declared.refusals.Fault.TheVariants as faults
 use Rattle.rows_cell.specs.declared.keys.LockKey.{LockKey}
 use Rattle.rows_cell.specs.declared.tables.Rows.{Rows}
 use Rattle.rows_cell.specs.Sound.{is_number}
 use Rattle.tags_cell.specs.declared.beats.Beat.{Beat}
+use Rattle.tags_cell.specs.declared.outs.CallResult.{CallResult}
 use Rattle.tags_cell.specs.declared.outs.Reply.{Reply}
+use Rattle.tags_cell.specs.declared.requests.CallMessage.{CallMessage}
 use Rattle.tags_cell.specs.declared.requests.Request.{Request}
 use Rattle.tags_cell.specs.Messages.{request_client}
+use Rattle.rights_core.specs.declared.cache_rights.CacheRight.{CacheRight}
+use Rattle.rights_core.specs.declared.endings.Ending.{Ending}
+use Rattle.rights_core.specs.declared.endings.Ending.TheVariants as endings
+use Rattle.rights_core.specs.Rights.{holds, granted, invalidations_of, clients_to_ask, asked_back, ended, IsRecorded}
+use Rattle.rights_core.specs.Laws.{asked_for}
+use Rattle.rights_core.proofs.OneName.{asking_counts, clients_to_ask_hold, ending_frees}
+use Rattle.rights_core.proofs.WholeList.{rights_are_recorded_once}
+use Rattle.gate_core.specs.declared.pending.Pending.{Pending}
 use Rattle.gate_core.specs.declared.pending.Waiting.{Waiting}
+use Rattle.gate_core.specs.Gate.{IsOrderly}
 use Rattle.session_core.specs.declared.records.Kept.{Kept}
 use Rattle.session_core.specs.declared.records.Session.{Session}
 use Rattle.session_core.specs.Session.{beat_fault, live_beat_fault, beaten, keeping}
-use Rattle.session_core.specs.Sessions.{SessionTable, session_of, with_session, with_new}
-use Rattle.session_core.proofs.Keys.{at_itself, same_key}
-use Rattle.session_core.proofs.OneClient.{own_session, other_session, lookup_put, lookup_put_apart}
+use Rattle.session_core.specs.Sessions.{session_of, with_session}
+use Rattle.session_core.specs.Laws.{issued_at}
+use Rattle.session_core.proofs.IssuedBy.{rows_stay_issued}
 use Rattle.session_core.proofs.RowsOfSessions.{rows_stay}
+use Rattle.cell_core.specs.declared.handles.Note.{Note}
 use Rattle.cell_core.specs.declared.pending.Taken.{Taken}
 use Rattle.cell_core.specs.declared.pending.Task.{Task}
+use Rattle.cell_core.specs.declared.pending.Work.TheVariants as works
 use Rattle.cell_core.specs.State.{MasterState, row_of, session_rows}
-use Rattle.cell_core.specs.declared.handles.Note.{Note}
-use Rattle.cell_core.specs.Step.{queued, parked, recorded, with_note, noted, take_step}
-use Rattle.cell_core.specs.Cases.{TakeCase, taken_by}
-use Rattle.cell_core.specs.Cases.TakeCase.{StartRefused, StartRecovering, StartFull, StartQueued, OldBeat, BeatRefused, BeatParked, OldEpoch, NoSession, Repeated, OlderCall, Outstanding, Recovering, Answered, Waits}
+use Rattle.cell_core.specs.Step.{is_live, is_full, is_past_end, queued, acknowledgement, parked, recorded, answered_by, stamped_reply, with_right, granting, asking, asking_for, names_of, with_call, waits, with_note, noted, take_at, take_step}
+use Rattle.cell_core.specs.Names.{name_changed}
+use Rattle.cell_core.specs.Cases.{IsAdmitted, TakeCase, taken_by}
+use Rattle.cell_core.specs.Cases.TakeCase.{StartRefused, StartRecovering, StartFull, StartQueued, OldBeat, BeatRefused, BeatParked, OldEpoch, NoSession, Repeated, OlderCall, Outstanding, Recovering, Answered, Granted, Waits}
 use Rattle.cell_core.proofs.TakeCases.{taken_case}
-use Rattle.over_core.specs.Kept.{IsKept, AreByBeats, are_known, waiting_fits}
+use Rattle.cell_core.proofs.Told.{touched_is_changed}
+use Rattle.over_core.specs.Kept.{IsKept, AreByBeats, AreIssued, AreOwned, AreTouching, is_of, names_touched, are_known, waiting_fits}
+use Rattle.over_core.proofs.EachSession.{step_each, step_without, issued_each, issued_without}
+use Rattle.over_core.proofs.OrderlyChanges.{orderly_more}
+use Rattle.over_core.proofs.OwnedRights.{owners_asked, owners_ended, owners_granted, issued_granted}
 
 -- ---- who acknowledged an event did so by a Beat
 
-abbrev pub IsByBeats : Session Reply → Type 0
-IsByBeats session = 1 ≤ session.events.acknowledged → 1 ≤ session.newest_beat
+abbrev pub IsByBeats : ℕ → Session Reply → Type 0
+IsByBeats client session = 1 ≤ session.events.acknowledged → 1 ≤ session.newest_beat
 
-stepped_by : (o : Option (Session Reply)) (step : Session Reply → Session Reply) (session : Session Reply) → ((before : Session Reply) → o ≡ Some before → IsByBeats (step before)) → option_map step o ≡ Some session → IsByBeats session
-stepped_by None step session keeps h = absurd (cc)
-stepped_by (Some before) step session keeps h = let P : Session Reply → Type 0 = IsByBeats in let is : step before ≡ session = cc in subst P is (keeps before refl)
+abbrev pub IsIssued : List CacheRight → ℕ → Session Reply → Type 0
+IsIssued rights client session = session.invalidations.issued ≡ invalidations_of client rights
 
-other_key : (a b : ℕ) → is_at (nat_cmp a) b ≡ false → a ≢ b
-other_key a b h same = let at = at_itself a in let here : is_at (nat_cmp a) a ≡ false = rw (← same) at h in absurd (cc)
-
--- a step of one client's session
-pub step_by_beats : (table : SessionTable Reply) (client : ℕ) (step : Session Reply → Session Reply) → ((before : Session Reply) → session_of table client ≡ Some before → IsByBeats before → IsByBeats (step before)) → AreByBeats table → AreByBeats (with_session table client step)
-step_by_beats table client step keeps h = λ q session found.
-    (elim (is_at (nat_cmp q) client) as (λ b. is_at (nat_cmp q) client ≡ b → IsByBeats session) [
-      | true ↦ (λ c.
-          let same : q ≡ client = same_key q client c in
-          let own : session_of (with_session table client step) client ≡ Some session = rw same at found in
-          stepped_by (session_of table client) step session (λ before there. keeps before there (h client before there)) (sym (own_session table client step) ∙ own))
-      | false ↦ (λ c. h q session (sym (other_session table client step q (other_key q client c)) ∙ found))
-    ]) refl
-
--- a new session, of which no event is acknowledged
-pub new_by_beats : (table : SessionTable Reply) (client : ℕ) (new : Session Reply) → IsByBeats new → AreByBeats table → AreByBeats (with_new table client new)
-new_by_beats table client new fresh h = λ q session found.
-    (elim (is_at (nat_cmp q) client) as (λ b. is_at (nat_cmp q) client ≡ b → IsByBeats session) [
-      | true ↦ (λ c.
-          let same : q ≡ client = same_key q client c in
-          let own : session_of (with_new table client new) client ≡ Some session = rw same at found in
-          let is : Some new ≡ Some session = sym (lookup_put client table.sessions new) ∙ own in
-          let P : Session Reply → Type 0 = IsByBeats in
-          let one : new ≡ session = cc in subst P one fresh)
-      | false ↦ (λ c. h q session (sym (lookup_put_apart client q (other_key q client c) table.sessions new) ∙ found))
-    ]) refl
+abbrev pub HasNoRight : List CacheRight → ℕ → Type 0
+HasNoRight rights client = list_any (is_of client) rights ≡ false
 
 newer : (number newest : ℕ) → nat_le number newest ≡ false → 1 ≤ number
 newer number newest h = grind (arith, nat_tests)
@@ -90,7 +85,7 @@ beat_number (Some there) session beat found h =
 
 -- ---- where what the rows hold is untouched
 
--- what the rows hold is the same, and what waits and what was acknowledged fits
+-- what the rows hold is the same, and what the master knows beside them fits
 pub record Stays (s new : MasterState) : Type 0 where
   pub name : new.name ≡ s.name
   pub secret : new.secret ≡ s.secret
@@ -102,6 +97,11 @@ pub record Stays (s new : MasterState) : Type 0 where
   pub waiting : waiting_fits new.gate.waiting ≡ true
   pub recovery_is_empty : new.recovering ≡ true → new.gate.waiting ≡ []
   pub by_beats : AreByBeats new.sessions
+  pub recorded : IsRecorded new.rights
+  pub issued : AreIssued new.sessions new.rights
+  pub owned : AreOwned new.sessions new.rights
+  pub orderly : IsOrderly new.gate
+  pub touching : AreTouching new.secret new.gate.waiting
 
 pub stays : (cell : List ℕ) (rows : Rows) (s new : MasterState) → IsKept cell rows s → Stays s new → IsKept cell rows new
 stays cell rows s new k h = record {
@@ -118,16 +118,38 @@ stays cell rows s new k h = record {
   locks_in_order = k.locks_in_order;
   recovery_is_empty = h.recovery_is_empty;
   by_beats = h.by_beats;
+  recorded = h.recorded;
+  issued = h.issued;
+  owned = h.owned;
+  orderly = h.orderly;
+  touching = h.touching;
 }
 
 all_push : {X : Type 0} (p : X → Bool) (xs : List X) (x : X) → list_all p xs ≡ true → p x ≡ true → list_all p (xs ++ x ∷ []) ≡ true
 all_push p [] x h new = and_from (p x) true new refl
 all_push p (y ∷ ys) x h new = let t = and_parts (p y) (list_all p ys) h in and_from (p y) (list_all p (ys ++ x ∷ [])) t.0 (all_push p ys x t.1 new)
 
+-- ---- a session that was issued the next invalidation, where it was asked for a name
+
+asked_issued : (b : Bool) (session : Session Reply) (count : ℕ) → session.invalidations.issued ≡ count → (issued_at (cond b (Some (count + 1)) None) session).invalidations.issued ≡ count + cond b 1 0
+asked_issued true session count h = grind (arith, nat_tests, h)
+asked_issued false session count h = omega (arith, h)
+
+asked_by_beats : (o : Option ℕ) (client : ℕ) (session : Session Reply) → IsByBeats client session → IsByBeats client (issued_at o session)
+asked_by_beats None client session h = h
+asked_by_beats (Some number) client session h = h
+
+-- ---- a note
+
+-- a note changes nothing but the handles
+unnoted : {X : Type 0} (f : MasterState → X) → ((s : MasterState) (note : Note) → f (with_note s (Some note)) ≡ f s) → (s : MasterState) (note : Option Note) → f (with_note s note) ≡ f s
+unnoted f same s None = refl
+unnoted f same s (Some note) = same s note
+
 module _ (cell : List ℕ) (rows : Rows) where
   -- a step of one client's session that the rows don't tell
-  pub stepped_kept : (s : MasterState) (client : ℕ) (step : Session Reply → Session Reply) → ((before : Session Reply) → row_of (step before) ≡ row_of before) → ((before : Session Reply) → session_of s.sessions client ≡ Some before → IsByBeats before → IsByBeats (step before)) → IsKept cell rows s → IsKept cell rows (record s { sessions = with_session s.sessions client step })
-  stepped_kept s client step same keeps k = stays cell rows s (record s { sessions = with_session s.sessions client step }) k (record {
+  pub stepped_kept : (s : MasterState) (client : ℕ) (step : Session Reply → Session Reply) → ((before : Session Reply) → row_of (step before) ≡ row_of before) → ((before : Session Reply) → (step before).invalidations.issued ≡ before.invalidations.issued) → ((before : Session Reply) → session_of s.sessions client ≡ Some before → IsByBeats client before → IsByBeats client (step before)) → IsKept cell rows s → IsKept cell rows (record s { sessions = with_session s.sessions client step })
+  stepped_kept s client step same issues keeps k = stays cell rows s (record s { sessions = with_session s.sessions client step }) k (record {
     name = refl;
     secret = refl;
     epoch = refl;
@@ -137,15 +159,61 @@ module _ (cell : List ℕ) (rows : Rows) where
     held_locks = refl;
     waiting = k.waiting;
     recovery_is_empty = k.recovery_is_empty;
-    by_beats = step_by_beats s.sessions client step keeps k.by_beats;
+    by_beats = step_each IsByBeats s.sessions client step keeps k.by_beats;
+    recorded = k.recorded;
+    issued = step_each (IsIssued s.rights) s.sessions client step (λ before there is. issues before ∙ is) k.issued;
+    owned = step_without (HasNoRight s.rights) s.sessions client step k.owned;
+    orderly = k.orderly;
+    touching = k.touching;
   })
 
   pub recorded_kept : (s : MasterState) (client : ℕ) (kept : Kept Reply) → IsKept cell rows s → IsKept cell rows (recorded s client kept)
-  recorded_kept s client kept k = stepped_kept s client (keeping kept) (λ before. refl) (λ before found h. h) k
+  recorded_kept s client kept k = stepped_kept s client (keeping kept) (λ before. refl) (λ before. refl) (λ before found h. h) k
+
+  -- what changes rights alone
+  righted_kept : (s : MasterState) (rights : List CacheRight) → IsRecorded rights → ((client : ℕ) → invalidations_of client rights ≡ invalidations_of client s.rights) → ((client : ℕ) → session_of s.sessions client ≡ None → list_any (is_of client) rights ≡ list_any (is_of client) s.rights) → IsKept cell rows s → IsKept cell rows (record s { rights = rights })
+  righted_kept s rights recorded issues owners k = stays cell rows s (record s { rights = rights }) k (record {
+    name = refl;
+    secret = refl;
+    epoch = refl;
+    next_instance = refl;
+    nodes = refl;
+    sessions = refl;
+    held_locks = refl;
+    waiting = k.waiting;
+    recovery_is_empty = k.recovery_is_empty;
+    by_beats = k.by_beats;
+    recorded = recorded;
+    issued = λ client session found. k.issued client session found ∙ sym (issues client);
+    owned = λ client none. owners client none ∙ k.owned client none;
+    orderly = k.orderly;
+    touching = k.touching;
+  })
+
+  -- rights that end
+  pub ended_kept : (s : MasterState) (client : ℕ) (ending : Ending) → IsKept cell rows s → IsKept cell rows (record s { rights = ended client ending s.rights })
+  ended_kept s client ending k =
+      righted_kept s (ended client ending s.rights) (rights_are_recorded_once client [] ending s.rights k.recorded).2.0 (λ q. (ending_frees client q [] ending s.rights k.recorded.once).2) (λ q none. owners_ended q client ending s.rights) k
+
+  other_client : (s : MasterState) (client q : ℕ) → is_live s client ≡ true → session_of s.sessions q ≡ None → (q == client) ≡ false
+  other_client s client q live none = (elim (q == client) as (λ b. (q == client) ≡ b → b ≡ false) [
+    | true ↦ (λ same.
+        let is : q ≡ client = number_same q client same in
+        let absent : session_of s.sessions client ≡ None = rw is at none in
+        let dead : is_live s client ≡ false = rw absent refl in
+        absurd (cc))
+    | false ↦ (λ differs. refl)
+  ]) refl
+
+  -- a right of a client that has a session
+  right_kept : (s : MasterState) (client : ℕ) (name : List ℕ) → is_live s client ≡ true → IsKept cell rows s → IsKept cell rows (with_right s client name)
+  right_kept s client name live k =
+      righted_kept s (granted client name s.rights) (rights_are_recorded_once client name endings.Expiry s.rights k.recorded).0.0 (λ q. issued_granted q client name s.rights) (λ q none. owners_granted q client name s.rights (other_client s client q live none)) k
 
   parked_kept : (s : MasterState) (beat : Beat) → beat_fault (session_of s.sessions beat.client) beat ≡ None → IsKept cell rows s → IsKept cell rows (parked s beat)
   parked_kept s beat fits k =
-      stepped_kept s beat.client (beaten beat s.clock) (λ before. refl) (λ before found h acknowledged. beat_number (session_of s.sessions beat.client) before beat found fits) k
+      ended_kept (record s { sessions = with_session s.sessions beat.client (beaten beat s.clock) }) beat.client (acknowledgement beat)
+      (stepped_kept s beat.client (beaten beat s.clock) (λ before. refl) (λ before. refl) (λ before found h acknowledged. beat_number (session_of s.sessions beat.client) before beat found fits) k)
 
   pub note_kept : (s : MasterState) (note : Option Note) → IsKept cell rows s → IsKept cell rows (with_note s note)
   note_kept s None k = k
@@ -160,11 +228,17 @@ module _ (cell : List ℕ) (rows : Rows) where
     waiting = k.waiting;
     recovery_is_empty = k.recovery_is_empty;
     by_beats = k.by_beats;
+    recorded = k.recorded;
+    issued = k.issued;
+    owned = k.owned;
+    orderly = k.orderly;
+    touching = k.touching;
   })
 
-  queued_kept : (s : MasterState) (touched : List (List ℕ)) (task : Task) → s.recovering ≡ false → IsKept cell rows s → is_number task.client ≡ true → IsKept cell rows (queued s touched task)
-  queued_kept s touched task serving k in_range =
-      let w : Waiting Task = record { number = s.gate.pushed + 1; change = record { touched = touched; body = task } } in
+  queued_kept : (s : MasterState) (touched : List (List ℕ)) (task : Task) → s.recovering ≡ false → is_full s ≡ false → nat_le number_limit s.gate.pushed ≡ false → touched ≡ names_touched s.secret task.work → is_number task.client ≡ true → IsKept cell rows s → IsKept cell rows (queued s touched task)
+  queued_kept s touched task serving room spare names in_range k =
+      let change : Pending Task = record { touched = touched; body = task } in
+      let w : Waiting Task = record { number = s.gate.pushed + 1; change = change } in
       stays cell rows s (queued s touched task) k (record {
         name = refl;
         secret = refl;
@@ -176,7 +250,44 @@ module _ (cell : List ℕ) (rows : Rows) where
         waiting = all_push (λ (x : Waiting Task). is_number x.change.body.client) s.gate.waiting w k.waiting in_range;
         recovery_is_empty = λ recovering. absurd (cc);
         by_beats = k.by_beats;
+        recorded = k.recorded;
+        issued = k.issued;
+        owned = k.owned;
+        orderly = orderly_more s.gate change room spare k.orderly;
+        touching = All-push (λ (x : Waiting Task). x.change.touched ≡ names_touched s.secret x.change.body.work) s.gate.waiting w k.touching names;
       })
+
+  -- who holds the name is asked for it
+  asked_kept : (s : MasterState) (name : List ℕ) → IsKept cell rows s → IsKept cell rows (asking s name)
+  asked_kept s name k =
+      let asked = clients_to_ask name s.rights in
+      let once = k.recorded.once in
+      let order = (clients_to_ask_hold 0 name s.rights once).1 in
+      stays cell rows s (asking s name) k (record {
+        name = refl;
+        secret = refl;
+        epoch = refl;
+        next_instance = refl;
+        nodes = refl;
+        sessions = rows_stay_issued row_of (λ number before. refl) s.sessions asked;
+        held_locks = refl;
+        waiting = k.waiting;
+        recovery_is_empty = k.recovery_is_empty;
+        by_beats = issued_each IsByBeats IsByBeats asked s.sessions order (λ client before h. asked_by_beats (lookup (is_at (nat_cmp client)) asked) client before h) k.by_beats;
+        recorded = (rights_are_recorded_once 0 name endings.Expiry s.rights k.recorded).1.0;
+        issued = issued_each (IsIssued s.rights) (IsIssued (asked_back name s.rights)) asked s.sessions order (λ client before is.
+            let found = (clients_to_ask_hold client name s.rights once).0 in
+            ap (λ (o : Option ℕ). (issued_at o before).invalidations.issued) found
+            ∙ asked_issued (holds client name s.rights && is_none (asked_for client name s.rights)) before (invalidations_of client s.rights) is
+            ∙ sym (asking_counts client name s.rights once)) k.issued;
+        owned = issued_without (HasNoRight (asked_back name s.rights)) asked s.sessions order (λ client none. owners_asked client name s.rights ∙ k.owned client none);
+        orderly = k.orderly;
+        touching = k.touching;
+      })
+
+  asking_kept : (s : MasterState) (o : Option (List ℕ)) → IsKept cell rows s → IsKept cell rows (asking_for s o)
+  asking_kept s None k = k
+  asking_kept s (Some name) k = asked_kept s name k
 
   pub clock_kept : (s : MasterState) (clock : ℕ) → IsKept cell rows s → IsKept cell rows (record s { clock = clock })
   clock_kept s clock k = stays cell rows s (record s { clock = clock }) k (record {
@@ -190,41 +301,74 @@ module _ (cell : List ℕ) (rows : Rows) where
     waiting = k.waiting;
     recovery_is_empty = k.recovery_is_empty;
     by_beats = k.by_beats;
+    recorded = k.recorded;
+    issued = k.issued;
+    owned = k.owned;
+    orderly = k.orderly;
+    touching = k.touching;
   })
 
   client_of : (request other : Request) → request ≡ other → is_number (request_client request) ≡ true → is_number (request_client other) ≡ true
   client_of request other is h = let P : Request → Type 0 = λ r. is_number (request_client r) ≡ true in subst P is h
 
-  -- a note doesn't begin a recovery
-  still_serving : (s : MasterState) (note : Option Note) → s.recovering ≡ false → (with_note s note).recovering ≡ false
-  still_serving s None h = h
-  still_serving s (Some note) h = h
+  -- a call that waits behind its note
+  waits_kept : (s : MasterState) (message : CallMessage) (note : Option Note) (touched : Option (List ℕ)) → s.recovering ≡ false → nat_le number_limit s.gate.pushed ≡ false → IsAdmitted s message note touched → is_number message.client ≡ true → IsKept cell rows s → IsKept cell rows (waits (with_note s note) message.client message.number message.call touched).0
+  waits_kept s message note touched serving spare admitted in_range k =
+      let t = with_note s note in
+      let before : MasterState = recorded t message.client (record { number = message.number; reply = None }) in
+      let secret : t.secret ≡ s.secret = unnoted (λ x. x.secret) (λ x n. refl) s note in
+      let names : names_of touched ≡ names_of (name_changed t.secret message.call) =
+      ap names_of (admitted.is_touched ∙ touched_is_changed s message.client message.number message.call admitted.passes ∙ ap (λ x. name_changed x message.call) (sym secret)) in
+      asking_kept (with_call t message.client message.number message.call touched) touched
+      (queued_kept before (names_of touched) (record { client = message.client; number = message.number; work = works.Calls message.call }) (unnoted (λ x. x.recovering) (λ x n. refl) s note ∙ serving) admitted.room (unnoted (λ x. nat_le number_limit x.gate.pushed) (λ x n. refl) s note ∙ spare) names in_range
+      (recorded_kept t message.client (record { number = message.number; reply = None }) (note_kept s note k)))
 
-  case_kept : (s : MasterState) (request : Request) (c : TakeCase s request) → IsKept cell rows s → is_number (request_client request) ≡ true → IsKept cell rows (taken_by s request c).0
-  case_kept s request (StartRefused start is may) k in_range = k
-  case_kept s request (StartRecovering start is may recovering) k in_range = k
-  case_kept s request (StartFull start is may serving full) k in_range = k
-  case_kept s request (StartQueued start is may serving room) k in_range = queued_kept s [] _ serving k (client_of request _ is in_range)
-  case_kept s request (OldBeat beat is other) k in_range = k
-  case_kept s request (BeatRefused beat fault is same refused) k in_range = k
-  case_kept s request (BeatParked beat is same taken) k in_range = parked_kept s beat taken k
-  case_kept s request (OldEpoch message is other) k in_range = k
-  case_kept s request (NoSession message is same ended) k in_range = k
-  case_kept s request (Repeated message kept heard is same) k in_range = k
-  case_kept s request (OlderCall message kept heard is less) k in_range = k
-  case_kept s request (Outstanding message kept heard is more none) k in_range = k
-  case_kept s request (Recovering message new recovering) k in_range = recorded_kept s message.client _ k
-  case_kept s request (Answered message note answer new serving answered) k in_range = recorded_kept (with_note s note) message.client _ (note_kept s note k)
-  case_kept s request (Waits message note touched new serving admitted) k in_range =
-      queued_kept (recorded (with_note s note) message.client (record { number = message.number; reply = None })) touched _ (still_serving s note serving)
-      (recorded_kept (with_note s note) message.client (record { number = message.number; reply = None }) (note_kept s note k)) (client_of request _ new.heard.is_call in_range)
+  -- an answer that may be kept in a cache
+  granting_kept : (s : MasterState) (message : CallMessage) (note : Option Note) (answer : CallResult) (name : List ℕ) → is_live s message.client ≡ true → IsKept cell rows s → IsKept cell rows (granting (with_note s note) message.client message.number answer name).0
+  granting_kept s message note answer name live k =
+      let t = with_note s note in
+      recorded_kept (with_right t message.client name) message.client (answered_by (stamped_reply t message.client message.number answer))
+      (right_kept t message.client name (unnoted (λ x. is_live x message.client) (λ x n. refl) s note ∙ live) (note_kept s note k))
+
+  case_kept : (s : MasterState) (request : Request) (c : TakeCase s request) → nat_le number_limit s.gate.pushed ≡ false → IsKept cell rows s → is_number (request_client request) ≡ true → IsKept cell rows (taken_by s request c).0
+  case_kept s request (StartRefused start is may) spare k in_range = k
+  case_kept s request (StartRecovering start is may recovering) spare k in_range = k
+  case_kept s request (StartFull start is may serving full) spare k in_range = k
+  case_kept s request (StartQueued start is may serving room) spare k in_range = queued_kept s [] _ serving room spare refl (client_of request _ is in_range) k
+  case_kept s request (OldBeat beat is other) spare k in_range = k
+  case_kept s request (BeatRefused beat fault is same refused) spare k in_range = k
+  case_kept s request (BeatParked beat is same taken) spare k in_range = parked_kept s beat taken k
+  case_kept s request (OldEpoch message is other) spare k in_range = k
+  case_kept s request (NoSession message is same ended) spare k in_range = k
+  case_kept s request (Repeated message kept heard is same) spare k in_range = k
+  case_kept s request (OlderCall message kept heard is less) spare k in_range = k
+  case_kept s request (Outstanding message kept heard is more none) spare k in_range = k
+  case_kept s request (Recovering message new recovering) spare k in_range = recorded_kept s message.client _ k
+  case_kept s request (Answered message note answer new serving answered) spare k in_range = recorded_kept (with_note s note) message.client _ (note_kept s note k)
+  case_kept s request (Granted message note answer name new serving granted) spare k in_range = granting_kept s message note answer name new.heard.live k
+  case_kept s request (Waits message note touched new serving admitted) spare k in_range =
+      waits_kept s message note touched serving spare admitted (client_of request _ new.heard.is_call in_range) k
+
+  -- a message is taken while another change can wait
+  unspent : (s new : MasterState) (now : ℕ) (request : Request) (taken : Taken) → take_step s now request ≡ Ok (new, taken) → nat_le number_limit s.gate.pushed ≡ false
+  unfolding take_step
+  unspent s new now request taken h =
+      (elim (nat_le number_limit s.gate.pushed) as (λ b. cond {A = Result (MasterState × Taken) Fault} (is_past_end now || (b || nat_le number_limit (length s.rights))) (Err faults.Exhausted) (Ok (take_at (noted s now) request)) ≡ Ok (new, taken) → b ≡ false) [
+        | true ↦ (λ e.
+            (elim (is_past_end now) as (λ b. cond {A = Result (MasterState × Taken) Fault} (b || true) (Err faults.Exhausted) (Ok (take_at (noted s now) request)) ≡ Ok (new, taken) → true ≡ false) [
+              | true ↦ (λ f. absurd (cc))
+              | false ↦ (λ f. absurd (cc))
+            ]) e)
+        | false ↦ (λ e. refl)
+      ]) h
 
   take_kept : (s new : MasterState) (now : ℕ) (request : Request) (taken : Taken) → IsKept cell rows s → is_number (request_client request) ≡ true → take_step s now request ≡ Ok (new, taken) → IsKept cell rows new
   take_kept s new now request taken k in_range h =
       let c = taken_case s new now request taken h in
+      let spare = unspent s new now request taken h in
       let is : new ≡ (taken_by (noted s now) request c.0).0 = ap (λ (p : MasterState × Taken). p.0) c.1 in
       let P : MasterState → Type 0 = IsKept cell rows in
-      subst P (sym is) (case_kept (noted s now) request c.0 (clock_kept s (max s.clock now) k) in_range)
+      subst P (sym is) (case_kept (noted s now) request c.0 spare (clock_kept s (max s.clock now) k) in_range)
 
   pub taken_kept : (s new : MasterState) (now : ℕ) (request : Request) (result : Result Taken Fault) → IsKept cell rows s → is_number (request_client request) ≡ true → IfOk result (λ taken. take_step s now request ≡ Ok (new, taken)) → OnErr result (new ≡ s) → IsKept cell rows new
   taken_kept s new now request (Ok taken) k in_range ok err = take_kept s new now request taken k in_range ok

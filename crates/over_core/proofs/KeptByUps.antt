@@ -7,6 +7,7 @@ use Rattle.std.specs.Map.{keys_of, lookup}
 use Rattle.std.specs.BTreeMap.{is_at}
 use Rattle.std.specs.Cmp.{tied_itself}
 use Rattle.std.specs.Ordering.{nat_cmp}
+use Rattle.std.proofs.lemmas.List.Elements.{All-nil}
 use Rattle.rows_cell.specs.declared.keys.LockKey.{LockKey}
 use Rattle.rows_cell.specs.declared.tables.LockRow.{LockRow}
 use Rattle.rows_cell.specs.declared.tables.Session as stored
@@ -19,10 +20,12 @@ use Rattle.rows_cell.specs.Stores.{Store, IsCommitted}
 use Rattle.rows_cell.proofs.PutEntries.{all_more}
 use Rattle.rows_cell.proofs.SoundEnds.{locks_total}
 use Rattle.tags_cell.specs.declared.outs.Reply.{Reply}
+use Rattle.gate_core.specs.declared.pending.Waiting.{Waiting}
 use Rattle.session_core.specs.declared.records.Session.{Session}
 use Rattle.session_core.proofs.RowsOfSessions.{rows_of}
+use Rattle.cell_core.specs.declared.pending.Task.{Task}
 use Rattle.cell_core.specs.State.{MasterState, is_held, taken_over, row_of, master_of}
-use Rattle.over_core.specs.Kept.{IsKept, is_known, are_known}
+use Rattle.over_core.specs.Kept.{IsKept, names_touched, is_known, are_known}
 use Rattle.over_core.specs.Up.{up_edits}
 
 -- the sessions that a master takes over are those of its rows
@@ -30,13 +33,13 @@ same_rows : (now : ℕ) (es : List (ℕ × stored.Session)) → rows_of row_of (
 same_rows now [] = refl
 same_rows now (e ∷ es) = ap (λ (xs : List (ℕ × stored.Session)). e ∷ xs) (same_rows now es)
 
--- none of them has acknowledged an event
-none_acknowledged : (now : ℕ) (es : List (ℕ × stored.Session)) (client : ℕ) (session : Session Reply) → lookup (is_at (nat_cmp client)) (map (taken_over now) es) ≡ Some session → session.events.acknowledged ≡ 0
-none_acknowledged now [] client session h = absurd (cc)
-none_acknowledged now (e ∷ es) client session h =
-    (elim (is_at (nat_cmp client) e.0) as (λ b. cond b (Some (taken_over now e).1) (lookup (is_at (nat_cmp client)) (map (taken_over now) es)) ≡ Some session → session.events.acknowledged ≡ 0) [
-      | true ↦ (λ k. let same : (taken_over now e).1 ≡ session = cc in ap (λ (x : Session Reply). x.events.acknowledged) (sym same))
-      | false ↦ (λ k. none_acknowledged now es client session k)
+-- none of them has acknowledged an event or was issued an invalidation
+none_counted : (f : Session Reply → ℕ) (now : ℕ) → ((e : ℕ × stored.Session) → f (taken_over now e).1 ≡ 0) → (es : List (ℕ × stored.Session)) (client : ℕ) (session : Session Reply) → lookup (is_at (nat_cmp client)) (map (taken_over now) es) ≡ Some session → f session ≡ 0
+none_counted f now none [] client session h = absurd (cc)
+none_counted f now none (e ∷ es) client session h =
+    (elim (is_at (nat_cmp client) e.0) as (λ b. cond b (Some (taken_over now e).1) (lookup (is_at (nat_cmp client)) (map (taken_over now) es)) ≡ Some session → f session ≡ 0) [
+      | true ↦ (λ k. let same : (taken_over now e).1 ≡ session = cc in ap f (sym same) ∙ none e)
+      | false ↦ (λ k. none_counted f now none es client session k)
     ]) h
 
 none_counts : {P : Type 0} (n : ℕ) → n ≡ 0 → 1 ≤ n → P
@@ -81,7 +84,12 @@ up_kept cell rows lease now h sessions locks = record {
   sessions_in_order = sessions;
   locks_in_order = locks;
   recovery_is_empty = λ recovering. refl;
-  by_beats = λ client session found some. none_counts session.events.acknowledged (none_acknowledged now rows.sessions client session found) some;
+  by_beats = λ client session found some. none_counts session.events.acknowledged (none_counted (λ x. x.events.acknowledged) now (λ e. refl) rows.sessions client session found) some;
+  recorded = record { numbered = tt; counted = omega arith; few = omega arith; once = tt; called = tt; within = tt };
+  issued = λ client session found. none_counted (λ x. x.invalidations.issued) now (λ e. refl) rows.sessions client session found;
+  owned = λ client none. refl;
+  orderly = record { rising = omega arith; counted = omega arith; few = omega arith };
+  touching = All-nil (λ (w : Waiting Task). w.change.touched ≡ names_touched rows.secret w.change.body.work);
 }
 
 -- the same of a store that was read and then commits the epoch

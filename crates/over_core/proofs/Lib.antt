@@ -1,6 +1,11 @@
+mod EachSession
 mod FitsByEffects
 pub mod KeptBySweeps
 mod KeptByTakes
 mod KeptByUps
+mod OrderlyChanges
+pub mod OwnedRights
 mod SweepRefused
 pub mod SweepCases
+pub mod Touching
+pub mod Unacknowledged

@@ -1,6 +1,6 @@
 -- The arm of the table that a sweep takes.
-use Rattle.std.proofs.Common.{◌≡◌, ℕ, ◌≤◌, List, [], ◌∷◌, Bool, true, false, cond, Option, Some, None, Result, Ok, Err, refl, sym, ap, ◌∙◌, subst, eqb, arith}
-use Rattle.std.specs.Prelude.{◌&&◌, ◌||◌, nat_le}
+use Rattle.std.proofs.Common.{◌≡◌, ℕ, ◌≤◌, ◌<◌, List, [], ◌∷◌, ◌++◌, Bool, true, false, cond, Option, Some, None, Result, Ok, Err, refl, sym, ap, ◌∙◌, subst, eqb, arith}
+use Rattle.std.specs.Prelude.{◌&&◌, ◌||◌, nat_le, find}
 use Rattle.std.specs.Option.{option_map, option_map_or, option_and_then}
 use Rattle.std.specs.List.Sorted.{IsStrictlySortedBy}
 use Rattle.std.specs.Map.{keys_of}
@@ -11,7 +11,6 @@ use Rattle.std.proofs.lemmas.Bool.Decides.{nat_tests}
 use Rattle.std.proofs.lemmas.List.{append-nil}
 use Rattle.node_core.specs.declared.refusals.Fault.{Fault}
 use Rattle.node_core.specs.declared.refusals.Fault.TheVariants as faults
-use Rattle.node_core.specs.declared.lines.Line.TheVariants as lines
 use Rattle.node_core.specs.declared.views.Mod.{Mod}
 use Rattle.node_core.specs.declared.views.Mod.TheVariants.{Put, Gone}
 use Rattle.rows_cell.specs.declared.tables.Edit.{Edit}
@@ -20,7 +19,7 @@ use Rattle.tags_cell.specs.declared.outs.CallResult.{CallResult}
 use Rattle.tags_cell.specs.declared.outs.Reply.{Reply}
 use Rattle.tags_cell.specs.Numbers.{is_client_number}
 use Rattle.gate_core.specs.declared.pending.Waiting.{Waiting}
-use Rattle.gate_core.specs.Gate.{without}
+use Rattle.gate_core.specs.Gate.{AreRising, IsOrderly, is_free, without}
 use Rattle.session_core.specs.declared.records.Offer.{Offer}
 use Rattle.session_core.specs.declared.records.Parked.{Parked}
 use Rattle.session_core.specs.declared.records.Session.{Session}
@@ -33,7 +32,7 @@ use Rattle.cell_core.specs.declared.handles.Note.{Note}
 use Rattle.cell_core.specs.declared.pending.Task.{Task}
 use Rattle.cell_core.specs.declared.pending.Work.{Work}
 use Rattle.cell_core.specs.declared.pending.Work.TheVariants as works
-use Rattle.cell_core.specs.State.{MasterState, locks_of, first_number, task_at}
+use Rattle.cell_core.specs.State.{MasterState, locks_of, next_change, task_at}
 use Rattle.cell_core.specs.Step.{session_of, is_live, may_start, turned_away, is_past_end, noted}
 use Rattle.over_core.specs.Effect.{effect}
 use Rattle.cell_core.specs.Deeds.{edits_of}
@@ -41,7 +40,7 @@ use Rattle.over_core.specs.declared.actions.Action.{Action}
 use Rattle.over_core.specs.declared.actions.Action.TheVariants as actions
 use Rattle.over_core.specs.declared.plans.Plan.{Plan}
 use Rattle.over_core.specs.declared.sweeps.Swept.{Swept}
-use Rattle.over_core.specs.Sweep.{no_deed, no_plan, session_plan, alive_out, leaving, plan_session, plan_start, plan_effect, plan_call, plan_work, answer_or_quiet, apply_or_later, first_action, swept_by_plan, swept, action_edits, sweep_edits, sweep_step}
+use Rattle.over_core.specs.Sweep.{no_deed, no_plan, session_plan, alive_out, leaving, plan_session, plan_start, plan_effect, plan_call, plan_work, expiry_lines, answer_or_quiet, apply_or_later, first_action, swept_by_plan, swept, action_edits, sweep_edits, sweep_step}
 use Rattle.over_core.specs.SweepCase.{IsTurn, IsDueToEnd, IsDue, SweepCase, swept_by, swept_edits}
 use Rattle.over_core.specs.SweepCase.SweepCase.{Quiet, Recovers, Expires, AnswersBeat, TurnedAway, StartedAgain, Started, OfEnded, Ended, Applied}
 
@@ -53,7 +52,7 @@ IsSwept s p edits = (c : SweepCase s) × (p ≡ swept_by s c) × (edits ≡ swep
 abbrev pub HasSessionsInOrder : MasterState → Type 0
 HasSessionsInOrder s = IsStrictlySortedBy nat_cmp (keys_of s.sessions.sessions)
 
--- what a plan does for the first change that waits
+-- what a plan does for the change that has its turn
 abbrev IsPlan : (s : MasterState) → ℕ → Plan → Type 0
 IsPlan s number plan = IsSwept s (swept_by_plan s (leaving number plan) false) (edits_of (leaving number plan).deed)
 
@@ -80,23 +79,54 @@ no_session principal (Some session) may live =
 
 -- ---- the change that has its turn
 
--- the first of a list is the one of its number, and leaves the others
-module _ (s : MasterState) (w : Waiting Task) (back : List (Waiting Task)) (first : s.gate.waiting ≡ w ∷ back) where
-  turn : IsTurn s [] w.change.body back
-  turn = record { number = w.number; touched = w.change.touched; waited = first }
+-- what is found first stands between those before it and those behind it
+between : {X : Type 0} (test : X → Bool) (xs : List X) (x : X) → find test xs ≡ Some x → (front : List X) × (back : List X) × (xs ≡ front ++ x ∷ back) × (test x ≡ true)
+between test [] x h = absurd (cc)
+between {X} test (y ∷ ys) x h =
+    (elim (test y) as (λ b. test y ≡ b → cond b (Some y) (find test ys) ≡ Some x → (front : List X) × (back : List X) × (y ∷ ys ≡ front ++ x ∷ back) × (test x ≡ true)) [
+      | true ↦ (λ passes is.
+          let same : y ≡ x = cc in
+          ([], ys, ap (λ z. z ∷ ys) same, ap test (sym same) ∙ passes))
+      | false ↦ (λ fails is.
+          let t = between test ys x is in
+          (y ∷ t.0, t.1, ap (λ zs. y ∷ zs) t.2, t.3))
+    ]) refl h
 
-  left_behind : without w.number s.gate.waiting ≡ back
-  left_behind = let e = itself w.number in rw (first, e) refl
+-- its number is above those of the changes before it
+above_front : (low high : ℕ) (front : List (Waiting Task)) (w : Waiting Task) (back : List (Waiting Task)) → AreRising low (front ++ w ∷ back) high → low < w.number
+above_front low high [] w back r = r.above
+above_front low high (v ∷ vs) w back r = omega (arith, r.above, above_front v.number high vs w back r.rest)
+
+apart : (n m : ℕ) → m < n → eqb n m ≡ false
+apart n m h = grind (arith, nat_tests)
+
+-- so it is found by its number, and without it the others are left
+numbered : (low high : ℕ) (front : List (Waiting Task)) (w : Waiting Task) (back : List (Waiting Task)) → AreRising low (front ++ w ∷ back) high → (task_at w.number (front ++ w ∷ back) ≡ Some w.change.body) × (without w.number (front ++ w ∷ back) ≡ front ++ back)
+numbered low high [] w back r = let e = itself w.number in (rw e refl, rw e refl)
+numbered low high (v ∷ vs) w back r =
+    let e : eqb w.number v.number ≡ false = apart w.number v.number (above_front v.number high vs w back r.rest) in
+    let t = numbered v.number high vs w back r.rest in
+    (rw e t.0, rw e (ap (λ ws. v ∷ ws) t.1))
+
+module _ (s : MasterState) (front : List (Waiting Task)) (w : Waiting Task) (back : List (Waiting Task)) (stands : s.gate.waiting ≡ front ++ w ∷ back) (free : is_free s.rights w ≡ true) (orderly : IsOrderly s.gate) where
+  turn : IsTurn s front w.change.body back
+  turn = record { number = w.number; touched = w.change.touched; waited = stands; free = free }
+
+  rising : AreRising 0 (front ++ w ∷ back) s.gate.pushed
+  rising = let P : List (Waiting Task) → Type 0 = λ ws. AreRising 0 ws s.gate.pushed in subst P stands orderly.rising
+
+  left_behind : without w.number s.gate.waiting ≡ front ++ back
+  left_behind = ap (without w.number) stands ∙ (numbered 0 s.gate.pushed front w back rising).1
 
   again_case : (principal : List ℕ) (received : ℕ) → w.change.body.work ≡ works.Starts principal received → is_live s w.change.body.client ≡ true → IsPlan s w.number (plan_session s w.change.body.client w.change.body.number principal received)
   again_case principal received work live =
       let t = some_passes (λ session. session.live) (session_of s w.change.body.client) live in
-      rw live (StartedAgain [] back w.change.body principal received t.0 turn work t.1 t.2, rw left_behind refl, refl)
+      rw live (StartedAgain front back w.change.body principal received t.0 turn work t.1 t.2, rw left_behind refl, refl)
 
   fresh_case : (principal : List ℕ) (received : ℕ) → w.change.body.work ≡ works.Starts principal received → may_start s w.change.body.client principal ≡ true → is_live s w.change.body.client ≡ false → IsPlan s w.number (plan_session s w.change.body.client w.change.body.number principal received)
   fresh_case principal received work may live =
       let none = no_session principal (session_of s w.change.body.client) may live in
-      rw live (Started [] back w.change.body principal received turn work none, rw left_behind refl, refl)
+      rw live (Started front back w.change.body principal received turn work none, rw left_behind refl, refl)
 
   start_case : (principal : List ℕ) (received : ℕ) → w.change.body.work ≡ works.Starts principal received → IsPlan s w.number (plan_start s w.change.body.client w.change.body.number principal received)
   start_case principal received work =
@@ -105,17 +135,17 @@ module _ (s : MasterState) (w : Waiting Task) (back : List (Waiting Task)) (firs
       let away : Plan = record { deed = no_deed; taken = turned_away s client number faults.NoSession } in
       either s w.number (may_start s client principal) (plan_session s client number principal received) away
       (λ may. (elim (is_live s client) as (λ b. is_live s client ≡ b → IsPlan s w.number (plan_session s client number principal received)) [ true ↦ again_case principal received work | false ↦ fresh_case principal received work may ]) refl)
-      (λ may. (TurnedAway [] back w.change.body principal received turn work may, rw left_behind refl, refl))
+      (λ may. (TurnedAway front back w.change.body principal received turn work may, rw left_behind refl, refl))
 
   put_case : (call : Call) (note : Option Note) (change : Mod) (next : ℕ) (answer : CallResult) → w.change.body.work ≡ works.Calls call → is_live s w.change.body.client ≡ true → effect s w.change.body.client w.change.body.number call ≡ record { note = note; change = Some (record { change = change; next_instance = next }); answer = answer } → IsPlan s w.number (plan_effect s w.change.body.client w.change.body.number (record { note = note; change = Some (record { change = change; next_instance = next }); answer = answer }))
-  put_case call None (Put name view) next answer work live made = (Applied [] back w.change.body call None (record { change = Put name view; next_instance = next }) answer turn work live made, rw left_behind refl, refl)
-  put_case call None (Gone name) next answer work live made = (Applied [] back w.change.body call None (record { change = Gone name; next_instance = next }) answer turn work live made, rw left_behind refl, refl)
-  put_case call (Some note) (Put name view) next answer work live made = (Applied [] back w.change.body call (Some note) (record { change = Put name view; next_instance = next }) answer turn work live made, rw left_behind refl, refl)
-  put_case call (Some note) (Gone name) next answer work live made = (Applied [] back w.change.body call (Some note) (record { change = Gone name; next_instance = next }) answer turn work live made, rw left_behind refl, refl)
+  put_case call None (Put name view) next answer work live made = (Applied front back w.change.body call None (record { change = Put name view; next_instance = next }) answer turn work live made, rw left_behind refl, refl)
+  put_case call None (Gone name) next answer work live made = (Applied front back w.change.body call None (record { change = Gone name; next_instance = next }) answer turn work live made, rw left_behind refl, refl)
+  put_case call (Some note) (Put name view) next answer work live made = (Applied front back w.change.body call (Some note) (record { change = Put name view; next_instance = next }) answer turn work live made, rw left_behind refl, refl)
+  put_case call (Some note) (Gone name) next answer work live made = (Applied front back w.change.body call (Some note) (record { change = Gone name; next_instance = next }) answer turn work live made, rw left_behind refl, refl)
 
   effect_case : (call : Call) (note : Option Note) (change : Option Change) (answer : CallResult) → w.change.body.work ≡ works.Calls call → is_live s w.change.body.client ≡ true → effect s w.change.body.client w.change.body.number call ≡ record { note = note; change = change; answer = answer } → IsPlan s w.number (plan_effect s w.change.body.client w.change.body.number (record { note = note; change = change; answer = answer }))
-  effect_case call None None answer work live made = (Ended [] back w.change.body call None answer turn work live made, rw left_behind refl, refl)
-  effect_case call (Some note) None answer work live made = (Ended [] back w.change.body call (Some note) answer turn work live made, rw left_behind refl, refl)
+  effect_case call None None answer work live made = (Ended front back w.change.body call None answer turn work live made, rw left_behind refl, refl)
+  effect_case call (Some note) None answer work live made = (Ended front back w.change.body call (Some note) answer turn work live made, rw left_behind refl, refl)
   effect_case call note (Some change) answer work live made = put_case call note change.change change.next_instance answer work live made
 
   call_case : (call : Call) → w.change.body.work ≡ works.Calls call → IsPlan s w.number (plan_call s w.change.body.client w.change.body.number call)
@@ -124,14 +154,14 @@ module _ (s : MasterState) (w : Waiting Task) (back : List (Waiting Task)) (firs
       let made = effect s client w.change.body.number call in
       either s w.number (is_live s client) (plan_effect s client w.change.body.number made) no_plan
       (λ live. effect_case call made.note made.change made.answer work live refl)
-      (λ gone. (OfEnded [] back w.change.body call turn work gone, rw left_behind refl, refl))
+      (λ gone. (OfEnded front back w.change.body call turn work gone, rw left_behind refl, refl))
 
   work_case : (work : Work) → w.change.body.work ≡ work → IsPlan s w.number (plan_work s w.change.body.client w.change.body.number work)
   work_case (works.Starts principal received) work = start_case principal received work
   work_case (works.Calls call) work = call_case call work
 
   found : task_at w.number s.gate.waiting ≡ Some w.change.body
-  found = let e = itself w.number in rw (first, e) refl
+  found = ap (task_at w.number) stands ∙ (numbered 0 s.gate.pushed front w back rising).0
 
   apply_case : IsSwept s (swept s (actions.Apply w.number)) (action_edits s (actions.Apply w.number))
   apply_case =
@@ -165,12 +195,12 @@ over_at a b h = grind (arith, nat_tests)
 
 -- what is planned for a session, and what for none
 abbrev pub expiry_of : MasterState → ℕ → Option (Session Reply) → Plan
-expiry_of s client o = option_map_or (λ session. session_plan (Ends client session.principal (locks_of client s.held_locks)) (lines.Ended client ∷ []) []) o no_plan
+expiry_of s client o = option_map_or (λ session. session_plan (Ends client session.principal (locks_of client s.held_locks)) (expiry_lines s client) []) o no_plan
 
 abbrev pub answer_of : MasterState → ℕ → Option Offer → Plan
 answer_of s client o = option_map_or (λ offer. session_plan (Answers client) [] (alive_out s client offer ∷ [])) o no_plan
 
-module _ (s : MasterState) (order : HasSessionsInOrder s) where
+module _ (s : MasterState) (order : HasSessionsInOrder s) (orderly : IsOrderly s.gate) where
   expire_case : (client : ℕ) → lowest s.sessions (is_client_expired s.clock) ≡ Some client → IsDone s (actions.Expire client)
   expire_case client is =
       let t = some_passes (is_client_expired s.clock client) (session_of s client) (passed s (is_client_expired s.clock) client order is) in
@@ -196,36 +226,38 @@ module _ (s : MasterState) (order : HasSessionsInOrder s) where
 
   -- ---- the first action that there is
 
-  late_case : (o : Option ℕ) → lowest s.sessions (is_client_due s.sessions.lease s.clock) ≡ o → first_number s.gate.waiting ≡ None → lowest s.sessions (is_client_expired s.clock) ≡ None → (s.recovering && all_heard s.sessions) ≡ false → IsDone s (option_map_or actions.Answer o actions.Quiet)
+  late_case : (o : Option ℕ) → lowest s.sessions (is_client_due s.sessions.lease s.clock) ≡ o → next_change s ≡ None → lowest s.sessions (is_client_expired s.clock) ≡ None → (s.recovering && all_heard s.sessions) ≡ false → IsDone s (option_map_or actions.Answer o actions.Quiet)
   late_case None due none live going = (Quiet (rw (going, live, none, due) refl), refl, refl)
   late_case (Some client) due none live going = answer_case client due
 
-  waiting_case : (waiting : List (Waiting Task)) → s.gate.waiting ≡ waiting → lowest s.sessions (is_client_expired s.clock) ≡ None → (s.recovering && all_heard s.sessions) ≡ false → IsDone s (option_map_or actions.Apply (first_number waiting) (answer_or_quiet s))
-  waiting_case [] is live going =
-      late_case (lowest s.sessions (is_client_due s.sessions.lease s.clock)) refl (ap (λ (ws : List (Waiting Task)). first_number ws) is) live going
-  waiting_case (w ∷ back) is live going = apply_case s w back is
+  waiting_case : (o : Option (Waiting Task)) → find (is_free s.rights) s.gate.waiting ≡ o → lowest s.sessions (is_client_expired s.clock) ≡ None → (s.recovering && all_heard s.sessions) ≡ false → IsDone s (option_map_or actions.Apply (option_map (λ (w : Waiting Task). w.number) o) (answer_or_quiet s))
+  waiting_case None is live going =
+      late_case (lowest s.sessions (is_client_due s.sessions.lease s.clock)) refl (ap (λ (o : Option (Waiting Task)). option_map (λ (w : Waiting Task). w.number) o) is) live going
+  waiting_case (Some w) is live going =
+      let t = between (is_free s.rights) s.gate.waiting w is in
+      apply_case s t.0 w t.1 t.2 t.3 orderly
 
   session_case : (o : Option ℕ) → lowest s.sessions (is_client_expired s.clock) ≡ o → (s.recovering && all_heard s.sessions) ≡ false → IsDone s (option_map_or actions.Expire o (apply_or_later s))
-  session_case None is going = waiting_case s.gate.waiting refl is going
+  session_case None is going = waiting_case (find (is_free s.rights) s.gate.waiting) refl is going
   session_case (Some client) is going = expire_case client is
 
 -- ---- the lemma
 
-pub sweep_case : (s : MasterState) → HasSessionsInOrder s → IsSwept s (swept s (first_action s)) (action_edits s (first_action s))
-sweep_case s order =
+pub sweep_case : (s : MasterState) → HasSessionsInOrder s → IsOrderly s.gate → IsSwept s (swept s (first_action s)) (action_edits s (first_action s))
+sweep_case s order orderly =
     (elim (s.recovering && all_heard s.sessions) as (λ b. (s.recovering && all_heard s.sessions) ≡ b → IsDone s (cond b actions.Recover (option_map_or actions.Expire (lowest s.sessions (is_client_expired s.clock)) (apply_or_later s)))) [
       | true ↦ (λ h. let t = and_parts s.recovering (all_heard s.sessions) h in (Recovers t.0 t.1, refl, refl))
-      | false ↦ (λ h. session_case s order (lowest s.sessions (is_client_expired s.clock)) refl h)
+      | false ↦ (λ h. session_case s order orderly (lowest s.sessions (is_client_expired s.clock)) refl h)
     ]) refl
 
 -- a sweep at a moment
-pub swept_case : (s new : MasterState) (now : ℕ) (told : Swept) → HasSessionsInOrder s → sweep_step s now ≡ Ok (new, told) → IsSwept (noted s now) (new, told) (sweep_edits s now)
+pub swept_case : (s new : MasterState) (now : ℕ) (told : Swept) → HasSessionsInOrder s → IsOrderly s.gate → sweep_step s now ≡ Ok (new, told) → IsSwept (noted s now) (new, told) (sweep_edits s now)
 unfolding sweep_step
-swept_case s new now told order h =
+swept_case s new now told order orderly h =
     let edits = action_edits (noted s now) (first_action (noted s now)) in
     (elim (is_past_end now) as (λ b. cond {A = Result (MasterState × Swept) Fault} b (Err faults.Exhausted) (Ok (swept (noted s now) (first_action (noted s now)))) ≡ Ok (new, told) → IsSwept (noted s now) (new, told) (cond b [] edits)) [
       | true ↦ (λ e. cc)
       | false ↦ (λ e.
           let is : swept (noted s now) (first_action (noted s now)) ≡ (new, told) = cc in
-          rw (← is) (sweep_case (noted s now) order))
+          rw (← is) (sweep_case (noted s now) order orderly))
     ]) h

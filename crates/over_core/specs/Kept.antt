@@ -1,5 +1,5 @@
 -- A master beside its rows.
-use Rattle.std.specs.Prelude.{◌≡◌, ℕ, ◌≤◌, Bool, true, not, ◌||◌, List, [], Some}
+use Rattle.std.specs.Prelude.{◌≡◌, ℕ, ◌≤◌, ◌==◌, Bool, true, false, not, ◌||◌, List, [], All, Some, None}
 use Rattle.std.specs.List.{list_all, list_any}
 use Rattle.std.specs.List.Sorted.{IsStrictlySortedBy}
 use Rattle.std.specs.Map.{keys_of}
@@ -12,8 +12,15 @@ use Rattle.rows_cell.specs.declared.tables.Rows.{Rows}
 use Rattle.rows_cell.specs.Rows.{StoredLocks, map_of}
 use Rattle.rows_cell.specs.Sound.{sound, is_number}
 use Rattle.rows_cell.specs.Stores.{Store}
+use Rattle.rights_core.specs.declared.cache_rights.CacheRight.{CacheRight}
+use Rattle.rights_core.specs.Rights.{invalidations_of, IsRecorded}
 use Rattle.gate_core.specs.declared.pending.Waiting.{Waiting}
+use Rattle.gate_core.specs.Gate.{IsOrderly}
 use Rattle.cell_core.specs.declared.pending.Task.{Task}
+use Rattle.cell_core.specs.declared.pending.Work.{Work}
+use Rattle.cell_core.specs.declared.pending.Work.TheVariants as works
+use Rattle.cell_core.specs.Step.{names_of}
+use Rattle.cell_core.specs.Names.{name_changed}
 use Rattle.tags_cell.specs.declared.outs.Reply.{Reply}
 use Rattle.session_core.specs.declared.records.Session.{Session}
 use Rattle.session_core.specs.Sessions.{SessionTable, session_of}
@@ -31,6 +38,26 @@ waiting_fits waiting = list_all (λ w. is_number w.change.body.client) waiting
 -- who acknowledged an event did so by a Beat
 abbrev pub AreByBeats : SessionTable Reply → Type 0
 AreByBeats table = (client : ℕ) (session : Session Reply) → session_of table client ≡ Some session → 1 ≤ session.events.acknowledged → 1 ≤ session.newest_beat
+
+-- the invalidations that a client was issued are those that asked rights back
+abbrev pub AreIssued : SessionTable Reply → List CacheRight → Type 0
+AreIssued table rights = (client : ℕ) (session : Session Reply) → session_of table client ≡ Some session → session.invalidations.issued ≡ invalidations_of client rights
+
+abbrev pub is_of : ℕ → CacheRight → Bool
+is_of client right = client == right.client
+
+-- a client without a session was granted nothing
+abbrev pub AreOwned : SessionTable Reply → List CacheRight → Type 0
+AreOwned table rights = (client : ℕ) → session_of table client ≡ None → list_any (is_of client) rights ≡ false
+
+-- the names that a change touches while it waits: a Start none
+abbrev pub names_touched : List ℕ → Work → List (List ℕ)
+names_touched secret (works.Starts principal received) = []
+names_touched secret (works.Calls call) = names_of (name_changed secret call)
+
+-- each change that waits touches the name that it may change
+abbrev pub AreTouching : List ℕ → List (Waiting Task) → Type 0
+AreTouching secret waiting = All (λ w. w.change.touched ≡ names_touched secret w.change.body.work) waiting
 
 -- each held lock of the rows was held when the master came up
 abbrev pub is_known : List LockKey → LockKey × LockRow → Bool
@@ -55,3 +82,10 @@ pub record IsKept (cell : List ℕ) (rows : Rows) (s : MasterState) : Type 0 whe
   -- no change comes in during a recovery
   pub recovery_is_empty : s.recovering ≡ true → s.gate.waiting ≡ []
   pub by_beats : AreByBeats s.sessions
+  -- rights are recorded once, and belong to sessions
+  pub recorded : IsRecorded s.rights
+  pub issued : AreIssued s.sessions s.rights
+  pub owned : AreOwned s.sessions s.rights
+  -- changes wait in order, each on the name that it may change
+  pub orderly : IsOrderly s.gate
+  pub touching : AreTouching s.secret s.gate.waiting

@@ -1,14 +1,17 @@
 -- What a master does by itself: the first action that there is, what is planned for it, what is committed, and the step.
-use Rattle.std.specs.Prelude.{ℕ, Bool, true, false, ◌&&◌, List, [], ◌∷◌, Option, Some, None, Result, Ok, Err, if◌then◌else◌}
+use Rattle.std.specs.Prelude.{ℕ, Bool, true, false, ◌&&◌, List, [], ◌∷◌, ◌++◌, map, Option, Some, None, Result, Ok, Err, if◌then◌else◌}
 use Rattle.std.specs.Option.{option_map_or}
 use Rattle.node_core.specs.declared.refusals.Fault.{Fault}
 use Rattle.node_core.specs.declared.refusals.Fault.TheVariants as faults
 use Rattle.node_core.specs.declared.lines.Line.{Line}
 use Rattle.node_core.specs.declared.lines.Line.TheVariants as lines
 use Rattle.rows_cell.specs.declared.tables.Edit.{Edit}
+use Rattle.tags_cell.specs.declared.beats.Invalidation.{Invalidation}
 use Rattle.tags_cell.specs.declared.outs.Out.{Out}
 use Rattle.tags_cell.specs.declared.outs.Out.TheVariants as outs
 use Rattle.tags_cell.specs.declared.calls.Call.{Call}
+use Rattle.rights_core.specs.declared.endings.Ending.TheVariants as endings
+use Rattle.rights_core.specs.Rights.{numbers_ending, unacked_of}
 use Rattle.session_core.specs.declared.records.Offer.{Offer}
 use Rattle.session_core.specs.Session.{is_client_expired, is_client_due, offered_span}
 use Rattle.session_core.specs.Sessions.{all_heard, lowest, offer_of}
@@ -19,7 +22,7 @@ use Rattle.over_core.specs.declared.effects.Effect.{Effect}
 use Rattle.cell_core.specs.declared.deeds.Change.{Change}
 use Rattle.cell_core.specs.declared.pending.Work.{Work}
 use Rattle.cell_core.specs.declared.pending.Work.TheVariants as works
-use Rattle.cell_core.specs.State.{MasterState, locks_of, first_number, task_at}
+use Rattle.cell_core.specs.State.{MasterState, locks_of, next_change, task_at}
 use Rattle.cell_core.specs.Step.{session_of, may_start, is_live, nothing, turned_away, reply_of, answered_by, is_past_end, noted}
 use Rattle.cell_core.specs.Deeds.{done, edits_of}
 use Rattle.over_core.specs.Effect.{effect}
@@ -34,9 +37,9 @@ use Rattle.over_core.specs.declared.sweeps.Swept.{Swept}
 abbrev pub answer_or_quiet : MasterState → Action
 answer_or_quiet s = option_map_or Answer (lowest s.sessions (is_client_due s.sessions.lease s.clock)) Quiet
 
--- the change that waits longest, by its number
+-- the lowest change that no right holds up, by its number
 abbrev pub apply_or_later : MasterState → Action
-apply_or_later s = option_map_or Apply (first_number s.gate.waiting) (answer_or_quiet s)
+apply_or_later s = option_map_or Apply (next_change s) (answer_or_quiet s)
 
 -- a recovery ends, the lowest client's session expires that is due to, a change has its turn, a Beat is answered, or there is nothing to do
 abbrev pub first_action : MasterState → Action
@@ -107,14 +110,25 @@ leaving number plan = record plan { deed = record plan.deed { leaves = Some numb
 
 -- ---- sessions
 
+-- each right that ends with a session is printed, and then its end
+abbrev pub expiry_lines : MasterState → ℕ → List Line
+expiry_lines s client = map lines.Expired (numbers_ending client endings.Expiry s.rights) ++ lines.Ended client ∷ []
+
 -- it is put as ended
 abbrev pub plan_expiry : MasterState → ℕ → Plan
-plan_expiry s client = option_map_or (λ session. session_plan (Ends client session.principal (locks_of client s.held_locks)) (lines.Ended client ∷ []) []) (session_of s client) no_plan
+plan_expiry s client = option_map_or (λ session. session_plan (Ends client session.principal (locks_of client s.held_locks)) (expiry_lines s client) []) (session_of s client) no_plan
+
+abbrev pub invalidation_of : ℕ × List ℕ → Invalidation
+invalidation_of entry = record { number = entry.0; name = entry.1 }
+
+-- those that the client has still to acknowledge, in order of their numbers
+abbrev pub invalidations_for : MasterState → ℕ → List Invalidation
+invalidations_for s client = map invalidation_of (unacked_of client s.rights)
 
 -- the session lives for a lease from now on
 abbrev pub alive_out : MasterState → ℕ → Offer → Out
 alive_out s client offer =
-    outs.Alive (record { client = client; epoch = s.epoch; number = offer.number; span = offer.span; invalidations = []; events = [] })
+    outs.Alive (record { client = client; epoch = s.epoch; number = offer.number; span = offer.span; invalidations = invalidations_for s client; events = [] })
 
 abbrev pub plan_answer : MasterState → ℕ → Plan
 plan_answer s client = option_map_or (λ offer. session_plan (Answers client) [] (alive_out s client offer ∷ [])) (offer_of s.sessions client s.clock) no_plan

@@ -11,7 +11,10 @@ use Rattle.tags_cell.specs.declared.outs.Out.{Out}
 use Rattle.tags_cell.specs.declared.outs.Out.TheVariants as outs
 use Rattle.tags_cell.specs.declared.outs.CallResult.{CallResult}
 use Rattle.tags_cell.specs.declared.outs.Reply.{Reply}
+use Rattle.rights_core.specs.declared.endings.Ending.TheVariants as endings
+use Rattle.rights_core.specs.Rights as of_rights
 use Rattle.gate_core.specs.declared.pending.Waiting.{Waiting}
+use Rattle.gate_core.specs.Gate.{is_free}
 use Rattle.cell_core.specs.declared.deeds.Change.{Change}
 use Rattle.cell_core.specs.declared.handles.Note.{Note}
 use Rattle.cell_core.specs.declared.pending.Task.{Task}
@@ -26,14 +29,15 @@ use Rattle.cell_core.specs.Step.{session_of, may_start, is_live, turned_away, re
 use Rattle.cell_core.specs.Deeds.{edit_of}
 use Rattle.over_core.specs.Effect.{effect}
 use Rattle.over_core.specs.declared.sweeps.Swept.{Swept}
-use Rattle.over_core.specs.Sweep.{first_action, started_out, alive_out}
+use Rattle.over_core.specs.Sweep.{first_action, expiry_lines, started_out, alive_out}
 use Rattle.over_core.specs.declared.actions.Action.TheVariants as actions
 
--- a change has its turn: it waited between these
+-- a change has its turn: it waited between these, and no right holds it up
 pub record IsTurn (s : MasterState) (front : List (Waiting Task)) (task : Task) (back : List (Waiting Task)) : Type 0 where
   pub number : ℕ
   pub touched : List (List ℕ)
   pub waited : s.gate.waiting ≡ front ++ record { number = number; change = record { touched = touched; body = task } } ∷ back
+  pub free : is_free s.rights (record { number = number; change = record { touched = touched; body = task } }) ≡ true
 
 -- a session is the one that is to expire now
 pub record IsDueToEnd (s : MasterState) (client : ℕ) (session : Session Reply) : Type 0 where
@@ -83,7 +87,10 @@ swept_with printed sent = record { lines = printed; outs = sent; quiet = false }
 abbrev pub swept_by : (s : MasterState) → SweepCase s → MasterState × Swept
 swept_by s (Quiet none) = (s, record { lines = []; outs = []; quiet = true })
 swept_by s (Recovers recovering heard) = (record s { recovering = false }, swept_with (lines.Recovered ∷ []) [])
-swept_by s (Expires client session due) = (record s { sessions = with_session s.sessions client of_session.ended }, swept_with (lines.Ended client ∷ []) [])
+swept_by s (Expires client session due) = (
+  record s { sessions = with_session s.sessions client of_session.ended; rights = of_rights.ended client endings.Expiry s.rights },
+  swept_with (expiry_lines s client) [],
+)
 swept_by s (AnswersBeat client session beat due) = (
   record s { sessions = with_session s.sessions client (answered s.sessions.lease s.clock) },
   swept_with [] (alive_out s client (offer_to s.sessions.lease s.clock beat) ∷ []),

@@ -14,7 +14,8 @@ pub enum Action {
     /// The session of this client ends: its timeout has come (Gray and Cheriton 1989, section 2: whoever gave a lease
     /// may go on without its holder once it has expired).
     Expire(u64),
-    /// The change of this number is done, and leaves the gate.
+    /// The change of this number is done, and leaves the gate: the lowest that no right to cache holds up (Burrows
+    /// 2006, section 2.7: a modification is held until every cache has let go).
     Apply(u64),
     /// The parked Beat of this client is answered (Burrows 2006, section 2.8: a KeepAlive is held until the lease is
     /// close to its end, or something has to be told).
@@ -36,11 +37,11 @@ pub(crate) fn first_action(master: &Master) -> Action
     }
 }
 
-// The change that waits longest has its turn.
+// The lowest change that no right holds up has its turn.
 fn apply_or_later(master: &Master) -> Action
     ensures { result ≡ apply_or_later master.now }
 {
-    match master.first_waiting() {
+    match master.next_change() {
         Some(number) => Action::Apply(number),
         None => answer_or_quiet(master),
     }

@@ -1,21 +1,22 @@
 //! What is planned for an action.
-ghost use Rattle.std.specs.Prelude.{◌≡◌, [], ◌∷◌, Some, None, IfOk};
+ghost use Rattle.std.specs.Prelude.{◌≡◌, [], ◌∷◌, Some, None, map, IfOk};
 ghost use Rattle.node_core.specs.declared.lines.Line.TheVariants as lines;
 ghost use Rattle.cell_core.specs.Step.{sends};
 ghost use Rattle.over_core.specs.declared.actions.Action.TheVariants as actions;
-ghost use Rattle.over_core.specs.Sweep.{no_deed, started_out, alive_out, applied_lines, plan_session, plan_start, plan_effect, plan_call, plan_work, plan_expiry, plan_answer, plan_of};
+ghost use Rattle.over_core.specs.Sweep.{no_deed, started_out, alive_out, applied_lines, plan_session, plan_start, plan_effect, plan_call, plan_work, expiry_lines, plan_expiry, invalidation_of, plan_answer, plan_of};
 
 use crate::actions::Action;
 use crate::effects::{Effect, effect_of};
 use cell_core::{
     Cell as Master, Change, Deed, KeptPut, SessionDeed, Taken, Task, Work, answered_by,
 };
-use names_cell::Principal;
+use names_cell::{Name, Principal};
 use node_core::{Fault, Line, Mod};
-use plain::Items;
+use plain::{Items, Table};
+use rights_core::Ending;
 use session_core::Offer;
-use std::alloc::AllocError;
-use tags_cell::{Alive, Call, ClientNumber, MessageNumber, Out, Reply, Started};
+use std::alloc::{AllocError, Global};
+use tags_cell::{Alive, Call, ClientNumber, Invalidation, MessageNumber, Out, Reply, Started};
 
 /// What is done for an action. It is made before anything changes.
 #[derive(Debug, Drop)]
@@ -66,7 +67,7 @@ fn plan_recovery(master: &Master) -> Result<Plan, AllocError>
     Ok(plan)
 }
 
-// The session is put as ended, and lets its locks go.
+// The session is put as ended, and lets its locks go. Each right that ends with it is printed, and then its end.
 fn plan_expiry(master: &Master, client: u64) -> Result<Plan, AllocError>
     ensures { IfOk result (λ plan. plan ≡ plan_expiry master.now client) }
 {
@@ -75,8 +76,30 @@ fn plan_expiry(master: &Master, client: u64) -> Result<Plan, AllocError>
     };
     let locks = master.held_locks_of(client)?;
     let principal = session.principal.clone()?;
-    let taken = printed(master, Line::Ended(client))?;
+    let taken = expiry_taken(master, client)?;
     Ok(Plan::of(Some(SessionDeed::Ends(client, principal, locks)), taken))
+}
+
+// What is printed of a session that ends.
+fn expiry_taken(master: &Master, client: u64) -> Result<Taken, AllocError>
+    ensures { IfOk result (λ taken. taken ≡ record { lines = expiry_lines master.now client; outs = [] }) }
+{
+    let expired = master.rights().ending(client, Ending::Expiry)?;
+    let mut taken = master.nothing();
+    taken.lines = expired_lines(master.alloc(), expired.as_slice())?;
+    taken.lines.push(Line::Ended(client))?;
+    Ok(taken)
+}
+
+// The rights of these numbers have expired.
+fn expired_lines(alloc: Global, numbers: &[u64]) -> Result<Items<Line>, AllocError>
+    ensures { IfOk result (λ printed. printed ≡ map lines.Expired numbers.now) }
+{
+    let mut printed = Items::new(alloc);
+    for number in numbers {
+        printed.push(Line::Expired(*number))?;
+    }
+    Ok(printed)
 }
 
 // What is done for the change of a number, which then leaves the gate.
@@ -261,14 +284,34 @@ fn alive_out(master: &Master, client: ClientNumber, offer: Offer) -> Result<Take
     ensures { IfOk result (λ taken. taken ≡ record { lines = []; outs = alive_out master.now client offer ∷ [] }) }
 {
     let Offer { number, span } = offer;
+    let unacked = master.rights().unacked(client.get())?;
+    let invalidations = invalidations_of(master.alloc(), &unacked)?;
     master.sent(Out::Alive(Alive {
         client,
         epoch: master.epoch(),
         number,
         span,
-        invalidations: Items::new(master.alloc()),
+        invalidations,
         events: Items::new(master.alloc()),
     }))
+}
+
+// As they are sent.
+fn invalidations_of(
+    alloc: Global,
+    unacked: &Table<u64, Name>,
+) -> Result<Items<Invalidation>, AllocError>
+    ensures { IfOk result (λ invalidations. invalidations ≡ map invalidation_of unacked.now) }
+{
+    let mut invalidations = Items::new(alloc);
+    for (number, name) in unacked.as_map() {
+        let name = name.clone()?;
+        invalidations.push(Invalidation {
+            number: *number,
+            name,
+        })?;
+    }
+    Ok(invalidations)
 }
 
 // One line, and no message.

@@ -120,7 +120,7 @@ const ENDS: &[Row] = &[
         "call_that_waits_when_its_session_ends",
         Before::File,
         "ask 2 set 1 62; take 9; tick 12000 12000; sweep; sweep; sweep; sweep; give 10; join 3 ann; beat 3; settle; ask 3 open /ls/c/f r; settle; ask 3 read 1; settle",
-        "ended 1; ended 2; refused 37 NoSuchMessage; started 3; done 3 1 opened 1; done 3 2 view file 4 1 1 base base base permanent 1 61",
+        "ended 1; ended 2; refused 37 NoSuchMessage; started 3; done 3 1 opened 1; granted 1 3 /ls/c/f; done 3 2 view file 4 1 1 base base base permanent 1 61",
     ),
     (
         "change_behind_that_of_an_ended_session",

@@ -8,4 +8,6 @@ mod masters;
 #[cfg(test)]
 mod parts;
 #[cfg(test)]
+mod rights;
+#[cfg(test)]
 mod scripts;

@@ -38,14 +38,14 @@ const PRINTED_BEFORE: &str =
     "up 1; started 1; started 2; applied 1 1 put /ls/c/f file 4 1 1 base base base permanent 1 61; done 1 1 opened 1; done 2 1 opened 1; ";
 
 const FIRST_PATH: &str =
-    "up 0; join 1 ann; beat 1; settle; ask 1 open /ls/c/f rw must file permanent 61; settle; ask 1 read 1; settle; ask 1 set 1 62; settle; ask 1 read 1; settle";
+    "up 0; join 1 ann; beat 1; settle; ask 1 open /ls/c/f rw must file permanent 61; settle; ask 1 read 1; settle; ask 1 set 1 62; settle; beat 1; settle; beat 1; settle; ask 1 read 1; settle";
 
 // The same with each `settle` written out.
 const FIRST_PATH_STEPS: &str =
-    "up 0; join 1 ann; beat 1; take 1; sweep; give 2; sweep; ask 1 open /ls/c/f rw must file permanent 61; take 3; sweep; give 4; sweep; ask 1 read 1; take 5; give 6; sweep; ask 1 set 1 62; take 7; sweep; give 8; sweep; ask 1 read 1; take 9; give 10; sweep";
+    "up 0; join 1 ann; beat 1; take 1; sweep; give 2; sweep; ask 1 open /ls/c/f rw must file permanent 61; take 3; sweep; give 4; sweep; ask 1 read 1; take 5; give 6; sweep; ask 1 set 1 62; take 7; sweep; beat 1; take 8; sweep; give 9; sweep; beat 1; take 10; sweep; give 11; sweep; ask 1 read 1; take 12; give 13; sweep";
 
 const FIRST_PATH_LINES: &str =
-    "up 1; started 1; applied 1 1 put /ls/c/f file 4 1 1 base base base permanent 1 61; done 1 1 opened 1; done 1 2 view file 4 1 1 base base base permanent 1 61; applied 1 3 put /ls/c/f file 4 2 1 base base base permanent 1 62; done 1 3 ok; done 1 4 view file 4 2 1 base base base permanent 1 62";
+    "up 1; started 1; applied 1 1 put /ls/c/f file 4 1 1 base base base permanent 1 61; done 1 1 opened 1; granted 1 1 /ls/c/f; done 1 2 view file 4 1 1 base base base permanent 1 61; acked 1; applied 1 3 put /ls/c/f file 4 2 1 base base base permanent 1 62; done 1 3 ok; granted 2 1 /ls/c/f; done 1 4 view file 4 2 1 base base base permanent 1 62";
 
 // Each has its name, what it begins with, its steps and its lines. Steps and lines are separated by `; `, and each becomes a line;
 // `N times LINE` is that line so often.
@@ -73,7 +73,7 @@ const SCRIPTS: &[(&str, Before, &str, &str)] = &[
         "refused_calls",
         Before::File,
         "ask 1 open /ls/c/f r must file permanent -; settle; ask 1 open /ls/c/x/y r must file permanent -; settle; ask 1 open /ls/c/f/y r may file permanent -; settle; ask 1 open /ls/c/g r; settle; ask 1 open /ls/d r; settle; ask 1 read 9; ask 1 set 1 62 9; settle",
-        "done 1 2 refused 7 Exists; done 1 3 refused 6 NotFound; done 1 4 refused 8 WrongKind file; done 1 5 refused 6 NotFound; done 1 6 refused 3 OtherCell; refused 17 BadHandle; done 1 7 refused 11 WrongGeneration 1",
+        "done 1 2 refused 7 Exists; done 1 3 refused 6 NotFound; done 1 4 refused 8 WrongKind file; granted 1 1 /ls/c/g; done 1 5 refused 6 NotFound; done 1 6 refused 3 OtherCell; refused 17 BadHandle; done 1 7 refused 11 WrongGeneration 1",
     ),
     (
         "acl_checked_at_open",
@@ -97,7 +97,7 @@ const SCRIPTS: &[(&str, Before, &str, &str)] = &[
         "poison_under_a_call",
         Before::File,
         "ask 1 read 1; ask 1 poison 1; settle",
-        "done 1 2 refused 32 Poisoned; done 1 0 poisoned",
+        "done 1 2 refused 32 Poisoned; done 1 0 poisoned; granted 1 1 /ls/c/f",
     ),
     (
         "denied_and_other_cell",

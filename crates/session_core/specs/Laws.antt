@@ -1,19 +1,24 @@
 -- What holds of sessions over every step.
-use Rattle.std.specs.Prelude.{⊤, Bool, true, false, is_some, ◌≡◌, ◌≢◌, ℕ, ◌+◌, ◌≤◌, Some, None}
+use Rattle.std.specs.Prelude.{⊤, Bool, true, false, is_some, ◌≡◌, ◌≢◌, ℕ, ◌+◌, ◌≤◌, List, Option, Some, None}
 use Rattle.std.specs.Option.{option_map}
+use Rattle.std.specs.Ordering.{nat_cmp}
+use Rattle.std.specs.Map.{lookup, keys_of}
+use Rattle.std.specs.BTreeMap.{is_at}
+use Rattle.std.specs.List.Sorted.{IsStrictlySortedBy}
 use Rattle.session_core.specs.declared.records.Issued.{Issued}
 use Rattle.tags_cell.specs.declared.beats.Beat.{Beat}
 use Rattle.session_core.specs.declared.records.Parked.{Parked}
 use Rattle.session_core.specs.declared.records.Kept.{Kept}
 use Rattle.session_core.specs.declared.records.Session.{Session}
-use Rattle.session_core.specs.Session.{prolonged, ended, issued_to, live_beat_fault, beaten, offered_span, answered, keeping}
-use Rattle.session_core.specs.Sessions.{SessionTable, session_of, kept_of, with_session, with_new}
+use Rattle.session_core.specs.Session.{prolonged, ended, issued_to, issued_through, live_beat_fault, beaten, offered_span, answered, keeping}
+use Rattle.session_core.specs.Sessions.{SessionTable, session_of, kept_of, with_session, with_new, issued_by}
 
 -- what a step makes of a session
 pub data Step (K : Type 0) : Type 0 where
   Prolonged : ℕ → Step K
   Ended : Step K
   IssuedTo : Issued → Step K
+  IssuedThrough : ℕ → Step K
   Beaten : Beat → ℕ → Step K
   Answered : ℕ → ℕ → Step K
   Keeping : Kept K → Step K
@@ -22,6 +27,7 @@ abbrev pub stepped : {K : Type 0} → Step K → Session K → Session K
 stepped (Prolonged moment) session = prolonged moment session
 stepped Ended session = ended session
 stepped (IssuedTo issued) session = issued_to issued session
+stepped (IssuedThrough number) session = issued_through number session
 stepped (Beaten beat received) session = beaten beat received session
 stepped (Answered lease now) session = answered lease now session
 stepped (Keeping kept) session = keeping kept session
@@ -65,3 +71,14 @@ pub record IsItsOwn (K : Type 0) : Type 0 where
   pub other : (s : SessionTable K) (client : ℕ) (step : Session K → Session K) (q : ℕ) → q ≢ client → session_of (with_session s client step) q ≡ session_of s q
   pub own_new : (s : SessionTable K) (client : ℕ) (session : Session K) → session_of (with_new s client session) client ≡ Some session
   pub other_new : (s : SessionTable K) (client : ℕ) (session : Session K) (q : ℕ) → q ≢ client → session_of (with_new s client session) q ≡ session_of s q
+
+abbrev pub issued_at : {K : Type 0} → Option ℕ → Session K → Session K
+issued_at None session = session
+issued_at (Some number) session = issued_through number session
+
+-- each client of a table was issued the invalidations up to its number, and no other client any; the same clients have sessions, under
+-- the same lease
+pub record IssuesToEach (K : Type 0) : Type 0 where
+  pub each : (s : SessionTable K) (asked : List (ℕ × ℕ)) (client : ℕ) → IsStrictlySortedBy nat_cmp (keys_of asked) → session_of (issued_by asked s) client ≡ option_map (issued_at (lookup (is_at (nat_cmp client)) asked)) (session_of s client)
+  pub clients : (s : SessionTable K) (asked : List (ℕ × ℕ)) → keys_of (issued_by asked s).sessions ≡ keys_of s.sessions
+  pub lease : (s : SessionTable K) (asked : List (ℕ × ℕ)) → (issued_by asked s).lease ≡ s.lease

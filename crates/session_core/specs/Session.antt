@@ -77,6 +77,10 @@ abbrev pub issued_to : {K : Type 0} → Issued → Session K → Session K
 issued_to kinds.Invalidation session = record session { invalidations = one_more session.invalidations }
 issued_to kinds.Event session = record session { events = one_more session.events }
 
+-- the invalidations up to this number were issued to it
+abbrev pub issued_through : {K : Type 0} → ℕ → Session K → Session K
+issued_through number session = record session { invalidations = record session.invalidations { issued = max session.invalidations.issued number } }
+
 -- the count stands at the last number
 abbrev pub is_count_full : {K : Type 0} → Issued → Session K → Bool
 is_count_full issued session = nat_le number_limit (tally_of issued session).issued

@@ -13,7 +13,7 @@ mod starts;
 
 pub use laws::{
     acknowledged_was_issued, last_call_is_kept, offer_is_covered, step_is_its_own,
-    timeout_never_moves_back,
+    table_issues_to_each, timeout_never_moves_back,
 };
 pub use records::{Begun, Issued, Kept, Offer, Parked, Session, Tally};
 pub use sessions::Sessions;

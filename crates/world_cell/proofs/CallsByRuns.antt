@@ -1,12 +1,10 @@
 -- Why each applied change is the effect of a call that was sent and taken.
-use Rattle.std.proofs.Common.{◌≡◌, ℕ, ◌+◌, List, [], ◌∷◌, ◌++◌, Option, Some, None, refl, sym, ap, ◌∙◌, inl, inr, append_assoc, subst}
+use Rattle.std.proofs.Common.{◌≡◌, ℕ, ◌+◌, List, [], ◌∷◌, ◌++◌, Option, Some, None, refl, sym, ap, ◌∙◌, inl, inr, append_assoc, subst, map}
 use Rattle.std.specs.Prelude.{◌⊎◌}
-use Rattle.std.specs.Option.{option_map}
 use Rattle.std.proofs.lemmas.List.{append-nil}
 use Rattle.node_core.specs.declared.lines.Line.{Line}
 use Rattle.node_core.specs.declared.lines.Line.TheVariants as lines
 use Rattle.node_core.specs.declared.views.Mod.{Mod}
-use Rattle.rows_cell.specs.Rows.{map_of}
 use Rattle.tags_cell.specs.declared.calls.Call.{Call}
 use Rattle.tags_cell.specs.declared.calls.Call.TheVariants as calls
 use Rattle.tags_cell.specs.declared.requests.Request.{Request}
@@ -14,30 +12,32 @@ use Rattle.tags_cell.specs.declared.requests.Request.TheVariants as requests
 use Rattle.tags_cell.specs.declared.requests.CallMessage.{CallMessage}
 use Rattle.tags_cell.specs.declared.outs.CallResult.{CallResult}
 use Rattle.cell_core.specs.declared.handles.Note.{Note}
+use Rattle.rights_core.specs.declared.endings.Ending.TheVariants as endings
+use Rattle.rights_core.specs.Rights.{numbers_ending}
 use Rattle.gate_core.specs.declared.pending.Waiting.{Waiting}
 use Rattle.cell_core.specs.declared.pending.Task.{Task}
 use Rattle.cell_core.specs.declared.pending.Work.{Work}
 use Rattle.cell_core.specs.declared.pending.Work.TheVariants as works
 use Rattle.cell_core.specs.State.{MasterState}
-use Rattle.cell_core.specs.Step.{with_note, noted}
+use Rattle.cell_core.specs.Step.{names_of, with_call, asking_for, with_note, noted}
 use Rattle.over_core.specs.Effect.{effect}
 use Rattle.cell_core.specs.Cases.{TakeCase, taken_by}
 use Rattle.over_core.specs.SweepCase.{IsTurn, SweepCase, swept_by, rest, ended, mapped}
-use Rattle.cell_core.specs.Cases.TakeCase.{StartQueued, Answered, Waits}
+use Rattle.cell_core.specs.Cases.TakeCase.{StartQueued, Answered, Granted, Waits}
 use Rattle.over_core.specs.SweepCase.SweepCase.{Quiet, Recovers, Expires, AnswersBeat, TurnedAway, StartedAgain, Started as StartedFirst, OfEnded, Ended, Applied}
 use Rattle.over_core.specs.Kept.{IsKept}
 use Rattle.world_cell.specs.declared.steps.Step.{Step}
-use Rattle.world_cell.specs.declared.steps.Step.TheVariants.{Take, Sweep}
+use Rattle.world_cell.specs.declared.steps.Step.TheVariants.{Take}
 use Rattle.world_cell.specs.Messages.{call_of}
 use Rattle.world_cell.specs.World.{WorldState, WorldView}
 use Rattle.world_cell.specs.Consistent.{Agrees, IsConsistent}
-use Rattle.world_cell.specs.Runs.{IsMade, Does, Run, map_at, epoch_at, change_of, IsTaken, HasWaited, IsOfCall}
+use Rattle.world_cell.specs.Runs.{IsMade, Does, Run, change_of, IsTaken, HasWaited, IsOfCall}
 use Rattle.world_cell.proofs.SilentLines.{IsSilent}
 use Rattle.world_cell.proofs.PartsOfRuns.{run_push}
 use Rattle.world_cell.proofs.MasterFits.{waits_as, turn_sent}
 use Rattle.world_cell.proofs.WorldCases.{IsTake, IsSweep, WorldCase, world_case}
 use Rattle.world_cell.proofs.WorldCases.WorldCase.{ComesUp, Joins, Asks, Beats, Gives, Ticks, Takes, Sweeps}
-use Rattle.world_cell.proofs.OwnSteps.{IsOwn, asks_own, beats_own, gives_own}
+use Rattle.world_cell.proofs.OwnSteps.{own_silent, asks_own, beats_own, gives_own}
 use Rattle.world_cell.proofs.ConsistentSteps.{noted_fits}
 use Rattle.world_cell.proofs.OnceByRuns.{taken_silent}
 use Rattle.world_cell.proofs.RowsByRuns.{run_tells}
@@ -73,6 +73,17 @@ silent_split (line ∷ printed) [] rest client number change h e =
     let same : line ≡ lines.Applied client number change = cc in rw same at h.0
 silent_split (line ∷ printed) (b ∷ before) rest client number change h e =
     let t : printed ≡ before ++ lines.Applied client number change ∷ rest = cc in silent_split printed before rest client number change h.1 t
+
+-- an expiry tells of no change
+expiry_split : (numbers : List ℕ) (whose : ℕ) (before rest : List Line) (client number : ℕ) (change : Mod) → map lines.Expired numbers ++ lines.Ended whose ∷ [] ≡ before ++ lines.Applied client number change ∷ rest → ⊥
+expiry_split [] whose before rest client number change e =
+    let t = one_split (lines.Ended whose) before rest (lines.Applied client number change) e in
+    let line : lines.Ended whose ≡ lines.Applied client number change = t.1 in cc
+expiry_split (right ∷ numbers) whose [] rest client number change e =
+    let line : lines.Expired right ≡ lines.Applied client number change = cc in cc
+expiry_split (right ∷ numbers) whose (b ∷ before) rest client number change e =
+    let t : map lines.Expired numbers ++ lines.Ended whose ∷ [] ≡ before ++ lines.Applied client number change ∷ rest = cc in
+    expiry_split numbers whose before rest client number change t
 
 -- ---- where the calls that wait come from
 
@@ -158,6 +169,10 @@ epoch_note : (s : MasterState) (note : Option Note) → (with_note s note).epoch
 epoch_note s None = refl
 epoch_note s (Some note) = refl
 
+asking_calls : (g : Ground) (s : MasterState) (touched : Option (List ℕ)) → AreCalled g s.epoch s.gate.waiting → AreCalled g (asking_for s touched).epoch (asking_for s touched).gate.waiting
+asking_calls g s None h = h
+asking_calls g s (Some name) h = h
+
 -- ---- a message is taken
 
 -- only a call of the master's own epoch may wait, and it was taken
@@ -165,10 +180,12 @@ take_calls : (g : Ground) (s : MasterState) (request : Request) (c : TakeCase s 
 take_calls g s request (StartQueued start is may serving room) h k =
     calls_push g s.epoch s.gate.waiting (waits_as (s.gate.pushed + 1) [] (record { client = start.client; number = start.number; work = works.Starts start.principal s.clock })) h tt
 take_calls g s request (Answered message note answer new serving answered) h k = note_calls g s note h
+take_calls g s request (Granted message note answer name new serving may) h k = note_calls g s note h
 take_calls g s request (Waits message note touched new serving admitted) h k =
     let t = with_note s note in
     let taken : WasTaken g t.epoch message.client message.number message.call = rw (epoch_note s note) (k message new.heard.is_call new.heard.epoch) in
-    calls_push g t.epoch t.gate.waiting (waits_as (t.gate.pushed + 1) touched (record { client = message.client; number = message.number; work = works.Calls message.call })) (note_calls g s note h) taken
+    asking_calls g (with_call t message.client message.number message.call touched) touched
+    (calls_push g t.epoch t.gate.waiting (waits_as (t.gate.pushed + 1) (names_of touched) (record { client = message.client; number = message.number; work = works.Calls message.call })) (note_calls g s note h) taken)
 take_calls g s request _ h k = h
 
 -- ---- a sweep
@@ -318,8 +335,7 @@ of_turn s (Recovers recovering heard) before told client number change e =
     let t = one_split lines.Recovered before told (lines.Applied client number change) e in
     let line : lines.Recovered ≡ lines.Applied client number change = t.1 in cc
 of_turn s (Expires whose session due) before told client number change e =
-    let t = one_split (lines.Ended whose) before told (lines.Applied client number change) e in
-    let line : lines.Ended whose ≡ lines.Applied client number change = t.1 in cc
+    absurd (expiry_split (numbers_ending whose endings.Expiry s.rights) whose before told client number change e)
 of_turn s (StartedFirst front back task principal received turn work none) before told client number change e =
     let t = one_split (lines.Started task.client) before told (lines.Applied client number change) e in
     let line : lines.Started task.client ≡ lines.Applied client number change = t.1 in cc
@@ -367,9 +383,9 @@ made_here g step next printed before told later client number change steps rest 
           (let t = one_split (lines.Up (g.here.world.rows.epoch + 1)) before told (lines.Applied client number change) (sym u.tells ∙ e) in
           let line : lines.Up (g.here.world.rows.epoch + 1) ≡ lines.Applied client number change = t.1 in cc)
       | Joins j ↦ absurd (silent_split printed before told client number change (rw j.tells tt) e)
-      | Asks a ↦ absurd (silent_split printed before told client number change (asks_own g.here.world step next.world printed a).silent e)
-      | Beats b ↦ absurd (silent_split printed before told client number change (beats_own g.here.world step next.world printed b).silent e)
-      | Gives v ↦ absurd (silent_split printed before told client number change (gives_own g.here.world step next.world printed v).silent e)
+      | Asks a ↦ absurd (silent_split printed before told client number change (own_silent g.here.world next.world printed (asks_own g.here.world step next.world printed a)) e)
+      | Beats b ↦ absurd (silent_split printed before told client number change (own_silent g.here.world next.world printed (beats_own g.here.world step next.world printed b)) e)
+      | Gives v ↦ absurd (silent_split printed before told client number change (own_silent g.here.world next.world printed (gives_own g.here.world step next.world printed v)) e)
       | Ticks t ↦ absurd (silent_split printed before told client number change (rw t.tells tt) e)
       | Takes t ↦ absurd (silent_split printed before told client number change (rw t.tells (taken_silent (noted t.master g.here.world.clock) t.request t.case)) e)
       | Sweeps t ↦ of_sweep g step next printed before told later client number change steps rest new h t made run e r

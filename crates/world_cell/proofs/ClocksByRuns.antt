@@ -1,11 +1,10 @@
 -- Why clocks are fair between any two points of a master's life.
-use Rattle.std.proofs.Common.{◌≡◌, ℕ, ◌+◌, ◌*◌, ◌-◌, ◌≤◌, List, [], ◌∷◌, ◌++◌, Option, Some, None, refl, sym, ap, ◌∙◌, inl, inr, arith, subst}
+use Rattle.std.proofs.Common.{◌≡◌, ℕ, ◌+◌, ◌*◌, ◌-◌, ◌≤◌, List, [], ◌∷◌, sym, ◌∙◌, inl, inr, arith, subst}
 use Rattle.node_core.specs.declared.lines.Line.{Line}
-use Rattle.cell_core.specs.State.{MasterState}
 use Rattle.world_cell.specs.declared.steps.Step.{Step}
 use Rattle.world_cell.specs.declared.seats.Seat.{Seat}
-use Rattle.world_cell.specs.World.{WorldState, WorldView, seat_of}
-use Rattle.world_cell.specs.Consistent.{IsFairSince, IsConsistent}
+use Rattle.world_cell.specs.World.{WorldState, WorldView}
+use Rattle.world_cell.specs.Consistent.{IsConsistent}
 use Rattle.world_cell.specs.Runs.{Does, Run, AreFairClocks, KeepsClocksFair}
 use Rattle.world_cell.proofs.SeatsFound.{le_of, some_same}
 use Rattle.world_cell.proofs.WorldCases.{world_case}

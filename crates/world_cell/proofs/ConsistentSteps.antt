@@ -1,7 +1,7 @@
 -- Why a step of a consistent world leads to a consistent one.
-use Rattle.std.proofs.Common.{◌≡◌, ◌≢◌, ℕ, ◌+◌, ◌*◌, ◌≤◌, max, List, [], ◌∷◌, ◌++◌, Bool, true, false, cond, Option, Some, None, Result, Ok, Err, refl, sym, ap, ◌∙◌, inl, inr, arith, subst, map, zero, suc}
+use Rattle.std.proofs.Common.{◌≡◌, ◌≢◌, ℕ, ◌+◌, ◌*◌, ◌≤◌, max, List, [], ◌∷◌, ◌++◌, true, false, cond, Option, Some, None, Result, Ok, Err, refl, sym, ap, ◌∙◌, inl, inr, arith, subst, map, zero, suc}
 use Rattle.std.specs.Prelude.{IfOk, OnErr}
-use Rattle.std.specs.List.{slice_get, list_all}
+use Rattle.std.specs.List.{slice_get}
 use Rattle.std.specs.Option.{option_map}
 use Rattle.std.specs.Map.{lookup}
 use Rattle.std.specs.BTreeMap.{is_at, insert_entry}
@@ -11,6 +11,7 @@ use Rattle.plain.proofs.OneKey.{lookup_put, lookup_put_apart}
 use Rattle.lease_core.specs.Lease.{longest_lease}
 use Rattle.coherence.specs.Slice.{Reached}
 use Rattle.coherence.proofs.Reached.{reached_at_start}
+use Rattle.node_core.specs.Nodes.{get_node}
 use Rattle.node_core.specs.declared.refusals.Fault.{Fault}
 use Rattle.node_core.specs.declared.lines.Line.{Line}
 use Rattle.node_core.specs.declared.views.Mod.{Mod}
@@ -20,7 +21,7 @@ use Rattle.rows_cell.specs.declared.tables.Rows.{Rows}
 use Rattle.rows_cell.specs.declared.tables.Session as stored
 use Rattle.rows_cell.specs.declared.tables.Edit.{Edit}
 use Rattle.rows_cell.specs.declared.tables.Edit.TheVariants.{NextInstance, RemoveLock, PutSession}
-use Rattle.rows_cell.specs.Rows.{StoredLocks, changed_rows, edited}
+use Rattle.rows_cell.specs.Rows.{StoredLocks, changed_rows, edited, map_of}
 use Rattle.tags_cell.specs.declared.requests.Request.{Request}
 use Rattle.tags_cell.specs.declared.requests.Request.TheVariants as requests
 use Rattle.tags_cell.specs.declared.requests.CallMessage.{CallMessage}
@@ -29,14 +30,15 @@ use Rattle.tags_cell.specs.declared.outs.Out.TheVariants as outs
 use Rattle.tags_cell.specs.declared.outs.Started.{Started}
 use Rattle.tags_cell.specs.declared.outs.Reply.{Reply}
 use Rattle.cell_core.specs.declared.handles.Note.{Note}
+use Rattle.session_core.specs.declared.records.Kept.{Kept}
 use Rattle.session_core.specs.declared.records.Session.{Session}
 use Rattle.cell_core.specs.State.{MasterState, master_of, taken_over, locks_of}
-use Rattle.cell_core.specs.Step.{with_note, repeated_reply, noted}
+use Rattle.cell_core.specs.Step.{with_note, with_call, asking_for, repeated_reply, noted}
 use Rattle.cell_core.specs.Deeds.{edit_of}
 use Rattle.cell_core.specs.Cases.{TakeCase, taken_by}
 use Rattle.over_core.specs.SweepCase.{SweepCase, swept_by, swept_edits}
-use Rattle.cell_core.specs.Cases.TakeCase.{Repeated, StartQueued, BeatParked, Answered, Waits}
-use Rattle.over_core.specs.SweepCase.SweepCase.{Quiet, Recovers, Expires, AnswersBeat, StartedAgain, Started as StartedFirst, OfEnded, Ended, Applied}
+use Rattle.cell_core.specs.Cases.TakeCase.{Repeated, StartQueued, BeatParked, Answered, Granted, Waits}
+use Rattle.over_core.specs.SweepCase.SweepCase.{Quiet, Recovers, Expires, StartedAgain, Started as StartedFirst, OfEnded, Ended, Applied}
 use Rattle.over_core.specs.Kept.{IsKept}
 use Rattle.over_core.specs.Up.{up_edits}
 use Rattle.client_core.specs.declared.sessions.Session.TheVariants as sessions
@@ -50,14 +52,14 @@ use Rattle.world_cell.specs.declared.mail.Message.TheVariants.{ToMaster, ToClien
 use Rattle.world_cell.specs.declared.seats.Seat.{Seat}
 use Rattle.world_cell.specs.Seats.{Clients, new_seat, seated, each_seat, at_up}
 use Rattle.world_cell.specs.Messages.{request_at, out_at, call_of}
-use Rattle.world_cell.specs.World.{WorldState, WorldView, seat_of, new_world, world_step, world_sweep, without_quiet, IsLeft, clock_then, own_step, stays_fair, are_fair, moved, ticked}
+use Rattle.world_cell.specs.World.{WorldState, WorldView, seat_of, new_world, world_step, world_sweep, without_quiet, IsLeft, clock_then, stays_fair, are_fair, moved, ticked}
 use Rattle.world_cell.specs.Slices.{slice, standing_in}
 use Rattle.world_cell.specs.Consistent.{IsSeated, HasSent, FitsMessages, Agrees, Fits, IsNoted, IsInTurn, IsFairSince, AreFair, IsConsistent}
 use Rattle.world_cell.proofs.MessagesGrow.{none_sent, none_out, request_more, out_more, call_stays, call_more, call_new, no_call, no_request, one_call, its_call, one_request, one_no_out, out_among}
 use Rattle.world_cell.proofs.OneSession.{at_each, kept_in}
 use Rattle.world_cell.proofs.MasterFits.{fits_stays, take_fits, sweep_fits}
 use Rattle.world_cell.proofs.SeatsFound.{some_same, own_seat, other_seat, at_seats, each_found, at_each_seat, all_found, moves_so, fair_at_once, fair_beside}
-use Rattle.world_cell.proofs.WorldCases.{IsUp, IsJoin, IsTick, IsTake, IsSweep, WorldCase, world_case}
+use Rattle.world_cell.proofs.WorldCases.{WorldCase, world_case}
 use Rattle.world_cell.proofs.WorldCases.WorldCase.{ComesUp, Joins, Asks, Beats, Gives, Ticks, Takes, Sweeps}
 use Rattle.world_cell.proofs.OwnSteps.{IsNoCall, IsNextCall, Sends, OfEpoch, sending, IsOwn, asks_own, beats_own, gives_own}
 use Rattle.world_cell.proofs.OwnSteps.Sends.{Nothing, NoCall, NextCall}
@@ -100,8 +102,11 @@ fits_more old new more None e h = tt
 fits_more old new more (Some s) e h = subst (λ (xs : List Message). FitsMessages xs s) (sym e) (fits_stays old.messages more s h)
 
 -- a world that agrees with its rows, and that schedules lead to, is consistent
-abbrev pub Becomes : WorldState → Type 0
-Becomes w = Agrees w w.master → ((client : ℕ) → Reached (slice client w)) → IsConsistent w
+pub data Becomes (w : WorldState) : Type 0 where
+  OnceReached : (Agrees w w.master → ((client : ℕ) (name : List ℕ) → Reached (slice client name w)) → IsConsistent w) → Becomes w
+
+once_reached : (w : WorldState) → Becomes w → Agrees w w.master → ((client : ℕ) (name : List ℕ) → Reached (slice client name w)) → IsConsistent w
+once_reached w (Becomes.OnceReached consistent) = consistent
 
 module _ (old new : WorldState) (more : List Message) (h : IsConsistent old) (later : Later old new) (fresh : AreFresh old new more) where
   sent_later : (client number : ℕ) (call : CallMessage) → HasSent old client number call → HasSent new client number call
@@ -138,7 +143,7 @@ module _ (old new : WorldState) (more : List Message) (h : IsConsistent old) (la
       ]
 
   all_consistent : ((number : ℕ) (seat : Seat) → seat_of new number ≡ Some seat → IsSeated new.rows.epoch number seat) → Fits new new.master → new.lease ≡ old.lease → IsNoted new.clock new.master → AreFair new new.master → Becomes new
-  all_consistent clients fits lease noted fair master reached = record {
+  all_consistent clients fits lease noted fair = Becomes.OnceReached (λ master reached. record {
     clients = clients;
     named = all_named;
     sent = all_sent;
@@ -149,7 +154,7 @@ module _ (old new : WorldState) (more : List Message) (h : IsConsistent old) (la
     noted = noted;
     fair = fair;
     reached = reached;
-  }
+  })
 
 -- ---- messages that are no calls
 
@@ -263,12 +268,16 @@ module _ (w : WorldState) (h : IsConsistent w) (now : ℕ) where
     clock = λ same. not_next same;
   }
 
+  -- it knows of no call
+  no_kept : {X : Type 0} (client : ℕ) (kept : Kept Reply) → kept_in (lookup (is_at (nat_cmp client)) (map (taken_over now) w.rows.sessions)) ≡ Some kept → X
+  no_kept client kept is = let none = (all_first now w.rows.sessions client).0 in cc
+
   up_holds : Becomes up
   up_holds =
       all_consistent w up [] h up_later (none_fresh w up refl)
       (at_each_seat (λ number. at_up now) w.clients (λ q x. IsSeated (w.rows.epoch + 1) q x) (λ q x is.
       let t = seated_later w.rows.epoch (w.rows.epoch + 1) q x next_epoch (h.clients q x is) in record { own = t.own; past = t.past; unstarted = t.unstarted; noted = t.noted }))
-      (record { queue = tt; kept = λ client kept is. let none = (all_first now w.rows.sessions client).0 in cc; turns = λ client. (all_first now w.rows.sessions client).1 }) refl (least now)
+      (record { queue = tt; kept = λ client kept is. no_kept client kept is; replies = λ client kept reply is of. no_kept client kept is; granted = λ client kept reply is of. no_kept client kept is; turns = λ client. (all_first now w.rows.sessions client).1 }) refl (least now)
       (at_each_seat (λ number. at_up now) w.clients (λ q x. IsFairSince now x) (λ q x is. fair_at_once now (at_up now x) refl refl))
 
 -- ---- a client joins
@@ -506,7 +515,7 @@ noted_at : (now : ℕ) (o : Option MasterState) (s : MasterState) → o ≡ Some
 noted_at now o s e k = rw e at k
 
 pub noted_fits : (w : WorldState) → IsConsistent w → (s : MasterState) → w.master ≡ Some s → FitsMessages w.messages (noted s w.clock)
-noted_fits w h s up = let f = fits_at w w.master s up h.fits in record { queue = f.queue; kept = f.kept; turns = f.turns }
+noted_fits w h s up = let f = fits_at w w.master s up h.fits in record { queue = f.queue; kept = f.kept; replies = f.replies; granted = f.granted; turns = f.turns }
 
 repeated_grants : (epoch : ℕ) (reply : Option Reply) → AreGrantsIn epoch (repeated_reply reply).outs
 repeated_grants epoch None = tt
@@ -551,9 +560,15 @@ note_clock : (s : MasterState) (note : Option Note) → (with_note s note).clock
 note_clock s None = refl
 note_clock s (Some note) = refl
 
+asking_clock : (s : MasterState) (touched : Option (List ℕ)) → (asking_for s touched).clock ≡ s.clock
+asking_clock s None = refl
+asking_clock s (Some name) = refl
+
 pub taken_clock : (s : MasterState) (request : Request) (c : TakeCase s request) → (taken_by s request c).0.clock ≡ s.clock
 taken_clock s request (Answered message note answer new serving answered) = note_clock s note
-taken_clock s request (Waits message note touched new serving admitted) = note_clock s note
+taken_clock s request (Granted message note answer name new serving may) = note_clock s note
+taken_clock s request (Waits message note touched new serving admitted) =
+    asking_clock (with_call (with_note s note) message.client message.number message.call touched) touched ∙ note_clock s note
 taken_clock s request _ = refl
 
 pub swept_clock : (s : MasterState) (c : SweepCase s) → (swept_by s c).0.clock ≡ s.clock
@@ -577,7 +592,7 @@ module _ (w : WorldState) (h : IsConsistent w) (s : MasterState) (up : w.master 
       let clock = taken_clock (noted s w.clock) request c in
       let early = within in
       all_consistent w new (map ToClient sent) h (same_clients w new refl (least w.rows.epoch) refl) (outs_fresh w new sent refl (taken_grants w.rows.epoch (noted s w.clock) request c)) (same_seats w new h refl (least w.rows.epoch))
-      (fits_stays w.messages (map ToClient sent) (taken_by (noted s w.clock) request c).0 fits) refl (omega (arith, clock, early)) (fair_at w w.master s up h.fair)
+      fits refl (omega (arith, clock, early)) (fair_at w w.master s up h.fair)
 
   sweep_holds : (c : SweepCase (noted s w.clock)) → Becomes (record w { rows = changed_rows w.rows (swept_edits (noted s w.clock) c); master = Some (swept_by (noted s w.clock) c).0; messages = w.messages ++ map ToClient (swept_by (noted s w.clock) c).1.outs })
   sweep_holds c =
@@ -618,14 +633,14 @@ case_later old step new printed h (Sweeps t) =
     let l : old.rows.epoch ≤ (changed_rows old.rows (swept_edits (noted t.master old.clock) t.case)).epoch = omega (arith, e) in
     subst (Later old) (sym t.is) (same_clients old _ refl l refl)
 
--- to each client the world behind a step is what some schedule leads to
+-- to each client, and of each name, the world behind a step is what some schedule leads to
 abbrev pub LeadsOn : Type 0
-LeadsOn = (old : WorldState) (step : Step) (new : WorldState) (printed : List Line) → IsConsistent old → WorldCase old step new printed → (client : ℕ) → Reached (slice client new)
+LeadsOn = (old : WorldState) (step : Step) (new : WorldState) (printed : List Line) → IsConsistent old → WorldCase old step new printed → (client : ℕ) (name : List ℕ) → Reached (slice client name new)
 
 pub step_holds : LeadsOn → (old new : WorldView) (step : Step) (edits : List Edit) (r : Result (List Line) Fault) → IsConsistent old.world → Agrees new.world new.world.master → IfOk r (λ printed. world_step old.world step ≡ Ok (new.world, printed)) → OnErr r (IsLeft edits old new) → IsConsistent new.world
 step_holds leads old new step edits (Ok printed) h agrees made left =
     let c = world_case old.world step new.world printed h.master made in
-    case_holds old.world step new.world printed h c agrees (leads old.world step new.world printed h c)
+    once_reached new.world (case_holds old.world step new.world printed h c) agrees (leads old.world step new.world printed h c)
 step_holds leads old new step edits (Err fault) h agrees made left = subst IsConsistent (sym left.same) h
 
 pub swept_holds : LeadsOn → (old new : WorldView) (edits : List Edit) (r : Result Turn Fault) → IsConsistent old.world → Agrees new.world new.world.master → IfOk r (λ turn. world_sweep old.world old.world.master ≡ Ok (new.world, turn)) → OnErr r (IsLeft edits old new) → IsConsistent new.world
@@ -646,5 +661,5 @@ new_holds cell rows lease range = record {
   lease = range;
   noted = tt;
   fair = tt;
-  reached = λ client. reached_at_start tt (standing_in rows client) rows.epoch;
+  reached = λ client name. reached_at_start (get_node (map_of rows) name) (standing_in rows client) rows.epoch;
 }

@@ -10,6 +10,7 @@ pub mod WorldCases
 pub mod OwnSteps
 pub mod PartsOfRuns
 pub mod MessagesGrow
+pub mod GrantsSent
 pub mod MasterFits
 pub mod ConsistentSteps
 pub mod OnceByRuns
@@ -17,10 +18,14 @@ pub mod RowsByRuns
 pub mod CallsByRuns
 pub mod SessionsByRuns
 pub mod ClocksByRuns
+pub mod RightsByRuns
+pub mod SliceRights
 pub mod Slices
 pub mod SliceTicks
 pub mod SliceClients
+pub mod SliceCalls
 pub mod SliceTakes
+pub mod SweptNames
 pub mod SliceSweeps
 pub mod SliceLeases
 pub mod SliceSteps

@@ -1,5 +1,5 @@
 -- What waits and what is kept fits the messages, whatever the master takes or sweeps.
-use Rattle.std.proofs.Common.{◌≡◌, ◌≢◌, ℕ, ◌+◌, ◌<◌, List, [], ◌∷◌, ◌++◌, Bool, true, false, cond, Option, Some, None, refl, sym, ap, ◌∙◌, inl, inr, arith, subst}
+use Rattle.std.proofs.Common.{◌≡◌, ◌≢◌, ℕ, ◌+◌, List, [], ◌∷◌, ◌++◌, Bool, true, false, cond, Option, Some, None, refl, sym, ap, ◌∙◌, inl, inr, arith, subst, map}
 use Rattle.std.specs.Prelude.{◌==◌}
 use Rattle.std.specs.Option.{option_map_or}
 use Rattle.std.proofs.lemmas.Bool.Decides.{nat_tests}
@@ -12,34 +12,89 @@ use Rattle.tags_cell.specs.declared.outs.CallResult.{CallResult}
 use Rattle.tags_cell.specs.declared.outs.CallResult.TheVariants as results
 use Rattle.tags_cell.specs.declared.beats.Beat.{Beat}
 use Rattle.node_core.specs.declared.refusals.Fault.TheVariants as faults
+use Rattle.tags_cell.specs.declared.outs.Out.TheVariants as outs
 use Rattle.tags_cell.specs.declared.outs.Reply.{Reply}
+use Rattle.rights_core.specs.declared.cache_rights.CacheRight.{CacheRight}
+use Rattle.rights_core.specs.Rights.{granted, clients_to_ask, asked_back}
+use Rattle.rights_core.specs.Rights as of_rights
+use Rattle.rights_core.specs.declared.endings.Ending.TheVariants as endings
 use Rattle.gate_core.specs.declared.pending.Waiting.{Waiting}
 use Rattle.session_core.specs.declared.records.Kept.{Kept}
 use Rattle.session_core.specs.declared.records.Session.{Session}
-use Rattle.session_core.specs.Session.{keeping, beaten, prolonged, answered, session_until}
+use Rattle.session_core.specs.Session.{keeping, beaten, prolonged, answered, session_until, issued_through}
 use Rattle.session_core.specs.Session as of_session
-use Rattle.session_core.specs.Sessions.{with_session, with_new}
+use Rattle.session_core.specs.Sessions.{with_session, with_new, issued_by}
 use Rattle.cell_core.specs.declared.handles.Note.{Note}
 use Rattle.cell_core.specs.declared.pending.Task.{Task}
 use Rattle.cell_core.specs.declared.pending.Work.{Work}
 use Rattle.cell_core.specs.declared.pending.Work.TheVariants as works
 use Rattle.cell_core.specs.State.{MasterState}
-use Rattle.cell_core.specs.Step.{session_of, kept_of, is_live, reply_of, answered_by, recorded, queued, parked, replied, waits, with_note}
-use Rattle.cell_core.specs.Cases.{IsBehind, IsHeard, IsNew, TakeCase, taken_by}
-use Rattle.cell_core.specs.Cases.TakeCase.{StartQueued, BeatParked, Recovering, Answered, Waits}
-use Rattle.over_core.specs.SweepCase.{IsTurn, IsDueToEnd, IsDue, SweepCase, swept_by, rest, ended, mapped}
+use Rattle.cell_core.specs.Step.{session_of, kept_of, is_live, reply_of, stamped_reply, answered_by, recorded, queued, names_of, with_call, with_right, asking_for, acknowledgement, parked, replied, granting, waits, with_note}
+use Rattle.cell_core.specs.Cases.{IsBehind, TakeCase, taken_by}
+use Rattle.cell_core.specs.Cases.TakeCase.{StartQueued, BeatParked, Recovering, Answered, Granted, Waits}
+use Rattle.over_core.specs.SweepCase.{IsTurn, SweepCase, swept_by, rest, ended, mapped}
 use Rattle.over_core.specs.SweepCase.SweepCase.{Quiet, Recovers, Expires, AnswersBeat, TurnedAway, StartedAgain, Started as StartedFirst, OfEnded, Ended, Applied}
 use Rattle.world_cell.specs.declared.mail.Message.{Message}
+use Rattle.world_cell.specs.declared.mail.Message.TheVariants.{ToClient}
 use Rattle.world_cell.specs.Messages.{call_of}
-use Rattle.world_cell.specs.Consistent.{put_waiting, waiting, IsWaiting, IsLastInTurn, IsInTurn, IsOfMessage, AreOfMessages, WasSent, FitsMessages}
+use Rattle.world_cell.specs.Consistent.{put_waiting, waiting, IsWaiting, IsLastInTurn, IsInTurn, IsOfMessage, AreOfMessages, WasSent, IsReplyTo, HasGranted, FitsMessages}
 use Rattle.world_cell.proofs.MessagesGrow.{call_stays}
-use Rattle.world_cell.proofs.OneSession.{at_each, kept_in, each_apart, each_session, each_with_new, answered_so}
+use Rattle.world_cell.proofs.GrantsSent.{none_granted, now_granted, later_granted}
+use Rattle.world_cell.proofs.OneSession.{at_each, kept_in, each_apart, each_session, each_with_new, each_issued, answered_so}
+use Rattle.world_cell.proofs.SeatsFound.{some_same}
 
 -- a change that waits
 abbrev pub waits_as : ℕ → List (List ℕ) → Task → Waiting Task
 waits_as number touched task = record { number = number; change = record { touched = touched; body = task } }
 
+-- ---- what is kept of a call
+
+-- it was sent, and a reply to it, and what that grants was granted
+record IsKeptAs (sent : List Message) (epoch : ℕ) (secret : List ℕ) (client : ℕ) (kept : Kept Reply) : Type 0 where
+  was : WasSent sent epoch client kept.number
+  replied : (reply : Reply) → kept.reply ≡ Some reply → IsReplyTo client kept.number reply
+  granted : (reply : Reply) → kept.reply ≡ Some reply → HasGranted sent secret client reply
+
+abbrev IsKeptSent : List Message → ℕ → List ℕ → ℕ → Option (Session Reply) → Type 0
+IsKeptSent sent epoch secret client o = (kept : Kept Reply) → kept_in o ≡ Some kept → IsKeptAs sent epoch secret client kept
+
+all_kept : (sent : List Message) (s : MasterState) → FitsMessages sent s → (client : ℕ) → IsKeptSent sent s.epoch s.secret client (session_of s client)
+all_kept sent s h client kept is = record { was = h.kept client kept is; replied = λ reply of. h.replies client kept reply is of; granted = λ reply of. h.granted client kept reply is of }
+
+fits_by : (sent : List Message) (s : MasterState) → AreOfMessages sent s.epoch s.gate.waiting → ((client : ℕ) → IsKeptSent sent s.epoch s.secret client (session_of s client)) → ((client : ℕ) → IsInTurn (session_of s client) (waiting client s.gate.waiting)) → FitsMessages sent s
+fits_by sent s queue kept turns = record {
+  queue = queue;
+  kept = λ client now is. (kept client now is).was;
+  replies = λ client now reply is. (kept client now is).replied reply;
+  granted = λ client now reply is. (kept client now is).granted reply;
+  turns = turns;
+}
+
+-- a call that waits, and one that has its reply
+waits_kept : (sent : List Message) (epoch : ℕ) (secret : List ℕ) (client number : ℕ) → WasSent sent epoch client number → IsKeptAs sent epoch secret client (record { number = number; reply = None })
+waits_kept sent epoch secret client number was = record { was = was; replied = λ reply of. cc; granted = λ reply of. cc }
+
+replied_kept : (sent : List Message) (epoch : ℕ) (secret : List ℕ) (client number : ℕ) (reply : Reply) → WasSent sent epoch client number → IsReplyTo client number reply → HasGranted sent secret client reply → IsKeptAs sent epoch secret client (record { number = number; reply = Some reply })
+replied_kept sent epoch secret client number reply was to granted = record {
+  was = was;
+  replied = λ r of. subst (λ x. IsReplyTo client number x) (some_same reply r of) to;
+  granted = λ r of. subst (λ x. HasGranted sent secret client x) (some_same reply r of) granted;
+}
+
 -- ---- more messages
+
+later_kept : (xs ys : List Message) (epoch : ℕ) (secret : List ℕ) (client : ℕ) (kept : Kept Reply) → IsKeptAs xs epoch secret client kept → IsKeptAs (xs ++ ys) epoch secret client kept
+later_kept xs ys epoch secret client kept h =
+    let w = h.was in
+    record {
+      was = record { call = w.call; found = call_stays xs ys client kept.number w.call w.found; same = w.same };
+      replied = h.replied;
+      granted = λ reply of.
+          let to = h.replied reply of in
+          let found : call_of xs reply.client reply.number ≡ Some w.call =
+          subst (λ n. call_of xs reply.client n ≡ Some w.call) (sym to.answered) (subst (λ c. call_of xs c kept.number ≡ Some w.call) (sym to.to) w.found) in
+          later_granted xs ys secret client reply w.call found (h.granted reply of);
+    }
 
 work_stays : (xs ys : List Message) (epoch client number : ℕ) (work : Work) → IsOfMessage xs epoch client number work → IsOfMessage (xs ++ ys) epoch client number work
 work_stays xs ys epoch client number (works.Starts principal received) h = tt
@@ -50,11 +105,13 @@ queue_stays xs ys epoch [] h = tt
 queue_stays xs ys epoch (w ∷ ws) h = (work_stays xs ys epoch w.change.body.client w.change.body.number w.change.body.work h.0, queue_stays xs ys epoch ws h.1)
 
 pub fits_stays : (xs ys : List Message) (s : MasterState) → FitsMessages xs s → FitsMessages (xs ++ ys) s
-fits_stays xs ys s h = record {
-  queue = queue_stays xs ys s.epoch s.gate.waiting h.queue;
-  kept = λ client kept is. let w = h.kept client kept is in record { call = w.call; found = call_stays xs ys client kept.number w.call w.found; same = w.same };
-  turns = h.turns;
-}
+fits_stays xs ys s h =
+    fits_by (xs ++ ys) s (queue_stays xs ys s.epoch s.gate.waiting h.queue)
+    (λ client kept is. later_kept xs ys s.epoch s.secret client kept (all_kept xs s h client kept is)) h.turns
+
+-- other rights
+right_fits : (sent : List Message) (s : MasterState) (rights : List CacheRight) → FitsMessages sent s → FitsMessages sent (record s { rights = rights })
+right_fits sent s rights h = record { queue = h.queue; kept = h.kept; replies = h.replies; granted = h.granted; turns = h.turns }
 
 -- ---- the queue
 
@@ -130,19 +187,14 @@ same_turn : (session new : Session Reply) (numbers : List ℕ) → new.live ≡ 
 same_turn session new numbers live kept h =
     subst (λ b. IsLastInTurn b new.kept numbers) (sym live) (subst (λ o. IsLastInTurn session.live o numbers) (sym kept) h)
 
--- what is kept of a session was sent
-abbrev pub IsKeptSent : List Message → ℕ → ℕ → Option (Session Reply) → Type 0
-IsKeptSent sent epoch client o = (kept : Kept Reply) → kept_in o ≡ Some kept → WasSent sent epoch client kept.number
-
 module _ (sent : List Message) (s : MasterState) (h : FitsMessages sent s) where
   -- a step that keeps what is kept of calls
   stepped_fits : (client : ℕ) (step : Session Reply → Session Reply) → ((session : Session Reply) → (step session).kept ≡ session.kept) → ((session : Session Reply) (numbers : List ℕ) → IsInTurn (Some session) numbers → IsInTurn (Some (step session)) numbers) → FitsMessages sent (record s { sessions = with_session s.sessions client step })
-  stepped_fits client step kept turn = record {
-    queue = h.queue;
-    kept = each_session (λ q o. IsKeptSent sent s.epoch q o) s.sessions client h.kept step (λ session is was e. h.kept client was (ap kept_in is ∙ sym (kept session) ∙ e));
-    turns = each_session (λ q o. IsInTurn o (waiting q s.gate.waiting)) s.sessions client h.turns step
-        (λ session is. turn session (waiting client s.gate.waiting) (subst (λ o. IsInTurn o (waiting client s.gate.waiting)) is (h.turns client)));
-  }
+  stepped_fits client step kept turn =
+      fits_by sent (record s { sessions = with_session s.sessions client step }) h.queue
+      (each_session (λ q o. IsKeptSent sent s.epoch s.secret q o) s.sessions client (all_kept sent s h) step (λ session is was e. all_kept sent s h client was (ap kept_in is ∙ sym (kept session) ∙ e)))
+      (each_session (λ q o. IsInTurn o (waiting q s.gate.waiting)) s.sessions client h.turns step
+      (λ session is. turn session (waiting client s.gate.waiting) (subst (λ o. IsInTurn o (waiting client s.gate.waiting)) is (h.turns client))))
 
   prolonged_fits : (client moment : ℕ) → FitsMessages sent (record s { sessions = with_session s.sessions client (prolonged moment) })
   prolonged_fits client moment = stepped_fits client (prolonged moment) (λ session. refl) (λ session numbers k. same_turn session (prolonged moment session) numbers refl refl k)
@@ -152,22 +204,27 @@ module _ (sent : List Message) (s : MasterState) (h : FitsMessages sent s) where
       stepped_fits client (answered lease now) (λ session. (answered_so lease now session).kept)
       (λ session numbers k. same_turn session (answered lease now session) numbers (answered_so lease now session).live (answered_so lease now session).kept k)
 
+  issued_fits : (asked : List (ℕ × ℕ)) → FitsMessages sent (record s { sessions = issued_by asked s.sessions })
+  issued_fits asked =
+      fits_by sent (record s { sessions = issued_by asked s.sessions }) h.queue
+      (each_issued (λ q o. IsKeptSent sent s.epoch s.secret q o) (λ q number session k. k) asked s.sessions (all_kept sent s h))
+      (each_issued (λ q o. IsInTurn o (waiting q s.gate.waiting)) (λ q number session k. same_turn session (issued_through number session) (waiting q s.gate.waiting) refl refl k) asked s.sessions h.turns)
+
   expired_fits : (client : ℕ) → FitsMessages sent (record s { sessions = with_session s.sessions client of_session.ended })
   expired_fits client = stepped_fits client of_session.ended (λ session. refl) (λ session numbers k. ended_turn session.live session.kept numbers k)
 
   begun_fits : (client : ℕ) (principal : List ℕ) (moment : ℕ) → session_of s client ≡ None → FitsMessages sent (record s { sessions = with_new s.sessions client (session_until principal true moment) })
-  begun_fits client principal moment none = record {
-    queue = h.queue;
-    kept = each_with_new (λ q o. IsKeptSent sent s.epoch q o) s.sessions client h.kept (session_until principal true moment) (λ was e. cc);
-    turns = each_with_new (λ q o. IsInTurn o (waiting q s.gate.waiting)) s.sessions client h.turns (session_until principal true moment)
-        (subst (λ o. IsInTurn o (waiting client s.gate.waiting)) none (h.turns client));
-  }
+  begun_fits client principal moment none =
+      fits_by sent (record s { sessions = with_new s.sessions client (session_until principal true moment) }) h.queue
+      (each_with_new (λ q o. IsKeptSent sent s.epoch s.secret q o) s.sessions client (all_kept sent s h) (session_until principal true moment) (λ was e. cc))
+      (each_with_new (λ q o. IsInTurn o (waiting q s.gate.waiting)) s.sessions client h.turns (session_until principal true moment)
+      (subst (λ o. IsInTurn o (waiting client s.gate.waiting)) none (h.turns client)))
 
   -- a call of the client is recorded
-  is_recorded : (client number : ℕ) (reply : Option Reply) → WasSent sent s.epoch client number → (q : ℕ) → IsKeptSent sent s.epoch q (session_of (recorded s client (record { number = number; reply = reply })) q)
-  is_recorded client number reply was =
-      each_session (λ q o. IsKeptSent sent s.epoch q o) s.sessions client h.kept (keeping (record { number = number; reply = reply }))
-      (λ session is kept e. let n : number ≡ kept.number = cc in subst (λ k. WasSent sent s.epoch client k) n was)
+  is_recorded : (client : ℕ) (kept : Kept Reply) → IsKeptAs sent s.epoch s.secret client kept → (q : ℕ) → IsKeptSent sent s.epoch s.secret q (session_of (recorded s client kept) q)
+  is_recorded client kept as_it =
+      each_session (λ q o. IsKeptSent sent s.epoch s.secret q o) s.sessions client (all_kept sent s h) (keeping kept)
+      (λ session is now e. subst (λ k. IsKeptAs sent s.epoch s.secret client k) (some_same kept now e) as_it)
 
 -- a live session is there, and lives
 no_session : (s : MasterState) (client : ℕ) → is_live s client ≡ true → session_of s client ≡ None → ⊥
@@ -182,7 +239,14 @@ live_session s client session live is =
 
 pub fits_note : (sent : List Message) (s : MasterState) (note : Option Note) → FitsMessages sent s → FitsMessages sent (with_note s note)
 fits_note sent s None h = h
-fits_note sent s (Some note) h = record { queue = h.queue; kept = h.kept; turns = h.turns }
+fits_note sent s (Some note) h = record { queue = h.queue; kept = h.kept; replies = h.replies; granted = h.granted; turns = h.turns }
+
+-- who is asked for a name keeps its calls
+asking_fits : (sent : List Message) (s : MasterState) (touched : Option (List ℕ)) → FitsMessages sent s → FitsMessages sent (asking_for s touched)
+asking_fits sent s None h = h
+asking_fits sent s (Some name) h =
+    let asked = clients_to_ask name s.rights in
+    right_fits sent (record s { sessions = issued_by asked s.sessions }) (asked_back name s.rights) (issued_fits sent s h asked)
 
 pub behind_note : (s : MasterState) (note : Option Note) (client number : ℕ) → IsBehind (kept_of s client) number → IsBehind (kept_of (with_note s note) client) number
 behind_note s None client number h = h
@@ -200,30 +264,46 @@ module _ (sent : List Message) (s : MasterState) (client number : ℕ) (h : Fits
   free : waiting client s.gate.waiting ≡ []
   free = none_waits (session_of s client) number (waiting client s.gate.waiting) (h.turns client) behind
 
-  replied_fits : (result : CallResult) → WasSent sent s.epoch client number → FitsMessages sent (replied s client number result).0
-  replied_fits result was = record {
-    queue = h.queue;
-    kept = is_recorded sent s h client number (Some (reply_of s client number result)) was;
-    turns = each_session (λ q o. IsInTurn o (waiting q s.gate.waiting)) s.sessions client h.turns (keeping (answered_by (reply_of s client number result)))
-        (λ session is. replied_waiting session.live number (reply_of s client number result) (waiting client s.gate.waiting) free);
-  }
+  kept_fits : (reply : Reply) → IsReplyTo client number reply → HasGranted sent s.secret client reply → WasSent sent s.epoch client number → FitsMessages sent (recorded s client (record { number = number; reply = Some reply }))
+  kept_fits reply to granted was =
+      let kept : Kept Reply = record { number = number; reply = Some reply } in
+      fits_by sent (recorded s client kept) h.queue (is_recorded sent s h client kept (replied_kept sent s.epoch s.secret client number reply was to granted))
+      (each_session (λ q o. IsInTurn o (waiting q s.gate.waiting)) s.sessions client h.turns (keeping kept)
+      (λ session is. replied_waiting session.live number reply (waiting client s.gate.waiting) free))
 
-  waits_fits : (call : Call) (touched : List (List ℕ)) → call_of sent client number ≡ Some (record { client = client; epoch = s.epoch; number = number; call = call }) → FitsMessages sent (waits s client number call touched).0
-  waits_fits call touched found =
-      let w : Waiting Task = waits_as (s.gate.pushed + 1) touched (record { client = client; number = number; work = works.Calls call }) in
+  -- by what may not be kept in a cache
+  replied_fits : (result : CallResult) → WasSent sent s.epoch client number → FitsMessages sent (replied s client number result).0
+  replied_fits result was =
+      let reply = reply_of s client number result in
+      kept_fits reply (record { to = refl; answered = refl }) (none_granted sent s.secret client reply refl) was
+
+  called_fits : (call : Call) (touched : Option (List ℕ)) → call_of sent client number ≡ Some (record { client = client; epoch = s.epoch; number = number; call = call }) → FitsMessages sent (with_call s client number call touched)
+  called_fits call touched found =
+      let w : Waiting Task = waits_as (s.gate.pushed + 1) (names_of touched) (record { client = client; number = number; work = works.Calls call }) in
+      let was : WasSent sent s.epoch client number = record { call = record { client = client; epoch = s.epoch; number = number; call = call }; found = found; same = refl } in
       let own : waiting client (s.gate.waiting ++ w ∷ []) ≡ number ∷ [] =
       waiting_append client s.gate.waiting (w ∷ []) ∙ ap (λ xs. xs ++ waiting client (w ∷ [])) free ∙ waits_own client number call [] in
       let others = λ (q : ℕ) (apart : q ≢ client).
       subst (λ xs. IsInTurn (session_of s q) xs)
       (sym (waiting_append q s.gate.waiting (w ∷ []) ∙ ap (λ xs. waiting q s.gate.waiting ++ xs) (waits_other q client number (works.Calls call) [] apart) ∙ append-nil (waiting q s.gate.waiting)))
       (h.turns q) in
-      record {
-        queue = queue_push sent s.epoch s.gate.waiting w h.queue found;
-        kept = is_recorded sent s h client number None (record { call = record { client = client; epoch = s.epoch; number = number; call = call }; found = found; same = refl });
-        turns = each_apart (λ q o. IsInTurn o (waiting q (s.gate.waiting ++ w ∷ []))) s.sessions client (keeping (record { number = number; reply = None })) others
-            (λ none. absurd (no_session s client live none))
-            (λ session is. live_waiting session.live number (waiting client (s.gate.waiting ++ w ∷ [])) (live_session s client session live is) own);
-      }
+      fits_by sent (with_call s client number call touched) (queue_push sent s.epoch s.gate.waiting w h.queue found)
+      (is_recorded sent s h client (record { number = number; reply = None }) (waits_kept sent s.epoch s.secret client number was))
+      (each_apart (λ q o. IsInTurn o (waiting q (s.gate.waiting ++ w ∷ []))) s.sessions client (keeping (record { number = number; reply = None })) others
+      (λ none. absurd (no_session s client live none))
+      (λ session is. live_waiting session.live number (waiting client (s.gate.waiting ++ w ∷ [])) (live_session s client session live is) own))
+
+  waits_fits : (call : Call) (touched : Option (List ℕ)) → call_of sent client number ≡ Some (record { client = client; epoch = s.epoch; number = number; call = call }) → FitsMessages sent (waits s client number call touched).0
+  waits_fits call touched found = asking_fits sent (with_call s client number call touched) touched (called_fits call touched found)
+
+-- the reply is sent, with its grant
+granting_fits : (sent : List Message) (s : MasterState) (client number : ℕ) (result : CallResult) (name : List ℕ) → FitsMessages sent s → is_live s client ≡ true → IsBehind (kept_of s client) number → WasSent sent s.epoch client number → FitsMessages (sent ++ map ToClient (granting s client number result name).1.outs) (granting s client number result name).0
+granting_fits sent s client number result name h live behind was =
+    let reply = stamped_reply s client number result in
+    let more : List Message = ToClient (outs.Reply reply) ∷ [] in
+    kept_fits (sent ++ more) (with_right s client name) client number (right_fits (sent ++ more) s (granted client name s.rights) (fits_stays sent more s h)) live behind
+    reply (record { to = refl; answered = refl }) (now_granted sent s.secret client reply)
+    (record { call = was.call; found = call_stays sent more client number was.call was.found; same = was.same })
 
 start_fits : (sent : List Message) (s : MasterState) (client number : ℕ) (principal : List ℕ) (received : ℕ) → FitsMessages sent s → FitsMessages sent (queued s [] (record { client = client; number = number; work = works.Starts principal received }))
 start_fits sent s client number principal received h =
@@ -231,35 +311,50 @@ start_fits sent s client number principal received h =
     record {
       queue = queue_push sent s.epoch s.gate.waiting w h.queue tt;
       kept = h.kept;
+      replies = h.replies;
+      granted = h.granted;
       turns = λ q. subst (λ xs. IsInTurn (session_of s q) xs) (sym (waiting_append q s.gate.waiting (w ∷ []) ∙ append-nil (waiting q s.gate.waiting))) (h.turns q);
     }
 
 -- it acknowledges, and is parked
 beat_fits : (sent : List Message) (s : MasterState) (beat : Beat) → FitsMessages sent s → FitsMessages sent (parked s beat)
 beat_fits sent s beat h =
-    stepped_fits sent s h beat.client (beaten beat s.clock) (λ session. refl) (λ session numbers k. same_turn session (beaten beat s.clock session) numbers refl refl k)
+    right_fits sent (record s { sessions = with_session s.sessions beat.client (beaten beat s.clock) }) (of_rights.ended beat.client (acknowledgement beat) s.rights)
+    (stepped_fits sent s h beat.client (beaten beat s.clock) (λ session. refl) (λ session numbers k. same_turn session (beaten beat s.clock session) numbers refl refl k))
 
 -- the request was sent, if it is a call
 abbrev pub WasAsked : List Message → Request → Type 0
 WasAsked sent request = (call : CallMessage) → request ≡ requests.Call call → call_of sent call.client call.number ≡ Some call
 
-pub take_fits : (sent : List Message) (s : MasterState) (request : Request) (c : TakeCase s request) → FitsMessages sent s → WasAsked sent request → FitsMessages sent (taken_by s request c).0
-take_fits sent s request (StartQueued start is may serving room) h asked = start_fits sent s start.client start.number start.principal s.clock h
-take_fits sent s request (BeatParked beat is epoch taken) h asked = beat_fits sent s beat h
+-- what the master sends is behind all messages
+pub take_fits : (sent : List Message) (s : MasterState) (request : Request) (c : TakeCase s request) → FitsMessages sent s → WasAsked sent request → FitsMessages (sent ++ map ToClient (taken_by s request c).1.outs) (taken_by s request c).0
+take_fits sent s request (StartQueued start is may serving room) h asked =
+    fits_stays sent [] (queued s [] (record { client = start.client; number = start.number; work = works.Starts start.principal s.clock })) (start_fits sent s start.client start.number start.principal s.clock h)
+take_fits sent s request (BeatParked beat is epoch taken) h asked = fits_stays sent [] (parked s beat) (beat_fits sent s beat h)
 take_fits sent s request (Recovering message new recovering) h asked =
-    replied_fits sent s message.client message.number h new.heard.live new.behind (results.Refused faults.Recovering)
-    (record { call = message; found = asked message new.heard.is_call; same = new.heard.epoch })
+    let step = replied s message.client message.number (results.Refused faults.Recovering) in
+    fits_stays sent (map ToClient step.1.outs) step.0
+    (replied_fits sent s message.client message.number h new.heard.live new.behind (results.Refused faults.Recovering)
+    (record { call = message; found = asked message new.heard.is_call; same = new.heard.epoch }))
 take_fits sent s request (Answered message note answer new serving answered) h asked =
     let t = with_note s note in
     let epoch : message.epoch ≡ t.epoch = new.heard.epoch ∙ sym (epoch_note s note) in
-    replied_fits sent t message.client message.number (fits_note sent s note h) (live_note s note message.client new.heard.live) (behind_note s note message.client message.number new.behind) answer
+    let step = replied t message.client message.number answer in
+    fits_stays sent (map ToClient step.1.outs) step.0
+    (replied_fits sent t message.client message.number (fits_note sent s note h) (live_note s note message.client new.heard.live) (behind_note s note message.client message.number new.behind) answer
+    (record { call = message; found = asked message new.heard.is_call; same = epoch }))
+take_fits sent s request (Granted message note answer name new serving may) h asked =
+    let t = with_note s note in
+    let epoch : message.epoch ≡ t.epoch = new.heard.epoch ∙ sym (epoch_note s note) in
+    granting_fits sent t message.client message.number answer name (fits_note sent s note h) (live_note s note message.client new.heard.live) (behind_note s note message.client message.number new.behind)
     (record { call = message; found = asked message new.heard.is_call; same = epoch })
 take_fits sent s request (Waits message note touched new serving admitted) h asked =
     let t = with_note s note in
     let epoch : message.epoch ≡ t.epoch = new.heard.epoch ∙ sym (epoch_note s note) in
-    waits_fits sent t message.client message.number (fits_note sent s note h) (live_note s note message.client new.heard.live) (behind_note s note message.client message.number new.behind) message.call touched
-    (rw (← epoch) (asked message new.heard.is_call))
-take_fits sent s request _ h asked = h
+    fits_stays sent [] (waits t message.client message.number message.call touched).0
+    (waits_fits sent t message.client message.number (fits_note sent s note h) (live_note s note message.client new.heard.live) (behind_note s note message.client message.number new.behind) message.call touched
+    (rw (← epoch) (asked message new.heard.is_call)))
+take_fits sent s request c h asked = fits_stays sent (map ToClient (taken_by s request c).1.outs) s h
 
 -- ---- a sweep
 
@@ -343,6 +438,8 @@ module _ (sent : List Message) (s : MasterState) (front : List (Waiting Task)) (
   start_left principal received work = record {
     queue = at_turn.1;
     kept = h.kept;
+    replies = h.replies;
+    granted = h.granted;
     turns = λ q. others q (ap (λ x. put_waiting q task.client task.number x (waiting q back)) work);
   }
 
@@ -364,6 +461,8 @@ module _ (sent : List Message) (s : MasterState) (front : List (Waiting Task)) (
   ended_left call work gone = record {
     queue = at_turn.1;
     kept = h.kept;
+    replies = h.replies;
+    granted = h.granted;
     turns = at_each (λ q. IsInTurn (session_of s q) (waiting q (front ++ back))) task.client
         (subst (λ xs. IsInTurn (session_of s task.client) xs) (sym (none_left call work))
         (left_turn (session_of s task.client) task.number (waiting task.client front) (waiting task.client back) gone (call_turn call work)))
@@ -372,29 +471,31 @@ module _ (sent : List Message) (s : MasterState) (front : List (Waiting Task)) (
 
   call_left : (call : Call) (answer : CallResult) (note : Option Note) → task.work ≡ works.Calls call → is_live s task.client ≡ true → FitsMessages sent (ended (rest s front back) task note answer)
   call_left call answer note work live =
-      let kept : Kept Reply = answered_by (reply_of s task.client task.number answer) in
-      fits_note sent (recorded (rest s front back) task.client kept) note (record {
-        queue = at_turn.1;
-        kept = is_recorded sent s h task.client task.number (Some (reply_of s task.client task.number answer)) (record { call = record { client = task.client; epoch = s.epoch; number = task.number; call = call }; found = turn_sent call work; same = refl });
-        turns = each_apart (λ q o. IsInTurn o (waiting q (front ++ back))) s.sessions task.client (keeping kept) others_left
-            (λ none. absurd (no_session s task.client live none))
-            (λ session is. replied_waiting session.live task.number (reply_of s task.client task.number answer) (waiting task.client (front ++ back)) (none_left call work));
-      })
+      let reply = reply_of s task.client task.number answer in
+      let kept : Kept Reply = answered_by reply in
+      let was : WasSent sent s.epoch task.client task.number = record { call = record { client = task.client; epoch = s.epoch; number = task.number; call = call }; found = turn_sent call work; same = refl } in
+      fits_note sent (recorded (rest s front back) task.client kept) note
+      (fits_by sent (recorded (rest s front back) task.client kept) at_turn.1
+      (is_recorded sent s h task.client kept (replied_kept sent s.epoch s.secret task.client task.number reply was (record { to = refl; answered = refl }) (none_granted sent s.secret task.client reply refl)))
+      (each_apart (λ q o. IsInTurn o (waiting q (front ++ back))) s.sessions task.client (keeping kept) others_left
+      (λ none. absurd (no_session s task.client live none))
+      (λ session is. replied_waiting session.live task.number reply (waiting task.client (front ++ back)) (none_left call work))))
 
 pub sweep_fits : (sent : List Message) (s : MasterState) (c : SweepCase s) → FitsMessages sent s → FitsMessages sent (swept_by s c).0
 sweep_fits sent s (Quiet none) h = h
-sweep_fits sent s (Recovers recovering heard) h = record { queue = h.queue; kept = h.kept; turns = h.turns }
-sweep_fits sent s (Expires client session due) h = expired_fits sent s h client
+sweep_fits sent s (Recovers recovering heard) h = record { queue = h.queue; kept = h.kept; replies = h.replies; granted = h.granted; turns = h.turns }
+sweep_fits sent s (Expires client session due) h =
+    right_fits sent (record s { sessions = with_session s.sessions client of_session.ended }) (of_rights.ended client endings.Expiry s.rights) (expired_fits sent s h client)
 sweep_fits sent s (AnswersBeat client session beat due) h = answered_fits sent s h client s.sessions.lease s.clock
 sweep_fits sent s (TurnedAway front back task principal received turn work may) h = start_left sent s front task back turn h principal received work
 sweep_fits sent s (StartedAgain front back task principal received session turn work found live) h =
     let t : MasterState = record s { sessions = with_session s.sessions task.client (prolonged (s.clock + s.sessions.lease)) } in
-    start_left sent t front task back (record { number = turn.number; touched = turn.touched; waited = turn.waited }) (prolonged_fits sent s h task.client (s.clock + s.sessions.lease)) principal received work
+    start_left sent t front task back (record { number = turn.number; touched = turn.touched; waited = turn.waited; free = turn.free }) (prolonged_fits sent s h task.client (s.clock + s.sessions.lease)) principal received work
 sweep_fits sent s (StartedFirst front back task principal received turn work none) h =
     let t : MasterState = record s { sessions = with_new s.sessions task.client (session_until principal true (s.clock + s.sessions.lease)) } in
-    start_left sent t front task back (record { number = turn.number; touched = turn.touched; waited = turn.waited }) (begun_fits sent s h task.client principal (s.clock + s.sessions.lease) none) principal received work
+    start_left sent t front task back (record { number = turn.number; touched = turn.touched; waited = turn.waited; free = turn.free }) (begun_fits sent s h task.client principal (s.clock + s.sessions.lease) none) principal received work
 sweep_fits sent s (OfEnded front back task call turn work gone) h = ended_left sent s front task back turn h call work gone
 sweep_fits sent s (Ended front back task call note answer turn work live made) h = call_left sent s front task back turn h call answer note work live
 sweep_fits sent s (Applied front back task call note change answer turn work live made) h =
     let f = call_left sent s front task back turn h call answer None work live in
-    fits_note sent (recorded (mapped (rest s front back) change) task.client (answered_by (reply_of s task.client task.number answer))) note (record { queue = f.queue; kept = f.kept; turns = f.turns })
+    fits_note sent (recorded (mapped (rest s front back) change) task.client (answered_by (reply_of s task.client task.number answer))) note (record { queue = f.queue; kept = f.kept; replies = f.replies; granted = f.granted; turns = f.turns })

@@ -1,5 +1,5 @@
 -- Why each call is applied at most once.
-use Rattle.std.proofs.Common.{◌≡◌, ℕ, ◌+◌, ◌<◌, ◌≤◌, List, [], ◌∷◌, ◌++◌, Bool, true, false, cond, Option, Some, None, refl, sym, ap, ◌∙◌, inl, inr, arith, eqb, subst, map}
+use Rattle.std.proofs.Common.{◌≡◌, ℕ, ◌+◌, ◌≤◌, List, [], ◌∷◌, ◌++◌, Bool, true, false, cond, Option, Some, None, Result, Ok, Err, refl, sym, ap, ◌∙◌, inl, inr, arith, eqb, subst, map}
 use Rattle.std.specs.Prelude.{◌==◌}
 use Rattle.std.proofs.lemmas.Bool.Decides.{nat_tests}
 use Rattle.std.proofs.lemmas.List.{append-nil}
@@ -12,7 +12,12 @@ use Rattle.tags_cell.specs.declared.calls.Call.{Call}
 use Rattle.tags_cell.specs.declared.outs.Out.{Out}
 use Rattle.tags_cell.specs.declared.outs.CallResult.{CallResult}
 use Rattle.tags_cell.specs.declared.outs.CallResult.TheVariants as results
+use Rattle.node_core.specs.declared.refusals.Fault.{Fault}
 use Rattle.node_core.specs.declared.refusals.Fault.TheVariants as faults
+use Rattle.rights_core.specs.declared.grants.Grant.{Grant}
+use Rattle.rights_core.specs.declared.grants.Grant.TheVariants as grants
+use Rattle.rights_core.specs.declared.endings.Ending.TheVariants as endings
+use Rattle.rights_core.specs.Rights.{grant_answer, clients_to_ask, numbers_ending}
 use Rattle.tags_cell.specs.declared.outs.Reply.{Reply}
 use Rattle.cell_core.specs.declared.handles.Note.{Note}
 use Rattle.session_core.specs.declared.records.Kept.{Kept}
@@ -23,10 +28,10 @@ use Rattle.gate_core.specs.declared.pending.Waiting.{Waiting}
 use Rattle.cell_core.specs.declared.pending.Task.{Task}
 use Rattle.cell_core.specs.declared.pending.Work.TheVariants as works
 use Rattle.cell_core.specs.State.{MasterState}
-use Rattle.cell_core.specs.Step.{kept_of, is_live, reply_of, answered_by, recorded, repeated_reply, with_note, noted}
+use Rattle.cell_core.specs.Step.{kept_of, is_live, reply_of, stamped_reply, answered_by, recorded, granted_lines, acknowledgement, with_call, asking_for, repeated_reply, with_note, noted}
 use Rattle.cell_core.specs.Cases.{IsBehind, TakeCase, taken_by}
 use Rattle.over_core.specs.SweepCase.{IsTurn, SweepCase, swept_by, rest, ended, mapped}
-use Rattle.cell_core.specs.Cases.TakeCase.{StartRefused, OldBeat, BeatRefused, BeatParked, OldEpoch, NoSession, Repeated, OlderCall, Outstanding, Recovering, Answered, Waits}
+use Rattle.cell_core.specs.Cases.TakeCase.{StartRefused, OldBeat, BeatRefused, BeatParked, OldEpoch, NoSession, Repeated, OlderCall, Outstanding, Recovering, Answered, Granted, Waits}
 use Rattle.over_core.specs.SweepCase.SweepCase.{Quiet, Recovers, Expires, AnswersBeat, TurnedAway, StartedAgain, Started as StartedFirst, OfEnded, Ended, Applied}
 use Rattle.world_cell.specs.declared.steps.Step.{Step}
 use Rattle.client_core.specs.State.{ClientState}
@@ -35,15 +40,15 @@ use Rattle.world_cell.specs.declared.mail.Message.{Message}
 use Rattle.world_cell.specs.declared.mail.Message.TheVariants.{ToMaster, ToClient}
 use Rattle.world_cell.specs.Messages.{call_of}
 use Rattle.world_cell.specs.World.{WorldState, WorldView, seat_of}
-use Rattle.world_cell.specs.Consistent.{FitsMessages, Agrees, Fits, IsConsistent}
+use Rattle.world_cell.specs.Consistent.{FitsMessages, IsConsistent}
 use Rattle.world_cell.specs.Runs.{Does, Run, applied, put_number, IsAbove, RisesFrom, Rises}
-use Rattle.world_cell.proofs.SilentLines.{IsSilentLine, IsSilent}
+use Rattle.world_cell.proofs.SilentLines.{IsSilentLine, IsSilent, silent_numbers}
 use Rattle.world_cell.proofs.MessagesGrow.{call_more, no_call, one_call}
-use Rattle.world_cell.proofs.OneSession.{same, other, kept_own, kept_other, kept_stays, kept_begins, answered_so}
+use Rattle.world_cell.proofs.OneSession.{same, other, kept_own, kept_other, kept_stays, kept_issued, kept_begins, answered_so}
 use Rattle.world_cell.proofs.MasterFits.{turn_sent, call_turn, WasAsked, live_note, behind_note, epoch_note}
 use Rattle.world_cell.proofs.WorldCases.{WorldCase, world_case}
 use Rattle.world_cell.proofs.WorldCases.WorldCase.{ComesUp, Joins, Asks, Beats, Gives, Ticks, Takes, Sweeps}
-use Rattle.world_cell.proofs.OwnSteps.{IsNextCall, Sends, sending, IsOwn, asks_own, beats_own, gives_own}
+use Rattle.world_cell.proofs.OwnSteps.{IsNextCall, Sends, sending, IsOwn, own_silent, asks_own, beats_own, gives_own}
 use Rattle.world_cell.proofs.OwnSteps.Sends.{Nothing, NoCall, NextCall}
 use Rattle.world_cell.proofs.SeatsFound.{some_same}
 use Rattle.world_cell.proofs.ConsistentSteps.{Later, own_goes, case_later, noted_fits, no_call_found, all_first}
@@ -153,6 +158,11 @@ call_above sent t client last message behind found of h is =
 same_past : (sent : List Message) (epoch client : ℕ) (a b : Option (Kept Reply)) (last : Option ℕ) → b ≡ a → PastKept sent epoch client a last → PastKept sent epoch client b last
 same_past sent epoch client a b last is h = subst (λ o. PastKept sent epoch client o last) (sym is) h
 
+asking_past : (sent : List Message) (s : MasterState) (touched : Option (List ℕ)) (client : ℕ) (last : Option ℕ) → PastMaster sent client s last → PastMaster sent client (asking_for s touched) last
+asking_past sent s None client last h = h
+asking_past sent s (Some name) client last h =
+    same_past sent s.epoch client (kept_of s client) _ last (kept_issued (clients_to_ask name s.rights) s.sessions client) h
+
 take_past : (sent : List Message) (s : MasterState) (request : Request) (c : TakeCase s request) (client : ℕ) (last : Option ℕ) → WasAsked sent request → PastMaster sent client s last → PastMaster sent client (taken_by s request c).0 last
 take_past sent s request (BeatParked beat is epoch taken) client last asked h =
     same_past sent s.epoch client (kept_of s client) _ last (kept_stays s.sessions beat.client (beaten beat s.clock) (λ session. refl) client) h
@@ -165,28 +175,44 @@ take_past sent s request (Answered message note answer new serving answered) cli
     put_past sent t message.client client (answered_by (reply_of t message.client message.number answer)) last (live_note s note message.client new.heard.live)
     (λ is. above_from last message.number (call_above sent t client last message (behind_note s note message.client message.number new.behind) (asked message new.heard.is_call) (new.heard.epoch ∙ sym (epoch_note s note)) past is))
     past
+take_past sent s request (Granted message note answer name new serving may) client last asked h =
+    let t = with_note s note in
+    let past : PastMaster sent client t last = note_past sent s note client last h in
+    put_past sent t message.client client (answered_by (stamped_reply t message.client message.number answer)) last (live_note s note message.client new.heard.live)
+    (λ is. above_from last message.number (call_above sent t client last message (behind_note s note message.client message.number new.behind) (asked message new.heard.is_call) (new.heard.epoch ∙ sym (epoch_note s note)) past is))
+    past
 take_past sent s request (Waits message note touched new serving admitted) client last asked h =
     let t = with_note s note in
     let past : PastMaster sent client t last = note_past sent s note client last h in
-    put_past sent t message.client client (record { number = message.number; reply = None }) last (live_note s note message.client new.heard.live)
+    asking_past sent (with_call t message.client message.number message.call touched) touched client last
+    (put_past sent t message.client client (record { number = message.number; reply = None }) last (live_note s note message.client new.heard.live)
     (λ is. call_above sent t client last message (behind_note s note message.client message.number new.behind) (asked message new.heard.is_call) (new.heard.epoch ∙ sym (epoch_note s note)) past is)
-    past
+    past)
 take_past sent s request _ client last asked h = h
 
 repeated_silent : (reply : Option Reply) → IsSilent (repeated_reply reply).lines
 repeated_silent None = tt
 repeated_silent (Some reply) = tt
 
+granted_silent : (client : ℕ) (name : List ℕ) (answer : Result Grant Fault) → IsSilent (granted_lines client name answer)
+granted_silent client name (Ok (grants.Granted number)) = (tt, tt)
+granted_silent client name (Ok (grants.Already number)) = tt
+granted_silent client name (Ok grants.Full) = tt
+granted_silent client name (Err fault) = tt
+
 -- taking a message applies nothing
 pub taken_silent : (s : MasterState) (request : Request) (c : TakeCase s request) → IsSilent (taken_by s request c).1.lines
 taken_silent s request (StartRefused start is may) = (tt, tt)
 taken_silent s request (OldBeat beat is apart) = (tt, tt)
 taken_silent s request (BeatRefused beat fault is of refused) = (tt, tt)
+taken_silent s request (BeatParked beat is of taken) =
+    silent_numbers lines.Acked (λ number. tt) (numbers_ending beat.client (acknowledgement beat) s.rights)
 taken_silent s request (OldEpoch message is apart) = (tt, tt)
 taken_silent s request (NoSession message is of dead) = (tt, tt)
 taken_silent s request (Repeated message kept heard is number) = repeated_silent kept.reply
 taken_silent s request (OlderCall message kept heard is less) = (tt, tt)
 taken_silent s request (Outstanding message kept heard is more none) = (tt, tt)
+taken_silent s request (Granted message note answer name new serving may) = granted_silent message.client name (grant_answer message.client name (with_note s note).rights)
 taken_silent s request _ = tt
 
 -- ---- a sweep
@@ -195,6 +221,11 @@ taken_silent s request _ = tt
 record SweptOn (sent : List Message) (client : ℕ) (last : Option ℕ) (printed : List Line) (new : MasterState) : Type 0 where
   rises : RisesFrom last (applied client printed)
   past : PastMaster sent client new (last_after last (applied client printed))
+
+-- an expiry applies nothing
+expiry_applied : (client : ℕ) (numbers : List ℕ) (whose : ℕ) → applied client (map lines.Expired numbers ++ lines.Ended whose ∷ []) ≡ []
+expiry_applied client [] whose = refl
+expiry_applied client (number ∷ numbers) whose = expiry_applied client numbers whose
 
 module _ (sent : List Message) (s : MasterState) (client : ℕ) (last : Option ℕ) (fits : FitsMessages sent s) (h : PastMaster sent client s last) where
   -- the call whose turn it is is above the last one
@@ -237,7 +268,10 @@ module _ (sent : List Message) (s : MasterState) (client : ℕ) (last : Option �
   sweep_past (Quiet none) = record { rises = tt; past = h }
   sweep_past (Recovers recovering heard) = record { rises = tt; past = h }
   sweep_past (Expires whose session due) =
-      record { rises = tt; past = same_past sent s.epoch client (kept_of s client) _ last (kept_stays s.sessions whose of_session.ended (λ session. refl) client) h }
+      let none = expiry_applied client (numbers_ending whose endings.Expiry s.rights) whose in
+      let past : PastMaster sent client (swept_by s (Expires whose session due)).0 last =
+      same_past sent s.epoch client (kept_of s client) _ last (kept_stays s.sessions whose of_session.ended (λ session. refl) client) h in
+      record { rises = rw none tt; past = rw none past }
   sweep_past (AnswersBeat whose session beat due) =
       record { rises = tt; past = same_past sent s.epoch client (kept_of s client) _ last (kept_stays s.sessions whose (answered s.sessions.lease s.clock) (λ session. (answered_so s.sessions.lease s.clock session).kept) client) h }
   sweep_past (TurnedAway front back task principal received turn work may) = record { rises = tt; past = h }
@@ -278,6 +312,8 @@ applied_counted w h s (Applied front back task call note change answer turn work
       | true ↦ (λ e. let n : task.client ≡ client = same task.client client e in rw (← n) (record { seat = sent.seat; there = sent.joined; more = sent.within }))
       | false ↦ (λ e. counted)
     ]) refl
+applied_counted w h s (Expires whose session due) client last fits counted =
+    rw (expiry_applied client (numbers_ending whose endings.Expiry s.rights) whose) counted
 applied_counted w h s _ client last fits counted = counted
 
 past_master : (sent : List Message) (client : ℕ) (last : Option ℕ) (m : Option MasterState) (s : MasterState) → m ≡ Some s → PastIn sent client m last → PastMaster sent client s last
@@ -318,7 +354,7 @@ module _ (client : ℕ) (last : Option ℕ) (old : WorldState) (step : Step) (ne
 
   own_on : IsOwn old new printed → StepsOn client last printed new
   own_on o =
-      silent_on client new printed last o.silent (record {
+      silent_on client new printed last (own_silent old new printed o) (record {
         counted = counted_later old new client last (own_goes old new printed h o) p.counted;
         master = same_master (sending o.sent) o.grown (ap (λ (w : WorldState). w.master) o.is) (λ number call is. sending_above old h o.number client o.seat o.client o.sent last o.found o.sends p.counted number call is);
       })

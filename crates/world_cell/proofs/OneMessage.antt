@@ -1,14 +1,12 @@
 -- A step of a master sends one message at most.
-use Rattle.std.proofs.Common.{◌≡◌, ℕ, ◌≤◌, List, length, Bool, true, false, cond, Ok, Err, Option, Some, None, rules, ap, sym, ◌∙◌}
+use Rattle.std.proofs.Common.{◌≡◌, ℕ, ◌≤◌, List, length, Bool, true, false, cond, Ok, Err, Option, Some, None, rules, ap}
 use Rattle.std.specs.Option.{option_map_or}
 use Rattle.node_core.specs.declared.refusals.Fault.TheVariants as faults
 use Rattle.tags_cell.specs.declared.calls.Call.{Call}
 use Rattle.tags_cell.specs.declared.outs.Reply.{Reply}
 use Rattle.tags_cell.specs.declared.requests.Request.{Request}
-use Rattle.session_core.specs.declared.records.Offer.{Offer}
 use Rattle.session_core.specs.Sessions.{offer_of}
 use Rattle.cell_core.specs.declared.pending.Taken.{Taken}
-use Rattle.cell_core.specs.declared.pending.Task.{Task}
 use Rattle.cell_core.specs.declared.pending.Work.{Work}
 use Rattle.cell_core.specs.declared.pending.Work.TheVariants as works
 use Rattle.cell_core.specs.State.{MasterState, task_at}
@@ -20,7 +18,7 @@ use Rattle.over_core.specs.declared.sweeps.Swept.{Swept}
 use Rattle.over_core.specs.declared.actions.Action.{Action}
 use Rattle.over_core.specs.declared.actions.Action.TheVariants.{Recover, Expire, Apply, Answer, Quiet}
 use Rattle.over_core.specs.declared.plans.Plan.{Plan}
-use Rattle.over_core.specs.Sweep.{first_action, plan_expiry, plan_answer, plan_session, plan_start, plan_call, plan_work, leaving, plan_of, swept, sweep_step}
+use Rattle.over_core.specs.Sweep.{first_action, plan_start, plan_call, plan_work, plan_of, swept, sweep_step}
 
 repeated_few : (reply : Option Reply) → length (repeated_reply reply).outs ≤ 1
 repeated_few None = search rules

@@ -1,5 +1,5 @@
 -- What a step of one client's session leaves of all sessions of a master.
-use Rattle.std.proofs.Common.{◌≡◌, ◌≢◌, ℕ, ◌+◌, Bool, true, false, Option, Some, None, refl, sym, ap, ◌∙◌, arith, eqb, subst}
+use Rattle.std.proofs.Common.{◌≡◌, ◌≢◌, ℕ, ◌+◌, List, [], ◌∷◌, true, false, Option, Some, None, refl, sym, ap, ◌∙◌, arith, eqb, subst}
 use Rattle.std.specs.Prelude.{is_some}
 use Rattle.std.specs.Option.{option_map, option_map_or, option_and_then}
 use Rattle.std.proofs.lemmas.Bool.Decides.{nat_tests}
@@ -7,8 +7,8 @@ use Rattle.plain.proofs.OneKey.{lookup_put, lookup_put_apart}
 use Rattle.tags_cell.specs.declared.outs.Reply.{Reply}
 use Rattle.session_core.specs.declared.records.Kept.{Kept}
 use Rattle.session_core.specs.declared.records.Session.{Session}
-use Rattle.session_core.specs.Session.{keeping, answered, prolonged}
-use Rattle.session_core.specs.Sessions.{SessionTable, session_of, kept_of, is_live, with_session, with_new}
+use Rattle.session_core.specs.Session.{keeping, answered, prolonged, issued_through}
+use Rattle.session_core.specs.Sessions.{SessionTable, session_of, kept_of, is_live, with_session, with_new, with_issued, issued_by}
 use Rattle.session_core.proofs.OneClient.{own_session, kept_session, other_session}
 
 -- a master's sessions
@@ -49,6 +49,13 @@ module _ (P : ℕ → Option (Session Reply) → Type 0) (table : Sessions) (cli
       (subst (λ o. P client o) (sym (lookup_put client table.sessions session)) own)
       (λ n apart. subst (λ o. P n o) (sym (lookup_put_apart client n apart table.sessions session)) (all n)) q
 
+-- invalidations are issued to some clients
+pub each_issued : (P : ℕ → Option (Session Reply) → Type 0) → ((q number : ℕ) (session : Session Reply) → P q (Some session) → P q (Some (issued_through number session))) → (asked : List (ℕ × ℕ)) (table : Sessions) → ((q : ℕ) → P q (session_of table q)) → (q : ℕ) → P q (session_of (issued_by asked table) q)
+each_issued P step [] table all q = all q
+each_issued P step (entry ∷ asked) table all q =
+    each_issued P step asked (with_issued table entry)
+    (each_session P table entry.0 all (issued_through entry.1) (λ session is. step entry.0 entry.1 session (subst (λ o. P entry.0 o) is (all entry.0)))) q
+
 -- ---- what is kept of calls
 
 abbrev pub kept_in : Option (Session Reply) → Option (Kept Reply)
@@ -58,6 +65,10 @@ kept_in o = option_and_then (λ session. session.kept) o
 pub kept_stays : (table : Sessions) (client : ℕ) (step : Session Reply → Session Reply) → ((session : Session Reply) → (step session).kept ≡ session.kept) → (q : ℕ) → kept_of (with_session table client step) q ≡ kept_of table q
 kept_stays table client step stays q =
     each_session (λ n o. kept_in o ≡ kept_of table n) table client (λ n. refl) step (λ session is. stays session ∙ sym (ap kept_in is)) q
+
+pub kept_issued : (asked : List (ℕ × ℕ)) (table : Sessions) (q : ℕ) → kept_of (issued_by asked table) q ≡ kept_of table q
+kept_issued asked table q =
+    each_issued (λ n o. kept_in o ≡ kept_of table n) (λ n number session same. same) asked table (λ n. refl) q
 
 -- a session of a client without one
 pub kept_begins : (table : Sessions) (client : ℕ) (session : Session Reply) → session_of table client ≡ None → session.kept ≡ None → (q : ℕ) → kept_of (with_new table client session) q ≡ kept_of table q

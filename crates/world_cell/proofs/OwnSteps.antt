@@ -1,5 +1,5 @@
 -- What a world comes to where a client is asked, beats or is given a message.
-use Rattle.std.proofs.Common.{◌≡◌, ℕ, ◌+◌, max, List, [], ◌∷◌, ◌++◌, true, false, cond, Result, Ok, Err, Option, Some, None, refl, sym, subst}
+use Rattle.std.proofs.Common.{◌≡◌, ℕ, ◌+◌, max, List, [], ◌∷◌, ◌++◌, true, false, cond, Ok, Err, Option, Some, None, refl, sym, subst}
 use Rattle.std.proofs.lemmas.List.{append-nil}
 use Rattle.node_core.specs.declared.refusals.Fault.{Fault}
 use Rattle.node_core.specs.declared.refusals.Fault.TheVariants as faults
@@ -23,7 +23,7 @@ use Rattle.client_core.specs.State.{ClientState}
 use Rattle.client_core.specs.Asks.{with_call}
 use Rattle.client_core.specs.Poisons.{is_on, refused_lines, poison_lines, with_poisoned}
 use Rattle.client_core.specs.Beats.{start_message, beat_message, with_beat}
-use Rattle.client_core.specs.Gives.{offered, begun, answer_of, ended}
+use Rattle.client_core.specs.Gives.{offered, begun, with_processed, answer_of, ended}
 use Rattle.client_core.specs.Cases.{noted, AskCase, asked_in, BeatCase, beaten_in, GiveCase, given_in}
 use Rattle.client_core.specs.Cases.AskCase.{AskedTooLate, Refused, OutOfCalls, Sent, Poisoned}
 use Rattle.client_core.specs.Cases.BeatCase.{BeatTooLate, OutOfBeats, Starts, Beats, Quiet}
@@ -35,7 +35,7 @@ use Rattle.world_cell.specs.declared.seats.Seat.{Seat}
 use Rattle.world_cell.specs.Seats.{seated}
 use Rattle.world_cell.specs.Messages.{out_at}
 use Rattle.world_cell.specs.World.{WorldState, Outcome, seat_of, with_client, own_refusal, asked, beaten, gave}
-use Rattle.world_cell.proofs.SilentLines.{IsSilent, append_silent}
+use Rattle.world_cell.proofs.SilentLines.{IsSilent, IsQuiet, append_quiet, quiet_silent}
 use Rattle.world_cell.proofs.WorldCases.{IsAsk, IsBeat, IsGive}
 
 -- a Start or a Beat
@@ -74,11 +74,14 @@ pub record IsOwn (old new : WorldState) (printed : List Line) : Type 0 where
   pub sent : Option Request
   pub is : new ≡ record old { clients = seated old.clients number seat client; messages = new.messages }
   pub grown : new.messages ≡ old.messages ++ sending sent
-  pub silent : IsSilent printed
+  pub quiet : IsQuiet printed
   pub own : client.number ≡ seat.client.number
   pub notes : client.clock ≡ max seat.client.clock seat.clock
   pub sends : Sends seat.client client sent
   pub epoch : OfEpoch old.messages seat.client client
+
+pub own_silent : (old new : WorldState) (printed : List Line) → IsOwn old new printed → IsSilent printed
+own_silent old new printed o = quiet_silent printed o.quiet
 
 -- ---- what an outcome comes to, where it is no refusal of the step
 
@@ -93,8 +96,8 @@ it_comes P outcome new printed is h = let k : Comes P (Ok (new, printed)) = subs
 
 module _ (w : WorldState) (number : ℕ) (seat : Seat) (found : seat_of w number ≡ Some seat) where
   -- nothing is sent, and the epoch stays
-  stays : (client : ClientState) (printed : List Line) → IsSilent printed → client.number ≡ seat.client.number → client.clock ≡ max seat.client.clock seat.clock → client.calls ≡ seat.client.calls → OfEpoch w.messages seat.client client → IsOwn w (with_client w number seat client) printed
-  stays client printed silent own notes calls epoch = record {
+  stays : (client : ClientState) (printed : List Line) → IsQuiet printed → client.number ≡ seat.client.number → client.clock ≡ max seat.client.clock seat.clock → client.calls ≡ seat.client.calls → OfEpoch w.messages seat.client client → IsOwn w (with_client w number seat client) printed
+  stays client printed quiet own notes calls epoch = record {
     number = number;
     seat = seat;
     found = found;
@@ -102,7 +105,7 @@ module _ (w : WorldState) (number : ℕ) (seat : Seat) (found : seat_of w number
     sent = None;
     is = refl;
     grown = sym (append-nil w.messages);
-    silent = silent;
+    quiet = quiet;
     own = own;
     notes = notes;
     sends = Nothing refl calls;
@@ -110,17 +113,17 @@ module _ (w : WorldState) (number : ℕ) (seat : Seat) (found : seat_of w number
   }
 
   -- only the moment is noted
-  notes_only : (printed : List Line) → IsSilent printed → IsOwn w (with_client w number seat (noted seat.client seat.clock)) printed
-  notes_only printed silent = stays (noted seat.client seat.clock) printed silent refl refl refl (SameEpoch refl (λ e. e))
+  notes_only : (printed : List Line) → IsQuiet printed → IsOwn w (with_client w number seat (noted seat.client seat.clock)) printed
+  notes_only printed quiet = stays (noted seat.client seat.clock) printed quiet refl refl refl (SameEpoch refl (λ e. e))
 
   refused_comes : (fault : Fault) → Comes (IsOwn w) (own_refusal (with_client w number seat (noted seat.client seat.clock)) fault)
   refused_comes faults.Exhausted = tt
-  refused_comes fault = notes_only (lines.Refused fault ∷ []) (tt, tt)
+  refused_comes fault = notes_only (lines.Refused fault ∷ []) (tt, tt, tt)
 
-  refused_silent : (o : Option Outstanding) (handle : ℕ) → IsSilent (refused_lines seat.client handle o)
-  refused_silent None handle = tt
-  refused_silent (Some call) handle =
-      elim (is_on handle call.target) as (λ b. IsSilent (cond b (lines.Done seat.client.number (request_number call.request) (answers.Refused faults.Poisoned) ∷ []) [])) [ true ↦ (tt, tt) | false ↦ tt ]
+  refused_quiet : (o : Option Outstanding) (handle : ℕ) → IsQuiet (refused_lines seat.client handle o)
+  refused_quiet None handle = tt
+  refused_quiet (Some call) handle =
+      elim (is_on handle call.target) as (λ b. IsQuiet (cond b (lines.Done seat.client.number (request_number call.request) (answers.Refused faults.Poisoned) ∷ []) [])) [ true ↦ (tt, tt, tt) | false ↦ tt ]
 
   ask_comes : (ask : Ask) (c : AskCase seat.client seat.clock ask) → Comes (IsOwn w) (asked w number seat (asked_in seat.client seat.clock ask c))
   ask_comes ask (AskedTooLate late) = tt
@@ -136,7 +139,7 @@ module _ (w : WorldState) (number : ℕ) (seat : Seat) (found : seat_of w number
         sent = Some (requests.Call message);
         is = refl;
         grown = refl;
-        silent = tt;
+        quiet = tt;
         own = refl;
         notes = refl;
         sends = NextCall message refl (record { client = refl; number = refl; epoch = refl }) refl;
@@ -144,7 +147,7 @@ module _ (w : WorldState) (number : ℕ) (seat : Seat) (found : seat_of w number
       }
   ask_comes ask (Poisoned handle state poisonable) =
       stays (with_poisoned seat.client (max seat.client.clock seat.clock) handle state) (poison_lines seat.client handle)
-      (append_silent (refused_lines seat.client handle seat.client.outstanding) (lines.Done seat.client.number 0 answers.Poisoned ∷ []) (refused_silent seat.client.outstanding handle) (tt, tt))
+      (append_quiet (refused_lines seat.client handle seat.client.outstanding) (lines.Done seat.client.number 0 answers.Poisoned ∷ []) (refused_quiet seat.client.outstanding handle) (tt, tt, tt))
       refl refl refl (SameEpoch refl (λ e. e))
 
   -- a Start or a Beat is sent
@@ -157,7 +160,7 @@ module _ (w : WorldState) (number : ℕ) (seat : Seat) (found : seat_of w number
     sent = Some request;
     is = refl;
     grown = refl;
-    silent = tt;
+    quiet = tt;
     own = refl;
     notes = refl;
     sends = NoCall request refl none refl;
@@ -172,10 +175,10 @@ module _ (w : WorldState) (number : ℕ) (seat : Seat) (found : seat_of w number
   beat_comes (Quiet early standing started) = notes_only [] tt
 
   -- a call ends
-  ended_comes : (target : Target) (result : CallResult) (printed : List Line) → IsSilent printed → IsOwn w (with_client w number seat (ended (noted seat.client seat.clock) target result)) printed
-  ended_comes target (results.Opened handle) printed silent = stays (ended (noted seat.client seat.clock) target (results.Opened handle)) printed silent refl refl refl (SameEpoch refl (λ e. e))
-  ended_comes target results.Closed printed silent = stays (ended (noted seat.client seat.clock) target results.Closed) printed silent refl refl refl (SameEpoch refl (λ e. e))
-  ended_comes target result printed silent = stays (ended (noted seat.client seat.clock) target result) printed silent refl refl refl (SameEpoch refl (λ e. e))
+  ended_comes : (target : Target) (result : CallResult) (printed : List Line) → IsQuiet printed → IsOwn w (with_client w number seat (ended (noted seat.client seat.clock) target result)) printed
+  ended_comes target (results.Opened handle) printed quiet = stays (ended (noted seat.client seat.clock) target (results.Opened handle)) printed quiet refl refl refl (SameEpoch refl (λ e. e))
+  ended_comes target results.Closed printed quiet = stays (ended (noted seat.client seat.clock) target results.Closed) printed quiet refl refl refl (SameEpoch refl (λ e. e))
+  ended_comes target result printed quiet = stays (ended (noted seat.client seat.clock) target result) printed quiet refl refl refl (SameEpoch refl (λ e. e))
 
   give_comes : (at : ℕ) (out : Out) → out_at w.messages at ≡ Some out → (c : GiveCase seat.client seat.clock out) → Comes (IsOwn w) (gave w number seat (given_in seat.client seat.clock out c))
   give_comes at out sent (GivenTooLate late) = tt
@@ -183,22 +186,23 @@ module _ (w : WorldState) (number : ℕ) (seat : Seat) (found : seat_of w number
   give_comes at out sent (Started message heard is standing fits) =
       stays (begun (noted seat.client seat.clock) message) [] tt refl refl refl
       (GrantedEpoch at message (subst (λ o. out_at w.messages at ≡ Some o) is sent) refl refl)
-  give_comes at out sent (StartedUnfit message heard is standing long) = notes_only (lines.Refused faults.ProtocolFault ∷ []) (tt, tt)
+  give_comes at out sent (StartedUnfit message heard is standing long) = notes_only (lines.Refused faults.ProtocolFault ∷ []) (tt, tt, tt)
   give_comes at out sent (StartedDropped message heard is old) = notes_only [] tt
   give_comes at out sent (LeaseTaken message heard is taken) =
-      stays (record (noted seat.client seat.clock) { lease = offered seat.client message.span }) [] tt refl refl refl (SameEpoch refl (λ e. e))
-  give_comes at out sent (LeaseStays message heard is passed) = notes_only [] tt
-  give_comes at out sent (AliveUnfit message heard is alive long) = notes_only (lines.Refused faults.ProtocolFault ∷ []) (tt, tt)
+      stays (record (with_processed (noted seat.client seat.clock) message) { lease = offered seat.client message.span }) [] tt refl refl refl (SameEpoch refl (λ e. e))
+  give_comes at out sent (LeaseStays message heard is passed) =
+      stays (with_processed (noted seat.client seat.clock) message) [] tt refl refl refl (SameEpoch refl (λ e. e))
+  give_comes at out sent (AliveUnfit message heard is alive unfit) = notes_only (lines.Refused faults.ProtocolFault ∷ []) (tt, tt, tt)
   give_comes at out sent (AliveDropped message heard is strange) = notes_only [] tt
   give_comes at out sent (Replied message call heard is for kept) =
-      ended_comes call.target message.result (lines.Done seat.client.number message.number (answer_of seat.client message.result) ∷ []) (tt, tt)
+      ended_comes call.target message.result (lines.Done seat.client.number message.number (answer_of seat.client message.result) ∷ []) (tt, tt, tt)
   give_comes at out sent (ReplyDropped message call heard is for dropped) =
       stays (record (noted seat.client seat.clock) { outstanding = None }) [] tt refl refl refl (SameEpoch refl (λ e. e))
   give_comes at out sent (NotAwaited message heard is none) = notes_only [] tt
   give_comes at out sent (Lost message heard is loss) =
-      stays (record (noted seat.client seat.clock) { session = sessions.Lost }) (lines.Lost seat.client.number ∷ []) (tt, tt) refl refl refl (SameEpoch refl (λ e. cc))
+      stays (record (noted seat.client seat.clock) { session = sessions.Lost }) (lines.Lost seat.client.number ∷ []) (tt, tt, tt) refl refl refl (SameEpoch refl (λ e. cc))
   give_comes at out sent (TurnedAway message heard is fault unstarted) =
-      stays (record (noted seat.client seat.clock) { session = sessions.TurnedAway }) (lines.Lost seat.client.number ∷ []) (tt, tt) refl refl refl (SameEpoch refl (λ e. cc))
+      stays (record (noted seat.client seat.clock) { session = sessions.TurnedAway }) (lines.Lost seat.client.number ∷ []) (tt, tt, tt) refl refl refl (SameEpoch refl (λ e. cc))
   give_comes at out sent (RefusalDropped message heard is stays_so) = notes_only [] tt
 
 -- ---- the rows

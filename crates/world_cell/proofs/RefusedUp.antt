@@ -1,9 +1,8 @@
 -- A master that doesn't come up where none is.
-use Rattle.std.proofs.Common.{◌≡◌, ℕ, List, Option, Some, None, Err, refl, sym, ap, ◌∙◌, inl, inr}
+use Rattle.std.proofs.Common.{◌≡◌, ℕ, Option, Some, None, Err, refl, sym, ap, ◌∙◌, inl, inr}
 use Rattle.std.specs.Prelude.{◌⊎◌}
 use Rattle.std.specs.Option.{option_map}
 use Rattle.node_core.specs.declared.refusals.Fault.{Fault}
-use Rattle.rows_cell.specs.declared.tables.Rows.{Rows}
 use Rattle.cell_core.specs.State.{MasterState}
 use Rattle.rows_cell.specs.Stores.{Store, MayLeave}
 use Rattle.over_core.specs.Up.{up_step, up_commit, MayRefuseUp, IsLeft as LeftUp}

@@ -1,5 +1,5 @@
 -- What the printed lines tell of the rows.
-use Rattle.std.proofs.Common.{◌≡◌, ℕ, List, [], ◌∷◌, ◌++◌, false, refl, sym, ap, ◌∙◌, inl, inr}
+use Rattle.std.proofs.Common.{◌≡◌, ℕ, List, [], ◌∷◌, ◌++◌, false, refl, sym, ap, ◌∙◌, inl, inr, map}
 use Rattle.node_core.specs.declared.lines.Line.{Line}
 use Rattle.node_core.specs.declared.lines.Line.TheVariants as lines
 use Rattle.node_core.specs.declared.views.Mod.{Mod}
@@ -9,6 +9,8 @@ use Rattle.rows_cell.specs.declared.tables.Rows.{Rows}
 use Rattle.rows_cell.specs.declared.tables.Edit.TheVariants.{NextInstance}
 use Rattle.rows_cell.specs.Rows.{changed_rows, map_of}
 use Rattle.rows_cell.proofs.RowViews.{views_put, views_gone}
+use Rattle.rights_core.specs.declared.endings.Ending.TheVariants as endings
+use Rattle.rights_core.specs.Rights.{numbers_ending}
 use Rattle.cell_core.specs.State.{MasterState, locks_of}
 use Rattle.cell_core.specs.Step.{noted}
 use Rattle.cell_core.specs.Deeds.{edit_of}
@@ -22,7 +24,7 @@ use Rattle.world_cell.proofs.SilentLines.{IsSilentLine, IsSilent}
 use Rattle.world_cell.proofs.OnceByRuns.{taken_silent}
 use Rattle.world_cell.proofs.WorldCases.{WorldCase, world_case}
 use Rattle.world_cell.proofs.WorldCases.WorldCase.{ComesUp, Joins, Asks, Beats, Gives, Ticks, Takes, Sweeps}
-use Rattle.world_cell.proofs.OwnSteps.{IsOwn, asks_own, beats_own, gives_own}
+use Rattle.world_cell.proofs.OwnSteps.{IsOwn, own_silent, asks_own, beats_own, gives_own}
 use Rattle.world_cell.proofs.ConsistentSteps.{expired_rows}
 
 -- the new rows are those that the lines make of the former ones
@@ -48,6 +50,15 @@ silent_epoch : (epoch : ℕ) (printed : List Line) → IsSilent printed → epoc
 silent_epoch epoch [] h = refl
 silent_epoch epoch (line ∷ rest) h = ap (λ e. epoch_at e rest) (line_epoch epoch line h.0) ∙ silent_epoch epoch rest h.1
 
+-- an expiry tells of no change and of no master
+expiry_map : (nodes : Nodes) (numbers : List ℕ) (whose : ℕ) → map_at nodes (map lines.Expired numbers ++ lines.Ended whose ∷ []) ≡ nodes
+expiry_map nodes [] whose = refl
+expiry_map nodes (number ∷ numbers) whose = expiry_map nodes numbers whose
+
+expiry_epoch : (epoch : ℕ) (numbers : List ℕ) (whose : ℕ) → epoch_at epoch (map lines.Expired numbers ++ lines.Ended whose ∷ []) ≡ epoch
+expiry_epoch epoch [] whose = refl
+expiry_epoch epoch (number ∷ numbers) whose = expiry_epoch epoch numbers whose
+
 silent_tells : (old new : Rows) (printed : List Line) → IsSilent printed → new ≡ old → Tells old new printed
 silent_tells old new printed silent same = record {
   is_map = ap (λ r. map_of r) same ∙ sym (silent_map (map_of old) printed silent);
@@ -64,12 +75,13 @@ mod_tells rows client number (Gone name) next = record { is_map = views_gone row
 swept_tells : (rows : Rows) (s : MasterState) (c : SweepCase s) → Tells rows (changed_rows rows (swept_edits s c)) (swept_by s c).1.lines
 swept_tells rows s (Expires client session due) =
     let t = expired_rows rows (locks_of client s.held_locks) client (record { principal = session.principal; live = false }) in
-    record { is_map = ap (λ r. map_of r) t.1; is_epoch = ap (λ (r : Rows). r.epoch) t.1 }
+    let numbers = numbers_ending client endings.Expiry s.rights in
+    record { is_map = ap (λ r. map_of r) t.1 ∙ sym (expiry_map (map_of rows) numbers client); is_epoch = ap (λ (r : Rows). r.epoch) t.1 ∙ sym (expiry_epoch rows.epoch numbers client) }
 swept_tells rows s (Applied front back task call note change answer turn work live made) = mod_tells rows task.client task.number change.change change.next_instance
 swept_tells rows s _ = record { is_map = refl; is_epoch = refl }
 
 own_tells : (old new : WorldState) (printed : List Line) → IsOwn old new printed → Tells old.rows new.rows printed
-own_tells old new printed o = silent_tells old.rows new.rows printed o.silent (ap (λ (w : WorldState). w.rows) o.is)
+own_tells old new printed o = silent_tells old.rows new.rows printed (own_silent old new printed o) (ap (λ (w : WorldState). w.rows) o.is)
 
 case_tells : (old : WorldState) (step : Step) (new : WorldState) (printed : List Line) → WorldCase old step new printed → Tells old.rows new.rows printed
 case_tells old step new printed (ComesUp u) = rw (u.tells, u.is) (record { is_map = refl; is_epoch = refl })

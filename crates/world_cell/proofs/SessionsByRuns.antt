@@ -1,9 +1,7 @@
 -- What the printed lines tell of sessions.
-use Rattle.std.proofs.Common.{◌≡◌, ℕ, List, [], ◌∷◌, ◌++◌, Bool, true, false, cond, refl, sym, ap, ◌∙◌, inl, inr, subst, arith}
+use Rattle.std.proofs.Common.{◌≡◌, ℕ, List, [], ◌∷◌, ◌++◌, Bool, true, false, cond, refl, sym, ap, ◌∙◌, inl, inr, subst, arith, map}
 use Rattle.std.specs.Prelude.{◌==◌}
 use Rattle.std.specs.Option.{option_map_or}
-use Rattle.std.specs.BTreeMap.{insert_entry}
-use Rattle.std.specs.Ordering.{nat_cmp}
 use Rattle.std.proofs.lemmas.Bool.Decides.{nat_tests}
 use Rattle.plain.proofs.OneKey.{lookup_put, lookup_put_apart}
 use Rattle.node_core.specs.declared.lines.Line.{Line}
@@ -15,11 +13,13 @@ use Rattle.rows_cell.specs.declared.tables.Session.{Session}
 use Rattle.rows_cell.specs.declared.tables.Edit.TheVariants.{NextInstance, PutSession}
 use Rattle.rows_cell.specs.Rows.{changed_rows, edited}
 use Rattle.rows_cell.specs.Sound.{is_live_in}
+use Rattle.rights_core.specs.declared.endings.Ending.TheVariants as endings
+use Rattle.rights_core.specs.Rights.{numbers_ending}
 use Rattle.cell_core.specs.State.{MasterState, locks_of}
 use Rattle.cell_core.specs.Step.{noted}
 use Rattle.cell_core.specs.Deeds.{edit_of}
 use Rattle.over_core.specs.SweepCase.{SweepCase, swept_by, swept_edits}
-use Rattle.over_core.specs.SweepCase.SweepCase.{Quiet, Recovers, Expires, Started as StartedFirst, Applied}
+use Rattle.over_core.specs.SweepCase.SweepCase.{Expires, Started as StartedFirst, Applied}
 use Rattle.world_cell.specs.declared.steps.Step.{Step}
 use Rattle.world_cell.specs.World.{WorldState, WorldView}
 use Rattle.world_cell.specs.Consistent.{IsConsistent}
@@ -28,7 +28,7 @@ use Rattle.world_cell.proofs.SilentLines.{IsSilentLine, IsSilent}
 use Rattle.world_cell.proofs.OnceByRuns.{taken_silent}
 use Rattle.world_cell.proofs.WorldCases.{WorldCase, world_case}
 use Rattle.world_cell.proofs.WorldCases.WorldCase.{ComesUp, Joins, Asks, Beats, Gives, Ticks, Takes, Sweeps}
-use Rattle.world_cell.proofs.OwnSteps.{IsOwn, asks_own, beats_own, gives_own}
+use Rattle.world_cell.proofs.OwnSteps.{IsOwn, own_silent, asks_own, beats_own, gives_own}
 use Rattle.world_cell.proofs.ConsistentSteps.{expired_rows}
 
 -- a client's session is live in the new rows where the lines make it so
@@ -45,6 +45,11 @@ line_lives client live _ h = refl
 silent_lives : (client : ℕ) (live : Bool) (printed : List Line) → IsSilent printed → live_at client live printed ≡ live
 silent_lives client live [] h = refl
 silent_lives client live (line ∷ rest) h = ap (λ b. live_at client b rest) (line_lives client live line h.0) ∙ silent_lives client live rest h.1
+
+-- an expiry tells of one session's end
+expiry_lives : (client : ℕ) (live : Bool) (numbers : List ℕ) (whose : ℕ) → live_at client live (map lines.Expired numbers ++ lines.Ended whose ∷ []) ≡ cond (whose == client) false live
+expiry_lives client live [] whose = refl
+expiry_lives client live (number ∷ numbers) whose = expiry_lives client live numbers whose
 
 silent_tells : (client : ℕ) (old new : Rows) (printed : List Line) → IsSilent printed → new ≡ old → Tells client old new printed
 silent_tells client old new printed silent same = ap (λ r. is_live_in r client) same ∙ sym (silent_lives client (is_live_in old client) printed silent)
@@ -75,12 +80,13 @@ swept_tells : (client : ℕ) (rows : Rows) (s : MasterState) (c : SweepCase s) �
 swept_tells client rows s (Expires whose session due) =
     let stored : Session = record { principal = session.principal; live = false } in
     ap (λ r. is_live_in r client) (expired_rows rows (locks_of whose s.held_locks) whose stored).1 ∙ put_lives client whose stored rows
+    ∙ sym (expiry_lives client (is_live_in rows client) (numbers_ending whose endings.Expiry s.rights) whose)
 swept_tells client rows s (StartedFirst front back task principal received turn work none) = put_lives client task.client (record { principal = principal; live = true }) rows
 swept_tells client rows s (Applied front back task call note change answer turn work live made) = mod_lives client rows change.change change.next_instance
 swept_tells client rows s _ = refl
 
 own_tells : (client : ℕ) (old new : WorldState) (printed : List Line) → IsOwn old new printed → Tells client old.rows new.rows printed
-own_tells client old new printed o = silent_tells client old.rows new.rows printed o.silent (ap (λ (w : WorldState). w.rows) o.is)
+own_tells client old new printed o = silent_tells client old.rows new.rows printed (own_silent old new printed o) (ap (λ (w : WorldState). w.rows) o.is)
 
 case_tells : (client : ℕ) (old : WorldState) (step : Step) (new : WorldState) (printed : List Line) → WorldCase old step new printed → Tells client old.rows new.rows printed
 case_tells client old step new printed (ComesUp u) = rw (u.tells, u.is) refl

@@ -1,5 +1,5 @@
--- Lines that tell of no change, no new master and no session.
-use Rattle.std.proofs.Common.{List, [], ◌∷◌, ◌++◌}
+-- Lines that tell of no change, no new master and no session; and lines that tell of no right either.
+use Rattle.std.proofs.Common.{ℕ, List, [], ◌∷◌, ◌++◌, map}
 use Rattle.node_core.specs.declared.lines.Line.{Line}
 use Rattle.node_core.specs.declared.lines.Line.TheVariants as lines
 
@@ -14,6 +14,36 @@ abbrev pub IsSilent : List Line → Type 0
 IsSilent [] = Unit {0}
 IsSilent (line ∷ rest) = IsSilentLine line × IsSilent rest
 
-pub append_silent : (xs ys : List Line) → IsSilent xs → IsSilent ys → IsSilent (xs ++ ys)
-append_silent [] ys h k = k
-append_silent (x ∷ xs) ys h k = (h.0, append_silent xs ys h.1 k)
+-- no master comes up, and no right is granted or ends
+abbrev pub IsOfNoRight : Line → Type 0
+IsOfNoRight (lines.Up epoch) = ⊥
+IsOfNoRight (lines.Granted number client name) = ⊥
+IsOfNoRight (lines.Acked number) = ⊥
+IsOfNoRight (lines.Expired number) = ⊥
+IsOfNoRight _ = Unit {0}
+
+abbrev pub AreOfNoRight : List Line → Type 0
+AreOfNoRight [] = Unit {0}
+AreOfNoRight (line ∷ rest) = IsOfNoRight line × AreOfNoRight rest
+
+-- both
+abbrev pub IsQuiet : List Line → Type 0
+IsQuiet [] = Unit {0}
+IsQuiet (line ∷ rest) = IsSilentLine line × IsOfNoRight line × IsQuiet rest
+
+pub quiet_silent : (printed : List Line) → IsQuiet printed → IsSilent printed
+quiet_silent [] h = tt
+quiet_silent (line ∷ rest) h = (h.0, quiet_silent rest h.2)
+
+pub quiet_rightless : (printed : List Line) → IsQuiet printed → AreOfNoRight printed
+quiet_rightless [] h = tt
+quiet_rightless (line ∷ rest) h = (h.1, quiet_rightless rest h.2)
+
+pub append_quiet : (xs ys : List Line) → IsQuiet xs → IsQuiet ys → IsQuiet (xs ++ ys)
+append_quiet [] ys h k = k
+append_quiet (x ∷ xs) ys h k = (h.0, h.1, append_quiet xs ys h.2 k)
+
+-- a line for each of some numbers
+pub silent_numbers : (line : ℕ → Line) → ((number : ℕ) → IsSilentLine (line number)) → (numbers : List ℕ) → IsSilent (map line numbers)
+silent_numbers line silent [] = tt
+silent_numbers line silent (number ∷ numbers) = (silent number, silent_numbers line silent numbers)

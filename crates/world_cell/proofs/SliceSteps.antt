@@ -1,54 +1,51 @@
--- From a consistent world each step leads to where each client's slice is reached.
-use Rattle.std.proofs.Common.{◌≡◌, ℕ, true, List, Ok, Some, None, subst}
+-- From a consistent world each step leads to where the slice of each client and name is reached.
+use Rattle.std.proofs.Common.{◌≡◌, ℕ, true, false, List, Ok, Some, None, subst}
 use Rattle.coherence.specs.Slice.{Reached}
-use Rattle.coherence.proofs.Reached.{reached_at_start}
 use Rattle.node_core.specs.declared.lines.Line.{Line}
-use Rattle.rows_cell.specs.declared.tables.Rows.{Rows}
 use Rattle.tags_cell.specs.declared.requests.Request.{Request}
 use Rattle.tags_cell.specs.declared.outs.Out.{Out}
 use Rattle.tags_cell.specs.Messages.{out_client}
 use Rattle.client_core.specs.declared.asks.Ask.{Ask}
 use Rattle.client_core.specs.Cases.{AskCase, asked_in, BeatCase, beaten_in, GiveCase, given_in}
 use Rattle.cell_core.specs.State.{MasterState}
-use Rattle.cell_core.specs.Step.{noted}
+use Rattle.cell_core.specs.Step.{noted, is_spent}
 use Rattle.cell_core.specs.Cases.{TakeCase}
 use Rattle.over_core.specs.SweepCase.{SweepCase}
 use Rattle.world_cell.specs.declared.seats.Seat.{Seat}
 use Rattle.world_cell.specs.declared.steps.Ticks.{Ticks}
 use Rattle.world_cell.specs.Messages.{request_at, out_at}
-use Rattle.world_cell.specs.World.{WorldState, new_world, seat_of, asked, beaten, gave, ticked, are_fair}
-use Rattle.world_cell.specs.Slices.{slice, standing_in}
-use Rattle.world_cell.specs.Consistent.{IsConsistent, Agrees, IsNoted}
+use Rattle.world_cell.specs.World.{WorldState, seat_of, asked, beaten, gave, ticked, are_fair}
+use Rattle.world_cell.specs.Slices.{slice}
+use Rattle.world_cell.specs.Consistent.{IsConsistent, Agrees, Fits, IsNoted}
 use Rattle.world_cell.proofs.SliceTicks.{behind_up, behind_join, reached_stays_at_ticks, reached_stays_at_up, reached_stays_at_join}
 use Rattle.world_cell.proofs.SliceClients.{reached_stays_at_ask, reached_stays_at_beat, reached_stays_at_give}
 use Rattle.world_cell.proofs.SliceTakes.{behind_take, reached_stays_at_take}
 use Rattle.world_cell.proofs.SliceSweeps.{behind_sweep, reached_stays_at_sweep}
 
--- at the start no client has done anything, whatever the rows say
-pub reached_at_first : (c : ℕ) (cell : List ℕ) (rows : Rows) (lease : ℕ) → Reached (slice c (new_world cell rows lease))
-reached_at_first c cell rows lease = reached_at_start tt (standing_in rows c) rows.epoch
+module _ (w : WorldState) (fits : IsConsistent w) (c : ℕ) (x : List ℕ) where
+  pub reached_behind_ticks : (ticks : Ticks) → are_fair w.master w ticks ≡ true → Reached (slice c x (ticked w ticks))
+  reached_behind_ticks ticks fair = reached_stays_at_ticks c x w ticks fair (fits.reached c x)
 
-module _ (w : WorldState) (fits : IsConsistent w) (c : ℕ) where
-  pub reached_behind_ticks : (ticks : Ticks) → are_fair w.master w ticks ≡ true → Reached (slice c (ticked w ticks))
-  reached_behind_ticks ticks fair = reached_stays_at_ticks c w ticks fair (fits.reached c)
+  pub reached_behind_up : (now : ℕ) → w.master ≡ None → Reached (slice c x (behind_up w now))
+  reached_behind_up now down = reached_stays_at_up c x w now down fits.lease (fits.reached c x)
 
-  pub reached_behind_up : (now : ℕ) → w.master ≡ None → Reached (slice c (behind_up w now))
-  reached_behind_up now down = reached_stays_at_up c w now down fits.lease (fits.reached c)
+  pub reached_behind_join : (number : ℕ) (principal : List ℕ) → seat_of w number ≡ None → Reached (slice c x (behind_join w number principal))
+  reached_behind_join number principal free = reached_stays_at_join x w number principal c free (fits.reached c x)
 
-  pub reached_behind_join : (number : ℕ) (principal : List ℕ) → seat_of w number ≡ None → Reached (slice c (behind_join w number principal))
-  reached_behind_join number principal free = reached_stays_at_join w number principal c free (fits.reached c)
+  pub reached_behind_ask : (new : WorldState) (number : ℕ) (seat : Seat) (printed : List Line) (ask : Ask) (case : AskCase seat.client seat.clock ask) → seat_of w number ≡ Some seat → asked w number seat (asked_in seat.client seat.clock ask case) ≡ Ok (new, printed) → Reached (slice c x new)
+  reached_behind_ask new number seat printed ask case found made = reached_stays_at_ask c x w new number seat printed ask case found made (fits.reached c x)
 
-  pub reached_behind_ask : (new : WorldState) (number : ℕ) (seat : Seat) (printed : List Line) (ask : Ask) (case : AskCase seat.client seat.clock ask) → seat_of w number ≡ Some seat → asked w number seat (asked_in seat.client seat.clock ask case) ≡ Ok (new, printed) → Reached (slice c new)
-  reached_behind_ask new number seat printed ask case found made = reached_stays_at_ask c w new number seat printed ask case found made (fits.reached c)
+  pub reached_behind_beat : (new : WorldState) (number : ℕ) (seat : Seat) (printed : List Line) (case : BeatCase seat.client seat.clock) → seat_of w number ≡ Some seat → beaten w number seat (beaten_in seat.client seat.clock case) ≡ Ok (new, printed) → Reached (slice c x new)
+  reached_behind_beat new number seat printed case found made = reached_stays_at_beat c x w new number seat printed case found (fits.clients number seat found) made (fits.reached c x)
 
-  pub reached_behind_beat : (new : WorldState) (number : ℕ) (seat : Seat) (printed : List Line) (case : BeatCase seat.client seat.clock) → seat_of w number ≡ Some seat → beaten w number seat (beaten_in seat.client seat.clock case) ≡ Ok (new, printed) → Reached (slice c new)
-  reached_behind_beat new number seat printed case found made = reached_stays_at_beat c w new number seat printed case found (fits.clients number seat found) made (fits.reached c)
+  pub reached_behind_give : (new : WorldState) (seat : Seat) (at : ℕ) (out : Out) (printed : List Line) (case : GiveCase seat.client seat.clock out) → out_at w.messages at ≡ Some out → seat_of w (out_client out) ≡ Some seat → gave w (out_client out) seat (given_in seat.client seat.clock out case) ≡ Ok (new, printed) → Reached (slice c x new)
+  reached_behind_give new seat at out printed case sent found made = reached_stays_at_give c x w new seat at out printed case sent found (fits.clients (out_client out) seat found) made (fits.reached c x)
 
-  pub reached_behind_give : (new : WorldState) (seat : Seat) (at : ℕ) (out : Out) (printed : List Line) (case : GiveCase seat.client seat.clock out) → out_at w.messages at ≡ Some out → seat_of w (out_client out) ≡ Some seat → gave w (out_client out) seat (given_in seat.client seat.clock out case) ≡ Ok (new, printed) → Reached (slice c new)
-  reached_behind_give new seat at out printed case sent found made = reached_stays_at_give c w new seat at out printed case sent found (fits.clients (out_client out) seat found) made (fits.reached c)
+  pub reached_behind_take : (s : MasterState) (at : ℕ) (request : Request) (case : TakeCase (noted s w.clock) request) → w.master ≡ Some s → request_at w.messages at ≡ Some request → is_spent s ≡ false → Reached (slice c x (behind_take w s request case))
+  reached_behind_take s at request case up sent room =
+      reached_stays_at_take c x w s at request case up (subst (IsNoted w.clock) up fits.noted) (subst (Agrees w) up fits.master)
+      (record { fits = subst (Fits w) up fits.fits; named = fits.named; room = room })
+      sent (fits.reached c x)
 
-  pub reached_behind_take : (s : MasterState) (at : ℕ) (request : Request) (case : TakeCase (noted s w.clock) request) → w.master ≡ Some s → request_at w.messages at ≡ Some request → Reached (slice c (behind_take w s request case))
-  reached_behind_take s at request case up sent = reached_stays_at_take c w s at request case up (subst (IsNoted w.clock) up fits.noted) (subst (Agrees w) up fits.master) sent (fits.reached c)
-
-  pub reached_behind_sweep : (s : MasterState) (case : SweepCase (noted s w.clock)) → w.master ≡ Some s → Reached (slice c (behind_sweep w s case))
-  reached_behind_sweep s case up = reached_stays_at_sweep c w s case up (subst (IsNoted w.clock) up fits.noted) (subst (Agrees w) up fits.master) (fits.reached c)
+  pub reached_behind_sweep : (s : MasterState) (case : SweepCase (noted s w.clock)) → w.master ≡ Some s → Reached (slice c x (behind_sweep w s case))
+  reached_behind_sweep s case up = reached_stays_at_sweep c x w s case up (subst (IsNoted w.clock) up fits.noted) (subst (Agrees w) up fits.master) (fits.reached c x)

@@ -1,25 +1,34 @@
--- To each client, what a sweep of the master is.
-use Rattle.std.proofs.Common.{◌≡◌, ◌≢◌, ℕ, ◌+◌, ◌≤◌, Bool, true, false, max, List, [], ◌∷◌, ◌++◌, map, Option, Some, None, inl, inr, arith, refl, sym, ap, ◌∙◌, subst}
-use Rattle.std.specs.Prelude.{◌==◌, ◌&&◌, ◌||◌, not, nat_le, fold}
+-- To each client, and of each name, what a sweep of the master is.
+use Rattle.std.proofs.Common.{◌≡◌, ℕ, ◌+◌, ◌-◌, ◌<◌, ◌≤◌, Bool, true, false, cond, max, List, [], ◌∷◌, ◌++◌, map, Option, Some, None, inl, inr, arith, refl, sym, ap, ◌∙◌, subst}
+use Rattle.std.specs.Prelude.{◌⊎◌, ◌==◌, ◌&&◌, ◌||◌, not, nat_le, fold, All}
 use Rattle.std.specs.Option.{option_map}
+use Rattle.std.specs.List.{list_any}
 use Rattle.std.specs.Map.{lookup}
 use Rattle.std.specs.BTreeMap.{is_at, insert_entry}
 use Rattle.std.specs.Ordering.{nat_cmp}
+use Rattle.std.specs.Str.{bytes_eq}
 use Rattle.std.proofs.lemmas.Bool.Decides.{nat_tests}
 use Rattle.coherence.specs.Slice as one
-use Rattle.coherence.specs.Slice.{IsIn, Slice, Event, KeepReceipts, Admit, SendOffer, Expire, EndRecovery, Live, Never, Reached, Leads}
+use Rattle.coherence.specs.Slice.{IsIn, Slice, Event, KeepReceipts, Admit, SendOffer, Apply, Expire, EndRecovery, Live, Never, Reached, Leads}
 use Rattle.node_core.specs.declared.refusals.Fault.TheVariants as faults
 use Rattle.node_core.specs.declared.views.Mod.{Mod}
 use Rattle.node_core.specs.declared.views.Mod.TheVariants.{Put, Gone}
+use Rattle.node_core.specs.Nodes.{get_node, changed, name_of}
 use Rattle.rows_cell.specs.declared.keys.LockKey.{LockKey}
 use Rattle.rows_cell.specs.declared.tables.Session as of_rows
 use Rattle.rows_cell.specs.declared.tables.Rows.{Rows}
 use Rattle.rows_cell.specs.declared.tables.Edit.TheVariants.{NextInstance, PutSession, RemoveLock}
-use Rattle.rows_cell.specs.Rows.{edited, changed_rows}
+use Rattle.rows_cell.specs.Rows.{edited, changed_rows, map_of}
+use Rattle.rows_cell.proofs.RowViews.{views_put, views_gone}
 use Rattle.tags_cell.specs.declared.outs.Out.{Out}
 use Rattle.tags_cell.specs.declared.outs.Out.TheVariants as outs
 use Rattle.tags_cell.specs.declared.outs.CallResult.{CallResult}
 use Rattle.tags_cell.specs.declared.outs.Reply.{Reply}
+use Rattle.tags_cell.specs.declared.calls.Call.{Call}
+use Rattle.rights_core.specs.declared.endings.Ending.TheVariants as endings
+use Rattle.rights_core.specs.Rights as of_rights
+use Rattle.rights_core.specs.Rights.{holds, invalidations_of}
+use Rattle.rights_core.specs.Laws.{asked_for, number_or_0}
 use Rattle.session_core.specs.declared.records.Parked.{Parked}
 use Rattle.session_core.specs.declared.records.Session.{Session}
 use Rattle.session_core.specs.Session as of_session
@@ -28,20 +37,31 @@ use Rattle.session_core.specs.Sessions.{with_session, with_new, all_heard}
 use Rattle.session_core.specs.Sessions.{session_of as session_in}
 use Rattle.session_core.proofs.OneClient.{lookup_put, lookup_put_apart, other_session}
 use Rattle.gate_core.specs.declared.pending.Waiting.{Waiting}
+use Rattle.gate_core.specs.Gate.{touches}
+use Rattle.gate_core.specs.Laws.{touching}
+use Rattle.cell_core.specs.declared.deeds.Change.{Change}
 use Rattle.cell_core.specs.declared.handles.Note.{Note}
 use Rattle.cell_core.specs.declared.pending.Task.{Task}
 use Rattle.cell_core.specs.declared.pending.Work.TheVariants as works
 use Rattle.cell_core.specs.State.{MasterState, row_of, locks_of}
-use Rattle.cell_core.specs.Step.{session_of, noted, reply_of, answered_by, turned_away}
+use Rattle.cell_core.specs.Step.{session_of, noted, reply_of, answered_by, turned_away, names_of}
+use Rattle.cell_core.specs.Names.{name_changed}
 use Rattle.cell_core.specs.Deeds.{edit_of}
-use Rattle.over_core.specs.Sweep.{started_out, alive_out}
+use Rattle.client_core.specs.Gives.{last_number}
+use Rattle.over_core.specs.Effect.{effect}
+use Rattle.over_core.specs.Sweep.{started_out, alive_out, invalidations_for}
 use Rattle.over_core.specs.SweepCase.{IsTurn, IsDueToEnd, IsDue, SweepCase, rest, ended, mapped, swept_by, swept_edits}
 use Rattle.over_core.specs.SweepCase.SweepCase.{Quiet, Recovers, Expires, AnswersBeat, TurnedAway, StartedAgain, Started, OfEnded, Ended, Applied}
-use Rattle.over_core.specs.Kept.{IsKept}
+use Rattle.over_core.specs.Kept.{IsKept, names_touched}
+use Rattle.over_core.proofs.Touching.{change_is_named}
+use Rattle.over_core.proofs.Unacknowledged.{IsAskedFor, each_is_asked, asked_is_named}
 use Rattle.world_cell.specs.declared.mail.Message.TheVariants.{ToClient}
 use Rattle.world_cell.specs.World.{WorldState}
-use Rattle.world_cell.specs.Slices.{slice, standing_so, standing_of, standing_in, parked_list, seen_of, heard_from, put_start, start_of, starts_of, put_offer, offers_of}
-use Rattle.world_cell.proofs.Slices.{LeadsTo, reached_stays, by_test, is_same, is_other, same_test, in_front, in_back, in_either, all_found, up_with, up_same, standing_kept, shows, with_master, lease_stays, seen_stays, own_found, IsKnown, known, first_of, none_more}
+use Rattle.world_cell.specs.Slices.{Shown, slice, standing_so, standing_of, standing_in, parked_list, seen_of, heard_from, right_of, put_start, start_of, starts_of, beats_of, name_number, put_offer, offers_of, grants_of}
+use Rattle.world_cell.proofs.GrantsSent.{unstamped}
+use Rattle.world_cell.proofs.SliceRights.{no_right, unowned_right, right_of_another, freed_right, expiry_frees}
+use Rattle.world_cell.proofs.SweptNames.{touching_less, free_of_holders, all_at, other_node, last_is_issued, named_number}
+use Rattle.world_cell.proofs.Slices.{LeadsTo, reached_stays, by_test, is_same, is_other, same_test, in_front, in_back, in_either, all_found, beats_stay, grants_then, grants_more, offers_more, UpParts, AreSame, here, there, Goes, goes, goes_unseen, standing_kept, with_found, is_found, with_master, lease_stays, seen_stays, own_found, IsKnown, known, first_of, none_more}
 
 -- ---- what leaves the gate
 
@@ -62,14 +82,33 @@ not_empty (y ∷ front) back x h = cc
 
 -- ---- what becomes of the rows
 
-let_go : (locks : List LockKey) (rows : Rows) (client : ℕ) (row : of_rows.Session)
-    → ((changed_rows rows (map RemoveLock locks ++ PutSession client row ∷ [])).sessions ≡ insert_entry nat_cmp rows.sessions client row) × ((changed_rows rows (map RemoveLock locks ++ PutSession client row ∷ [])).epoch ≡ rows.epoch)
-let_go [] rows client row = (refl, refl)
-let_go (key ∷ locks) rows client row = let_go locks (edited rows (RemoveLock key)) client row
+-- other rows of the same cell: its secret, its epoch, and what its names show
+record IsBeside (rows new : Rows) : Type 0 where
+  map : map_of new ≡ map_of rows
+  secret : new.secret ≡ rows.secret
+  epoch : new.epoch ≡ rows.epoch
 
-mapped_rows : (rows : Rows) (change : Mod) (next : ℕ) → ((changed_rows rows (edit_of change ∷ NextInstance next ∷ [])).sessions ≡ rows.sessions) × ((changed_rows rows (edit_of change ∷ NextInstance next ∷ [])).epoch ≡ rows.epoch)
-mapped_rows rows (Put name view) next = (refl, refl)
-mapped_rows rows (Gone name) next = (refl, refl)
+-- with a session's row, once locks were let go
+record HasRow (rows new : Rows) (client : ℕ) (row : of_rows.Session) : Type 0 where
+  beside : IsBeside rows new
+  sessions : new.sessions ≡ insert_entry nat_cmp rows.sessions client row
+
+let_go : (locks : List LockKey) (rows : Rows) (client : ℕ) (row : of_rows.Session) → HasRow rows (changed_rows rows (map RemoveLock locks ++ PutSession client row ∷ [])) client row
+let_go [] rows client row = record { beside = record { map = refl; secret = refl; epoch = refl }; sessions = refl }
+let_go (key ∷ locks) rows client row =
+    let h = let_go locks (edited rows (RemoveLock key)) client row in
+    record { beside = record { map = h.beside.map; secret = h.beside.secret; epoch = h.beside.epoch }; sessions = h.sessions }
+
+-- with a change of the map
+record IsMapped (rows new : Rows) (change : Mod) : Type 0 where
+  sessions : new.sessions ≡ rows.sessions
+  secret : new.secret ≡ rows.secret
+  epoch : new.epoch ≡ rows.epoch
+  map : map_of new ≡ changed (map_of rows) change
+
+mapped_rows : (rows : Rows) (change : Mod) (next : ℕ) → IsMapped rows (changed_rows rows (edit_of change ∷ NextInstance next ∷ [])) change
+mapped_rows rows (Put name view) next = record { sessions = refl; secret = refl; epoch = refl; map = views_put rows.nodes name view }
+mapped_rows rows (Gone name) next = record { sessions = refl; secret = refl; epoch = refl; map = views_gone rows.nodes name }
 
 standing_by : (c : ℕ) (rows : Rows) (sessions : List (ℕ × of_rows.Session)) → rows.sessions ≡ sessions → standing_in rows c ≡ standing_of (lookup (is_at (nat_cmp c)) sessions)
 standing_by c rows sessions is = ap (λ es. standing_of (lookup (is_at (nat_cmp c)) es)) is
@@ -98,55 +137,84 @@ any_number n = omega arith
 twice : (n : ℕ) → n ≡ max n n
 twice n = omega arith
 
+turned : (a b : ℕ) → (a == b) ≡ false → (b == a) ≡ false
+turned a b e = grind (arith, nat_tests, e)
+
 -- ---- every sweep
 
-module _ (w : WorldState) (s : MasterState) (knows : IsKnown w s) where
-  -- to a client, this master that has these rows and has sent this comes of that one
-  abbrev Goes : ℕ → Rows → MasterState → List Out → Type 0
-  Goes c rows t sent = (events : List (Event (Unit {0}))) × Leads (slice c (record w { master = Some s })) events (slice c (up_with c w rows t sent))
+any_positive : (n : ℕ) → 0 < n + 1
+any_positive n = omega arith
+
+one_less : (n : ℕ) → n ≡ n + 1 - 1
+one_less n = omega arith
+
+no_more : (n : ℕ) → n + 0 ≡ n
+no_more n = omega arith
+
+not_touched : (touched : List (List ℕ)) (x : List ℕ) → touched ≡ [] → list_any (bytes_eq x) touched ≡ false
+not_touched touched x none = ap (list_any (bytes_eq x)) none
+
+one_name : (b : Bool) → (b || false) ≡ b
+one_name true = refl
+one_name false = refl
+
+module _ (x : List ℕ) (w : WorldState) (s : MasterState) (knows : IsKnown w s) where
+  -- of the messages that are sent, none offers a lease, and none grants the name
+  record IsSilent (c : ℕ) (sent : List Out) : Type 0 where
+    offers : fold (put_offer c x) (offers_of c x w.messages) (map ToClient sent) ≡ offers_of c x w.messages
+    grants : grants_then c x w.rows.secret w.messages sent ≡ grants_of c x w.rows.secret w.messages
+
+  nothing_sent : (c : ℕ) → IsSilent c []
+  nothing_sent c = record { offers = refl; grants = refl }
+
+  -- the master behind a sweep, by what is seen of each part
+  behind : (c : ℕ) (rows : Rows) (t : MasterState) (sent : List Out) (q : UpParts)
+      → get_node (map_of rows) x ≡ q.present → standing_in rows c ≡ q.session → rows.epoch ≡ q.epoch → rows.secret ≡ w.rows.secret → t.sessions.lease ≡ q.lease → t.recovering ≡ q.recovering → seen_of (session_of t c) ≡ q.seen → starts_of c t.gate.waiting ≡ q.starts → heard_from q.recovering q.seen ≡ q.heard → right_of c x t.rights ≡ q.right → touching x t.gate.waiting ≡ q.pending
+      → beats_of c w.messages ≡ q.beats → fold (put_offer c x) (offers_of c x w.messages) (map ToClient sent) ≡ q.offers → grants_then c x w.rows.secret w.messages sent ≡ q.grants → AreSame (there c x w rows t sent) q
+  behind c rows t sent q is_present is_session is_epoch is_secret is_lease is_recovering is_seen is_starts is_heard is_right is_pending is_beats is_offers is_grants = record {
+    present = is_present;
+    session = is_session;
+    epoch = is_epoch;
+    lease = is_lease;
+    recovering = is_recovering;
+    seen = is_seen;
+    starts = is_starts;
+    heard = ap (λ b. heard_from b (seen_of (session_of t c))) is_recovering ∙ ap (heard_from q.recovering) is_seen ∙ is_heard;
+    right = is_right;
+    pending = is_pending;
+    beats = beats_stay c w.messages sent ∙ is_beats;
+    offers = offers_more c x w.messages sent ∙ is_offers;
+    grants = ap (λ z. grants_of c x z (w.messages ++ map ToClient sent)) is_secret ∙ grants_more c x w.rows.secret w.messages sent ∙ is_grants;
+  }
 
   -- ---- nothing but its rows changes
 
-  goes_unseen : (c : ℕ) (rows : Rows) (t : MasterState) (sent : List Out) → standing_in rows c ≡ standing_in w.rows c → rows.epoch ≡ w.rows.epoch → t.sessions.lease ≡ s.sessions.lease → t.recovering ≡ s.recovering → seen_of (session_of t c) ≡ seen_of (session_of s c) → starts_of c t.gate.waiting ≡ starts_of c s.gate.waiting → fold (put_offer c) (offers_of c w.messages) (map ToClient sent) ≡ offers_of c w.messages
-      → Goes c rows t sent
-  goes_unseen c rows t sent is_session is_epoch is_lease is_recovering is_seen is_starts is_offers = (
-    [],
-    record {
-      allowed = tt;
-      leads_there =
-          up_same c w rows t sent (standing_in w.rows c) w.rows.epoch s.sessions.lease s.recovering (seen_of (session_of s c)) (starts_of c s.gate.waiting) (heard_from s.recovering (seen_of (session_of s c))) (offers_of c w.messages)
-          is_session is_epoch is_lease is_recovering is_seen is_starts refl is_offers;
-    },
-  )
+  unseen_behind : (c : ℕ) (rows : Rows) (t : MasterState) (sent : List Out) → IsBeside w.rows rows → standing_in rows c ≡ standing_in w.rows c → t.sessions.lease ≡ s.sessions.lease → t.recovering ≡ s.recovering → seen_of (session_of t c) ≡ seen_of (session_of s c) → t.gate.waiting ≡ s.gate.waiting → right_of c x t.rights ≡ right_of c x s.rights
+      → fold (put_offer c x) (offers_of c x w.messages) (map ToClient sent) ≡ offers_of c x w.messages → grants_then c x w.rows.secret w.messages sent ≡ grants_of c x w.rows.secret w.messages → Goes c x w s rows t sent
+  unseen_behind c rows t sent beside is_session is_lease is_recovering is_seen is_waiting is_right is_offers is_grants = goes_unseen c x w s rows t sent
+      (behind c rows t sent (here c x w s) (ap (λ m. get_node m x) beside.map) is_session beside.epoch beside.secret is_lease is_recovering is_seen (ap (starts_of c) is_waiting) refl is_right (ap (touching x) is_waiting) refl is_offers is_grants)
+
+  same_rows : IsBeside w.rows w.rows
+  same_rows = record { map = refl; secret = refl; epoch = refl }
 
   -- ---- a recovery ends
 
   heard_of : (c : ℕ) (session : Session Reply) → all_heard s.sessions ≡ true → session_of s c ≡ Some session → session.live ≡ true → nat_le 1 session.newest_beat ≡ true
   heard_of c session heard found = beaten_if_heard session.live session.events.acknowledged session.newest_beat (all_found c (λ entry. has_heard entry.1) s.sessions.sessions session heard found) (knows.by_beats c session found)
 
-  recovers : (c : ℕ) (found : Option (Session Reply)) → session_of s c ≡ found → all_heard s.sessions ≡ true → Goes c w.rows (record s { recovering = false }) []
-  recovers c None found heard = (
-    EndRecovery ∷ [],
-    subst (λ (z : Slice (Unit {0})). Leads z (EndRecovery ∷ []) (slice c (up_with c w w.rows (record s { recovering = false }) []))) (shows c w s None knows.sessions knows.epoch found) (record {
-      allowed = record { first = record { up = refl; heard_from = λ live. absurd (cc) }; rest = tt };
-      leads_there =
-          up_same c w w.rows (record s { recovering = false }) [] Never s.epoch s.sessions.lease false (seen_of None) (starts_of c s.gate.waiting) false (offers_of c w.messages)
-          (standing_kept c w s knows.sessions ∙ ap (λ o. standing_of (option_map row_of o)) found)
-          (sym knows.epoch) refl refl (ap seen_of found) refl refl refl;
-    }),
-  )
-  recovers c (Some session) found heard = (
-    EndRecovery ∷ [],
-    subst (λ (z : Slice (Unit {0})). Leads z (EndRecovery ∷ []) (slice c (up_with c w w.rows (record s { recovering = false }) []))) (shows c w s (Some session) knows.sessions knows.epoch found) (record {
-      allowed = record { first = record { up = refl; heard_from = live_heard session.live (nat_le 1 session.newest_beat) s.recovering (heard_of c session heard found) }; rest = tt };
-      leads_there =
-          up_same c w w.rows (record s { recovering = false }) [] (standing_so session.live) s.epoch s.sessions.lease false (seen_of (Some session)) (starts_of c s.gate.waiting) (heard_from s.recovering (seen_of (Some session))) (offers_of c w.messages)
-          (standing_kept c w s knows.sessions ∙ ap (λ o. standing_of (option_map row_of o)) found)
-          (sym knows.epoch) refl refl (ap seen_of found) refl
-          (heard_both session.live (nat_le 1 session.newest_beat) s.recovering (heard_of c session heard found))
-          refl;
-    }),
-  )
+  recovers_by : (c : ℕ) (found : Option (Session Reply)) → session_of s c ≡ found → (standing_of (option_map row_of found) ≡ Live → heard_from s.recovering (seen_of found) ≡ true) → heard_from false (seen_of found) ≡ heard_from s.recovering (seen_of found) → Goes c x w s w.rows (record s { recovering = false }) []
+  recovers_by c found is heard same =
+      let p : UpParts = with_found c x w s found in
+      let q : UpParts = record p { recovering = false } in
+      goes c x w s w.rows (record s { recovering = false }) [] (EndRecovery ∷ []) p q (is_found c x w s found knows.sessions knows.epoch is)
+      (behind c w.rows (record s { recovering = false }) [] q refl (standing_kept c x w s knows.sessions ∙ ap (λ o. standing_of (option_map row_of o)) is) (sym knows.epoch) refl refl refl (ap seen_of is) refl same refl refl refl refl refl)
+      (record { allowed = record { first = record { up = refl; heard_from = heard }; rest = tt }; leads_there = refl })
+
+  recovers : (c : ℕ) (found : Option (Session Reply)) → session_of s c ≡ found → all_heard s.sessions ≡ true → Goes c x w s w.rows (record s { recovering = false }) []
+  recovers c None found heard = recovers_by c None found (λ live. absurd (cc)) refl
+  recovers c (Some session) found heard = recovers_by c (Some session) found
+      (live_heard session.live (nat_le 1 session.newest_beat) s.recovering (heard_of c session heard found))
+      (heard_both session.live (nat_le 1 session.newest_beat) s.recovering (heard_of c session heard found))
 
   -- ---- a session expires
 
@@ -158,31 +226,37 @@ module _ (w : WorldState) (s : MasterState) (knows : IsKnown w s) where
     ended_rows = changed_rows w.rows (map RemoveLock (locks_of client s.held_locks) ++ PutSession client ended_row ∷ [])
 
     abbrev expired : MasterState
-    expired = record s { sessions = with_session s.sessions client of_session.ended }
+    expired = record s { sessions = with_session s.sessions client of_session.ended; rights = of_rights.ended client endings.Expiry s.rights }
 
-    own_expiry : Goes client ended_rows expired []
-    own_expiry = (
-      Expire ∷ [],
-      subst (λ (z : Slice (Unit {0})). Leads z (Expire ∷ []) (slice client (up_with client w ended_rows expired []))) (shows client w s (Some session) knows.sessions knows.epoch due.found) (record {
-        allowed = record { first = record { up = refl; live = ap standing_so due.live; over = subst (λ (z : ℕ). session.timeout ≤ z) knows.clock due.over }; rest = tt };
-        leads_there =
-            up_same client w ended_rows expired [] one.Ended s.epoch s.sessions.lease s.recovering (seen_of (Some (of_session.ended session))) (starts_of client s.gate.waiting) false (offers_of client w.messages)
-            (standing_by client ended_rows (insert_entry nat_cmp w.rows.sessions client ended_row) (let_go (locks_of client s.held_locks) w.rows client ended_row).0 ∙ ap standing_of (lookup_put client w.rows.sessions ended_row))
-            ((let_go (locks_of client s.held_locks) w.rows client ended_row).1 ∙ sym knows.epoch)
-            (lease_stays s.sessions client of_session.ended)
-            refl
-            (ap seen_of (own_found of_session.ended s.sessions client session due.found))
-            refl refl refl;
-      }),
-    )
+    has_row : HasRow w.rows ended_rows client ended_row
+    has_row = let_go (locks_of client s.held_locks) w.rows client ended_row
 
-    other_expiry : (c : ℕ) → c ≢ client → Goes c ended_rows expired []
-    other_expiry c other = goes_unseen c ended_rows expired []
-        (standing_by c ended_rows (insert_entry nat_cmp w.rows.sessions client ended_row) (let_go (locks_of client s.held_locks) w.rows client ended_row).0 ∙ ap standing_of (lookup_put_apart client c other w.rows.sessions ended_row))
-        (let_go (locks_of client s.held_locks) w.rows client ended_row).1
+    own_expiry : Goes client x w s ended_rows expired []
+    own_expiry =
+        let p : UpParts = with_found client x w s (Some session) in
+        let q : UpParts = record p { session = one.Ended; seen = seen_of (Some (of_session.ended session)); heard = false; right = freed_right (right_of client x s.rights) } in
+        goes client x w s ended_rows expired [] (Expire ∷ []) p q (is_found client x w s (Some session) knows.sessions knows.epoch due.found)
+        (behind client ended_rows expired [] q
+        (ap (λ m. get_node m x) has_row.beside.map)
+        (standing_by client ended_rows (insert_entry nat_cmp w.rows.sessions client ended_row) has_row.sessions ∙ ap standing_of (lookup_put client w.rows.sessions ended_row))
+        (has_row.beside.epoch ∙ sym knows.epoch)
+        has_row.beside.secret
         (lease_stays s.sessions client of_session.ended)
         refl
-        (ap seen_of (other_session s.sessions client of_session.ended c other))
+        (ap seen_of (own_found of_session.ended s.sessions client session due.found))
+        refl refl
+        (expiry_frees client x s.rights knows.recorded)
+        refl refl refl refl)
+        (record { allowed = record { first = record { up = refl; live = ap standing_so due.live; over = subst (λ (z : ℕ). session.timeout ≤ z) knows.clock due.over }; rest = tt }; leads_there = refl })
+
+    other_expiry : (c : ℕ) → (c == client) ≡ false → Goes c x w s ended_rows expired []
+    other_expiry c other = unseen_behind c ended_rows expired [] has_row.beside
+        (standing_by c ended_rows (insert_entry nat_cmp w.rows.sessions client ended_row) has_row.sessions ∙ ap standing_of (lookup_put_apart client c (is_other c client other) w.rows.sessions ended_row))
+        (lease_stays s.sessions client of_session.ended)
+        refl
+        (ap seen_of (other_session s.sessions client of_session.ended c (is_other c client other)))
+        refl
+        (right_of_another client c x s.rights knows.recorded endings.Expiry (turned c client other))
         refl refl
 
   -- ---- a Beat is answered
@@ -206,8 +280,14 @@ module _ (w : WorldState) (s : MasterState) (knows : IsKnown w s) where
     abbrev beat_receipt : one.Receipt
     beat_receipt = record { number = beat.number; moment = beat.received }
 
+    abbrev last : ℕ
+    last = last_number 0 (invalidations_for s client)
+
+    abbrev of_name : ℕ
+    of_name = name_number x (invalidations_for s client)
+
     abbrev beat_offer : ℕ → one.Offer
-    beat_offer now = record { epoch = s.epoch; number = beat.number; span = of_session.offered_span lease beat.received now; last_invalidation = 0; name_invalidation = 0 }
+    beat_offer now = record { epoch = s.epoch; number = beat.number; span = of_session.offered_span lease beat.received now; last_invalidation = last; name_invalidation = of_name }
 
     found_with_beat : session_of s client ≡ Some with_beat
     found_with_beat = due.found ∙ ap (λ p. Some (record session { parked = p })) due.is_parked
@@ -218,39 +298,66 @@ module _ (w : WorldState) (s : MasterState) (knows : IsKnown w s) where
         ∙ ap (λ p. Some (answered lease s.clock (record session { parked = p }))) due.is_parked
         ∙ ap (λ now. Some (prolonged (now + lease) without_beat)) knows.clock
 
-    own_answer : Goes client w.rows answers_beat alive
-    own_answer = (
-      SendOffer beat_receipt 0 0 ∷ KeepReceipts (starts_of client s.gate.waiting) ∷ [],
-      subst (λ (z : Slice (Unit {0})). Leads z (SendOffer beat_receipt 0 0 ∷ KeepReceipts (starts_of client s.gate.waiting) ∷ []) (slice client (up_with client w w.rows answers_beat alive))) (shows client w s (Some with_beat) knows.sessions knows.epoch found_with_beat) (record {
-        allowed = record {
-          first = record { up = refl; live = ap standing_so due.live; received = inl refl; issued = any_number session.invalidations.issued; carried = inl refl };
-          rest = record { first = λ r i. inr i; rest = tt };
-        };
-        leads_there =
-            up_same client w w.rows answers_beat alive (standing_so session.live) s.epoch lease s.recovering (seen_of (Some (prolonged (w.clock + lease) without_beat))) (starts_of client s.gate.waiting) (heard_from s.recovering (seen_of (Some session))) (beat_offer w.clock ∷ offers_of client w.messages)
-            (standing_kept client w s knows.sessions ∙ ap (λ o. standing_of (option_map row_of o)) due.found)
-            (sym knows.epoch)
-            (lease_stays s.sessions client (answered lease s.clock))
-            refl
-            (ap seen_of found_answered)
-            refl refl
-            (first_of (client == client) (beat_offer s.clock) (offers_of client w.messages) (same_test client client refl) ∙ ap (λ now. beat_offer now ∷ offers_of client w.messages) knows.clock);
-      }),
-    )
+    -- an answer that goes as far as the name's invalidation carries it
+    carried : (asked : Option ℕ) → asked_for client x s.rights ≡ asked → (number_or_0 asked ≡ 0) ⊎ ((last < number_or_0 asked) ⊎ (of_name ≡ number_or_0 asked))
+    carried None is = inl refl
+    carried (Some number) is =
+        let named = asked_is_named s client number x knows.recorded is in
+        let all = each_is_asked s client knows.recorded in
+        let here = named_number client number x s.rights named.0 named.1 (subst (All (IsAskedFor client s.rights)) named.2 all) is in
+        inr (inr (ap (name_number x) named.2 ∙ here))
 
-    other_answer : (c : ℕ) → (c == client) ≡ false → Goes c w.rows answers_beat alive
-    other_answer c other = goes_unseen c w.rows answers_beat alive refl refl
+    abbrev answer_events : List (Event Shown)
+    answer_events = SendOffer beat_receipt last of_name ∷ KeepReceipts (starts_of client s.gate.waiting) ∷ []
+
+    own_answer : Goes client x w s w.rows answers_beat alive
+    own_answer =
+        let p : UpParts = with_found client x w s (Some with_beat) in
+        let q : UpParts = record p { seen = seen_of (Some (prolonged (w.clock + lease) without_beat)); offers = beat_offer w.clock ∷ offers_of client x w.messages } in
+        goes client x w s w.rows answers_beat alive answer_events p q (is_found client x w s (Some with_beat) knows.sessions knows.epoch found_with_beat)
+        (behind client w.rows answers_beat alive q
+        refl
+        (standing_kept client x w s knows.sessions ∙ ap (λ o. standing_of (option_map row_of o)) due.found)
+        (sym knows.epoch)
+        refl
+        (lease_stays s.sessions client (answered lease s.clock))
+        refl
+        (ap seen_of found_answered)
+        refl refl refl refl refl
+        (first_of (client == client) (beat_offer s.clock) (offers_of client x w.messages) (same_test client client refl) ∙ ap (λ now. beat_offer now ∷ offers_of client x w.messages) knows.clock)
+        refl)
+        (record {
+          allowed = record {
+            first = record { up = refl; live = ap standing_so due.live; received = inl refl; issued = last_is_issued client s.rights (invalidations_for s client) (each_is_asked s client knows.recorded); carried = carried (asked_for client x s.rights) refl };
+            rest = record { first = λ r i. inr i; rest = tt };
+          };
+          leads_there = refl;
+        })
+
+    other_answer : (c : ℕ) → (c == client) ≡ false → Goes c x w s w.rows answers_beat alive
+    other_answer c other = unseen_behind c w.rows answers_beat alive same_rows refl
         (lease_stays s.sessions client (answered lease s.clock))
         refl
         (ap seen_of (other_session s.sessions client (answered lease s.clock) c (is_other c client other)))
+        refl refl
+        (none_more (c == client) (record { epoch = s.epoch; number = beat.number; span = of_session.offered_span lease beat.received s.clock; last_invalidation = last; name_invalidation = of_name }) (offers_of c x w.messages) other)
         refl
-        (none_more (c == client) (beat_offer s.clock) (offers_of c w.messages) other)
 
   -- ---- a change has its turn
 
   module _ (front back : List (Waiting Task)) (task : Task) (turn : IsTurn s front task back) where
     abbrev at_turn : Waiting Task
     at_turn = record { number = turn.number; change = record { touched = turn.touched; body = task } }
+
+    -- it touches the names that its work says
+    touched_is : turn.touched ≡ names_touched s.secret task.work
+    touched_is = all_at (λ (w : Waiting Task). w.change.touched ≡ names_touched s.secret w.change.body.work) front at_turn back (subst (All (λ (w : Waiting Task). w.change.touched ≡ names_touched s.secret w.change.body.work)) turn.waited knows.touching)
+
+    pending_by : (b : Bool) → touches x at_turn ≡ b → touching x s.gate.waiting ≡ touching x (front ++ back) + cond b 1 0
+    pending_by b t = ap (touching x) turn.waited ∙ touching_less x front at_turn back ∙ ap (λ (z : Bool). touching x (front ++ back) + cond z 1 0) t
+
+    pending_stays : touches x at_turn ≡ false → touching x s.gate.waiting ≡ touching x (front ++ back)
+    pending_stays t = pending_by false t ∙ no_more (touching x (front ++ back))
 
     -- of the receipts, that of a Start whose turn it was goes at most
     rest_kept : (c : ℕ) (receipts : List one.Receipt) (r : one.Receipt) → IsIn r (receipts ++ starts_of c (front ++ back)) → IsIn r (receipts ++ starts_of c s.gate.waiting)
@@ -259,29 +366,94 @@ module _ (w : WorldState) (s : MasterState) (knows : IsKnown w s) where
       | inr k ↦ in_back r receipts (starts_of c s.gate.waiting) (subst (λ (ws : List (Waiting Task)). IsIn r (starts_of c ws)) (sym turn.waited) (drop_in c front back at_turn r k))
     ]
 
-    leaves : (c : ℕ) (rows : Rows) (t : MasterState) (sent : List Out) → standing_in rows c ≡ standing_in w.rows c → rows.epoch ≡ w.rows.epoch → t.sessions.lease ≡ s.sessions.lease → t.recovering ≡ s.recovering → seen_of (session_of t c) ≡ seen_of (session_of s c) → t.gate.waiting ≡ front ++ back → fold (put_offer c) (offers_of c w.messages) (map ToClient sent) ≡ offers_of c w.messages → Goes c rows t sent
-    leaves c rows t sent is_session is_epoch is_lease is_recovering is_seen is_rest is_offers = (
-      KeepReceipts ((seen_of (session_of s c)).parked ++ starts_of c (front ++ back)) ∷ [],
-      record {
-        allowed = record { first = rest_kept c (seen_of (session_of s c)).parked; rest = tt };
-        leads_there =
-            up_same c w rows t sent (standing_in w.rows c) w.rows.epoch s.sessions.lease s.recovering (seen_of (session_of s c)) (starts_of c (front ++ back)) (heard_from s.recovering (seen_of (session_of s c))) (offers_of c w.messages)
-            is_session is_epoch is_lease is_recovering is_seen (ap (starts_of c) is_rest) refl is_offers;
-      },
-    )
+    -- what is behind a turn that begins no session
+    record IsRest (c : ℕ) (rows : Rows) (t : MasterState) (sent : List Out) : Type 0 where
+      present : touches x at_turn ≡ false → get_node (map_of rows) x ≡ get_node (map_of w.rows) x
+      session : standing_in rows c ≡ standing_in w.rows c
+      secret : rows.secret ≡ w.rows.secret
+      epoch : rows.epoch ≡ w.rows.epoch
+      lease : t.sessions.lease ≡ s.sessions.lease
+      recovering : t.recovering ≡ s.recovering
+      seen : seen_of (session_of t c) ≡ seen_of (session_of s c)
+      right : t.rights ≡ s.rights
+      waiting : t.gate.waiting ≡ front ++ back
+      silent : IsSilent c sent
 
-    -- a call's turn, with its reply
-    replies : (c : ℕ) (rows : Rows) (t : MasterState) (note : Option Note) (answer : CallResult) → standing_in rows c ≡ standing_in w.rows c → rows.epoch ≡ w.rows.epoch → t.sessions ≡ s.sessions → t.recovering ≡ s.recovering → t.gate.waiting ≡ front ++ back → (epoch : ℕ) → Goes c rows (ended t task note answer) (outs.Reply (record { client = task.client; epoch = epoch; number = task.number; result = answer }) ∷ [])
-    replies c rows t None answer is_session is_epoch same is_recovering is_rest epoch = leaves c rows (ended t task None answer) (outs.Reply (record { client = task.client; epoch = epoch; number = task.number; result = answer }) ∷ []) is_session is_epoch
-        (lease_stays t.sessions task.client (keeping (answered_by (reply_of t task.client task.number answer))) ∙ ap (λ x. x.lease) same)
-        is_recovering
-        (seen_stays (keeping (answered_by (reply_of t task.client task.number answer))) (λ session. refl) t.sessions task.client c ∙ ap (λ x. seen_of (session_in x c)) same)
-        is_rest refl
-    replies c rows t (Some note) answer is_session is_epoch same is_recovering is_rest epoch = leaves c rows (ended t task (Some note) answer) (outs.Reply (record { client = task.client; epoch = epoch; number = task.number; result = answer }) ∷ []) is_session is_epoch
-        (lease_stays t.sessions task.client (keeping (answered_by (reply_of t task.client task.number answer))) ∙ ap (λ x. x.lease) same)
-        is_recovering
-        (seen_stays (keeping (answered_by (reply_of t task.client task.number answer))) (λ session. refl) t.sessions task.client c ∙ ap (λ x. seen_of (session_in x c)) same)
-        is_rest refl
+    abbrev own_parked : ℕ → List one.Receipt
+    own_parked c = (seen_of (session_of s c)).parked
+
+    -- it is in nobody's way of the name
+    passes_by : (c : ℕ) (rows : Rows) (t : MasterState) (sent : List Out) → IsRest c rows t sent → touches x at_turn ≡ false → Goes c x w s rows t sent
+    passes_by c rows t sent r apart =
+        let p : UpParts = record (here c x w s) { pending = touching x (front ++ back) } in
+        let q : UpParts = record p { starts = starts_of c (front ++ back) } in
+        goes c x w s rows t sent (KeepReceipts (own_parked c ++ starts_of c (front ++ back)) ∷ []) p q
+        (record { present = refl; session = refl; epoch = refl; lease = refl; recovering = refl; seen = refl; starts = refl; heard = refl; right = refl; pending = pending_stays apart; beats = refl; offers = refl; grants = refl })
+        (behind c rows t sent q (r.present apart) r.session r.epoch r.secret r.lease r.recovering r.seen (ap (starts_of c) r.waiting) refl (ap (right_of c x) r.right) (ap (touching x) r.waiting) refl r.silent.offers r.silent.grants)
+        (record { allowed = record { first = rest_kept c (own_parked c); rest = tt }; leads_there = refl })
+
+    -- what the name shows then
+    applies : (c : ℕ) (rows : Rows) (t : MasterState) (sent : List Out) → IsRest c rows t sent → touches x at_turn ≡ true → Goes c x w s rows t sent
+    applies c rows t sent r touched =
+        let none : holds c x s.rights ≡ false = free_of_holders s.rights at_turn c x turn.free touched in
+        let p : UpParts = record (here c x w s) { right = record (right_of c x s.rights) { held = false }; pending = touching x (front ++ back) + 1 } in
+        let q : UpParts = record p { present = get_node (map_of rows) x; starts = starts_of c (front ++ back); pending = touching x (front ++ back) + 1 - 1 } in
+        let right : right_of c x s.rights ≡ record (right_of c x s.rights) { held = false } = ap (λ (held : Bool). record (right_of c x s.rights) { held = held }) none in
+        goes c x w s rows t sent (KeepReceipts (own_parked c ++ starts_of c (front ++ back)) ∷ Apply (get_node (map_of rows) x) ∷ []) p q
+        (record { present = refl; session = refl; epoch = refl; lease = refl; recovering = refl; seen = refl; starts = refl; heard = refl; right = right; pending = pending_by true touched; beats = refl; offers = refl; grants = refl })
+        (behind c rows t sent q refl r.session r.epoch r.secret r.lease r.recovering r.seen (ap (starts_of c) r.waiting) refl (ap (right_of c x) r.right ∙ right) (ap (touching x) r.waiting ∙ one_less (touching x (front ++ back))) refl r.silent.offers r.silent.grants)
+        (record { allowed = record { first = rest_kept c (own_parked c); rest = record { first = record { up = refl; pending = any_positive (touching x (front ++ back)); free = refl }; rest = tt } }; leads_there = refl })
+
+    leaves : (c : ℕ) (rows : Rows) (t : MasterState) (sent : List Out) → IsRest c rows t sent → Goes c x w s rows t sent
+    leaves c rows t sent r = by_test (touches x at_turn) (applies c rows t sent r) (passes_by c rows t sent r)
+
+    -- ---- a call's turn, with its reply
+
+    abbrev reply_at : ℕ → CallResult → Reply
+    reply_at epoch answer = record { client = task.client; epoch = epoch; number = task.number; stamp = None; result = answer }
+
+    unstamped_reply : (c epoch : ℕ) (answer : CallResult) → IsSilent c (outs.Reply (reply_at epoch answer) ∷ [])
+    unstamped_reply c epoch answer = record { offers = refl; grants = unstamped c x w.rows.secret w.messages (reply_at epoch answer) (grants_of c x w.rows.secret w.messages) refl }
+
+    -- the rows of a turn
+    record HasRows (c : ℕ) (rows : Rows) : Type 0 where
+      present : touches x at_turn ≡ false → get_node (map_of rows) x ≡ get_node (map_of w.rows) x
+      session : standing_in rows c ≡ standing_in w.rows c
+      secret : rows.secret ≡ w.rows.secret
+      epoch : rows.epoch ≡ w.rows.epoch
+
+    replies : (c : ℕ) (rows : Rows) (t : MasterState) (note : Option Note) (answer : CallResult) → HasRows c rows → t.sessions ≡ s.sessions → t.recovering ≡ s.recovering → t.rights ≡ s.rights → t.gate.waiting ≡ front ++ back → (epoch : ℕ) → Goes c x w s rows (ended t task note answer) (outs.Reply (reply_at epoch answer) ∷ [])
+    replies c rows t None answer r same is_recovering is_right is_rest epoch = leaves c rows (ended t task None answer) (outs.Reply (reply_at epoch answer) ∷ []) (record {
+      present = r.present;
+      session = r.session;
+      secret = r.secret;
+      epoch = r.epoch;
+      lease = lease_stays t.sessions task.client (keeping (answered_by (reply_of t task.client task.number answer))) ∙ ap (λ x. x.lease) same;
+      recovering = is_recovering;
+      seen = seen_stays (keeping (answered_by (reply_of t task.client task.number answer))) (λ session. refl) t.sessions task.client c ∙ ap (λ x. seen_of (session_in x c)) same;
+      right = is_right;
+      waiting = is_rest;
+      silent = unstamped_reply c epoch answer;
+    })
+    replies c rows t (Some note) answer r same is_recovering is_right is_rest epoch = leaves c rows (ended t task (Some note) answer) (outs.Reply (reply_at epoch answer) ∷ []) (record {
+      present = r.present;
+      session = r.session;
+      secret = r.secret;
+      epoch = r.epoch;
+      lease = lease_stays t.sessions task.client (keeping (answered_by (reply_of t task.client task.number answer))) ∙ ap (λ x. x.lease) same;
+      recovering = is_recovering;
+      seen = seen_stays (keeping (answered_by (reply_of t task.client task.number answer))) (λ session. refl) t.sessions task.client c ∙ ap (λ x. seen_of (session_in x c)) same;
+      right = is_right;
+      waiting = is_rest;
+      silent = unstamped_reply c epoch answer;
+    })
+
+    -- a change of another name leaves this one
+    other_name : (call : Call) (note : Option Note) (change : Change) (answer : CallResult) → task.work ≡ works.Calls call → effect s task.client task.number call ≡ record { note = note; change = Some change; answer = answer } → touches x at_turn ≡ false → bytes_eq x (name_of change.change) ≡ false
+    other_name call note change answer work made apart =
+        let named : name_changed s.secret call ≡ Some (name_of change.change) = change_is_named s task.client task.number call note change answer made in
+        let touched : turn.touched ≡ name_of change.change ∷ [] = touched_is ∙ ap (names_touched s.secret) work ∙ ap names_of named in
+        sym (one_name (bytes_eq x (name_of change.change))) ∙ ap (list_any (bytes_eq x)) (sym touched) ∙ apart
 
     -- ---- a Start's turn
 
@@ -298,6 +470,30 @@ module _ (w : WorldState) (s : MasterState) (knows : IsKnown w s) where
       abbrev granted : List Out
       granted = started_out s task.client task.number received ∷ []
 
+      -- it touches no name
+      no_name : touches x at_turn ≡ false
+      no_name = not_touched turn.touched x (touched_is ∙ ap (names_touched s.secret) work)
+
+      abbrev start_parts : UpParts → UpParts
+      start_parts parts = record parts { pending = touching x (front ++ back) }
+
+      start_same : (p : UpParts) → AreSame (here task.client x w s) p → touching x s.gate.waiting ≡ p.pending → AreSame (here task.client x w s) (start_parts p)
+      start_same p h same = record {
+        present = h.present;
+        session = h.session;
+        epoch = h.epoch;
+        lease = h.lease;
+        recovering = h.recovering;
+        seen = h.seen;
+        starts = h.starts;
+        heard = h.heard;
+        right = h.right;
+        pending = pending_stays no_name;
+        beats = h.beats;
+        offers = h.offers;
+        grants = h.grants;
+      }
+
       is_start : start_of task.client task ≡ start_receipt ∷ []
       is_start = ap (put_start task.client task.client task.number) work ∙ first_of (task.client == task.client) start_receipt [] (same_test task.client task.client refl)
 
@@ -306,41 +502,60 @@ module _ (w : WorldState) (s : MasterState) (knows : IsKnown w s) where
           (subst (λ (ws : List (Waiting Task)). IsIn start_receipt (starts_of task.client ws)) (sym turn.waited)
           (turn_in task.client front back at_turn start_receipt (subst (IsIn start_receipt) (sym is_start) (inl refl))))
 
-      own_offer : fold (put_offer task.client) (offers_of task.client w.messages) (map ToClient granted) ≡ start_offer w.clock ∷ offers_of task.client w.messages
-      own_offer = first_of (task.client == task.client) (start_offer s.clock) (offers_of task.client w.messages) (same_test task.client task.client refl) ∙ ap (λ now. start_offer now ∷ offers_of task.client w.messages) knows.clock
+      own_offer : fold (put_offer task.client x) (offers_of task.client x w.messages) (map ToClient granted) ≡ start_offer w.clock ∷ offers_of task.client x w.messages
+      own_offer = first_of (task.client == task.client) (start_offer s.clock) (offers_of task.client x w.messages) (same_test task.client task.client refl) ∙ ap (λ now. start_offer now ∷ offers_of task.client x w.messages) knows.clock
+
+      other_offer : (c : ℕ) → (c == task.client) ≡ false → IsSilent c granted
+      other_offer c other = record { offers = none_more (c == task.client) (start_offer s.clock) (offers_of c x w.messages) other; grants = refl }
 
       abbrev again : MasterState
       again = rest (record s { sessions = with_session s.sessions task.client (prolonged (s.clock + s.sessions.lease)) }) front back
 
-      abbrev again_events : Session Reply → List (Event (Unit {0}))
+      abbrev again_events : Session Reply → List (Event Shown)
       again_events session = SendOffer start_receipt 0 0 ∷ KeepReceipts (parked_list session.parked ++ starts_of task.client (front ++ back)) ∷ []
 
-      own_again : (session : Session Reply) → session_of s task.client ≡ Some session → session.live ≡ true → Goes task.client w.rows again granted
-      own_again session found live = (
-        again_events session,
-        subst (λ (z : Slice (Unit {0})). Leads z (again_events session) (slice task.client (up_with task.client w w.rows again granted))) (shows task.client w s (Some session) knows.sessions knows.epoch found) (record {
-          allowed = record {
-            first = record { up = refl; live = ap standing_so live; received = was_received (parked_list session.parked); issued = any_number session.invalidations.issued; carried = inl refl };
-            rest = record { first = rest_kept task.client (parked_list session.parked); rest = tt };
-          };
-          leads_there =
-              up_same task.client w w.rows again granted (standing_so session.live) s.epoch s.sessions.lease s.recovering (seen_of (Some (prolonged (w.clock + s.sessions.lease) session))) (starts_of task.client (front ++ back)) (heard_from s.recovering (seen_of (Some session))) (start_offer w.clock ∷ offers_of task.client w.messages)
-              (standing_kept task.client w s knows.sessions ∙ ap (λ o. standing_of (option_map row_of o)) found)
-              (sym knows.epoch)
-              (lease_stays s.sessions task.client (prolonged (s.clock + s.sessions.lease)))
-              refl
-              (ap seen_of (own_found (prolonged (s.clock + s.sessions.lease)) s.sessions task.client session found) ∙ ap (λ now. seen_of (Some (prolonged (now + s.sessions.lease) session))) knows.clock)
-              refl refl own_offer;
-        }),
-      )
+      -- an answer to a Start carries no invalidation
+      carries_none : (asked : Option ℕ) → asked_for task.client x s.rights ≡ asked → (number_or_0 asked ≡ 0) ⊎ ((0 < number_or_0 asked) ⊎ (0 ≡ number_or_0 asked))
+      carries_none asked is = by_number (number_or_0 asked)
+        where
+          by_number : (n : ℕ) → (n ≡ 0) ⊎ ((0 < n) ⊎ (0 ≡ n))
+          by_number n = by_test (nat_le n 0) (λ e. inl (grind (arith, nat_tests, e))) (λ e. inr (inl (grind (arith, nat_tests, e))))
 
-      other_again : (c : ℕ) → (c == task.client) ≡ false → Goes c w.rows again granted
-      other_again c other = leaves c w.rows again granted refl refl
+      own_again : (session : Session Reply) → session_of s task.client ≡ Some session → session.live ≡ true → Goes task.client x w s w.rows again granted
+      own_again session found live =
+          let p : UpParts = start_parts (with_found task.client x w s (Some session)) in
+          let q : UpParts = record p { seen = seen_of (Some (prolonged (w.clock + s.sessions.lease) session)); starts = starts_of task.client (front ++ back); offers = start_offer w.clock ∷ offers_of task.client x w.messages } in
+          goes task.client x w s w.rows again granted (again_events session) p q (start_same (with_found task.client x w s (Some session)) (is_found task.client x w s (Some session) knows.sessions knows.epoch found) refl)
+          (behind task.client w.rows again granted q
+          refl
+          (standing_kept task.client x w s knows.sessions ∙ ap (λ o. standing_of (option_map row_of o)) found)
+          (sym knows.epoch)
+          refl
           (lease_stays s.sessions task.client (prolonged (s.clock + s.sessions.lease)))
           refl
-          (ap seen_of (other_session s.sessions task.client (prolonged (s.clock + s.sessions.lease)) c (is_other c task.client other)))
-          refl
-          (none_more (c == task.client) (start_offer s.clock) (offers_of c w.messages) other)
+          (ap seen_of (own_found (prolonged (s.clock + s.sessions.lease)) s.sessions task.client session found) ∙ ap (λ now. seen_of (Some (prolonged (now + s.sessions.lease) session))) knows.clock)
+          refl refl refl refl refl own_offer refl)
+          (record {
+            allowed = record {
+              first = record { up = refl; live = ap standing_so live; received = was_received (parked_list session.parked); issued = any_number (invalidations_of task.client s.rights); carried = carries_none (asked_for task.client x s.rights) refl };
+              rest = record { first = rest_kept task.client (parked_list session.parked); rest = tt };
+            };
+            leads_there = refl;
+          })
+
+      other_again : (c : ℕ) → (c == task.client) ≡ false → Goes c x w s w.rows again granted
+      other_again c other = leaves c w.rows again granted (record {
+        present = λ apart. refl;
+        session = refl;
+        secret = refl;
+        epoch = refl;
+        lease = lease_stays s.sessions task.client (prolonged (s.clock + s.sessions.lease));
+        recovering = refl;
+        seen = ap seen_of (other_session s.sessions task.client (prolonged (s.clock + s.sessions.lease)) c (is_other c task.client other));
+        right = refl;
+        waiting = refl;
+        silent = other_offer c other;
+      })
 
       -- a new session
       abbrev live_row : of_rows.Session
@@ -352,69 +567,102 @@ module _ (w : WorldState) (s : MasterState) (knows : IsKnown w s) where
       abbrev begun : MasterState
       begun = rest (record s { sessions = with_new s.sessions task.client (session_until principal true (s.clock + s.sessions.lease)) }) front back
 
-      abbrev begun_events : List (Event (Unit {0}))
+      abbrev begun_events : List (Event Shown)
       begun_events = Admit ∷ SendOffer start_receipt 0 0 ∷ KeepReceipts (starts_of task.client (front ++ back)) ∷ []
 
       serves : (recovering : Bool) → s.recovering ≡ recovering → recovering ≡ false
       serves true is = absurd (not_empty front back at_turn (sym turn.waited ∙ knows.recovery_is_empty is))
       serves false is = refl
 
-      own_begin : session_of s task.client ≡ None → Goes task.client begun_rows begun granted
-      own_begin none = (
-        begun_events,
-        subst (λ (z : Slice (Unit {0})). Leads z begun_events (slice task.client (up_with task.client w begun_rows begun granted))) (shows task.client w s None knows.sessions knows.epoch none) (record {
-          allowed = record {
-            first = record { up = refl; new = refl };
-            rest = record {
-              first = record { up = refl; live = refl; received = was_received []; issued = any_number 0; carried = inl refl };
-              rest = record { first = rest_kept task.client []; rest = tt };
-            };
-          };
-          leads_there =
-              up_same task.client w begun_rows begun granted Live s.epoch s.sessions.lease s.recovering (seen_of (Some (session_until principal true (max (w.clock + s.sessions.lease) (w.clock + s.sessions.lease))))) (starts_of task.client (front ++ back)) true (start_offer w.clock ∷ offers_of task.client w.messages)
-              (ap standing_of (lookup_put task.client w.rows.sessions live_row))
-              (sym knows.epoch)
-              refl refl
-              (ap seen_of (lookup_put task.client s.sessions.sessions (session_until principal true (s.clock + s.sessions.lease)))
-              ∙ ap (λ now. seen_of (Some (session_until principal true (now + s.sessions.lease)))) knows.clock
-              ∙ ap (λ timeout. seen_of (Some (session_until principal true timeout))) (twice (w.clock + s.sessions.lease)))
-              refl
-              (ap (λ b. not b || false) (serves s.recovering refl))
-              own_offer;
-        }),
-      )
+      -- a client without a session was granted nothing
+      unowned : session_of s task.client ≡ None → right_of task.client x s.rights ≡ no_right
+      unowned none = unowned_right task.client x s.rights (knows.owned task.client none)
 
-      other_begin : (c : ℕ) → (c == task.client) ≡ false → Goes c begun_rows begun granted
-      other_begin c other = leaves c begun_rows begun granted
-          (ap standing_of (lookup_put_apart task.client c (is_other c task.client other) w.rows.sessions live_row))
-          refl refl refl
-          (ap seen_of (lookup_put_apart task.client c (is_other c task.client other) s.sessions.sessions (session_until principal true (s.clock + s.sessions.lease))))
+      own_begin : session_of s task.client ≡ None → Goes task.client x w s begun_rows begun granted
+      own_begin none =
+          let p : UpParts = record (start_parts (with_found task.client x w s None)) { right = no_right } in
+          let q : UpParts = record p { session = Live; seen = seen_of (Some (session_until principal true (max (w.clock + s.sessions.lease) (w.clock + s.sessions.lease)))); starts = starts_of task.client (front ++ back); heard = true; offers = start_offer w.clock ∷ offers_of task.client x w.messages } in
+          let h = start_same (with_found task.client x w s None) (is_found task.client x w s None knows.sessions knows.epoch none) refl in
+          goes task.client x w s begun_rows begun granted begun_events p q
+          (record { present = h.present; session = h.session; epoch = h.epoch; lease = h.lease; recovering = h.recovering; seen = h.seen; starts = h.starts; heard = h.heard; right = unowned none; pending = h.pending; beats = h.beats; offers = h.offers; grants = h.grants })
+          (behind task.client begun_rows begun granted q
           refl
-          (none_more (c == task.client) (start_offer s.clock) (offers_of c w.messages) other)
+          (ap standing_of (lookup_put task.client w.rows.sessions live_row))
+          (sym knows.epoch)
+          refl refl refl
+          (ap seen_of (lookup_put task.client s.sessions.sessions (session_until principal true (s.clock + s.sessions.lease)))
+          ∙ ap (λ now. seen_of (Some (session_until principal true (now + s.sessions.lease)))) knows.clock
+          ∙ ap (λ timeout. seen_of (Some (session_until principal true timeout))) (twice (w.clock + s.sessions.lease)))
+          refl
+          (ap (λ b. not b || false) (serves s.recovering refl))
+          (unowned none)
+          refl refl own_offer refl)
+          (record {
+            allowed = record {
+              first = record { up = refl; new = refl };
+              rest = record {
+                first = record { up = refl; live = refl; received = was_received []; issued = any_number 0; carried = inl refl };
+                rest = record { first = rest_kept task.client []; rest = tt };
+              };
+            };
+            leads_there = refl;
+          })
 
-  sweep_by : (c : ℕ) (case : SweepCase s) → Goes c (changed_rows w.rows (swept_edits s case)) (swept_by s case).0 (swept_by s case).1.outs
-  sweep_by c (Quiet none) = goes_unseen c w.rows s [] refl refl refl refl refl refl refl
+      other_begin : (c : ℕ) → (c == task.client) ≡ false → Goes c x w s begun_rows begun granted
+      other_begin c other = leaves c begun_rows begun granted (record {
+        present = λ apart. refl;
+        session = ap standing_of (lookup_put_apart task.client c (is_other c task.client other) w.rows.sessions live_row);
+        secret = refl;
+        epoch = refl;
+        lease = refl;
+        recovering = refl;
+        seen = ap seen_of (lookup_put_apart task.client c (is_other c task.client other) s.sessions.sessions (session_until principal true (s.clock + s.sessions.lease)));
+        right = refl;
+        waiting = refl;
+        silent = other_offer c other;
+      })
+
+    -- ---- turns that end in nothing but what is sent
+
+    plain_rest : (c : ℕ) (sent : List Out) → IsSilent c sent → IsRest c w.rows (rest s front back) sent
+    plain_rest c sent silent = record { present = λ apart. refl; session = refl; secret = refl; epoch = refl; lease = refl; recovering = refl; seen = refl; right = refl; waiting = refl; silent = silent }
+
+    plain_rows : (c : ℕ) → HasRows c w.rows
+    plain_rows c = record { present = λ apart. refl; session = refl; secret = refl; epoch = refl }
+
+    changed_rows_of : (c : ℕ) (call : Call) (note : Option Note) (change : Change) (answer : CallResult) → task.work ≡ works.Calls call → effect s task.client task.number call ≡ record { note = note; change = Some change; answer = answer } → HasRows c (changed_rows w.rows (edit_of change.change ∷ NextInstance change.next_instance ∷ []))
+    changed_rows_of c call note change answer work made =
+        let rows = changed_rows w.rows (edit_of change.change ∷ NextInstance change.next_instance ∷ []) in
+        let m = mapped_rows w.rows change.change change.next_instance in
+        record {
+          present = λ apart. ap (λ nodes. get_node nodes x) m.map ∙ other_node (map_of w.rows) change.change x (other_name call note change answer work made apart);
+          session = standing_by c rows w.rows.sessions m.sessions;
+          secret = m.secret;
+          epoch = m.epoch;
+        }
+
+  sweep_by : (c : ℕ) (case : SweepCase s) → Goes c x w s (changed_rows w.rows (swept_edits s case)) (swept_by s case).0 (swept_by s case).1.outs
+  sweep_by c (Quiet none) = unseen_behind c w.rows s [] same_rows refl refl refl refl refl refl refl refl
   sweep_by c (Recovers recovering heard) = recovers c (session_of s c) refl heard
   sweep_by c (Expires client session due) = by_test (c == client)
-      (λ own. subst (λ (z : ℕ). Goes z (ended_rows client session due) (expired client session due) []) (sym (is_same c client own)) (own_expiry client session due))
-      (λ other. other_expiry client session due c (is_other c client other))
+      (λ own. subst (λ (z : ℕ). Goes z x w s (ended_rows client session due) (expired client session due) []) (sym (is_same c client own)) (own_expiry client session due))
+      (λ other. other_expiry client session due c other)
   sweep_by c (AnswersBeat client session beat due) = by_test (c == client)
-      (λ own. subst (λ (z : ℕ). Goes z w.rows (answers_beat client session beat due) (alive client session beat due)) (sym (is_same c client own)) (own_answer client session beat due))
+      (λ own. subst (λ (z : ℕ). Goes z x w s w.rows (answers_beat client session beat due) (alive client session beat due)) (sym (is_same c client own)) (own_answer client session beat due))
       (λ other. other_answer client session beat due c other)
-  sweep_by c (TurnedAway front back task principal received turn work may) = leaves front back task turn c w.rows (rest s front back) (turned_away s task.client task.number faults.NoSession).outs refl refl refl refl refl refl refl
+  sweep_by c (TurnedAway front back task principal received turn work may) =
+      leaves front back task turn c w.rows (rest s front back) (turned_away s task.client task.number faults.NoSession).outs (plain_rest front back task turn c (turned_away s task.client task.number faults.NoSession).outs (record { offers = refl; grants = refl }))
   sweep_by c (StartedAgain front back task principal received session turn work found live) = by_test (c == task.client)
-      (λ own. subst (λ (z : ℕ). Goes z w.rows (again front back task turn principal received work) (granted front back task turn principal received work)) (sym (is_same c task.client own)) (own_again front back task turn principal received work session found live))
+      (λ own. subst (λ (z : ℕ). Goes z x w s w.rows (again front back task turn principal received work) (granted front back task turn principal received work)) (sym (is_same c task.client own)) (own_again front back task turn principal received work session found live))
       (λ other. other_again front back task turn principal received work c other)
   sweep_by c (Started front back task principal received turn work none) = by_test (c == task.client)
-      (λ own. subst (λ (z : ℕ). Goes z (begun_rows front back task turn principal received work) (begun front back task turn principal received work) (granted front back task turn principal received work)) (sym (is_same c task.client own)) (own_begin front back task turn principal received work none))
+      (λ own. subst (λ (z : ℕ). Goes z x w s (begun_rows front back task turn principal received work) (begun front back task turn principal received work) (granted front back task turn principal received work)) (sym (is_same c task.client own)) (own_begin front back task turn principal received work none))
       (λ other. other_begin front back task turn principal received work c other)
-  sweep_by c (OfEnded front back task call turn work gone) = leaves front back task turn c w.rows (rest s front back) [] refl refl refl refl refl refl refl
-  sweep_by c (Ended front back task call note answer turn work live made) = replies front back task turn c w.rows (rest s front back) note answer refl refl refl refl refl s.epoch
+  sweep_by c (OfEnded front back task call turn work gone) = leaves front back task turn c w.rows (rest s front back) [] (plain_rest front back task turn c [] (nothing_sent c))
+  sweep_by c (Ended front back task call note answer turn work live made) = replies front back task turn c w.rows (rest s front back) note answer (plain_rows front back task turn c) refl refl refl refl s.epoch
   sweep_by c (Applied front back task call note change answer turn work live made) =
       replies front back task turn c (changed_rows w.rows (edit_of change.change ∷ NextInstance change.next_instance ∷ [])) (mapped (rest s front back) change) note answer
-      (standing_by c (changed_rows w.rows (edit_of change.change ∷ NextInstance change.next_instance ∷ [])) w.rows.sessions (mapped_rows w.rows change.change change.next_instance).0)
-      (mapped_rows w.rows change.change change.next_instance).1
-      refl refl refl s.epoch
+      (changed_rows_of front back task turn c call note change answer work made) refl refl refl refl s.epoch
 
 -- the world behind the sweep
 abbrev pub behind_sweep : (w : WorldState) (s : MasterState) → SweepCase (noted s w.clock) → WorldState
@@ -424,11 +672,11 @@ behind_sweep w s case = record w {
   messages = w.messages ++ map ToClient (swept_by (noted s w.clock) case).1.outs;
 }
 
-module _ (c : ℕ) (w : WorldState) (s : MasterState) (case : SweepCase (noted s w.clock)) where
-  pub sweep_leads : w.master ≡ Some s → s.clock ≤ w.clock → IsKept w.cell w.rows s → LeadsTo c w (behind_sweep w s case)
+module _ (c : ℕ) (x : List ℕ) (w : WorldState) (s : MasterState) (case : SweepCase (noted s w.clock)) where
+  pub sweep_leads : w.master ≡ Some s → s.clock ≤ w.clock → IsKept w.cell w.rows s → LeadsTo c x w (behind_sweep w s case)
   sweep_leads up early kept =
-      let led = sweep_by w (noted s w.clock) (known w s kept early) c case in
-      (led.0, with_master c w s led.0 (slice c (behind_sweep w s case)) up led.1)
+      let led = sweep_by x w (noted s w.clock) (known w s kept early) c case in
+      (led.0, with_master c x w s led.0 (slice c x (behind_sweep w s case)) up led.1)
 
-  pub reached_stays_at_sweep : w.master ≡ Some s → s.clock ≤ w.clock → IsKept w.cell w.rows s → Reached (slice c w) → Reached (slice c (behind_sweep w s case))
-  reached_stays_at_sweep up early kept reached = reached_stays c w (behind_sweep w s case) (sweep_leads up early kept) reached
+  pub reached_stays_at_sweep : w.master ≡ Some s → s.clock ≤ w.clock → IsKept w.cell w.rows s → Reached (slice c x w) → Reached (slice c x (behind_sweep w s case))
+  reached_stays_at_sweep up early kept reached = reached_stays c x w (behind_sweep w s case) (sweep_leads up early kept) reached

@@ -1,4 +1,4 @@
--- What a world shows of one client where a step leaves it, and how its slice is led on.
+-- What a world shows of one client and one name where a step leaves it, and how their slice is led on.
 use Rattle.std.proofs.Common.{◌≡◌, ◌≢◌, ℕ, ◌-◌, ◌≤◌, max, Bool, true, false, cond, List, [], ◌∷◌, ◌++◌, map, zero, suc, Option, Some, None, inl, inr, arith, refl, sym, ap, ◌∙◌, subst}
 use Rattle.std.specs.Prelude.{◌⊎◌, ◌==◌, ◌&&◌, fold}
 use Rattle.std.specs.Option.{option_map, option_map_or}
@@ -10,7 +10,9 @@ use Rattle.std.proofs.lemmas.Bool.Decides.{nat_tests}
 use Rattle.coherence.specs.Slice as one
 use Rattle.coherence.specs.Slice.{IsIn, Slice, Event, Reached, Leads}
 use Rattle.coherence.proofs.Reached.{reached_led}
+use Rattle.node_core.specs.Nodes.{get_node}
 use Rattle.rows_cell.specs.declared.tables.Rows.{Rows}
+use Rattle.rows_cell.specs.Rows.{map_of}
 use Rattle.tags_cell.specs.declared.requests.Request.{Request}
 use Rattle.tags_cell.specs.declared.requests.Request.TheVariants as requests
 use Rattle.tags_cell.specs.declared.outs.Out.{Out}
@@ -22,28 +24,32 @@ use Rattle.session_core.specs.Sessions.{session_of as session_in}
 use Rattle.session_core.proofs.Keys.{same_key}
 use Rattle.session_core.proofs.OneClient.{own_session, other_session}
 use Rattle.session_core.proofs.RowsOfSessions.{rows_of}
+use Rattle.rights_core.specs.Rights.{IsRecorded}
 use Rattle.gate_core.specs.declared.pending.Waiting.{Waiting}
+use Rattle.gate_core.specs.Laws.{touching}
 use Rattle.cell_core.specs.declared.pending.Task.{Task}
 use Rattle.cell_core.specs.State.{MasterState, row_of, session_rows}
 use Rattle.cell_core.specs.Step.{session_of, noted}
-use Rattle.over_core.specs.Kept.{AreByBeats, IsKept}
+use Rattle.client_core.specs.Gives.{last_number}
+use Rattle.over_core.specs.Kept.{AreByBeats, AreIssued, AreOwned, AreTouching, IsKept}
 use Rattle.world_cell.specs.declared.mail.Message.{Message}
 use Rattle.world_cell.specs.declared.mail.Message.TheVariants.{ToMaster, ToClient}
 use Rattle.world_cell.specs.declared.seats.Seat.{Seat}
 use Rattle.world_cell.specs.Messages.{message_at, as_request, as_out, request_at, out_at}
 use Rattle.world_cell.specs.World.{WorldState, seat_of}
-use Rattle.world_cell.specs.Slices.{Seen, Clocks, slice, standing_of, standing_in, seen_of, heard_from, start_of, starts_of, beat_of, put_beat, beats_of, offer_of, put_offer, offers_of, clocks_of, client_of, master_of}
+use Rattle.world_cell.specs.Slices.{Seen, SeenRight, Shown, Grants, GrantsSoFar, Clocks, slice, standing_of, standing_in, seen_of, heard_from, right_of, start_of, starts_of, beat_of, put_beat, beats_of, name_number, offer_of, put_offer, offers_of, put_grant, grants_of, clocks_of, client_of, master_of}
+use Rattle.world_cell.proofs.GrantsSent.{granted_by, looked_at}
 
--- to the client, the one world leads to the other
-abbrev pub LeadsTo : ℕ → WorldState → WorldState → Type 0
-LeadsTo client w new = (events : List (Event (Unit {0}))) × Leads (slice client w) events (slice client new)
+-- to the client, and of the name, the one world leads to the other
+abbrev pub LeadsTo : ℕ → List ℕ → WorldState → WorldState → Type 0
+LeadsTo client name w new = (events : List (Event Shown)) × Leads (slice client name w) events (slice client name new)
 
-pub reached_stays : (client : ℕ) (w new : WorldState) → LeadsTo client w new → Reached (slice client w) → Reached (slice client new)
-reached_stays client w new led reached = reached_led (slice client w) (slice client new) led.0 reached led.1
+pub reached_stays : (client : ℕ) (name : List ℕ) (w new : WorldState) → LeadsTo client name w new → Reached (slice client name w) → Reached (slice client name new)
+reached_stays client name w new led reached = reached_led (slice client name w) (slice client name new) led.0 reached led.1
 
--- a step of which the client sees nothing
-pub unseen : (client : ℕ) (w new : WorldState) → slice client w ≡ slice client new → LeadsTo client w new
-unseen client w new same = ([], record { allowed = tt; leads_there = same })
+-- a step of which nothing is seen
+pub unseen : (client : ℕ) (name : List ℕ) (w new : WorldState) → slice client name w ≡ slice client name new → LeadsTo client name w new
+unseen client name w new same = ([], record { allowed = tt; leads_there = same })
 
 -- ---- tests and lists
 
@@ -113,14 +119,23 @@ no_beats c beats (out ∷ sent) = no_beats c beats sent
 pub beats_stay : (c : ℕ) (messages : List Message) (sent : List Out) → beats_of c (messages ++ map ToClient sent) ≡ beats_of c messages
 beats_stay c messages sent = fold_both (put_beat c) [] messages (map ToClient sent) ∙ no_beats c (beats_of c messages) sent
 
-pub offers_more : (c : ℕ) (messages : List Message) (sent : List Out) → offers_of c (messages ++ map ToClient sent) ≡ fold (put_offer c) (offers_of c messages) (map ToClient sent)
-offers_more c messages sent = fold_both (put_offer c) [] messages (map ToClient sent)
+pub offers_more : (c : ℕ) (x : List ℕ) (messages : List Message) (sent : List Out) → offers_of c x (messages ++ map ToClient sent) ≡ fold (put_offer c x) (offers_of c x messages) (map ToClient sent)
+offers_more c x messages sent = fold_both (put_offer c x) [] messages (map ToClient sent)
 
 pub beats_more : (c : ℕ) (messages : List Message) (request : Request) → beats_of c (messages ++ ToMaster request ∷ []) ≡ beat_of c request (beats_of c messages)
 beats_more c messages request = fold_both (put_beat c) [] messages (ToMaster request ∷ [])
 
-pub offers_stay : (c : ℕ) (messages : List Message) (request : Request) → offers_of c (messages ++ ToMaster request ∷ []) ≡ offers_of c messages
-offers_stay c messages request = fold_both (put_offer c) [] messages (ToMaster request ∷ [])
+pub offers_stay : (c : ℕ) (x : List ℕ) (messages : List Message) (request : Request) → offers_of c x (messages ++ ToMaster request ∷ []) ≡ offers_of c x messages
+offers_stay c x messages request = fold_both (put_offer c x) [] messages (ToMaster request ∷ [])
+
+-- the grants among what is sent behind these messages
+abbrev pub grants_then : ℕ → List ℕ → List ℕ → List Message → List Out → Grants
+grants_then c x secret messages sent = (granted_by c x secret (record { before = messages; grants = grants_of c x secret messages }) (map ToClient sent)).grants
+
+pub grants_more : (c : ℕ) (x secret : List ℕ) (messages : List Message) (sent : List Out) → grants_of c x secret (messages ++ map ToClient sent) ≡ grants_then c x secret messages sent
+grants_more c x secret messages sent =
+    ap (λ (g : GrantsSoFar). g.grants) (fold_both (put_grant c x secret) (record { before = []; grants = [] }) messages (map ToClient sent))
+    ∙ ap (λ before. (granted_by c x secret (record { before = before; grants = grants_of c x secret messages }) (map ToClient sent)).grants) (looked_at c x secret messages (record { before = []; grants = [] }))
 
 is_request : (o : Option Message) (r : Request) → option_map_or as_request o None ≡ Some r → o ≡ Some (ToMaster r)
 is_request None r h = cc
@@ -151,18 +166,19 @@ beat_sent c sent at request b found here =
     let m = found_at sent at (ToMaster request) (is_request (message_at sent at) request found) in
     fold_has (put_beat c) b (ToMaster request) (beat_kept c b) here [] sent m.0 m.1
 
-offer_kept : (c : ℕ) (o : one.Offer) (offers : List one.Offer) (m : Message) → IsIn o offers → IsIn o (put_offer c offers m)
-offer_kept c o offers (ToMaster request) i = i
-offer_kept c o offers (ToClient (outs.Started started)) i = in_one_more (c == started.client) o (record { epoch = started.epoch; number = started.number; span = started.span; last_invalidation = 0; name_invalidation = 0 }) offers i
-offer_kept c o offers (ToClient (outs.Alive alive)) i = in_one_more (c == alive.client) o (record { epoch = alive.epoch; number = alive.number; span = alive.span; last_invalidation = 0; name_invalidation = 0 }) offers i
-offer_kept c o offers (ToClient (outs.Reply reply)) i = i
-offer_kept c o offers (ToClient (outs.Refused refused)) i = i
+module _ (c : ℕ) (x : List ℕ) where
+  offer_kept : (o : one.Offer) (offers : List one.Offer) (m : Message) → IsIn o offers → IsIn o (put_offer c x offers m)
+  offer_kept o offers (ToMaster request) i = i
+  offer_kept o offers (ToClient (outs.Started started)) i = in_one_more (c == started.client) o (record { epoch = started.epoch; number = started.number; span = started.span; last_invalidation = 0; name_invalidation = 0 }) offers i
+  offer_kept o offers (ToClient (outs.Alive alive)) i = in_one_more (c == alive.client) o (record { epoch = alive.epoch; number = alive.number; span = alive.span; last_invalidation = last_number 0 alive.invalidations; name_invalidation = name_number x alive.invalidations }) offers i
+  offer_kept o offers (ToClient (outs.Reply reply)) i = i
+  offer_kept o offers (ToClient (outs.Refused refused)) i = i
 
--- and so was an offer
-pub offer_sent : (c : ℕ) (sent : List Message) (at : ℕ) (out : Out) (o : one.Offer) → out_at sent at ≡ Some out → ((offers : List one.Offer) → IsIn o (offer_of c out offers)) → IsIn o (offers_of c sent)
-offer_sent c sent at out o found here =
-    let m = found_at sent at (ToClient out) (is_out (message_at sent at) out found) in
-    fold_has (put_offer c) o (ToClient out) (offer_kept c o) here [] sent m.0 m.1
+  -- and so was an offer
+  pub offer_sent : (sent : List Message) (at : ℕ) (out : Out) (o : one.Offer) → out_at sent at ≡ Some out → ((offers : List one.Offer) → IsIn o (offer_of c x out offers)) → IsIn o (offers_of c x sent)
+  offer_sent sent at out o found here =
+      let m = found_at sent at (ToClient out) (is_out (message_at sent at) out found) in
+      fold_has (put_offer c x) o (ToClient out) (offer_kept o) here [] sent m.0 m.1
 
 -- ---- tables by client
 
@@ -195,96 +211,186 @@ all_found {A} c test (e ∷ es) a h k =
 
 -- ---- a master that is up
 
--- the slice by what is seen of the master's state, the rows and the messages
-abbrev pub seen_up : ℕ → Clocks → one.Client (Unit {0}) → one.Session → ℕ → ℕ → Bool → List one.Receipt → ℕ → Bool → ℕ → ℕ → List one.Beat → List one.Offer → Slice (Unit {0})
-seen_up now clocks half session epoch lease recovering received timeout heard issued acknowledged beats offers = record {
-  present = tt;
-  session = session;
-  epoch = epoch;
+-- what is seen of it, of the rows and of the messages
+pub record UpParts : Type 0 where
+  pub present : Shown
+  pub session : one.Session
+  pub epoch : ℕ
+  pub lease : ℕ
+  pub recovering : Bool
+  pub seen : Seen
+  pub starts : List one.Receipt
+  pub heard : Bool
+  pub right : SeenRight
+  pub pending : ℕ
+  pub beats : List one.Beat
+  pub offers : List one.Offer
+  pub grants : Grants
+
+-- the slice by these
+abbrev pub seen_up : ℕ → Clocks → one.Client Shown → UpParts → Slice Shown
+seen_up now clocks half parts = record {
+  present = parts.present;
+  session = parts.session;
+  epoch = parts.epoch;
   master = record {
     up = true;
     now = now;
-    lease_length = lease;
-    recovering = recovering;
+    lease_length = parts.lease;
+    recovering = parts.recovering;
     client_when_up = clocks.client_when_up;
     least_now = clocks.least_now;
     least_client = clocks.least_client;
-    received = received;
-    timeout = timeout;
-    heard_from = heard;
-    issued = issued;
-    acknowledged = acknowledged;
-    held = false;
-    asked_back = 0;
-    given_back = 0;
-    pending = 0;
+    received = parts.seen.parked ++ parts.starts;
+    timeout = parts.seen.timeout;
+    heard_from = parts.heard;
+    issued = parts.right.issued;
+    acknowledged = parts.seen.acknowledged;
+    held = parts.right.held;
+    asked_back = parts.right.asked_back;
+    given_back = parts.right.given_back;
+    pending = parts.pending;
   };
   client = half;
-  beats = beats;
-  offers = offers;
-  grants = [];
+  beats = parts.beats;
+  offers = parts.offers;
+  grants = parts.grants;
 }
 
-all_same : {X : Type 0} (f : one.Session → ℕ → ℕ → Bool → Seen → List one.Receipt → Bool → List one.Beat → List one.Offer → X) (s t : one.Session) (e g l m : ℕ) (r q : Bool) (u v : Seen) (a b : List one.Receipt) (h k : Bool) (c d : List one.Beat) (o p : List one.Offer) → t ≡ s → g ≡ e → m ≡ l → q ≡ r → v ≡ u → b ≡ a → k ≡ h → d ≡ c → p ≡ o → f s e l r u a h c o ≡ f t g m q v b k d p
-all_same f s t e g l m r q u v a b h k c d o p is_session is_epoch is_lease is_recovering is_seen is_starts is_heard is_beats is_offers = cc
+-- the same parts
+pub record AreSame (q p : UpParts) : Type 0 where
+  pub present : q.present ≡ p.present
+  pub session : q.session ≡ p.session
+  pub epoch : q.epoch ≡ p.epoch
+  pub lease : q.lease ≡ p.lease
+  pub recovering : q.recovering ≡ p.recovering
+  pub seen : q.seen ≡ p.seen
+  pub starts : q.starts ≡ p.starts
+  pub heard : q.heard ≡ p.heard
+  pub right : q.right ≡ p.right
+  pub pending : q.pending ≡ p.pending
+  pub beats : q.beats ≡ p.beats
+  pub offers : q.offers ≡ p.offers
+  pub grants : q.grants ≡ p.grants
 
-module _ (c : ℕ) (w : WorldState) where
+all_same : {X : Type 0} (f : Shown → one.Session → ℕ → ℕ → Bool → Seen → List one.Receipt → Bool → SeenRight → ℕ → List one.Beat → List one.Offer → Grants → X)
+    (s t : Shown) (a b : one.Session) (e g l m : ℕ) (r q : Bool) (u v : Seen) (w x : List one.Receipt) (h k : Bool) (i j : SeenRight) (n p : ℕ) (c d : List one.Beat) (o y : List one.Offer) (z zz : Grants)
+    → t ≡ s → b ≡ a → g ≡ e → m ≡ l → q ≡ r → v ≡ u → x ≡ w → k ≡ h → j ≡ i → p ≡ n → d ≡ c → y ≡ o → zz ≡ z → f t b g m q v x k j p d y zz ≡ f s a e l r u w h i n c o z
+all_same f s t a b e g l m r q u v w x h k i j n p c d o y z zz is_present is_session is_epoch is_lease is_recovering is_seen is_starts is_heard is_right is_pending is_beats is_offers is_grants = cc
+
+abbrev parts_with : Shown → one.Session → ℕ → ℕ → Bool → Seen → List one.Receipt → Bool → SeenRight → ℕ → List one.Beat → List one.Offer → Grants → UpParts
+parts_with present session epoch lease recovering seen starts heard right pending beats offers grants = record {
+  present = present;
+  session = session;
+  epoch = epoch;
+  lease = lease;
+  recovering = recovering;
+  seen = seen;
+  starts = starts;
+  heard = heard;
+  right = right;
+  pending = pending;
+  beats = beats;
+  offers = offers;
+  grants = grants;
+}
+
+pub same_parts : (q p : UpParts) → AreSame q p → q ≡ p
+same_parts q p same = all_same parts_with p.present q.present p.session q.session p.epoch q.epoch p.lease q.lease p.recovering q.recovering p.seen q.seen p.starts q.starts p.heard q.heard p.right q.right p.pending q.pending p.beats q.beats p.offers q.offers p.grants q.grants
+    same.present same.session same.epoch same.lease same.recovering same.seen same.starts same.heard same.right same.pending same.beats same.offers same.grants
+
+pub alike : (p : UpParts) → AreSame p p
+alike p = record { present = refl; session = refl; epoch = refl; lease = refl; recovering = refl; seen = refl; starts = refl; heard = refl; right = refl; pending = refl; beats = refl; offers = refl; grants = refl }
+
+module _ (c : ℕ) (x : List ℕ) (w : WorldState) where
   -- a master with these rows, that has sent these
   abbrev pub up_with : Rows → MasterState → List Out → WorldState
   up_with rows t sent = record w { rows = rows; master = Some t; messages = w.messages ++ map ToClient sent }
 
-  abbrev pub seen_here : one.Session → ℕ → ℕ → Bool → Seen → List one.Receipt → Bool → List one.Beat → List one.Offer → Slice (Unit {0})
-  seen_here session epoch lease recovering seen starts heard beats offers =
-      seen_up w.clock (clocks_of w.clock (seat_of w c)) (client_of (seat_of w c)) session epoch lease recovering (seen.parked ++ starts) seen.timeout heard seen.issued seen.acknowledged beats offers
+  abbrev pub parts_of : Rows → MasterState → List Message → UpParts
+  parts_of rows t messages = record {
+    present = get_node (map_of rows) x;
+    session = standing_in rows c;
+    epoch = rows.epoch;
+    lease = t.sessions.lease;
+    recovering = t.recovering;
+    seen = seen_of (session_of t c);
+    starts = starts_of c t.gate.waiting;
+    heard = heard_from t.recovering (seen_of (session_of t c));
+    right = right_of c x t.rights;
+    pending = touching x t.gate.waiting;
+    beats = beats_of c messages;
+    offers = offers_of c x messages;
+    grants = grants_of c x rows.secret messages;
+  }
 
-  pub up_same : (rows : Rows) (t : MasterState) (sent : List Out) (session : one.Session) (epoch lease : ℕ) (recovering : Bool) (seen : Seen) (starts : List one.Receipt) (heard : Bool) (offers : List one.Offer)
-      → standing_in rows c ≡ session → rows.epoch ≡ epoch → t.sessions.lease ≡ lease → t.recovering ≡ recovering → seen_of (session_of t c) ≡ seen → starts_of c t.gate.waiting ≡ starts → heard_from recovering seen ≡ heard → fold (put_offer c) (offers_of c w.messages) (map ToClient sent) ≡ offers
-      → seen_here session epoch lease recovering seen starts heard (beats_of c w.messages) offers ≡ slice c (up_with rows t sent)
-  up_same rows t sent session epoch lease recovering seen starts heard offers is_session is_epoch is_lease is_recovering is_seen is_starts is_heard is_offers =
-      all_same seen_here session (standing_in rows c) epoch rows.epoch lease t.sessions.lease recovering t.recovering seen (seen_of (session_of t c)) starts (starts_of c t.gate.waiting) heard (heard_from t.recovering (seen_of (session_of t c))) (beats_of c w.messages) (beats_of c (w.messages ++ map ToClient sent)) offers (offers_of c (w.messages ++ map ToClient sent))
-      is_session is_epoch is_lease is_recovering is_seen is_starts
-      (ap (λ b. heard_from b (seen_of (session_of t c))) is_recovering ∙ ap (heard_from recovering) is_seen ∙ is_heard)
-      (beats_stay c w.messages sent)
-      (offers_more c w.messages sent ∙ is_offers)
+  -- before a step
+  abbrev pub here : MasterState → UpParts
+  here s = parts_of w.rows s w.messages
+
+  -- behind it
+  abbrev pub there : Rows → MasterState → List Out → UpParts
+  there rows t sent = parts_of rows t (w.messages ++ map ToClient sent)
+
+  abbrev pub shown : UpParts → Slice Shown
+  shown parts = seen_up w.clock (clocks_of w.clock (seat_of w c)) (client_of (seat_of w c)) parts
+
+  -- from the master as it is these events lead to one with these rows, that has sent these
+  abbrev pub Goes : MasterState → Rows → MasterState → List Out → Type 0
+  Goes s rows t sent = (events : List (Event Shown)) × Leads (slice c x (record w { master = Some s })) events (slice c x (up_with rows t sent))
+
+  -- by the parts before and behind
+  pub goes : (s : MasterState) (rows : Rows) (t : MasterState) (sent : List Out) (events : List (Event Shown)) (p q : UpParts) → AreSame (here s) p → AreSame (there rows t sent) q → Leads (shown p) events (shown q) → Goes s rows t sent
+  goes s rows t sent events p q before behind led = (
+    events,
+    subst (λ z. Leads (shown (here s)) events (shown z)) (sym (same_parts (there rows t sent) q behind)) (subst (λ z. Leads (shown z) events (shown q)) (sym (same_parts (here s) p before)) led),
+  )
+
+  -- nothing is seen of it
+  pub goes_unseen : (s : MasterState) (rows : Rows) (t : MasterState) (sent : List Out) → AreSame (there rows t sent) (here s) → Goes s rows t sent
+  goes_unseen s rows t sent same = goes s rows t sent [] (here s) (here s) (alike (here s)) same (record { allowed = tt; leads_there = refl })
 
   -- what the rows say of the client's session, by what the master knows of it
   pub standing_kept : (s : MasterState) → session_rows s.sessions ≡ w.rows.sessions → standing_in w.rows c ≡ standing_of (option_map row_of (session_of s c))
   standing_kept s kept = ap (λ es. standing_of (lookup (is_at (nat_cmp c)) es)) (sym kept) ∙ ap standing_of (lookup_rows row_of (is_at (nat_cmp c)) s.sessions.sessions)
 
-  -- what is seen before a step
-  abbrev pub shown : one.Session → ℕ → MasterState → Option (Session Reply) → Slice (Unit {0})
-  shown session epoch s found = seen_here session epoch s.sessions.lease s.recovering (seen_of found) (starts_of c s.gate.waiting) (heard_from s.recovering (seen_of found)) (beats_of c w.messages) (offers_of c w.messages)
+  -- before a step, where the client has this session or none
+  abbrev pub with_found : MasterState → Option (Session Reply) → UpParts
+  with_found s found = record (here s) { session = standing_of (option_map row_of found); epoch = s.epoch; seen = seen_of found; heard = heard_from s.recovering (seen_of found) }
 
-  pub shows : (s : MasterState) (found : Option (Session Reply)) → session_rows s.sessions ≡ w.rows.sessions → s.epoch ≡ w.rows.epoch → session_of s c ≡ found → shown (standing_of (option_map row_of found)) s.epoch s found ≡ slice c (record w { master = Some s })
-  shows s found kept epoch is =
-      three_same (λ session e o. shown session e s o) (standing_of (option_map row_of found)) (standing_in w.rows c) s.epoch w.rows.epoch found (session_of s c)
-      (sym (standing_kept s kept ∙ ap (λ o. standing_of (option_map row_of o)) is))
-      epoch
-      (sym is)
-
-  -- a master of which the client sees the same, and offers it nothing
-  pub up_stays : (s t : MasterState) (sent : List Out) → t.sessions.lease ≡ s.sessions.lease → t.recovering ≡ s.recovering → seen_of (session_of t c) ≡ seen_of (session_of s c) → starts_of c t.gate.waiting ≡ starts_of c s.gate.waiting → fold (put_offer c) (offers_of c w.messages) (map ToClient sent) ≡ offers_of c w.messages
-      → slice c (record w { master = Some s }) ≡ slice c (record w { master = Some t; messages = w.messages ++ map ToClient sent })
-  up_stays s t sent is_lease is_recovering is_seen is_starts is_offers =
-      up_same w.rows t sent (standing_in w.rows c) w.rows.epoch s.sessions.lease s.recovering (seen_of (session_of s c)) (starts_of c s.gate.waiting) (heard_from s.recovering (seen_of (session_of s c))) (offers_of c w.messages)
-      refl refl is_lease is_recovering is_seen is_starts refl is_offers
+  pub is_found : (s : MasterState) (found : Option (Session Reply)) → session_rows s.sessions ≡ w.rows.sessions → s.epoch ≡ w.rows.epoch → session_of s c ≡ found → AreSame (here s) (with_found s found)
+  is_found s found kept epoch is = record {
+    present = refl;
+    session = standing_kept s kept ∙ ap (λ o. standing_of (option_map row_of o)) is;
+    epoch = sym epoch;
+    lease = refl;
+    recovering = refl;
+    seen = ap seen_of is;
+    starts = refl;
+    heard = ap (λ o. heard_from s.recovering (seen_of o)) is;
+    right = refl;
+    pending = refl;
+    beats = refl;
+    offers = refl;
+    grants = refl;
+  }
 
   -- where the master is up
-  pub with_master : (s : MasterState) (events : List (Event (Unit {0}))) (later : Slice (Unit {0})) → w.master ≡ Some s → Leads (slice c (record w { master = Some s })) events later → Leads (slice c w) events later
-  with_master s events later is led = subst (λ (m : Option MasterState). Leads (slice c (record w { master = m })) events later) (sym is) led
+  pub with_master : (s : MasterState) (events : List (Event Shown)) (later : Slice Shown) → w.master ≡ Some s → Leads (slice c x (record w { master = Some s })) events later → Leads (slice c x w) events later
+  with_master s events later is led = subst (λ (m : Option MasterState). Leads (slice c x (record w { master = m })) events later) (sym is) led
 
   -- ---- a client
 
-  abbrev pub seated_as : Option Seat → List one.Beat → List one.Offer → Slice (Unit {0})
-  seated_as seat beats offers = record {
-    present = tt;
+  abbrev pub seated_as : Option Seat → List one.Beat → List one.Offer → Grants → Slice Shown
+  seated_as seat beats offers grants = record {
+    present = get_node (map_of w.rows) x;
     session = standing_in w.rows c;
     epoch = w.rows.epoch;
-    master = master_of c w.clock seat w.master;
+    master = master_of c x w.clock seat w.master;
     client = client_of seat;
     beats = beats;
     offers = offers;
-    grants = [];
+    grants = grants;
   }
 
 -- ---- sessions
@@ -314,17 +420,35 @@ own_found step s c session found = own_session s c step ∙ ap (option_map step)
 
 -- what it knows of the rows is what they hold, and the moment is noted
 pub record IsKnown (w : WorldState) (s : MasterState) : Type 0 where
+  pub nodes : s.nodes ≡ map_of w.rows
+  pub secret : s.secret ≡ w.rows.secret
   pub sessions : session_rows s.sessions ≡ w.rows.sessions
   pub epoch : s.epoch ≡ w.rows.epoch
   pub recovery_is_empty : s.recovering ≡ true → s.gate.waiting ≡ []
   pub by_beats : AreByBeats s.sessions
+  pub recorded : IsRecorded s.rights
+  pub issued : AreIssued s.sessions s.rights
+  pub owned : AreOwned s.sessions s.rights
+  pub touching : AreTouching s.secret s.gate.waiting
   pub clock : s.clock ≡ w.clock
 
 pub latest : (a b : ℕ) → a ≤ b → max a b ≡ b
 latest a b h = omega (arith, h)
 
 pub known : (w : WorldState) (s : MasterState) → IsKept w.cell w.rows s → s.clock ≤ w.clock → IsKnown w (noted s w.clock)
-known w s kept early = record { sessions = kept.sessions; epoch = kept.epoch; recovery_is_empty = kept.recovery_is_empty; by_beats = kept.by_beats; clock = latest s.clock w.clock early }
+known w s kept early = record {
+  nodes = kept.nodes;
+  secret = kept.secret;
+  sessions = kept.sessions;
+  epoch = kept.epoch;
+  recovery_is_empty = kept.recovery_is_empty;
+  by_beats = kept.by_beats;
+  recorded = kept.recorded;
+  issued = kept.issued;
+  owned = kept.owned;
+  touching = kept.touching;
+  clock = latest s.clock w.clock early;
+}
 
 -- ---- one more, or not
 

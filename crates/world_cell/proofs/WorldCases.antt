@@ -20,17 +20,16 @@ use Rattle.tags_cell.specs.Messages.{out_client}
 use Rattle.cell_core.specs.declared.pending.Taken.{Taken}
 use Rattle.over_core.specs.declared.sweeps.Swept.{Swept}
 use Rattle.cell_core.specs.State.{MasterState, master_of, row_of}
-use Rattle.cell_core.specs.Step.{take_step, is_past_end, noted}
+use Rattle.cell_core.specs.Step.{take_step, is_past_end, is_spent, noted}
 use Rattle.over_core.specs.Effect.{is_last}
 use Rattle.over_core.specs.Sweep.{sweep_step, sweep_edits}
 use Rattle.cell_core.specs.Cases.{TakeCase, taken_by}
 use Rattle.over_core.specs.SweepCase.{SweepCase, swept_by, swept_edits}
-use Rattle.cell_core.proofs.TakeCases.{taken_case}
+use Rattle.cell_core.proofs.TakeCases.{taken_case, taken_unspent}
 use Rattle.over_core.proofs.SweepCases.{swept_case}
 use Rattle.over_core.specs.Kept.{IsKept}
 use Rattle.over_core.specs.Up.{up_edits, master_by}
 use Rattle.client_core.specs.declared.asks.Ask.{Ask}
-use Rattle.client_core.specs.declared.asks.Asked.{Asked}
 use Rattle.client_core.specs.Asks.{ask_step}
 use Rattle.client_core.specs.Beats.{beat_step}
 use Rattle.client_core.specs.Gives.{give_step}
@@ -118,6 +117,8 @@ pub record IsTake (old : WorldState) (step : Step) (new : WorldState) (printed :
   pub is_up : old.master ≡ Some master
   pub request : Request
   pub was_sent : request_at old.messages at ≡ Some request
+  -- no count is at its end
+  pub unspent : is_spent master ≡ false
   pub case : TakeCase (noted master old.clock) request
   pub is : new ≡ record old { master = Some (taken_by (noted master old.clock) request case).0; messages = old.messages ++ map ToClient (taken_by (noted master old.clock) request case).1.outs }
   pub tells : printed ≡ (taken_by (noted master old.clock) request case).1.lines
@@ -151,10 +152,13 @@ not_false : (b : Bool) → not b ≡ false → b ≡ true
 not_false true h = refl
 not_false false h = cc
 
+kept_at : (w : WorldState) (m : Option MasterState) (s : MasterState) → m ≡ Some s → Agrees w m → IsKept w.cell w.rows s
+kept_at w m s up agrees = rw up at agrees
+
 -- the sessions of a master are in the order of those of its rows
 in_order : (w : WorldState) (m : Option MasterState) (s : MasterState) → m ≡ Some s → Agrees w m → IsStrictlySortedBy nat_cmp (keys_of s.sessions.sessions)
 in_order w m s up agrees =
-    let kept : IsKept w.cell w.rows s = rw up at agrees in
+    let kept = kept_at w m s up agrees in
     subst (λ ks. IsStrictlySortedBy nat_cmp ks) (ap keys_of (sym kept.sessions) ∙ keys_of-map_values row_of s.sessions.sessions) kept.sessions_in_order
 
 module _ (w : WorldState) (step : Step) (new : WorldState) (printed : List Line) where
@@ -231,6 +235,7 @@ module _ (w : WorldState) (step : Step) (new : WorldState) (printed : List Line)
         is_up = up;
         request = request;
         was_sent = sent;
+        unspent = taken_unspent master p.0 w.clock request p.1 step_is;
         case = t.0;
         is = sym q.0 ∙ ap (λ (x : MasterState × Taken). record w { master = Some x.0; messages = w.messages ++ map ToClient x.1.outs }) made;
         tells = sym q.1 ∙ ap (λ (x : MasterState × Taken). x.1.lines) made;
@@ -249,7 +254,7 @@ module _ (w : WorldState) (step : Step) (new : WorldState) (printed : List Line)
   swept_row : (master : MasterState) (r : Result (MasterState × Swept) Fault) → Agrees w w.master → step ≡ steps.Sweep → w.master ≡ Some master → sweep_step master w.clock ≡ r → without_quiet (swept w master r) ≡ Ok (new, printed) → WorldCase w step new printed
   swept_row master (Err fault) agrees is up step_is h = cc
   swept_row master (Ok p) agrees is up step_is h =
-      let t = swept_case master p.0 w.clock p.1 (in_order w w.master master up agrees) step_is in
+      let t = swept_case master p.0 w.clock p.1 (in_order w w.master master up agrees) (kept_at w w.master master up agrees).orderly step_is in
       let made : p ≡ swept_by (noted master w.clock) t.0 = t.1 in
       let q = ok_pair (record w { rows = changed_rows w.rows (sweep_edits master w.clock); master = Some p.0; messages = w.messages ++ map ToClient p.1.outs }, p.1.lines) new printed h in
       Sweeps (record {

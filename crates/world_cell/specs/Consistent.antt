@@ -1,6 +1,5 @@
 -- What holds of every world: how its clients, its messages and its master fit one another.
 use Rattle.std.specs.Prelude.{◌≡◌, ◌⊎◌, ℕ, ◌+◌, ◌*◌, Bool, true, false, ◌≤◌, ◌==◌, List, [], ◌∷◌, Option, Some, None, if◌then◌else◌}
-use Rattle.tags_cell.specs.declared.calls.Call.{Call}
 use Rattle.tags_cell.specs.declared.requests.Request.TheVariants as requests
 use Rattle.tags_cell.specs.declared.requests.CallMessage.{CallMessage}
 use Rattle.tags_cell.specs.declared.outs.Out.TheVariants as outs
@@ -9,6 +8,7 @@ use Rattle.session_core.specs.declared.records.Kept.{Kept}
 use Rattle.session_core.specs.declared.records.Session.{Session}
 use Rattle.tags_cell.specs.declared.outs.Reply.{Reply}
 use Rattle.lease_core.specs.Lease.{longest_lease}
+use Rattle.coherence.specs.Slice as one
 use Rattle.coherence.specs.Slice.{Reached}
 use Rattle.client_core.specs.declared.sessions.Session.TheVariants as sessions
 use Rattle.gate_core.specs.declared.pending.Waiting.{Waiting}
@@ -23,7 +23,7 @@ use Rattle.world_cell.specs.declared.seats.Seat.{Seat}
 use Rattle.world_cell.specs.Messages.{request_at, out_at, call_of}
 use Rattle.world_cell.specs.Seats.{is_fair}
 use Rattle.world_cell.specs.World.{WorldState, seat_of}
-use Rattle.world_cell.specs.Slices.{slice}
+use Rattle.world_cell.specs.Slices.{Shown, grant_of, grants_of, slice}
 
 -- ---- clients
 
@@ -85,10 +85,22 @@ pub record WasSent (sent : List Message) (epoch client number : ℕ) : Type 0 wh
   pub found : call_of sent client number ≡ Some call
   pub same : call.epoch ≡ epoch
 
+-- a reply is to the call of this client and number
+pub record IsReplyTo (client number : ℕ) (reply : Reply) : Type 0 where
+  pub to : reply.client ≡ client
+  pub answered : reply.number ≡ number
+
+-- a reply that is kept was sent: what it grants was granted
+abbrev pub HasGranted : List Message → List ℕ → ℕ → Reply → Type 0
+HasGranted sent secret client reply =
+    (name : List ℕ) (grant : one.Grant Shown) → one.IsIn grant (grant_of client name secret sent (outs.Reply reply) []) → one.IsIn grant (grants_of client name secret sent)
+
 -- what waits and what is kept fits the messages
 pub record FitsMessages (sent : List Message) (s : MasterState) : Type 0 where
   pub queue : AreOfMessages sent s.epoch s.gate.waiting
   pub kept : (client : ℕ) (kept : Kept Reply) → kept_of s client ≡ Some kept → WasSent sent s.epoch client kept.number
+  pub replies : (client : ℕ) (kept : Kept Reply) (reply : Reply) → kept_of s client ≡ Some kept → kept.reply ≡ Some reply → IsReplyTo client kept.number reply
+  pub granted : (client : ℕ) (kept : Kept Reply) (reply : Reply) → kept_of s client ≡ Some kept → kept.reply ≡ Some reply → HasGranted sent s.secret client reply
   pub turns : (client : ℕ) → IsInTurn (session_of s client) (waiting client s.gate.waiting)
 
 -- what it knows of the rows is what they hold
@@ -136,5 +148,5 @@ pub record IsConsistent (w : WorldState) : Type 0 where
   pub lease : w.lease ≤ longest_lease
   pub noted : IsNoted w.clock w.master
   pub fair : AreFair w w.master
-  -- to each client the world is what some schedule leads to
-  pub reached : (client : ℕ) → Reached (slice client w)
+  -- to each client, and of each name, the world is what some schedule leads to
+  pub reached : (client : ℕ) (name : List ℕ) → Reached (slice client name w)

@@ -5,6 +5,8 @@ pub use Rattle.rows_cell.specs.Rows
 pub use Rattle.rows_cell.specs.Sound
 pub use Rattle.coherence.specs.Slice
 pub use Rattle.session_core.specs.Sessions
+pub use Rattle.rights_core.specs.Rights
+pub use Rattle.rights_core.specs.Laws as RightsLaws
 pub use Rattle.cell_core.specs.State
 pub use Rattle.cell_core.specs.Step
 pub use Rattle.over_core.specs.Effect

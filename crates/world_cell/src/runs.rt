@@ -5,7 +5,7 @@ ghost use Rattle.node_core.specs.declared.lines.Line.{Line as PrintedLine};
 ghost use Rattle.node_core.specs.declared.views.Mod.{Mod};
 ghost use Rattle.world_cell.specs.Consistent.{IsConsistent};
 ghost use Rattle.rows_cell.specs.Sound.{is_live_in};
-ghost use Rattle.world_cell.specs.Runs.{Does, Run, map_at, epoch_at, live_at, LeasesKeepSessions, KeepsClocksFair, applied, Rises, IsOfCall};
+ghost use Rattle.world_cell.specs.Runs.{Does, Run, map_at, epoch_at, live_at, LeasesKeepSessions, KeepsClocksFair, AreRecordedOnce, applied, Rises, IsOfCall};
 
 use crate::steps::Step;
 use crate::worlds::World;
@@ -32,6 +32,9 @@ impl<R: Records + Drop> World<R> {
             lines ≡ before ++ Line.Applied client number change ∷ rest → IsOfCall self.old steps.now before client number change rest self.new) }
         // A client's session is live in the rows where the lines of its start and its end make it so.
         ensures sessions { IfOk result (λ lines. (client : ℕ) → is_live_in self.new.world.rows client ≡ live_at client (is_live_in self.old.world.rows client) lines) }
+        // Of one master's life each right to cache a name is recorded once: numbered from 1 in order, ended at most once and
+        // later than it was granted; and what the master counts are those of the lines.
+        ensures rights { IfOk result (λ lines. AreRecordedOnce self.old.world lines self.new.world) }
         // Whatever the schedule, a client whose lease runs by its own clock has its session.
         ensures leases { LeasesKeepSessions self.new.world }
         // From each point of the run to its end, where one master was up from first to last, its clock moved by a

@@ -4,6 +4,7 @@ use Rattle.world_cell.proofs.OnceByRuns.{run_once}
 use Rattle.world_cell.proofs.CallsByRuns.{run_calls}
 use Rattle.world_cell.proofs.PartsOfRuns.{run_more, run_part, run_whole}
 use Rattle.world_cell.proofs.SessionsByRuns.{run_lives}
+use Rattle.world_cell.proofs.RightsByRuns.{run_records}
 use Rattle.world_cell.proofs.SliceLeases.{leases_keep_sessions}
 use Rattle.world_cell.proofs.ClocksByRuns.{run_consistent, run_fair}
 use Rattle.world_cell.proofs.worlds.World.run.Goals as goal
@@ -38,6 +39,10 @@ returns-clause-calls g c = λ before rest client number change is.
 pub returns-clause-sessions : goal.returns-clause-sessions
 returns-clause-sessions g c = λ client.
     run_lives client c.args.self.now c.args.steps.now c.loop-step.lines c.loop-step.self c.consistent.ensures (run_whole c.args.self.now c.loop-step.self c.args.steps.now c.loop-step.step-index c.loop-step.lines (omega arith) c.loop-step.invariant)
+
+pub returns-clause-rights : goal.returns-clause-rights
+returns-clause-rights g c =
+    run_records c.args.self.now c.args.steps.now c.loop-step.lines c.loop-step.self c.consistent.ensures (run_whole c.args.self.now c.loop-step.self c.args.steps.now c.loop-step.step-index c.loop-step.lines (omega arith) c.loop-step.invariant)
 
 pub returns-clause-leases : goal.returns-clause-leases
 returns-clause-leases g c =

@@ -1,0 +1,26 @@
+-- Of which name a call speaks, by what stands in it alone.
+use Rattle.std.specs.Prelude.{ℕ, List, Option, Some, None, if◌then◌else◌, is_none}
+use Rattle.std.specs.Option.{option_map, option_and_then}
+use Rattle.node_core.specs.declared.views.View.{View}
+use Rattle.tags_cell.specs.Handles.{read_handle}
+use Rattle.tags_cell.specs.declared.calls.Call.{Call}
+use Rattle.tags_cell.specs.declared.calls.Call.TheVariants as calls
+use Rattle.tags_cell.specs.declared.outs.CallResult.{CallResult}
+use Rattle.tags_cell.specs.declared.outs.CallResult.TheVariants as results
+use Rattle.cell_core.specs.Step.{touched_by, bytes_of}
+
+-- the name whose view it may change
+abbrev pub name_changed : List ℕ → Call → Option (List ℕ)
+name_changed secret (calls.Open opening) = option_map (λ create. opening.name) opening.create
+name_changed secret call = option_and_then (λ handle. touched_by handle call) (read_handle secret (bytes_of call))
+
+-- the name of which it asks what it shows
+abbrev pub name_asked : List ℕ → Call → Option (List ℕ)
+name_asked secret (calls.Open opening) = if is_none opening.create then Some opening.name else None
+name_asked secret (calls.Read bytes) = option_map (λ handle. handle.name) (read_handle secret bytes)
+name_asked secret _ = None
+
+-- what an answer tells of that name: the view of its node, or that there is none
+abbrev pub shown_by : CallResult → Option View
+shown_by (results.Viewed view) = Some view
+shown_by _ = None
