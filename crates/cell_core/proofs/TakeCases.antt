@@ -149,3 +149,13 @@ taken_case s new now request taken h =
           let is : take_at (noted s now) request ≡ (new, taken) = cc in
           rw (← is) (take_case (noted s now) request))
     ]) h
+
+unspent : (past spent : Bool) (x : MasterState × Taken) (new : MasterState) (taken : Taken) → cond {A = Result (MasterState × Taken) Fault} (past || spent) (Err faults.Exhausted) (Ok x) ≡ Ok (new, taken) → spent ≡ false
+unspent true spent x new taken h = cc
+unspent false true x new taken h = cc
+unspent false false x new taken h = refl
+
+-- no message is taken where a count is at its end
+pub taken_unspent : (s new : MasterState) (now : ℕ) (request : Request) (taken : Taken) → take_step s now request ≡ Ok (new, taken) → is_spent s ≡ false
+unfolding take_step
+taken_unspent s new now request taken h = unspent (is_past_end now) (is_spent s) (take_at (noted s now) request) new taken h

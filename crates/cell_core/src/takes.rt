@@ -15,9 +15,7 @@ use plain::Items;
 use rights_core::Ending;
 use session_core::Kept;
 use std::alloc::AllocError;
-use tags_cell::{
-    Beat, CallMessage, CallResult, ClientNumber, MessageNumber, Reply, Request, Start,
-};
+use tags_cell::{Beat, CallMessage, CallResult, ClientNumber, MessageNumber, Request, Start};
 
 impl Cell {
     /// One step by a request that came. A moment, in milliseconds, that is earlier than the last one counts as that;
