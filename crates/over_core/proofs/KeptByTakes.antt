@@ -1,6 +1,6 @@
 -- What a master takes leaves it beside its rows.
 use Rattle.std.proofs.Common.{◌≡◌, ℕ, List, [], ◌∷◌, ◌++◌, Bool, true, false, cond, Option, Some, None, length, refl, sym, ap, ◌∙◌, subst, arith}
-use Rattle.std.specs.Prelude.{◌+◌, ◌^◌, ◌≤◌, ◌<◌, ◌&&◌, ◌||◌, ◌==◌, max, nat_le, is_none, Result, Ok, Err, IfOk, OnErr}
+use Rattle.std.specs.Prelude.{◌+◌, ◌^◌, ◌≤◌, ◌<◌, ◌&&◌, ◌==◌, max, nat_le, is_none, Result, Ok, Err, IfOk, OnErr}
 use Rattle.std.specs.List.{list_all, list_any}
 use Rattle.std.specs.Map.{lookup}
 use Rattle.std.specs.BTreeMap.{is_at}
@@ -27,6 +27,7 @@ use Rattle.rights_core.specs.declared.endings.Ending.TheVariants as endings
 use Rattle.rights_core.specs.Rights.{holds, granted, invalidations_of, clients_to_ask, asked_back, ended, IsRecorded}
 use Rattle.rights_core.specs.Laws.{asked_for}
 use Rattle.rights_core.proofs.OneName.{asking_counts, clients_to_ask_hold, ending_frees}
+use Rattle.rights_core.proofs.Recorded.{none_of}
 use Rattle.rights_core.proofs.WholeList.{rights_are_recorded_once}
 use Rattle.gate_core.specs.declared.pending.Pending.{Pending}
 use Rattle.gate_core.specs.declared.pending.Waiting.{Waiting}
@@ -43,11 +44,11 @@ use Rattle.cell_core.specs.declared.pending.Taken.{Taken}
 use Rattle.cell_core.specs.declared.pending.Task.{Task}
 use Rattle.cell_core.specs.declared.pending.Work.TheVariants as works
 use Rattle.cell_core.specs.State.{MasterState, row_of, session_rows}
-use Rattle.cell_core.specs.Step.{is_live, is_full, is_past_end, queued, acknowledgement, parked, recorded, answered_by, stamped_reply, with_right, granting, asking, asking_for, names_of, with_call, waits, with_note, noted, take_at, take_step}
+use Rattle.cell_core.specs.Step.{is_live, is_full, queued, acknowledgement, parked, recorded, answered_by, stamped_reply, with_right, granting, asking, asking_for, names_of, with_call, waits, with_note, noted, take_step}
 use Rattle.cell_core.specs.Names.{name_changed}
 use Rattle.cell_core.specs.Cases.{IsAdmitted, TakeCase, taken_by}
 use Rattle.cell_core.specs.Cases.TakeCase.{StartRefused, StartRecovering, StartFull, StartQueued, OldBeat, BeatRefused, BeatParked, OldEpoch, NoSession, Repeated, OlderCall, Outstanding, Recovering, Answered, Granted, Waits}
-use Rattle.cell_core.proofs.TakeCases.{taken_case}
+use Rattle.cell_core.proofs.TakeCases.{taken_case, taken_unspent}
 use Rattle.cell_core.proofs.Told.{touched_is_changed}
 use Rattle.over_core.specs.Kept.{IsKept, AreByBeats, AreIssued, AreOwned, AreTouching, is_of, names_touched, are_known, waiting_fits}
 use Rattle.over_core.proofs.EachSession.{step_each, step_without, issued_each, issued_without}
@@ -349,23 +350,10 @@ module _ (cell : List ℕ) (rows : Rows) where
   case_kept s request (Waits message note touched new serving admitted) spare k in_range =
       waits_kept s message note touched serving spare admitted (client_of request _ new.heard.is_call in_range) k
 
-  -- a message is taken while another change can wait
-  unspent : (s new : MasterState) (now : ℕ) (request : Request) (taken : Taken) → take_step s now request ≡ Ok (new, taken) → nat_le number_limit s.gate.pushed ≡ false
-  unfolding take_step
-  unspent s new now request taken h =
-      (elim (nat_le number_limit s.gate.pushed) as (λ b. cond {A = Result (MasterState × Taken) Fault} (is_past_end now || (b || nat_le number_limit (length s.rights))) (Err faults.Exhausted) (Ok (take_at (noted s now) request)) ≡ Ok (new, taken) → b ≡ false) [
-        | true ↦ (λ e.
-            (elim (is_past_end now) as (λ b. cond {A = Result (MasterState × Taken) Fault} (b || true) (Err faults.Exhausted) (Ok (take_at (noted s now) request)) ≡ Ok (new, taken) → true ≡ false) [
-              | true ↦ (λ f. absurd (cc))
-              | false ↦ (λ f. absurd (cc))
-            ]) e)
-        | false ↦ (λ e. refl)
-      ]) h
-
   take_kept : (s new : MasterState) (now : ℕ) (request : Request) (taken : Taken) → IsKept cell rows s → is_number (request_client request) ≡ true → take_step s now request ≡ Ok (new, taken) → IsKept cell rows new
   take_kept s new now request taken k in_range h =
       let c = taken_case s new now request taken h in
-      let spare = unspent s new now request taken h in
+      let spare = (none_of (nat_le number_limit s.gate.pushed) (nat_le number_limit (length s.rights)) (taken_unspent s new now request taken h)).0 in
       let is : new ≡ (taken_by (noted s now) request c.0).0 = ap (λ (p : MasterState × Taken). p.0) c.1 in
       let P : MasterState → Type 0 = IsKept cell rows in
       subst P (sym is) (case_kept (noted s now) request c.0 spare (clock_kept s (max s.clock now) k) in_range)

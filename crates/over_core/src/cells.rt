@@ -78,10 +78,12 @@ impl<R: Records> Cell<R> {
 
     /// Does the first action that there is, with at most one commit, before all that is printed and sent; or finds
     /// nothing to do, and is quiet. A live session ends from its timeout on, lowest client first, and its end is
-    /// committed; an answer to a Start or a Beat lets it live for a lease from the moment of the answer, and offers its
-    /// client just that, counted from the receipt (Gray and Cheriton 1989, section 2). Moments are as in `take`. A
-    /// refusal leaves the master and the rows as they were, and comes only for a moment of 2^53 or more as Exhausted,
-    /// for want of memory, or where the store refused.
+    /// committed, and with it its rights to cache end; an answer to a Start or a Beat lets it live for a lease from the
+    /// moment of the answer, and offers its client just that, counted from the receipt (Gray and Cheriton 1989, section
+    /// 2). A change waits while a client holds a right on the name that it touches, and the answer to a Beat tells the
+    /// client what it is to let go of (Burrows 2006, section 2.7). Moments are as in `take`. A refusal leaves the master
+    /// and the rows as they were, and comes only for a moment of 2^53 or more as Exhausted, for want of memory, or where
+    /// the store refused.
     pub fn sweep(&mut self, now: u64) -> Result<Swept, Fault>
         ensures ok { IfOk result (λ swept. sweep_step self.old.master now ≡ Ok (self.new.master, swept)) }
         ensures committed { OnOk result (IsCommitted (sweep_edits self.old.master now) self.old.store self.new.store) }

@@ -296,7 +296,7 @@ fn alive_out(master: &Master, client: ClientNumber, offer: Offer) -> Result<Take
     }))
 }
 
-// As they are sent.
+// The invalidations of these numbers and names, as they are sent.
 fn invalidations_of(
     alloc: Global,
     unacked: &Table<u64, Name>,
