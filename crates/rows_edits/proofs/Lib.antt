@@ -10,4 +10,6 @@ pub mod Runs
 pub mod SetNumbers
 pub mod NumbersSaid
 pub mod Entries
+pub mod LockKeys
+pub mod RemoveLock
 pub mod Steps

@@ -62,7 +62,7 @@ epoch_done v n is old new run =
     let done = λ (store : IsStore old.now). set_epoch_done e old new r.count store r.ran in
     record {
       store = λ store. (done store).store;
-      says = λ store rows h. metas_say old.now new.now _ (done store) rows (record rows { epoch = n }) h refl refl refl
+      says = λ store rows h. metas_say old.now new.now _ rows h (done store) (record rows { epoch = n }) refl refl refl
           (set_says old.now store e epoch_project (with_epoch e) (meta_of rows) (record (meta_of rows) { epoch = n })
           (λ x there said.
             let s = epoch_from (is_first x) (count_in (column x 5)) (count_in (column x 6)) (secret_in (column x 4)) (component_in (column x 3)) (meta_of rows) n said in
@@ -77,7 +77,7 @@ next_done v n is old new run =
     let done = λ (store : IsStore old.now). set_next_done e old new r.count store r.ran in
     record {
       store = λ store. (done store).store;
-      says = λ store rows h. metas_say old.now new.now _ (done store) rows (record rows { next_instance = n }) h refl refl refl
+      says = λ store rows h. metas_say old.now new.now _ rows h (done store) (record rows { next_instance = n }) refl refl refl
           (set_says old.now store e next_project (with_next e) (meta_of rows) (record (meta_of rows) { next_instance = n })
           (λ x there said.
             let s = next_from (is_first x) (count_in (column x 5)) (count_in (column x 6)) (secret_in (column x 4)) (component_in (column x 3)) (meta_of rows) n said in

@@ -1,5 +1,5 @@
 -- A store of which one table was written.
-use Rattle.std.proofs.Common.{◌≡◌, ◌≢◌, ℕ, Bool, true, false, ◌==◌, List, [], ◌∷◌, map, Some, None, Ok, refl, sym, ap, ◌∙◌, subst, inl, inr, arith}
+use Rattle.std.proofs.Common.{◌≡◌, ◌≢◌, ℕ, Bool, true, false, ◌==◌, List, [], ◌∷◌, map, Option, Some, None, Ok, Ordering, refl, sym, ap, ◌∙◌, subst, inl, inr, arith}
 use Rattle.std.specs.List.{AllByRecursion}
 use Rattle.std.proofs.lemmas.Bool.{cases_Bool, and_parts}
 use Rattle.std.proofs.lemmas.Bool.Decides.{nat_tests}
@@ -16,7 +16,11 @@ use Rattle.sqlite_rules.proofs.ListLemmas.{all_has}
 use Rattle.rows_schema.specs.OurSchema.{the_schema}
 use Rattle.rows_cell.specs.declared.tables.Rows.{Rows}
 use Rattle.rows_read.specs.Decode.{meta_in}
-use Rattle.rows_read.specs.Held.{Says, HoldsNodes, HoldsSessions, HoldsLocks, meta_of}
+use Rattle.rows_cell.specs.declared.tables.Session.{Session}
+use Rattle.rows_cell.specs.Rows.{StoredNodes, StoredLocks}
+use Rattle.sqlite_trees.proofs.ListLemmas.{map-map}
+use Rattle.std.specs.List.Sorted.{IsPermutation}
+use Rattle.rows_read.specs.Held.{Holds, Says, HoldsNodes, HoldsSessions, HoldsLocks, meta_of}
 use Rattle.rows_read.specs.Ready.{tables_of, meta_shown, node_shown, session_shown, lock_shown}
 use Rattle.rows_edits.specs.Ongoing.{IsStore}
 use Rattle.rows_edits.proofs.Columns.{IsMetaRow, IsNodeRow, IsSessionRow, IsLockRow, meta_typed, node_typed, session_typed, lock_typed}
@@ -68,13 +72,58 @@ pub record Rewrote (at : ℕ) (rows : List Row) (old new : Database) : Type 0 wh
 
 -- ---- what the tables say once one of them was written
 
+module _ {K V : Type 0} (cmp : K → K → Ordering) (read : Row → Option (K × V)) (shown : Row → Row) (rows : List Row) (entries : List (K × V)) where
+  -- the rows of a tree say what is shown of them
+  pub held_as_shown : Holds cmp read (map shown rows) entries → Holds cmp (λ r. read (shown r)) rows entries
+  held_as_shown h = record { sorted = h.sorted; said = subst (IsPermutation (map (λ e. Some e) entries)) (map-map read shown rows) h.said }
+
+  pub shown_as_held : Holds cmp (λ r. read (shown r)) rows entries → Holds cmp read (map shown rows) entries
+  shown_as_held h = record { sorted = h.sorted; said = subst (IsPermutation (map (λ e. Some e) entries)) (sym (map-map read shown rows)) h.said }
+
 module _ (old new : Database) (rows : List Row) where
-  -- the row of the cell
-  pub metas_say : Rewrote 0 rows old new → (was is : Rows) → Says (tables_of old.trees) was → is.nodes ≡ was.nodes → is.sessions ≡ was.sessions → is.locks ≡ was.locks
-      → map meta_in (map meta_shown rows) ≡ Some (meta_of is) ∷ [] → Says (tables_of new.trees) is
-  metas_say done was is h n s l said = record {
-    meta = ap (λ rs. map meta_in (map meta_shown rs)) done.tree ∙ said;
-    nodes = subst (HoldsNodes _) (sym n) (subst (λ rs. HoldsNodes (map node_shown rs) was.nodes) (sym (done.others.1.0 (λ x. absurd (omega (arith, x))))) h.nodes);
-    sessions = subst (HoldsSessions _) (sym s) (subst (λ rs. HoldsSessions (map session_shown rs) was.sessions) (sym (done.others.1.1.0 (λ x. absurd (omega (arith, x))))) h.sessions);
-    locks = subst (HoldsLocks _) (sym l) (subst (λ rs. HoldsLocks (map lock_shown rs) was.locks) (sym (done.others.1.1.1.0 (λ x. absurd (omega (arith, x))))) h.locks);
-  }
+  metas_kept : (at : ℕ) → 0 ≢ at → Rewrote at rows old new → new.trees 0 ≡ old.trees 0
+  metas_kept at apart done = done.others.0 apart
+
+  nodes_kept : (at : ℕ) → 1 ≢ at → Rewrote at rows old new → new.trees 1 ≡ old.trees 1
+  nodes_kept at apart done = done.others.1.0 apart
+
+  sessions_kept : (at : ℕ) → 4 ≢ at → Rewrote at rows old new → new.trees 4 ≡ old.trees 4
+  sessions_kept at apart done = done.others.1.1.0 apart
+
+  locks_kept : (at : ℕ) → 5 ≢ at → Rewrote at rows old new → new.trees 5 ≡ old.trees 5
+  locks_kept at apart done = done.others.1.1.1.0 apart
+
+  module _ (was : Rows) (h : Says (tables_of old.trees) was) where
+    -- the row of the cell
+    pub metas_say : Rewrote 0 rows old new → (is : Rows) → is.nodes ≡ was.nodes → is.sessions ≡ was.sessions → is.locks ≡ was.locks
+        → map meta_in (map meta_shown rows) ≡ Some (meta_of is) ∷ [] → Says (tables_of new.trees) is
+    metas_say done is n s l said = record {
+      meta = ap (λ rs. map meta_in (map meta_shown rs)) done.tree ∙ said;
+      nodes = subst (HoldsNodes _) (sym n) (subst (λ rs. HoldsNodes (map node_shown rs) was.nodes) (sym (nodes_kept 0 (λ e. absurd (omega (arith, e))) done)) h.nodes);
+      sessions = subst (HoldsSessions _) (sym s) (subst (λ rs. HoldsSessions (map session_shown rs) was.sessions) (sym (sessions_kept 0 (λ e. absurd (omega (arith, e))) done)) h.sessions);
+      locks = subst (HoldsLocks _) (sym l) (subst (λ rs. HoldsLocks (map lock_shown rs) was.locks) (sym (locks_kept 0 (λ e. absurd (omega (arith, e))) done)) h.locks);
+    }
+
+    pub nodes_say : Rewrote 1 rows old new → (nodes : StoredNodes) → HoldsNodes (map node_shown rows) nodes → Says (tables_of new.trees) (record was { nodes = nodes })
+    nodes_say done nodes said = record {
+      meta = ap (λ rs. map meta_in (map meta_shown rs)) (metas_kept 1 (λ e. absurd (omega (arith, e))) done) ∙ h.meta;
+      nodes = subst (λ rs. HoldsNodes (map node_shown rs) nodes) (sym done.tree) said;
+      sessions = subst (λ rs. HoldsSessions (map session_shown rs) was.sessions) (sym (sessions_kept 1 (λ e. absurd (omega (arith, e))) done)) h.sessions;
+      locks = subst (λ rs. HoldsLocks (map lock_shown rs) was.locks) (sym (locks_kept 1 (λ e. absurd (omega (arith, e))) done)) h.locks;
+    }
+
+    pub sessions_say : Rewrote 4 rows old new → (sessions : List (ℕ × Session)) → HoldsSessions (map session_shown rows) sessions → Says (tables_of new.trees) (record was { sessions = sessions })
+    sessions_say done sessions said = record {
+      meta = ap (λ rs. map meta_in (map meta_shown rs)) (metas_kept 4 (λ e. absurd (omega (arith, e))) done) ∙ h.meta;
+      nodes = subst (λ rs. HoldsNodes (map node_shown rs) was.nodes) (sym (nodes_kept 4 (λ e. absurd (omega (arith, e))) done)) h.nodes;
+      sessions = subst (λ rs. HoldsSessions (map session_shown rs) sessions) (sym done.tree) said;
+      locks = subst (λ rs. HoldsLocks (map lock_shown rs) was.locks) (sym (locks_kept 4 (λ e. absurd (omega (arith, e))) done)) h.locks;
+    }
+
+    pub locks_say : Rewrote 5 rows old new → (locks : StoredLocks) → HoldsLocks (map lock_shown rows) locks → Says (tables_of new.trees) (record was { locks = locks })
+    locks_say done locks said = record {
+      meta = ap (λ rs. map meta_in (map meta_shown rs)) (metas_kept 5 (λ e. absurd (omega (arith, e))) done) ∙ h.meta;
+      nodes = subst (λ rs. HoldsNodes (map node_shown rs) was.nodes) (sym (nodes_kept 5 (λ e. absurd (omega (arith, e))) done)) h.nodes;
+      sessions = subst (λ rs. HoldsSessions (map session_shown rs) was.sessions) (sym (sessions_kept 5 (λ e. absurd (omega (arith, e))) done)) h.sessions;
+      locks = subst (λ rs. HoldsLocks (map lock_shown rs) locks) (sym done.tree) said;
+    }

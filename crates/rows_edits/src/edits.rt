@@ -3,11 +3,11 @@ ghost use Rattle.std.specs.Prelude.{◌≡◌, ◌∷◌, [], ℕ, false, IfOk, 
 ghost use Rattle.sqlite.specs.Values.{bound};
 ghost use Rattle.sqlite.specs.State.{HasCleanDisk, KeepsCommit, Survives};
 ghost use Rattle.sqlite.specs.Held.{state};
-ghost use Rattle.rows_cell.specs.declared.tables.Edit.TheVariants.{Epoch, NextInstance};
+ghost use Rattle.rows_cell.specs.declared.tables.Edit.TheVariants.{Epoch, NextInstance, RemoveLock};
 ghost use Rattle.rows_edits.specs.Numbers.{IsNumber};
 ghost use Rattle.rows_edits.specs.Ongoing.{RanInside, Changed, Committed, MayCommit};
 
-use rows_cell::Edit;
+use rows_cell::{Edit, LockKey};
 use sqlite::{Alter, Connection, Error, Transaction};
 use sqlite_value::value::ValueRef;
 
@@ -60,6 +60,22 @@ fn set_next_instance<S: Alter>(tx: &mut Transaction<'_, S>, next: u64) -> Result
     )
 }
 
+fn remove_lock<S: Alter>(tx: &mut Transaction<'_, S>, key: &LockKey) -> Result<(), Error>
+    ensures same { tx.new.conn.ghost_name ≡ tx.old.conn.ghost_name }
+    ensures ok { HasCleanDisk (state S.Store tx.new.conn.now) → OnOk result (Changed (RemoveLock key.now ∷ []) (state S.Store tx.old.conn.now) (state S.Store tx.new.conn.now)) }
+    ensures kept { HasCleanDisk (state S.Store tx.new.conn.now) → KeepsCommit (state S.Store tx.old.conn.now) (state S.Store tx.new.conn.now) }
+    ensures survives { Survives (state S.Store tx.old.conn.now) (state S.Store tx.new.conn.now) (λ _. ⊥) }
+{
+    let instance = number(key.instance)?;
+    let client = number(key.client)?;
+    let handle = number(key.handle)?;
+    run(
+        tx,
+        "DELETE FROM locks WHERE instance = ?1 AND client = ?2 AND handle = ?3",
+        &[instance, client, handle],
+    )
+}
+
 // Does one edit. So far the two numbers of the cell alone: each other edit is refused.
 fn edit<S: Alter>(tx: &mut Transaction<'_, S>, edit: &Edit) -> Result<(), Error>
     ensures same { tx.new.conn.ghost_name ≡ tx.old.conn.ghost_name }
@@ -70,6 +86,7 @@ fn edit<S: Alter>(tx: &mut Transaction<'_, S>, edit: &Edit) -> Result<(), Error>
     match edit {
         Edit::Epoch(epoch) => set_epoch(tx, *epoch),
         Edit::NextInstance(next) => set_next_instance(tx, *next),
+        Edit::RemoveLock(key) => remove_lock(tx, key),
         _ => Err(Error::InvalidQuery),
     }
 }
