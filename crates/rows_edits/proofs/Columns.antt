@@ -1,10 +1,12 @@
 -- The types of the columns, and when two of them are equal.
-use Rattle.std.proofs.Common.{◌≡◌, ℕ, ◌+◌, zero, suc, ℤ, Bool, true, false, not, ◌&&◌, ◌||◌, List, [], ◌∷◌, drop, add-one, Option, Some, None, refl, sym, ap, ◌∙◌, subst, true≢false}
+use Rattle.std.proofs.Common.{◌≡◌, ℕ, ◌+◌, zero, suc, ℤ, Bool, true, false, not, ◌&&◌, ◌||◌, List, [], ◌∷◌, drop, add-one, Option, Some, None, Ordering, Less, Equal, Greater, refl, sym, ap, ◌∙◌, true≢false}
 use Rattle.std.specs.Prelude.{bytes_eq, unwrap_or, if◌then◌else◌}
 use Rattle.std.specs.List.{list_all}
 use Rattle.std.specs.Ordering.{is_eq, int_eq, nat_cmp}
 use Rattle.std.specs.Cmp.Lexicographic.{slice_cmp}
 use Rattle.std.proofs.Common.{arith}
+use Rattle.std.specs.FinMap.{int_cmp-IsAntisymmetric}
+use Rattle.std.proofs.lemmas.Map.Lookups.{exact_bytes}
 use Rattle.std.proofs.lemmas.Bool.{and_parts, not-true}
 use Rattle.std.proofs.lemmas.Bool.Decides.{nat_tests}
 use Rattle.sqlite_value.specs.declared.value.Value.{Value}
@@ -31,7 +33,7 @@ pub equal-Int : (a b : ℤ) → equal Binary (Int a) (Int b) ≡ int_eq a b
 unfolding binary
 equal-Int a b = told _ ∙ ap is_eq (value_cmp-Int a b)
 
-same_bytes : (s t : List ℕ) → is_eq (slice_cmp nat_cmp s t) ≡ bytes_eq s t
+pub same_bytes : (s t : List ℕ) → is_eq (slice_cmp nat_cmp s t) ≡ bytes_eq s t
 same_bytes [] [] = refl
 same_bytes [] (y ∷ t) = refl
 same_bytes (x ∷ s) [] = refl
@@ -40,6 +42,17 @@ same_bytes (x ∷ s) (y ∷ t) = grind (arith, nat_tests, same_bytes s t)
 pub equal-Text : (a b : List ℕ) → equal Binary (Text a) (Text b) ≡ bytes_eq a b
 unfolding binary
 equal-Text a b = told _ ∙ ap is_eq (value_cmp-Text a b) ∙ same_bytes a b
+
+equal_is : (o : Ordering) → is_eq o ≡ true → o ≡ Equal
+equal_is Less h = cc
+equal_is Equal h = refl
+equal_is Greater h = cc
+
+pub int_value : (v : Value) (n : ℤ) → v ≡ Int (id_in v) → equal Binary v (Int n) ≡ true → v ≡ Int n
+int_value v n is t = is ∙ ap Int (int_cmp-IsAntisymmetric _ _ (equal_is _ (sym (equal-Int (id_in v) n) ∙ ap (λ w. equal Binary w (Int n)) (sym is) ∙ t)))
+
+pub text_value : (v : Value) (t : List ℕ) → v ≡ Text (bytes v) → equal Binary v (Text t) ≡ true → v ≡ Text t
+text_value v t is same = is ∙ ap Text (exact_bytes (bytes v) t (equal_is _ (same_bytes (bytes v) t ∙ sym (equal-Text (bytes v) t) ∙ ap (λ w. equal Binary w (Text t)) (sym is) ∙ same)))
 
 -- ---- of which type a value is
 

@@ -5,11 +5,14 @@ pub mod Trees
 pub mod Query
 pub mod Deletes
 pub mod Updates
+pub mod Upserts
 pub mod Stores
 pub mod Runs
+pub mod Clashes
 pub mod SetNumbers
 pub mod NumbersSaid
 pub mod Entries
 pub mod LockKeys
 pub mod RemoveLock
+pub mod PutLock
 pub mod Steps

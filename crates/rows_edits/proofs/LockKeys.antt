@@ -25,10 +25,10 @@ same_some : {X : Type 0} {x y : X} → Some x ≡ Some y → x ≡ y
 same_some e = cc
 
 below_none : (n : ℕ) → int_lt (pos n) (pos 0) ≡ false
-below_none n = first_of (refl, grind (arith, ints, nat_tests))
+below_none n = grind (arith, ints, nat_tests)
 
 all_below : (n : ℕ) → int_lt (negsuc n) (pos 0) ≡ true
-all_below n = first_of (refl, grind (arith, ints, nat_tests))
+all_below n = grind (arith, ints, nat_tests)
 
 no_count : {X : Type 0} (x y : X) → cond true None (Some y) ≡ Some x → ⊥
 no_count x y e = cc

@@ -3,11 +3,12 @@ ghost use Rattle.std.specs.Prelude.{◌≡◌, ◌∷◌, [], ℕ, false, IfOk, 
 ghost use Rattle.sqlite.specs.Values.{bound};
 ghost use Rattle.sqlite.specs.State.{HasCleanDisk, KeepsCommit, Survives};
 ghost use Rattle.sqlite.specs.Held.{state};
-ghost use Rattle.rows_cell.specs.declared.tables.Edit.TheVariants.{Epoch, NextInstance, RemoveLock};
-ghost use Rattle.rows_edits.specs.Numbers.{IsNumber};
+ghost use Rattle.rows_cell.specs.declared.tables.Edit.TheVariants.{Epoch, NextInstance, PutLock, RemoveLock};
+ghost use Rattle.rows_read.specs.Decode.{lock_state_of};
+ghost use Rattle.rows_edits.specs.Numbers.{IsNumber, IsReadAs};
 ghost use Rattle.rows_edits.specs.Ongoing.{RanInside, Changed, Committed, MayCommit};
 
-use rows_cell::{Edit, LockKey};
+use rows_cell::{Edit, LockKey, LockRow, LockState};
 use sqlite::{Alter, Connection, Error, Transaction};
 use sqlite_value::value::ValueRef;
 
@@ -18,6 +19,17 @@ fn number<'a>(x: u64) -> Result<ValueRef<'a>, Error>
     match i64::try_from(x) {
         Ok(n) => Ok(ValueRef::Int(n)),
         Err(_) => Err(Error::IntegralValueOutOfRange(0)),
+    }
+}
+
+// How a lock stands, as SQL has it.
+fn mode_of<'a>(state: LockState) -> ValueRef<'a>
+    ensures { IsReadAs lock_state_of result state }
+{
+    match state {
+        LockState::Lapsed => ValueRef::Int(0),
+        LockState::Exclusive => ValueRef::Int(1),
+        LockState::Shared => ValueRef::Int(2),
     }
 }
 
@@ -60,6 +72,28 @@ fn set_next_instance<S: Alter>(tx: &mut Transaction<'_, S>, next: u64) -> Result
     )
 }
 
+fn put_lock<S: Alter>(
+    tx: &mut Transaction<'_, S>,
+    key: &LockKey,
+    row: &LockRow,
+) -> Result<(), Error>
+    ensures same { tx.new.conn.ghost_name ≡ tx.old.conn.ghost_name }
+    ensures ok { HasCleanDisk (state S.Store tx.new.conn.now) → OnOk result (Changed (PutLock key.now row.now ∷ []) (state S.Store tx.old.conn.now) (state S.Store tx.new.conn.now)) }
+    ensures kept { HasCleanDisk (state S.Store tx.new.conn.now) → KeepsCommit (state S.Store tx.old.conn.now) (state S.Store tx.new.conn.now) }
+    ensures survives { Survives (state S.Store tx.old.conn.now) (state S.Store tx.new.conn.now) (λ _. ⊥) }
+{
+    let instance = number(key.instance)?;
+    let client = number(key.client)?;
+    let handle = number(key.handle)?;
+    let mode = mode_of(row.state);
+    let delay = number(row.delay)?;
+    run(
+        tx,
+        "INSERT INTO locks (instance, client, handle, mode, delay) VALUES (?1, ?2, ?3, ?4, ?5) ON CONFLICT (instance, client, handle) DO UPDATE SET mode = excluded.mode, delay = excluded.delay",
+        &[instance, client, handle, mode, delay],
+    )
+}
+
 fn remove_lock<S: Alter>(tx: &mut Transaction<'_, S>, key: &LockKey) -> Result<(), Error>
     ensures same { tx.new.conn.ghost_name ≡ tx.old.conn.ghost_name }
     ensures ok { HasCleanDisk (state S.Store tx.new.conn.now) → OnOk result (Changed (RemoveLock key.now ∷ []) (state S.Store tx.old.conn.now) (state S.Store tx.new.conn.now)) }
@@ -86,6 +120,7 @@ fn edit<S: Alter>(tx: &mut Transaction<'_, S>, edit: &Edit) -> Result<(), Error>
     match edit {
         Edit::Epoch(epoch) => set_epoch(tx, *epoch),
         Edit::NextInstance(next) => set_next_instance(tx, *next),
+        Edit::PutLock(key, row) => put_lock(tx, key, row),
         Edit::RemoveLock(key) => remove_lock(tx, key),
         _ => Err(Error::InvalidQuery),
     }
