@@ -15,4 +15,5 @@ pub mod Entries
 pub mod LockKeys
 pub mod RemoveLock
 pub mod PutLock
+pub mod PutSession
 pub mod Steps

@@ -21,7 +21,7 @@ use Rattle.rows_edits.proofs.Columns.{IsLockRow, equal-Int}
 
 -- ---- numbers
 
-same_some : {X : Type 0} {x y : X} → Some x ≡ Some y → x ≡ y
+pub same_some : {X : Type 0} {x y : X} → Some x ≡ Some y → x ≡ y
 same_some e = cc
 
 below_none : (n : ℕ) → int_lt (pos n) (pos 0) ≡ false

@@ -3,12 +3,12 @@ ghost use Rattle.std.specs.Prelude.{◌≡◌, ◌∷◌, [], ℕ, false, IfOk, 
 ghost use Rattle.sqlite.specs.Values.{bound};
 ghost use Rattle.sqlite.specs.State.{HasCleanDisk, KeepsCommit, Survives};
 ghost use Rattle.sqlite.specs.Held.{state};
-ghost use Rattle.rows_cell.specs.declared.tables.Edit.TheVariants.{Epoch, NextInstance, PutLock, RemoveLock};
-ghost use Rattle.rows_read.specs.Decode.{lock_state_of};
+ghost use Rattle.rows_cell.specs.declared.tables.Edit.TheVariants.{Epoch, NextInstance, PutSession, PutLock, RemoveLock};
+ghost use Rattle.rows_read.specs.Decode.{live_of, lock_state_of};
 ghost use Rattle.rows_edits.specs.Numbers.{IsNumber, IsReadAs};
 ghost use Rattle.rows_edits.specs.Ongoing.{RanInside, Changed, Committed, MayCommit};
 
-use rows_cell::{Edit, LockKey, LockRow, LockState};
+use rows_cell::{Edit, LockKey, LockRow, LockState, Session};
 use sqlite::{Alter, Connection, Error, Transaction};
 use sqlite_value::value::ValueRef;
 
@@ -30,6 +30,17 @@ fn mode_of<'a>(state: LockState) -> ValueRef<'a>
         LockState::Lapsed => ValueRef::Int(0),
         LockState::Exclusive => ValueRef::Int(1),
         LockState::Shared => ValueRef::Int(2),
+    }
+}
+
+// Whether a session is live, as SQL has it.
+fn live_as<'a>(live: bool) -> ValueRef<'a>
+    ensures { IsReadAs live_of result live }
+{
+    if live {
+        ValueRef::Int(1)
+    } else {
+        ValueRef::Int(0)
     }
 }
 
@@ -69,6 +80,26 @@ fn set_next_instance<S: Alter>(tx: &mut Transaction<'_, S>, next: u64) -> Result
         tx,
         "UPDATE meta SET next_instance = ?1 WHERE id = 1",
         &[next],
+    )
+}
+
+fn put_session<S: Alter>(
+    tx: &mut Transaction<'_, S>,
+    client: u64,
+    session: &Session,
+) -> Result<(), Error>
+    ensures same { tx.new.conn.ghost_name ≡ tx.old.conn.ghost_name }
+    ensures ok { HasCleanDisk (state S.Store tx.new.conn.now) → OnOk result (Changed (PutSession client session.now ∷ []) (state S.Store tx.old.conn.now) (state S.Store tx.new.conn.now)) }
+    ensures kept { HasCleanDisk (state S.Store tx.new.conn.now) → KeepsCommit (state S.Store tx.old.conn.now) (state S.Store tx.new.conn.now) }
+    ensures survives { Survives (state S.Store tx.old.conn.now) (state S.Store tx.new.conn.now) (λ _. ⊥) }
+{
+    let client = number(client)?;
+    let principal = session.principal.as_str().as_bytes();
+    let live = live_as(session.live);
+    run(
+        tx,
+        "INSERT INTO sessions (client, principal, live) VALUES (?1, ?2, ?3) ON CONFLICT (client) DO UPDATE SET principal = excluded.principal, live = excluded.live",
+        &[client, ValueRef::Text(principal), live],
     )
 }
 
@@ -120,6 +151,7 @@ fn edit<S: Alter>(tx: &mut Transaction<'_, S>, edit: &Edit) -> Result<(), Error>
     match edit {
         Edit::Epoch(epoch) => set_epoch(tx, *epoch),
         Edit::NextInstance(next) => set_next_instance(tx, *next),
+        Edit::PutSession(client, session) => put_session(tx, *client, session),
         Edit::PutLock(key, row) => put_lock(tx, key, row),
         Edit::RemoveLock(key) => remove_lock(tx, key),
         _ => Err(Error::InvalidQuery),
