@@ -14,7 +14,7 @@ use Rattle.sqlite_value.specs.Order.{Row}
 use Rattle.sqlite_rules.specs.Lists.{Has}
 use Rattle.sqlite_rules.proofs.ListLemmas.{all_has, all_from}
 use Rattle.sqlite_trees.proofs.ListLemmas.{filter-map, filter_same, IsPermutation-filter}
-use Rattle.rows_cell.proofs.EntriesInOrder.{sorted_gone}
+use Rattle.rows_cell.proofs.EntriesInOrder.{sorted_gone, sorted_kept}
 use Rattle.rows_read.specs.Held.{Holds}
 use Rattle.rows_read.proofs.Held.{has_mapped, mapped_has, has_permuted, holds_more, holds_permuted}
 
@@ -92,6 +92,10 @@ module _ {K V : Type 0} (cmp : K → K → Ordering) (total : IsTotalOrder cmp) 
   other k (Some e) = not (is_at (cmp k) e.0)
   other k None = true
 
+  abbrev passes : (K × V → Bool) → Option (K × V) → Bool
+  passes keep (Some e) = keep e
+  passes keep None = false
+
   all_other : (k : K) (e : K × V) (es : List (K × V)) → is_at (cmp k) e.0 ≡ true → AllByRecursion (λ y. cmp e.0 y ≡ Less) (keys_of es) → filter (other k) (some es) ≡ some es
   all_other k e [] t all = refl
   all_other k e (f ∷ es) t all =
@@ -115,6 +119,17 @@ module _ {K V : Type 0} (cmp : K → K → Ordering) (total : IsTotalOrder cmp) 
     -- and each entry is said
     pub row_of : (e : K × V) → Has es e → (r : Row) × Has rows r × (read r ≡ Some e)
     row_of e there = let r = mapped_has read rows (Some e) (has_permuted (some es) (map read rows) (Some e) h.said (has_mapped (λ (x : K × V). Some x) es e there)) in (r.0, r.1, sym r.2)
+
+    -- the rows that pass a test say the entries that pass it
+    pub holds_kept : (keep : K × V → Bool) (stays : Row → Bool) → ((r : Row) → Has rows r → (e : K × V) → read r ≡ Some e → stays r ≡ keep e) → Holds cmp read (filter stays rows) (filter keep es)
+    holds_kept keep stays test = record {
+      sorted = sorted_kept cmp keep es h.sorted;
+      said =
+          let moved = IsPermutation-filter (passes keep) (some es) (map read rows) h.said in
+          let each : (r : Row) → Has rows r → passes keep (read r) ≡ stays r = λ r there. let e = entry_of r there in ap (passes keep) e.2 ∙ sym (test r there e.0 e.2) in
+          let left : filter (passes keep) (map read rows) ≡ map read (filter stays rows) = filter-map (passes keep) read rows ∙ ap (map read) (filter_same _ _ rows (all_from _ rows each)) in
+          subst (λ l. IsPermutation l (map read (filter stays rows))) (filter-map (passes keep) (λ e. Some e) es) (subst (IsPermutation (filter (passes keep) (some es))) left moved);
+    }
 
     module _ (k : K) (goes : Row → Bool) (test : (r : Row) → Has rows r → (e : K × V) → read r ≡ Some e → goes r ≡ is_at (cmp k) e.0) where
       -- the rows that say the key are taken out

@@ -16,4 +16,9 @@ pub mod LockKeys
 pub mod RemoveLock
 pub mod PutLock
 pub mod PutSession
+pub mod NodeKeys
+pub mod SetGeneration
+pub mod PutNode
+pub mod Cascades
+pub mod RemoveNode
 pub mod Steps

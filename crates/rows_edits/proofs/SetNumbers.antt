@@ -92,7 +92,7 @@ module _ (n : ℤ) where
         alone = no_action;
         idle = nor_none;
       } in
-      ran_update 0 meta refl set_epoch_text terms epoch_project params old new refl set_epoch_is set_epoch_plain with_epoch store how count ran
+      (ran_update 0 meta refl set_epoch_text terms epoch_project params old new refl set_epoch_is set_epoch_plain with_epoch store how count ran).1
 
   pub set_next_done : (old new : State) (count : ℕ) → IsStore old.now → Executes set_next_instance_text params old new (Ok count) → Rewrote 0 (map (renewed (passes 0 terms next_project params) with_next) (old.now.trees 0)) old.now new.now
   set_next_done old new count store ran =
@@ -107,4 +107,4 @@ module _ (n : ℤ) where
         alone = no_action;
         idle = nor_none;
       } in
-      ran_update 0 meta refl set_next_instance_text terms next_project params old new refl set_next_instance_is set_next_instance_plain with_next store how count ran
+      (ran_update 0 meta refl set_next_instance_text terms next_project params old new refl set_next_instance_is set_next_instance_plain with_next store how count ran).1

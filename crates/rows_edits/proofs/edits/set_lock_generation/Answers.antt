@@ -1,0 +1,10 @@
+use Rattle.sqlite.specs.Held.{state}
+use Rattle.rows_edits.proofs.Steps.{ok_then}
+use Rattle.rows_edits.proofs.SetGeneration.{generation_there}
+use Rattle.rows_edits.proofs.edits.set_lock_generation.Goals as goal
+
+pub returns-clause-ok : goal.returns-clause-ok
+returns-clause-ok g c clean =
+    ok_then c.run.result
+    (generation_there c.args.name.now c.args.generation c.in_ok-generation.generation c.in_ok-generation.ensures (state g.S.Store c.args.tx.now.conn.now) (state g.S.Store c.run.new.tx.conn.now))
+    (c.run.ensures.ok clean)
