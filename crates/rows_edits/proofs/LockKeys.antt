@@ -92,6 +92,9 @@ lock_parts (Some i) (Some c) (Some h) (Some s) (Some d) e is =
     }
 lock_parts _ _ _ _ _ e is = absurd cc
 
+pub lock_said : (r : Row) (e : LockKey × LockRow) → lock_in (lock_shown r) ≡ Some e → LockParts (count_in (column r 1)) (count_in (column r 2)) (count_in (column r 3)) (lock_state_of (id_in (column r 4))) (count_in (column r 5)) e
+lock_said r e says = lock_parts (count_in (column r 1)) (count_in (column r 2)) (count_in (column r 3)) (lock_state_of (id_in (column r 4))) (count_in (column r 5)) e says
+
 -- the row has these values in the columns of the key
 abbrev pub has_key : ℤ → ℤ → ℤ → Row → Bool
 has_key i c h r = equal Binary (column r 1) (Int i) && (equal Binary (column r 2) (Int c) && (equal Binary (column r 3) (Int h) && true))
@@ -100,11 +103,11 @@ has_key i c h r = equal Binary (column r 1) (Int i) && (equal Binary (column r 2
 pub key_test : (key : LockKey) (i c h : ℤ) → count_of i ≡ Some key.instance → count_of c ≡ Some key.client → count_of h ≡ Some key.handle → (r : Row) → IsLockRow r → (e : LockKey × LockRow) → lock_in (lock_shown r) ≡ Some e
     → has_key i c h r ≡ is_at (lock_order key) e.0
 key_test key i c h ni nc nh r typed e says =
-    let parts = lock_parts _ _ _ _ _ e says in
+    let parts = lock_said r e says in
     let first : equal Binary (column r 1) (Int i) ≡ is_eq (nat_cmp key.instance e.0.instance) = ap (λ v. equal Binary v (Int i)) typed.instance ∙ equal_counts _ i e.0.instance key.instance parts.instance ni in
     let second : equal Binary (column r 2) (Int c) ≡ is_eq (nat_cmp key.client e.0.client) = ap (λ v. equal Binary v (Int c)) typed.client ∙ equal_counts _ c e.0.client key.client parts.client nc in
     let third : equal Binary (column r 3) (Int h) ≡ is_eq (nat_cmp key.handle e.0.handle) = ap (λ v. equal Binary v (Int h)) typed.handle ∙ equal_counts _ h e.0.handle key.handle parts.handle nh in
-    (λ j. first j && (second j && (third j && true)))
-    ∙ three (is_eq (nat_cmp key.instance e.0.instance)) (is_eq (nat_cmp key.client e.0.client)) (is_eq (nat_cmp key.handle e.0.handle))
+    let all : has_key i c h r ≡ (is_eq (nat_cmp key.instance e.0.instance) && (is_eq (nat_cmp key.client e.0.client) && (is_eq (nat_cmp key.handle e.0.handle) && true))) = λ j. first j && (second j && (third j && true)) in
+    all ∙ three (is_eq (nat_cmp key.instance e.0.instance)) (is_eq (nat_cmp key.client e.0.client)) (is_eq (nat_cmp key.handle e.0.handle))
     ∙ ap (λ b. b && is_eq (nat_cmp key.handle e.0.handle)) (sym (eq_then (nat_cmp key.instance e.0.instance) (nat_cmp key.client e.0.client)))
     ∙ sym (eq_then (ordering_then (nat_cmp key.instance e.0.instance) (nat_cmp key.client e.0.client)) (nat_cmp key.handle e.0.handle))

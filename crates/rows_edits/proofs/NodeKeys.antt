@@ -10,6 +10,7 @@ use Rattle.sqlite_value.specs.declared.value.Value.TheVariants.{Text}
 use Rattle.sqlite_value.specs.declared.keys.Collation.TheVariants.{Binary}
 use Rattle.sqlite_value.specs.Order.{Row, column, bytes}
 use Rattle.sqlite_schema.specs.Rules.{equal}
+use Rattle.sqlite.specs.Edit.{id_in}
 use Rattle.names_cell.specs.Text.{is_name}
 use Rattle.node_core.specs.declared.kinds.Kind.{Kind}
 use Rattle.node_core.specs.declared.kinds.Life.{Life}
@@ -23,7 +24,7 @@ use Rattle.rows_edits.proofs.LockKeys.{same_some}
 -- ---- what a row says
 
 -- the name and the generation of the lock are those of their columns
-pub node_parts : (k : Option Kind) (l : Option Life) (i c a g : Option ℕ) (acls : Option Acls) (name : Option (List ℕ)) (content : List ℕ) (e : List ℕ × Node) → node_from (numbers_from k l i c a g) acls name content ≡ Some e
+node_parts : (k : Option Kind) (l : Option Life) (i c a g : Option ℕ) (acls : Option Acls) (name : Option (List ℕ)) (content : List ℕ) (e : List ℕ × Node) → node_from (numbers_from k l i c a g) acls name content ≡ Some e
     → (name ≡ Some e.0) × (g ≡ Some e.1.lock_generation) × (i ≡ Some e.1.view.instance)
 node_parts (Some k) (Some l) (Some i) (Some c) (Some a) (Some g) (Some acls) (Some name) content e is =
     let same = same_some is in
@@ -41,8 +42,12 @@ named_in : (b : Bool) (t s : List ℕ) → cond b (Some t) None ≡ Some s → t
 named_in true t s e = same_some e
 named_in false t s e = absurd cc
 
+pub node_said : (r : Row) (e : List ℕ × Node) → node_in (node_shown r) ≡ Some e → (name_in (column r 1) ≡ Some e.0) × (count_in (column r 7) ≡ Some e.1.lock_generation) × (count_in (column r 2) ≡ Some e.1.view.instance)
+node_said r e says =
+    node_parts (kind_of (id_in (column r 3))) (life_of (id_in (column r 4))) (count_in (column r 2)) (count_in (column r 5)) (count_in (column r 6)) (count_in (column r 7)) (acls_in (node_shown r)) (name_in (column r 1)) (bytes (column r 11)) e says
+
 pub name_said : (r : Row) (e : List ℕ × Node) → node_in (node_shown r) ≡ Some e → bytes (column r 1) ≡ e.0
-name_said r e says = named_in (is_name (bytes (column r 1))) (bytes (column r 1)) e.0 (node_parts _ _ _ _ _ _ _ _ _ e says).0
+name_said r e says = named_in (is_name (bytes (column r 1))) (bytes (column r 1)) e.0 (node_said r e says).0
 
 -- ---- which row is that of a name
 

@@ -39,10 +39,10 @@ use Rattle.rows_edits.specs.Ongoing.{IsStore, RanInside, Changed}
 use Rattle.rows_edits.proofs.Meaning.{put_lock_is, put_lock_plain}
 use Rattle.rows_edits.proofs.Casts.{cast_null, cast_int, int_stays}
 use Rattle.rows_edits.proofs.Columns.{int_value}
-use Rattle.rows_edits.proofs.Clashes.{lock_clash, one_lock}
+use Rattle.rows_edits.proofs.Clashes.{same_lock, lock_clash, one_lock}
 use Rattle.rows_edits.proofs.Entries.{holds_put}
 use Rattle.rows_edits.proofs.LockKeys.{has_key, key_test, exact_lock}
-use Rattle.rows_edits.proofs.Runs.{Puts_in, PutIn, ran_put}
+use Rattle.rows_edits.proofs.Runs.{CanPut, PutIn, ran_put}
 use Rattle.rows_edits.proofs.Stores.{Rewrote, lock_rows, locks_say, held_as_shown, shown_as_held}
 use Rattle.rows_edits.proofs.Upserts as upserts
 
@@ -94,7 +94,7 @@ module _ (i c h m d : ℤ) where
     keys_of : (r : Row) → Has es r → clash r ≡ true → (column r 1 ≡ Int i) × (column r 2 ≡ Int c) × (column r 3 ≡ Int h)
     keys_of r there t = let typed = lock_rows old.now store r there in keyed_as r typed.instance typed.client typed.handle (sym (lock_clash new r) ∙ t)
 
-    how : Puts_in 3 locks refl put_lock_text terms project params old new_state refl values 6 (Null ∷ params) new (1 ∷ 2 ∷ 3 ∷ []) becomes
+    how : CanPut 3 locks refl put_lock_text terms project params old new_state refl values 6 (Null ∷ params) new (1 ∷ 2 ∷ 3 ∷ []) becomes
     how = record {
       shaped = store.locks;
       uncounted = refl;
@@ -104,7 +104,8 @@ module _ (i c h m d : ℤ) where
       keyed = refl;
       one = λ a b ha hb ta tb.
           let k = keys_of b hb tb in
-          one_lock old.now store a b ha hb ((λ j. equal Binary (column a 1) (k.0 j) && (equal Binary (column a 2) (k.1 j) && (equal Binary (column a 3) (k.2 j) && true))) ∙ sym (lock_clash new a) ∙ ta);
+          let agree : same_lock a b ≡ same_lock a new = λ j. equal Binary (column a 1) (k.0 j) && (equal Binary (column a 2) (k.1 j) && (equal Binary (column a 3) (k.2 j) && true)) in
+          one_lock old.now store a b ha hb (agree ∙ sym (lock_clash new a) ∙ ta);
       finds = λ r0 r. refl;
       shows_it = λ r0 r there t. refl;
       same_id = λ r. refl;
@@ -135,7 +136,8 @@ lock_there key row i c h m d ni nc nh nm nd old new run =
             | inl none ↦ ap (λ (x : Row). lock_in (lock_shown x)) none.1 ∙ said_by
             | inr one ↦
                 let k = keys_of ni.0 nc.0 nh.0 nm.0 nd.0 old new store one.0 one.1 one.2 in
-                ap (λ (x : Row). lock_in (lock_shown x)) one.3 ∙ (λ j. lock_in (k.0 j ∷ k.1 j ∷ k.2 j ∷ Int nm.0 ∷ Int nd.0 ∷ [])) ∙ said_by
+                let keyed : lock_in (column one.0 1 ∷ column one.0 2 ∷ column one.0 3 ∷ Int nm.0 ∷ Int nd.0 ∷ []) ≡ lock_in (Int ni.0 ∷ Int nc.0 ∷ Int nh.0 ∷ Int nm.0 ∷ Int nd.0 ∷ []) = λ j. lock_in (k.0 j ∷ k.1 j ∷ k.2 j ∷ Int nm.0 ∷ Int nd.0 ∷ []) in
+                ap (λ (x : Row). lock_in (lock_shown x)) one.3 ∙ keyed ∙ said_by
           ] in
           locks_say old.now new.now (new.now.trees 5) rows said done.1 _
           (shown_as_held lock_order lock_in lock_shown (new.now.trees 5) _

@@ -43,8 +43,8 @@ use Rattle.rows_edits.proofs.Casts.{cast_null, cast_int, int_stays, text_stays, 
 use Rattle.rows_edits.proofs.Columns.{text_value}
 use Rattle.rows_edits.proofs.Clashes.{node_clash}
 use Rattle.rows_edits.proofs.Entries.{holds_put, found_at, none_at, entry_of}
-use Rattle.rows_edits.proofs.NodeKeys.{has_name, name_test, node_parts}
-use Rattle.rows_edits.proofs.Runs.{Puts_in, PutIn, ran_put}
+use Rattle.rows_edits.proofs.NodeKeys.{has_name, name_test, node_said}
+use Rattle.rows_edits.proofs.Runs.{CanPut, PutIn, ran_put}
 use Rattle.rows_edits.proofs.SetGeneration.{no_action, nor_none, one_named}
 use Rattle.rows_edits.proofs.Stores.{Rewrote, node_rows, nodes_say, held_as_shown, shown_as_held}
 use Rattle.rows_edits.proofs.Upserts as upserts
@@ -97,8 +97,9 @@ module _ (t : List ℕ) (view : View) (c : Counted) where
   says_view : Counts view c → HasNames view → (name g : Value) (n : ℕ) → name ≡ Text t → is_name t ≡ true → count_in g ≡ Some n
       → node_in (name ∷ Int c.instance ∷ Int c.kind ∷ Int c.life ∷ Int c.content ∷ Int c.acl ∷ g ∷ Text view.read ∷ Text view.write ∷ Text view.change ∷ Blob view.content ∷ []) ≡ Some (t, record { view = view; lock_generation = n })
   says_view counts names name g n is_text named counted =
-      (λ j. node_from (numbers_from (kind_of c.kind) (life_of c.life) (count_of c.instance) (count_of c.content) (count_of c.acl) (count_in g)) (acls_from (component_in (Text view.read)) (component_in (Text view.write)) (component_in (Text view.change))) (name_in (is_text j)) view.content)
-      ∙ (λ j. node_from (numbers_from (counts.kind j) (counts.life j) (counts.instance j) (counts.content j) (counts.acl j) (counted j)) (acls_from (component_reads view.read names.read j) (component_reads view.write names.write j) (component_reads view.change names.change j)) (name_reads t named j) view.content)
+      let row : Value → Row = λ v. v ∷ Int c.instance ∷ Int c.kind ∷ Int c.life ∷ Int c.content ∷ Int c.acl ∷ g ∷ Text view.read ∷ Text view.write ∷ Text view.change ∷ Blob view.content ∷ [] in
+      let read : node_in (row (Text t)) ≡ Some (t, record { view = view; lock_generation = n }) = λ j. node_from (numbers_from (counts.kind j) (counts.life j) (counts.instance j) (counts.content j) (counts.acl j) (counted j)) (acls_from (component_reads view.read names.read j) (component_reads view.write names.write j) (component_reads view.change names.change j)) (name_reads t named j) view.content in
+      ap (λ v. node_in (row v)) is_text ∙ read
 
   module _ (old new_state : State) (store : IsStore old.now) where
     abbrev es : List Row
@@ -110,7 +111,7 @@ module _ (t : List ℕ) (view : View) (c : Counted) where
     abbrev clash : Row → Bool
     clash = upserts.clash old.step_limit nodes params old.now.trees values 12 (Null ∷ fields) new (1 ∷ []) terms project refl
 
-    how : Puts_in 1 nodes refl put_node_text terms project params old new_state refl values 12 (Null ∷ fields) new (1 ∷ []) becomes
+    how : CanPut 1 nodes refl put_node_text terms project params old new_state refl values 12 (Null ∷ fields) new (1 ∷ []) becomes
     how = record {
       shaped = store.nodes;
       uncounted = refl;
@@ -152,7 +153,7 @@ module _ (t : List ℕ) (view : View) (c : Counted) where
             let r = one.0 in
             let e = entry_of (slice_cmp nat_cmp) nat_list_cmp_total (λ x. node_in (node_shown x)) es entries held r one.1 in
             let found : stored_node entries t ≡ Some e.0.1 = found_at (slice_cmp nat_cmp) nat_list_cmp_total (λ x. node_in (node_shown x)) es entries held t clash test r one.1 one.2 e.0 e.2 in
-            let counted : count_in (column r 7) ≡ Some e.0.1.lock_generation = (node_parts _ _ _ _ _ _ _ _ _ e.0 e.2).1 in
+            let counted : count_in (column r 7) ≡ Some e.0.1.lock_generation = (node_said r e.0 e.2).1 in
             let text : column r 1 ≡ Text t = text_value (column r 1) t (node_rows old.now store r one.1).name (and_parts _ _ (sym (node_clash new r) ∙ one.2)).0 in
             ap (λ (x : Row). node_in (node_shown x)) one.3 ∙ says_view counts names (column r 1) (column r 7) e.0.1.lock_generation text named counted
             ∙ ap (λ o. Some (t, record { view = view; lock_generation = option_map_or (λ (node : Node). node.lock_generation) o 0 })) (sym found)

@@ -44,7 +44,7 @@ use Rattle.rows_edits.proofs.Columns.{int_value}
 use Rattle.rows_edits.proofs.Clashes.{session_clash}
 use Rattle.rows_edits.proofs.Entries.{holds_put}
 use Rattle.rows_edits.proofs.LockKeys.{same_some, equal_counts}
-use Rattle.rows_edits.proofs.Runs.{Puts_in, PutIn, ran_put}
+use Rattle.rows_edits.proofs.Runs.{CanPut, PutIn, ran_put}
 use Rattle.rows_edits.proofs.Stores.{Rewrote, sessions_say, held_as_shown, shown_as_held}
 use Rattle.rows_edits.proofs.Trees.{same_row}
 use Rattle.rows_edits.proofs.Upserts as upserts
@@ -96,7 +96,7 @@ module _ (c : ℤ) (p : List ℕ) (l : ℤ) where
     id_of : (r : Row) → Has es r → clash r ≡ true → rowid r ≡ Int c
     id_of r there t = int_value (rowid r) c (int_at r there) (and_parts _ _ (sym (session_clash new r) ∙ t)).0
 
-    how : Puts_in 2 sessions refl put_session_text terms project params old new_state refl values 4 new new (0 ∷ []) becomes
+    how : CanPut 2 sessions refl put_session_text terms project params old new_state refl values 4 new new (0 ∷ []) becomes
     how = record {
       shaped = store.sessions;
       uncounted = refl;
@@ -139,7 +139,7 @@ session_there client session c l named nc nl old new run =
             | inl none ↦ ap (λ (x : Row). session_in (session_shown x)) none.1 ∙ said_by
             | inr one ↦
                 let k = id_of nc.0 text nl.0 old new store one.0 one.1 one.2 in
-                ap (λ (x : Row). session_in (session_shown x)) one.3 ∙ (λ j. session_in (k j ∷ Text text ∷ Int nl.0 ∷ [])) ∙ said_by
+                ap (λ (x : Row). session_in (session_shown x)) one.3 ∙ ap (λ v. session_in (v ∷ Text text ∷ Int nl.0 ∷ [])) k ∙ said_by
           ] in
           sessions_say old.now new.now (new.now.trees 4) rows said done.1 _
           (shown_as_held nat_cmp session_in session_shown (new.now.trees 4) _

@@ -47,14 +47,14 @@ module _ (at : ℕ) (table : Table) (placed : slice_get the_schema.tables at ≡
     abbrev clauses : List Upsert
     clauses = record { target = Some target; update = Some q } ∷ []
 
-    abbrev pub Puts_in : (Row → Row) → Type 0
-    Puts_in = upserts.Puts_in old.step_limit table params old.now.trees values width source new target terms project plainly
+    abbrev pub CanPut : (Row → Row) → Type 0
+    CanPut = upserts.CanPut old.step_limit table params old.now.trees values width source new target terms project plainly
 
     abbrev pub PutIn : (Row → Row) → Type 0
     PutIn becomes = upserts.PutIn old.step_limit table params old.now.trees values width source new target terms project plainly becomes new_state.now.trees
 
     pub ran_put : command_of (understood the_schema sql) ≡ InsertOr at Abort (Values values width) clauses → IsPlain (understood the_schema sql) → (becomes : Row → Row) → IsStore old.now
-        → Puts_in becomes → (count : ℕ) → Executes sql params old new_state (Ok count)
+        → CanPut becomes → (count : ℕ) → Executes sql params old new_state (Ok count)
         → PutIn becomes × Rewrote table.tree (new_state.now.trees table.tree) old.now new_state.now
     ran_put is plain becomes store how count ran =
         let text = statement_of sql (understood the_schema sql) in

@@ -70,7 +70,7 @@ module _ (limit : Option ℕ) (table : Table) (params : Row) (db : Trees) (value
   given r = params ++ rowid r ∷ shown table new
 
   -- the source is this row, its rowid is its own or is chosen, and a row of its key, of which there is one at most, becomes another
-  pub record Puts_in (becomes : Row → Row) : Type 0 where
+  pub record CanPut (becomes : Row → Row) : Type 0 where
     pub shaped : IsShaped shape.Table es
     pub uncounted : table.is_counted ≡ false
     pub sources : (rows : List Row) → rows ≡ value_rows (stamped table params) width (length values / width) values → rows ≡ source ∷ []
@@ -99,7 +99,7 @@ module _ (limit : Option ℕ) (table : Table) (params : Row) (db : Trees) (value
     pub shaped : IsShaped shape.Table (next table.tree)
     pub others : AllByRecursion (λ (t : Table). t.tree ≢ table.tree → next t.tree ≡ db t.tree) the_schema.tables
 
-  module _ (becomes : Row → Row) (how : Puts_in becomes) where
+  module _ (becomes : Row → Row) (how : CanPut becomes) where
     -- ---- which of the two it is
 
     put : (written : Written) → Puts task new db (Ok written) → ((r : Row) → Has es r → clash r ≡ false) → Upserted written.trees
