@@ -149,7 +149,7 @@ module _ (db end : Trees) (goes : Row → Bool) (rows : List Row) (shown : IsPer
   abbrev olds : List Row
   olds = taken_by db (edit_of db nodes (ids_of rows) Given 0 [])
 
-  abbrev child : Row → Bool
+  abbrev pub child : Row → Bool
   child r = list_any (is_child_of (work olds) r) (pairs olds [])
 
   at_its_place : (r : Row) → Has es r → row_at es (id_in (rowid r)) ≡ r

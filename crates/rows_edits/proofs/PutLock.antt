@@ -1,5 +1,6 @@
 -- What the statement makes of the tables that puts a lock.
 use Rattle.std.proofs.Common.{◌≡◌, ℕ, ℤ, Bool, true, ◌&&◌, List, [], ◌∷◌, Some, Ok, inl, inr, refl, sym, ap, ◌∙◌, subst}
+use Rattle.std.specs.BTreeMap.{is_at}
 use Rattle.std.proofs.lemmas.Bool.{and_parts}
 use Rattle.sqlite_value.specs.declared.value.Value.{Value}
 use Rattle.sqlite_value.specs.declared.value.Value.TheVariants.{Null, Int}
@@ -116,7 +117,10 @@ module _ (i c h m d : ℤ) where
       idle = nor_none;
     }
 
-    pub lock_put : (count : ℕ) → Executes put_lock_text params old new_state (Ok count)
+    tested : (key : LockKey) → count_of i ≡ Some key.instance → count_of c ≡ Some key.client → count_of h ≡ Some key.handle → (r : Row) → Has es r → (e : LockKey × LockRow) → lock_in (lock_shown r) ≡ Some e → clash r ≡ is_at (lock_order key) e.0
+    tested key ni nc nh r there e says = lock_clash new r ∙ key_test key i c h ni nc nh r (lock_rows old.now store r there) e says
+
+    lock_put : (count : ℕ) → Executes put_lock_text params old new_state (Ok count)
         → PutIn 3 locks refl put_lock_text terms project params old new_state refl values 6 (Null ∷ params) new (1 ∷ 2 ∷ 3 ∷ []) becomes × Rewrote 5 (new_state.now.trees 5) old.now new_state.now
     lock_put count ran = ran_put 3 locks refl put_lock_text terms project params old new_state refl values 6 (Null ∷ params) new (1 ∷ 2 ∷ 3 ∷ []) put_lock_is put_lock_plain becomes store how count ran
 
@@ -142,6 +146,6 @@ lock_there key row i c h m d ni nc nh nm nd old new run =
           locks_say old.now new.now (new.now.trees 5) rows said done.1 _
           (shown_as_held lock_order lock_in lock_shown (new.now.trees 5) _
           (holds_put lock_order locks_total (λ x. lock_in (lock_shown x)) es rows.locks (held_as_shown lock_order lock_in lock_shown es rows.locks said.locks) key goes
-          (λ x there e says_x. lock_clash _ x ∙ key_test key ni.0 nc.0 nh.0 ni.2 nc.2 nh.2 x (lock_rows old.now store x there) e says_x)
+          (tested ni.0 nc.0 nh.0 nm.0 nd.0 old new store key ni.2 nc.2 nh.2)
           exact_lock put.last row (new.now.trees 5) says_it put.rows));
     }

@@ -10,10 +10,10 @@ use Rattle.std.proofs.lemmas.Map.Lookups.{exact_bytes}
 use Rattle.sqlite_value.specs.declared.value.Value.{Value}
 use Rattle.sqlite_value.specs.declared.value.Value.TheVariants.{Null, Int, Text, Blob}
 use Rattle.sqlite_value.specs.declared.value.ValueRef.{ValueRef}
-use Rattle.sqlite_value.specs.declared.value.ValueRef.TheVariants as given
+use Rattle.sqlite_value.specs.Value.{owned}
 use Rattle.sqlite_value.specs.Order.{Row, column, bytes}
 use Rattle.sqlite.specs.Term.{Term, col, lit}
-use Rattle.sqlite.specs.Values.{bound}
+use Rattle.sqlite.specs.Values.{bound, bound_value}
 use Rattle.sqlite.specs.Cast.{cast, cast_row}
 use Rattle.sqlite.specs.Kind.TheVariants.{Integer}
 use Rattle.sqlite.specs.Edit.{id_in, next_rowid}
@@ -159,11 +159,21 @@ module _ (t : List ℕ) (view : View) (c : Counted) where
             ∙ ap (λ o. Some (t, record { view = view; lock_generation = option_map_or (λ (node : Node). node.lock_generation) o 0 })) (sym found)
       ]
 
-pub node_there : (t : List ℕ) (view : View) (i k l g a : ValueRef) → is_name t ≡ true → HasNames view → IsNumber i view.instance → IsReadAs kind_of k view.kind → IsReadAs life_of l view.life → IsNumber g view.content_generation → IsNumber a view.acl_generation
-    → (old new : State) → RanInside put_node_text (bound (given.Text t ∷ i ∷ k ∷ l ∷ g ∷ a ∷ given.Text view.read ∷ given.Text view.write ∷ given.Text view.change ∷ given.Blob view.content ∷ [])) old new
+-- the texts and the content of a node, as they are given
+pub record Given (t : List ℕ) (view : View) (name read write change content : ValueRef) : Type 0 where
+  pub name_is : bound_value (owned name) ≡ Text t
+  pub read_is : bound_value (owned read) ≡ Text view.read
+  pub write_is : bound_value (owned write) ≡ Text view.write
+  pub change_is : bound_value (owned change) ≡ Text view.change
+  pub content_is : bound_value (owned content) ≡ Blob view.content
+
+pub node_there : (t : List ℕ) (view : View) (name i k l g a read write change content : ValueRef) → Given t view name read write change content → is_name t ≡ true → HasNames view → IsNumber i view.instance → IsReadAs kind_of k view.kind → IsReadAs life_of l view.life → IsNumber g view.content_generation → IsNumber a view.acl_generation
+    → (old new : State) → RanInside put_node_text (bound (name ∷ i ∷ k ∷ l ∷ g ∷ a ∷ read ∷ write ∷ change ∷ content ∷ [])) old new
     → Changed (PutNode t view ∷ []) old new
-node_there t view i k l g a named names ni nk nl ng na old new run =
-    let r = rw (ni.1, nk.1, nl.1, ng.1, na.1) at run in
+node_there t view name i k l g a read write change content texts named names ni nk nl ng na old new run =
+    let row : bound (name ∷ i ∷ k ∷ l ∷ g ∷ a ∷ read ∷ write ∷ change ∷ content ∷ []) ≡ Text t ∷ Int ni.0 ∷ Int nk.0 ∷ Int nl.0 ∷ Int ng.0 ∷ Int na.0 ∷ Text view.read ∷ Text view.write ∷ Text view.change ∷ Blob view.content ∷ [] = λ j.
+        texts.name_is j ∷ bound_value (owned (ni.1 j)) ∷ bound_value (owned (nk.1 j)) ∷ bound_value (owned (nl.1 j)) ∷ bound_value (owned (ng.1 j)) ∷ bound_value (owned (na.1 j)) ∷ texts.read_is j ∷ texts.write_is j ∷ texts.change_is j ∷ texts.content_is j ∷ [] in
+    let r = subst (λ x. RanInside put_node_text x old new) row run in
     let c : Counted = record { instance = ni.0; kind = nk.0; life = nl.0; content = ng.0; acl = na.0 } in
     let counts : Counts view c = record { instance = ni.2; kind = nk.2; life = nl.2; content = ng.2; acl = na.2 } in
     record {

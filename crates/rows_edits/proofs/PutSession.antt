@@ -1,5 +1,5 @@
 -- What the statement makes of the tables that puts a session.
-use Rattle.std.proofs.Common.{◌≡◌, ℕ, ℤ, Bool, true, ◌&&◌, List, [], ◌∷◌, Option, Some, None, Ok, inl, inr, refl, sym, ap, ap₂, ◌∙◌}
+use Rattle.std.proofs.Common.{◌≡◌, ℕ, ℤ, Bool, true, false, ◌&&◌, List, [], ◌∷◌, Option, Some, None, Ok, inl, inr, refl, sym, ap, ap₂, ◌∙◌, subst}
 use Rattle.std.specs.BTreeMap.{is_at}
 use Rattle.std.specs.Ordering.{nat_cmp, is_eq}
 use Rattle.std.proofs.lemmas.Bool.{and_parts}
@@ -7,13 +7,13 @@ use Rattle.std.proofs.lemmas.Cmp.{nat_cmp_total, tied_itself}
 use Rattle.std.proofs.lemmas.Map.Lookups.{exact_unsigned}
 use Rattle.sqlite_value.specs.declared.value.Value.TheVariants.{Null, Int, Text}
 use Rattle.sqlite_value.specs.declared.value.ValueRef.{ValueRef}
-use Rattle.sqlite_value.specs.declared.value.ValueRef.TheVariants as given
+use Rattle.sqlite_value.specs.Value.{owned}
 use Rattle.sqlite_value.specs.declared.keys.Collation.TheVariants.{Binary}
 use Rattle.sqlite_value.specs.Order.{Row, column, value_cmp}
 use Rattle.sqlite_value.specs.Keys.{joined}
 use Rattle.sqlite_value.proofs.OrderLemmas.{value_cmp_total}
 use Rattle.sqlite.specs.Term.{Term, col, lit}
-use Rattle.sqlite.specs.Values.{bound}
+use Rattle.sqlite.specs.Values.{bound, bound_value}
 use Rattle.sqlite.specs.Cast.{cast_row}
 use Rattle.sqlite.specs.Edit.{id_in}
 use Rattle.sqlite.specs.Rowids.TheVariants.{Chosen}
@@ -70,6 +70,11 @@ alone_and : (b : Bool) → (b && true) ≡ b
 alone_and true = refl
 alone_and false = refl
 
+-- the client that a row says
+client_said : (o : Option ℕ) (b : Option Bool) (p : Option (List ℕ)) (e : ℕ × Session) → session_from o b p ≡ Some e → o ≡ Some e.0
+client_said (Some client) (Some live) (Some principal) e is = ap (λ (x : ℕ × Session). Some x.0) (same_some is)
+client_said _ _ _ e is = absurd cc
+
 module _ (c : ℤ) (p : List ℕ) (l : ℤ) where
   abbrev params : Row
   params = Int c ∷ Text p ∷ Int l ∷ []
@@ -113,19 +118,20 @@ module _ (c : ℤ) (p : List ℕ) (l : ℤ) where
       idle = nor_none;
     }
 
+    tested : (client : ℕ) → count_of c ≡ Some client → (r : Row) → Has es r → (e : ℕ × Session) → session_in (session_shown r) ≡ Some e → clash r ≡ is_at (nat_cmp client) e.0
+    tested client counted r there e says =
+        session_clash new r ∙ alone_and _ ∙ ap (λ v. equal Binary v (Int c)) (int_at r there)
+        ∙ equal_counts (id_in (rowid r)) c e.0 client (client_said (count_in (column r 0)) (live_of (id_in (column r 3))) (component_in (column r 2)) e says) counted
+
     session_put : (count : ℕ) → Executes put_session_text params old new_state (Ok count)
         → PutIn 2 sessions refl put_session_text terms project params old new_state refl values 4 new new (0 ∷ []) becomes × Rewrote 4 (new_state.now.trees 4) old.now new_state.now
     session_put count ran = ran_put 2 sessions refl put_session_text terms project params old new_state refl values 4 new new (0 ∷ []) put_session_is put_session_plain becomes store how count ran
 
--- the client that a row says
-client_said : (o : Option ℕ) (b : Option Bool) (p : Option (List ℕ)) (e : ℕ × Session) → session_from o b p ≡ Some e → o ≡ Some e.0
-client_said (Some client) (Some live) (Some principal) e is = ap (λ (x : ℕ × Session). Some x.0) (same_some is)
-client_said _ _ _ e is = absurd cc
-
-pub session_there : (client : ℕ) (session : Session) (c l : ValueRef) → is_component session.principal ≡ true → IsNumber c client → IsReadAs live_of l session.live
-    → (old new : State) → RanInside put_session_text (bound (c ∷ given.Text session.principal ∷ l ∷ [])) old new → Changed (PutSession client session ∷ []) old new
-session_there client session c l named nc nl old new run =
-    let r = rw (nc.1, nl.1) at run in
+pub session_there : (client : ℕ) (session : Session) (c p l : ValueRef) → bound_value (owned p) ≡ Text session.principal → is_component session.principal ≡ true → IsNumber c client → IsReadAs live_of l session.live
+    → (old new : State) → RanInside put_session_text (bound (c ∷ p ∷ l ∷ [])) old new → Changed (PutSession client session ∷ []) old new
+session_there client session c p l is_text named nc nl old new run =
+    let row : bound (c ∷ p ∷ l ∷ []) ≡ Int nc.0 ∷ Text session.principal ∷ Int nl.0 ∷ [] = λ j. bound_value (owned (nc.1 j)) ∷ is_text j ∷ bound_value (owned (nl.1 j)) ∷ [] in
+    let r = subst (λ x. RanInside put_session_text x old new) row run in
     let text = session.principal in
     let said_by : session_from (count_of nc.0) (live_of nl.0) (component_in (Text text)) ≡ Some (client, session) = λ j. session_from (nc.2 j) (nl.2 j) (component_reads text named j) in
     record {
@@ -144,8 +150,6 @@ session_there client session c l named nc nl old new run =
           sessions_say old.now new.now (new.now.trees 4) rows said done.1 _
           (shown_as_held nat_cmp session_in session_shown (new.now.trees 4) _
           (holds_put nat_cmp nat_cmp_total (λ x. session_in (session_shown x)) es rows.sessions (held_as_shown nat_cmp session_in session_shown es rows.sessions said.sessions) client goes
-          (λ x there e says_x.
-            session_clash _ x ∙ alone_and _ ∙ ap (λ v. equal Binary v (Int nc.0)) (int_at nc.0 text nl.0 old new store x there)
-            ∙ equal_counts (id_in (rowid x)) nc.0 e.0 client (client_said (count_in (column x 0)) (live_of (id_in (column x 3))) (component_in (column x 2)) e says_x) nc.2)
+          (tested nc.0 text nl.0 old new store client nc.2)
           exact_unsigned put.last session (new.now.trees 4) says_it put.rows));
     }

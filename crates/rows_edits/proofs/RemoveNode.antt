@@ -9,11 +9,12 @@ use Rattle.std.proofs.lemmas.Bool.{cases_Bool, both_ways, false_from_ne_true}
 use Rattle.std.proofs.lemmas.Bool.Decides.{nat_tests}
 use Rattle.std.proofs.lemmas.Cmp.{nat_list_cmp_total}
 use Rattle.sqlite_value.specs.declared.value.Value.TheVariants.{Text}
-use Rattle.sqlite_value.specs.declared.value.ValueRef.TheVariants as given
+use Rattle.sqlite_value.specs.declared.value.ValueRef.{ValueRef}
+use Rattle.sqlite_value.specs.Value.{owned}
 use Rattle.sqlite_value.specs.declared.keys.Collation.TheVariants.{Binary}
 use Rattle.sqlite_value.specs.Order.{Row, column}
 use Rattle.sqlite.specs.Term.{Term, col}
-use Rattle.sqlite.specs.Values.{bound}
+use Rattle.sqlite.specs.Values.{bound, bound_value}
 use Rattle.sqlite.specs.View.{IsShaped}
 use Rattle.sqlite.specs.Edit.{id_in}
 use Rattle.sqlite_trees.specs.declared.store.Shape.TheVariants as shape
@@ -141,11 +142,11 @@ module _ (t : List ℕ) where
     nodes_left : Holds (slice_cmp nat_cmp) (λ r. node_in (node_shown r)) (filter (λ r. not (has_name t r)) (old.trees 1)) (remove_entry (is_at (slice_cmp nat_cmp t)) nodes)
     nodes_left = holds_removed (slice_cmp nat_cmp) nat_list_cmp_total (λ r. node_in (node_shown r)) (old.trees 1) nodes held t (has_name t) test
 
-pub node_gone : (t : List ℕ) (old new : State) → RanInside remove_node_text (bound (given.Text t ∷ [])) old new → Changed (RemoveNode t ∷ []) old new
-node_gone t old new run = record {
-  store = λ store. (node_removed t old new run.count store run.ran).store;
+pub node_gone : (t : List ℕ) (v : ValueRef) → bound_value (owned v) ≡ Text t → (old new : State) → RanInside remove_node_text (bound (v ∷ [])) old new → Changed (RemoveNode t ∷ []) old new
+node_gone t v is_text old new run = record {
+  store = λ store. (node_removed t old new run.count store (ran run)).store;
   says = λ store rows said.
-      let gone = node_removed t old new run.count store run.ran in
+      let gone = node_removed t old new run.count store (ran run) in
       let held = held_as_shown (slice_cmp nat_cmp) node_in node_shown (old.now.trees 1) rows.nodes said.nodes in
       let held_locks = held_as_shown lock_order lock_in lock_shown (old.now.trees 5) rows.locks said.locks in
       record {
@@ -157,3 +158,6 @@ node_gone t old new run = record {
             (subst (λ rs. Holds lock_order (λ r. lock_in (lock_shown r)) rs (without_locks_of (stored_node rows.nodes t) rows.locks)) (sym gone.locks) (locks_left t old.now new.now store gone rows.nodes rows.locks held held_locks));
       };
 }
+  where
+    ran : (r : RanInside remove_node_text (bound (v ∷ [])) old new) → Executes remove_node_text (Text t ∷ []) old new (Ok r.count)
+    ran r = subst (λ x. Executes remove_node_text (x ∷ []) old new (Ok r.count)) is_text r.ran

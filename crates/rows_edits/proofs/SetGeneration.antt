@@ -10,12 +10,12 @@ use Rattle.std.proofs.lemmas.Cmp.{nat_list_cmp_total}
 use Rattle.std.proofs.lemmas.Map.Lookups.{exact_bytes}
 use Rattle.sqlite_value.specs.declared.value.Value.TheVariants.{Int, Text}
 use Rattle.sqlite_value.specs.declared.value.ValueRef.{ValueRef}
-use Rattle.sqlite_value.specs.declared.value.ValueRef.TheVariants as given
+use Rattle.sqlite_value.specs.Value.{owned}
 use Rattle.sqlite_value.specs.declared.keys.Collation.TheVariants.{Binary}
 use Rattle.sqlite_value.specs.Order.{Row, column, bytes}
 use Rattle.sqlite_value.specs.Keys.{joined}
 use Rattle.sqlite.specs.Term.{Term, col}
-use Rattle.sqlite.specs.Values.{bound}
+use Rattle.sqlite.specs.Values.{bound, bound_value}
 use Rattle.sqlite.specs.Edit.{id_in}
 use Rattle.sqlite.specs.Tree.{rowid}
 use Rattle.sqlite_schema.specs.declared.schema.Keys.TheVariants.{Enforced}
@@ -136,9 +136,10 @@ module _ (t : List ℕ) (g : ℤ) where
           subst (λ o. Holds (slice_cmp nat_cmp) (λ x. node_in (node_shown x)) (map (renewed (has_name t) becomes) es) (at_generation entries t o n)) (sym found)
           (subst (Holds (slice_cmp nat_cmp) (λ x. node_in (node_shown x)) (map (renewed (has_name t) becomes) es)) (put_is_set (slice_cmp nat_cmp) nat_list_cmp_total entries t node e.0.1 held.sorted found) put)
 
-pub generation_there : (t : List ℕ) (n : ℕ) (g : ValueRef) → IsNumber g n → (old new : State) → RanInside set_lock_generation_text (bound (given.Text t ∷ g ∷ [])) old new → Changed (LockGeneration t n ∷ []) old new
-generation_there t n g ng old new run =
-    let r = rw ng.1 at run in
+pub generation_there : (t : List ℕ) (n : ℕ) (v g : ValueRef) → bound_value (owned v) ≡ Text t → IsNumber g n → (old new : State) → RanInside set_lock_generation_text (bound (v ∷ g ∷ [])) old new → Changed (LockGeneration t n ∷ []) old new
+generation_there t n v g is_text ng old new run =
+    let row : bound (v ∷ g ∷ []) ≡ Text t ∷ Int ng.0 ∷ [] = λ j. is_text j ∷ bound_value (owned (ng.1 j)) ∷ [] in
+    let r = subst (λ x. RanInside set_lock_generation_text x old new) row run in
     let e = ng.0 in
     record {
       store = λ store. (generation_set t e old new store r.count r.ran).1.store;
