@@ -9,6 +9,6 @@ use Rattle.rows_edits.proofs.edits.put_session.Goals as goal
 pub returns-clause-ok : goal.returns-clause-ok
 returns-clause-ok g c clean =
     ok_then c.run.result
-    (session_there c.args.client c.args.session.now c.in_ok-client.client (given.Text c.as_bytes.result) c.live_as.result (ap Text (c.as_bytes.ensures ∙ c.as_str.ensures.text)) c.as_str.ensures.component c.in_ok-client.ensures c.live_as.ensures
+    (session_there c.args.client c.args.session.now c.in_ok-client.client (given.Text c.as_bytes-principal.result) c.live_as-live.result (ap Text (c.as_bytes-principal.ensures.value ∙ c.as_str.ensures.text)) c.as_str.ensures.component c.in_ok-client.ensures c.live_as-live.ensures
     (state g.S.Store c.args.tx.now.conn.now) (state g.S.Store c.run.new.tx.conn.now))
     (c.run.ensures.ok clean)

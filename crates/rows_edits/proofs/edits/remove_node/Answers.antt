@@ -9,5 +9,5 @@ use Rattle.rows_edits.proofs.edits.remove_node.Goals as goal
 pub returns-clause-ok : goal.returns-clause-ok
 returns-clause-ok g c clean =
     ok_then c.run.result
-    (node_gone c.args.name.now (given.Text c.as_bytes.result) (ap Text (c.as_bytes.ensures ∙ c.as_str.ensures.text)) (state g.S.Store c.args.tx.now.conn.now) (state g.S.Store c.run.new.tx.conn.now))
+    (node_gone c.args.name.now (given.Text c.as_bytes.result) (ap Text (c.as_bytes.ensures.value ∙ c.as_str.ensures.text)) (state g.S.Store c.args.tx.now.conn.now) (state g.S.Store c.run.new.tx.conn.now))
     (c.run.ensures.ok clean)
