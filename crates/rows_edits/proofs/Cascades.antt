@@ -34,7 +34,8 @@ use Rattle.sqlite_rules.proofs.PlaceLemmas.{row_at_is}
 use Rattle.rows_schema.specs.OurSchema.{the_schema, nodes, locks, of_node}
 use Rattle.rows_read.proofs.Held.{has_mapped, mapped_has, has_permuted}
 use Rattle.rows_edits.proofs.Columns.{equal-Int}
-use Rattle.rows_edits.proofs.Trees.{without_some, same_row, equal_is, has_itself, same_truth}
+use Rattle.rows_edits.proofs.Truths.{equal_is, same_truth}
+use Rattle.rows_edits.proofs.Trees.{without_some, same_row, has_itself}
 
 -- ---- what the step sets off
 

@@ -24,13 +24,10 @@ use Rattle.sqlite_rules.proofs.TableLemmas.{int_is}
 use Rattle.sqlite.specs.Effect.{Database}
 use Rattle.rows_schema.specs.OurSchema.{the_schema, nodes, sessions, locks}
 use Rattle.rows_edits.specs.Ongoing.{IsStore}
-use Rattle.rows_edits.proofs.Trees.{same_row, equal_is}
+use Rattle.rows_edits.proofs.Truths.{alone_or, equal_is}
+use Rattle.rows_edits.proofs.Trees.{same_row}
 use Rattle.rows_edits.proofs.Columns.{told, equal-Int}
 use Rattle.rows_edits.proofs.Stores.{rule_kept}
-
-or_end : (b : Bool) → (b || false) ≡ b
-or_end true = refl
-or_end false = refl
 
 abbrev pub same_lock : Row → Row → Bool
 same_lock r new = equal Binary (column r 1) (column new 1) && (equal Binary (column r 2) (column new 2) && (equal Binary (column r 3) (column new 3) && true))
@@ -40,15 +37,15 @@ same_name r new = equal Binary (column r 1) (column new 1) && true
 
 pub lock_clash : (new r : Row) → conflicts (Some (1 ∷ 2 ∷ 3 ∷ [])) the_schema.indexes locks new r ≡ same_lock r new
 unfolding first_key
-lock_clash new r = or_end _
+lock_clash new r = alone_or _
 
 pub node_clash : (new r : Row) → conflicts (Some (1 ∷ [])) the_schema.indexes nodes new r ≡ same_name r new
 unfolding first_key
-node_clash new r = or_end _
+node_clash new r = alone_or _
 
 pub session_clash : (new r : Row) → conflicts (Some (0 ∷ [])) the_schema.indexes sessions new r ≡ (equal Binary (rowid r) (rowid new) && true)
 unfolding first_key
-session_clash new r = or_end _
+session_clash new r = alone_or _
 
 ne_is : (o : Ordering) → is_ne o ≡ not (is_eq o)
 ne_is Less = refl

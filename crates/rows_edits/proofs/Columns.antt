@@ -21,6 +21,7 @@ use Rattle.sqlite_schema.specs.declared.schema.Column.{Column}
 use Rattle.sqlite_schema.specs.Names.{is_key}
 use Rattle.sqlite_schema.specs.Rules.{equal, is_of, has_affinity, suits, are_typed, are_present}
 use Rattle.sqlite.specs.Edit.{id_in}
+use Rattle.rows_edits.proofs.Truths.{equal_is}
 use Rattle.rows_schema.specs.OurSchema.{meta, nodes, sessions, locks}
 
 -- ---- when two are equal
@@ -42,11 +43,6 @@ same_bytes (x ∷ s) (y ∷ t) = grind (arith, nat_tests, same_bytes s t)
 pub equal-Text : (a b : List ℕ) → equal Binary (Text a) (Text b) ≡ bytes_eq a b
 unfolding binary
 equal-Text a b = told _ ∙ ap is_eq (value_cmp-Text a b) ∙ same_bytes a b
-
-equal_is : (o : Ordering) → is_eq o ≡ true → o ≡ Equal
-equal_is Less h = cc
-equal_is Equal h = refl
-equal_is Greater h = cc
 
 pub int_value : (v : Value) (n : ℤ) → v ≡ Int (id_in v) → equal Binary v (Int n) ≡ true → v ≡ Int n
 int_value v n is t = is ∙ ap Int (int_cmp-IsAntisymmetric _ _ (equal_is _ (sym (equal-Int (id_in v) n) ∙ ap (λ w. equal Binary w (Int n)) (sym is) ∙ t)))

@@ -16,15 +16,8 @@ use Rattle.sqlite_rules.proofs.ListLemmas.{all_has, all_from}
 use Rattle.sqlite_trees.proofs.ListLemmas.{filter-map, filter_same, IsPermutation-filter}
 use Rattle.rows_cell.proofs.EntriesInOrder.{sorted_gone, sorted_kept}
 use Rattle.rows_read.specs.Held.{Holds}
+use Rattle.rows_edits.proofs.Truths.{equal_is, same_some}
 use Rattle.rows_read.proofs.Held.{has_mapped, mapped_has, has_permuted, holds_more, holds_permuted}
-
-equal_at : (o : Ordering) → is_eq o ≡ true → o ≡ Equal
-equal_at Less h = cc
-equal_at Equal h = refl
-equal_at Greater h = cc
-
-same_entry : {X : Type 0} {x y : X} → Some x ≡ Some y → x ≡ y
-same_entry e = cc
 
 -- ---- lists of entries in the order of their keys
 
@@ -51,7 +44,7 @@ module _ {K V : Type 0} (cmp : K → K → Ordering) (total : IsTotalOrder cmp) 
   unfolding IsStrictlySortedBy
   lookup_removed k [] s = refl
   lookup_removed k (e ∷ es) s = elim (cases_Bool (is_at (cmp k) e.0)) [
-    | inl t ↦ rw t (none_at_low k es (level k e.0 es (equal_at (cmp k e.0) t) s.0)).1
+    | inl t ↦ rw t (none_at_low k es (level k e.0 es (equal_is (cmp k e.0) t) s.0)).1
     | inr f ↦ rw (f, f) (lookup_removed k es s.1)
   ]
 
@@ -77,8 +70,8 @@ module _ {K V : Type 0} (cmp : K → K → Ordering) (total : IsTotalOrder cmp) 
   lookup_some k (x ∷ es) e s (inr h) t =
       let low : cmp x.0 e.0 ≡ Less = all_has _ (keys_of es) e.0 s.0 (has_mapped (λ (y : K × V). y.0) es e h) in
       let first : is_at (cmp k) x.0 ≡ false = false_from_ne_true _ (λ u.
-      let tied : cmp x.0 k ≡ Equal = tied_back total k x.0 (equal_at (cmp k x.0) u) in
-      let over : cmp x.0 e.0 ≡ Equal = total.congr x.0 k e.0 tied ∙ equal_at (cmp k e.0) t in
+      let tied : cmp x.0 k ≡ Equal = tied_back total k x.0 (equal_is (cmp k x.0) u) in
+      let over : cmp x.0 e.0 ≡ Equal = total.congr x.0 k e.0 tied ∙ equal_is (cmp k e.0) t in
       let bad : Less ≡ Equal = sym low ∙ over in absurd (let never = ap is_eq bad in true≢false (sym never))) in
       rw first (lookup_some k es e s.1 h t)
 
@@ -99,7 +92,7 @@ module _ {K V : Type 0} (cmp : K → K → Ordering) (total : IsTotalOrder cmp) 
   all_other : (k : K) (e : K × V) (es : List (K × V)) → is_at (cmp k) e.0 ≡ true → AllByRecursion (λ y. cmp e.0 y ≡ Less) (keys_of es) → filter (other k) (some es) ≡ some es
   all_other k e [] t all = refl
   all_other k e (f ∷ es) t all =
-      let low : cmp k f.0 ≡ Less = sym (total.congr e.0 k f.0 (tied_back total k e.0 (equal_at (cmp k e.0) t))) ∙ all.0 in
+      let low : cmp k f.0 ≡ Less = sym (total.congr e.0 k f.0 (tied_back total k e.0 (equal_is (cmp k e.0) t))) ∙ all.0 in
       rw (low, all_other k e es t all.1) refl
 
   -- what is left of the entries, in one test
@@ -157,7 +150,7 @@ module _ {K V : Type 0} (cmp : K → K → Ordering) (total : IsTotalOrder cmp) 
       pub found_at : (r : Row) → Has rows r → goes r ≡ true → (e : K × V) → read r ≡ Some e → lookup (is_at (cmp k)) es ≡ Some e.1
       found_at r there t e says =
           let x = entry_of r there in
-          let same : x.0 ≡ e = same_entry (sym x.2 ∙ says) in
+          let same : x.0 ≡ e = same_some (sym x.2 ∙ says) in
           lookup_some cmp total k es e h.sorted (subst (Has es) same x.1) (sym (test r there e says) ∙ t)
 
       -- and where no row is of the key, none is

@@ -1,3 +1,4 @@
+pub mod Truths
 pub mod Meaning
 pub mod Columns
 pub mod Casts
@@ -12,6 +13,7 @@ pub mod Clashes
 pub mod SetNumbers
 pub mod NumbersSaid
 pub mod Entries
+pub mod Counts
 pub mod LockKeys
 pub mod RemoveLock
 pub mod PutLock

@@ -19,7 +19,7 @@ use Rattle.rows_read.specs.declared.stored.Acls.{Acls}
 use Rattle.rows_read.specs.Decode.{count_in, kind_of, life_of, name_in, acls_in, numbers_from, node_from, node_in}
 use Rattle.rows_read.specs.Ready.{node_shown}
 use Rattle.rows_edits.proofs.Columns.{IsNodeRow, equal-Text, same_bytes}
-use Rattle.rows_edits.proofs.LockKeys.{same_some}
+use Rattle.rows_edits.proofs.Truths.{alone_and, same_some}
 
 -- ---- what a row says
 
@@ -54,10 +54,6 @@ name_said r e says = named_in (is_name (bytes (column r 1))) (bytes (column r 1)
 -- the row has this text in the column of the name
 abbrev pub has_name : List ℕ → Row → Bool
 has_name t r = equal Binary (column r 1) (Text t) && true
-
-alone_and : (b : Bool) → (b && true) ≡ b
-alone_and true = refl
-alone_and false = refl
 
 eq_reversed : (o : Ordering) → is_eq (ordering_reverse o) ≡ is_eq o
 eq_reversed Less = refl

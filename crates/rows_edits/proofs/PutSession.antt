@@ -43,7 +43,8 @@ use Rattle.rows_edits.proofs.Casts.{cast_null, cast_int, int_stays, component_re
 use Rattle.rows_edits.proofs.Columns.{int_value}
 use Rattle.rows_edits.proofs.Clashes.{session_clash}
 use Rattle.rows_edits.proofs.Entries.{holds_put}
-use Rattle.rows_edits.proofs.LockKeys.{same_some, equal_counts}
+use Rattle.rows_edits.proofs.Truths.{alone_and, same_some}
+use Rattle.rows_edits.proofs.Counts.{equal_counts}
 use Rattle.rows_edits.proofs.Runs.{CanPut, PutIn, ran_put}
 use Rattle.rows_edits.proofs.Stores.{Rewrote, sessions_say, held_as_shown, shown_as_held}
 use Rattle.rows_edits.proofs.Trees.{same_row}
@@ -65,10 +66,6 @@ no_action olds n = refl
 nor_none : works the_schema Enforced 0 4 [] [] ≡ []
 unfolding same_name joined
 nor_none = refl
-
-alone_and : (b : Bool) → (b && true) ≡ b
-alone_and true = refl
-alone_and false = refl
 
 -- the client that a row says
 client_said : (o : Option ℕ) (b : Option Bool) (p : Option (List ℕ)) (e : ℕ × Session) → session_from o b p ≡ Some e → o ≡ Some e.0

@@ -49,7 +49,9 @@ use Rattle.rows_edits.proofs.Meaning.{remove_node_is, remove_node_plain}
 use Rattle.rows_edits.proofs.Cascades.{is_of_row, went_with, none_goes, one_goes, child}
 use Rattle.rows_edits.proofs.Deletes as deletes
 use Rattle.rows_edits.proofs.Entries.{holds_removed, holds_kept, found_at, none_at, entry_of}
-use Rattle.rows_edits.proofs.LockKeys.{equal_counts, lock_said}
+use Rattle.rows_edits.proofs.Truths.{alone_and}
+use Rattle.rows_edits.proofs.Counts.{equal_counts}
+use Rattle.rows_edits.proofs.LockKeys.{lock_said}
 use Rattle.rows_edits.proofs.NodeKeys.{has_name, name_test, node_said}
 use Rattle.rows_edits.proofs.SetGeneration.{one_named}
 use Rattle.rows_edits.proofs.Stores.{node_rows, lock_rows, held_as_shown, shown_as_held}
@@ -59,10 +61,6 @@ terms = is (col 1 1) (col 0 0) ∷ []
 
 abbrev q : Program
 q = record { lets = []; body = over 1 terms (col 1 0 ∷ []) }
-
-alone_and : (b : Bool) → (b && true) ≡ b
-alone_and true = refl
-alone_and false = refl
 
 same_number : (x y : ℕ) → is_eq (nat_cmp y x) ≡ (x == y)
 same_number x y = grind (arith, nat_tests)

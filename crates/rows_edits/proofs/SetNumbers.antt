@@ -29,7 +29,8 @@ use Rattle.rows_edits.proofs.Meaning.{set_epoch_is, set_epoch_plain, set_next_in
 use Rattle.rows_edits.proofs.Columns.{equal-Int}
 use Rattle.rows_edits.proofs.Casts.{cast_null, cast_int, int_stays, text_stays}
 use Rattle.rows_edits.proofs.Query.{passes}
-use Rattle.rows_edits.proofs.Trees.{equal_is, same_row, renewed}
+use Rattle.rows_edits.proofs.Truths.{alone_and, equal_is}
+use Rattle.rows_edits.proofs.Trees.{same_row, renewed}
 use Rattle.rows_edits.proofs.Stores.{Rewrote, meta_rows}
 use Rattle.rows_edits.proofs.Runs.{ran_update}
 use Rattle.rows_edits.proofs.Updates as updates
@@ -50,10 +51,6 @@ no_action olds n = refl
 nor_none : works the_schema Enforced 0 0 [] [] ≡ []
 unfolding same_name joined
 nor_none = refl
-
-alone_and : (b : Bool) → (b && true) ≡ b
-alone_and true = refl
-alone_and false = refl
 
 module _ (n : ℤ) where
   abbrev pub params : Row

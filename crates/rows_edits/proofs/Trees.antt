@@ -21,6 +21,7 @@ use Rattle.sqlite_rules.specs.Edit.{id_in, is_taken, without_all}
 use Rattle.sqlite_rules.specs.Calls.{ids_of}
 use Rattle.sqlite_rules.proofs.ListLemmas.{all_has, all_from, some_has, some_from, has_filtered, has_kept}
 use Rattle.sqlite_rules.proofs.TableLemmas.{int_is}
+use Rattle.rows_edits.proofs.Truths.{equal_is, neither}
 use Rattle.rows_read.proofs.Held.{has_mapped, mapped_has, has_permuted}
 
 -- ---- lists
@@ -32,14 +33,6 @@ filter_both p q (x ∷ xs) = elim (cases_Bool (q x)) [ inl t ↦ rw (t, filter_b
 pub map_on : {A B : Type 0} (f g : A → B) (xs : List A) → AllByRecursion (λ x. f x ≡ g x) xs → map f xs ≡ map g xs
 map_on f g [] all = refl
 map_on f g (x ∷ xs) all = rw (all.0, map_on f g xs all.1) refl
-
-pub same_truth : (a b : Bool) → (a ≡ true → b ≡ true) → (b ≡ true → a ≡ true) → a ≡ b
-same_truth true b f g = sym (f refl)
-same_truth false b f g = sym (false_from_ne_true b (λ t. true≢false (sym (g t))))
-
-pub no_or : (a b : Bool) → (a || b) ≡ false → (a ≡ false) × (b ≡ false)
-no_or true b h = absurd (true≢false h)
-no_or false b h = (refl, h)
 
 none_is : {X : Type 0} (x : X) (xs : List X) → x ∷ xs ≡ [] → ⊥
 none_is x xs e = cc
@@ -80,11 +73,6 @@ module _ {X : Type 0} (test : X → Bool) (f : X → X) where
 pub has_itself : (r : Row) → is_int (rowid r) ≡ true → has_rowid (id_in (rowid r)) r ≡ true
 has_itself r int = ap (λ v. is_eq (value_cmp (rowid r) v)) (sym (int_is (rowid r) int)) ∙ ap is_eq (tied_itself value_cmp_total (rowid r))
 
-pub equal_is : (o : Ordering) → is_eq o ≡ true → o ≡ Equal
-equal_is Less h = absurd (true≢false (sym h))
-equal_is Equal h = refl
-equal_is Greater h = absurd (true≢false (sym h))
-
 apart : (o : Ordering) → o ≡ Less → o ≡ Equal → ⊥
 apart o less equal = let e = sym less ∙ equal in absurd (let t = ap is_lt e in cc)
 
@@ -95,14 +83,14 @@ same_row (x ∷ es) a b table (inl sa) (inr hb) tied = absurd (apart _ (ap (λ r
 same_row (x ∷ es) a b table (inr ha) (inl sb) tied = absurd (apart _ (ap (λ r. value_cmp (rowid r) (rowid a)) sb ∙ all_has _ es a table.0 ha) (tied_back value_cmp_total (rowid a) (rowid b) tied))
 same_row (x ∷ es) a b table (inr ha) (inr hb) tied = same_row es a b table.1 ha hb tied
 
-neither : (a b : Bool) → (not a && not b) ≡ not (a || b)
-neither true b = refl
-neither false b = refl
+not_either : (a b : Bool) → (not a && not b) ≡ not (a || b)
+not_either true b = refl
+not_either false b = refl
 
 pub without_some : (ids : List ℤ) (es : List Row) → without_all es ids ≡ filter (λ r. not (list_any (λ id. has_rowid id r) ids)) es
 without_some [] es = sym (filter_all _ es (all_from _ es (λ x h. refl)))
 without_some (id ∷ ids) es =
-    without_some ids (without_rowid id es) ∙ filter_both _ _ es ∙ filter_same _ _ es (all_from _ es (λ x h. neither (has_rowid id x) (list_any (λ i. has_rowid i x) ids)))
+    without_some ids (without_rowid id es) ∙ filter_both _ _ es ∙ filter_same _ _ es (all_from _ es (λ x h. not_either (has_rowid id x) (list_any (λ i. has_rowid i x) ids)))
 
 -- the rows that are shown by their rowids are gone
 pub removed : (p : Row → Bool) (es rows : List Row) → IsShaped Table es → IsPermutation (map (λ r. rowid r ∷ []) (filter p es)) rows → without_all es (ids_of rows) ≡ filter (λ r. not (p r)) es
@@ -136,7 +124,7 @@ removed p es rows shaped perm = without_some (ids_of rows) es ∙ filter_same _ 
 pub put_fresh : (new : Row) (es : List Row) → is_taken es new ≡ false → IsPermutation (es ++ new ∷ []) (put_row new es)
 put_fresh new [] free = IsPermutation-refl (new ∷ [])
 put_fresh new (x ∷ es) free =
-    let parts = no_or (is_eq (value_cmp (rowid x) (rowid new))) (is_taken es new) free in
+    let parts = neither (is_eq (value_cmp (rowid x) (rowid new))) (is_taken es new) free in
     (elim (value_cmp (rowid x) (rowid new)) as (λ o. is_eq o ≡ false → IsPermutation (x ∷ (es ++ new ∷ [])) (match_ordering o (x ∷ put_row new es) (new ∷ es) (new ∷ x ∷ es))) [
       | Less ↦ (λ _. IsPermutation-cons x (es ++ new ∷ []) (put_row new es) (put_fresh new es parts.1))
       | Equal ↦ (λ differs. absurd (true≢false differs))

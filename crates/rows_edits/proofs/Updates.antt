@@ -32,7 +32,8 @@ use Rattle.sqlite.specs.Rows.{Written, Task, Updates}
 use Rattle.sqlite.proofs.Callers.{one_step, one_permutation}
 use Rattle.rows_schema.specs.OurSchema.{the_schema}
 use Rattle.rows_read.specs.Commands.{over}
-use Rattle.rows_edits.proofs.Trees.{replaced, only_row, swap_in, same_row, equal_is, map_on, renewed, none_renewed}
+use Rattle.rows_edits.proofs.Truths.{equal_is}
+use Rattle.rows_edits.proofs.Trees.{replaced, only_row, swap_in, same_row, map_on, renewed, none_renewed}
 use Rattle.rows_edits.proofs.Query.{passes, shows, answered}
 use Rattle.rows_edits.proofs.Deletes.{went, same_value}
 

@@ -42,7 +42,8 @@ use Rattle.sqlite.proofs.Callers.{one_step}
 use Rattle.rows_schema.specs.OurSchema.{the_schema}
 use Rattle.rows_read.specs.Commands.{over}
 use Rattle.rows_edits.proofs.Columns.{equal-Int}
-use Rattle.rows_edits.proofs.Trees.{put_fresh, same_row, equal_is, same_truth, renewed, one_renewed}
+use Rattle.rows_edits.proofs.Truths.{alone_and, equal_is, same_truth}
+use Rattle.rows_edits.proofs.Trees.{put_fresh, same_row, renewed, one_renewed}
 use Rattle.rows_edits.proofs.Query.{passes, shows}
 use Rattle.rows_edits.proofs.Deletes.{went, same_value}
 use Rattle.rows_edits.proofs.Updates as updates
@@ -157,10 +158,6 @@ module _ (limit : Option ℕ) (table : Table) (params : Row) (db : Trees) (value
 
     int_at : (r : Row) → Has es r → is_int (rowid r) ≡ true
     int_at r h = all_has _ es r how.shaped.1 h
-
-    alone_and : (b : Bool) → (b && true) ≡ b
-    alone_and true = refl
-    alone_and false = refl
 
     told_by : (r0 r : Row) → Has es r0 → Has es r → passes table.tree finders project (given r0) r ≡ int_eq (id_in (rowid r)) (id_in (rowid r0))
     told_by r0 r h0 h = how.finds r0 r ∙ alone_and _ ∙ ap₂ (equal Binary) (int_is (rowid r) (int_at r h)) (int_is (rowid r0) (int_at r0 h0)) ∙ equal-Int _ _

@@ -1,68 +1,17 @@
-//! Edits in a transaction.
-ghost use Rattle.std.specs.Prelude.{◌≡◌, ◌∷◌, [], ℕ, false, IfOk, OnOk, OnErr};
+//! The eight edits, each one statement in a transaction.
+ghost use Rattle.std.specs.Prelude.{◌≡◌, ◌∷◌, [], OnOk};
 ghost use Rattle.sqlite.specs.Values.{bound};
 ghost use Rattle.sqlite.specs.State.{HasCleanDisk, KeepsCommit, Survives};
 ghost use Rattle.sqlite.specs.Held.{state};
 ghost use Rattle.rows_cell.specs.declared.tables.Edit.TheVariants.{Epoch, NextInstance, PutNode, LockGeneration, RemoveNode, PutSession, PutLock, RemoveLock};
-ghost use Rattle.rows_read.specs.Decode.{kind_of, life_of, live_of, lock_state_of};
-ghost use Rattle.rows_edits.specs.Numbers.{IsNumber, IsReadAs};
-ghost use Rattle.rows_edits.specs.Ongoing.{RanInside, Changed, Committed, MayCommit};
+ghost use Rattle.rows_edits.specs.Ongoing.{RanInside, Changed};
 
+use crate::values::{kind_as, life_as, live_as, mode_as, number};
 use names_cell::Name;
-use node_core::{Kind, Life, View};
-use rows_cell::{Edit, LockKey, LockRow, LockState, Session};
-use sqlite::{Alter, Connection, Error, Transaction};
+use node_core::View;
+use rows_cell::{LockKey, LockRow, Session};
+use sqlite::{Alter, Error, Transaction};
 use sqlite_value::value::ValueRef;
-
-// A number as SQL has it.
-fn number<'a>(x: u64) -> Result<ValueRef<'a>, Error>
-    ensures { IfOk result (λ v. IsNumber v x) }
-{
-    match i64::try_from(x) {
-        Ok(n) => Ok(ValueRef::Int(n)),
-        Err(_) => Err(Error::IntegralValueOutOfRange(0)),
-    }
-}
-
-// How a lock stands, as SQL has it.
-fn mode_as<'a>(state: LockState) -> ValueRef<'a>
-    ensures { IsReadAs lock_state_of result state }
-{
-    match state {
-        LockState::Lapsed => ValueRef::Int(0),
-        LockState::Exclusive => ValueRef::Int(1),
-        LockState::Shared => ValueRef::Int(2),
-    }
-}
-
-fn kind_as<'a>(kind: Kind) -> ValueRef<'a>
-    ensures { IsReadAs kind_of result kind }
-{
-    match kind {
-        Kind::File => ValueRef::Int(0),
-        Kind::Directory => ValueRef::Int(1),
-    }
-}
-
-fn life_as<'a>(life: Life) -> ValueRef<'a>
-    ensures { IsReadAs life_of result life }
-{
-    match life {
-        Life::Permanent => ValueRef::Int(0),
-        Life::Ephemeral => ValueRef::Int(1),
-    }
-}
-
-// Whether a session is live, as SQL has it.
-fn live_as<'a>(live: bool) -> ValueRef<'a>
-    ensures { IsReadAs live_of result live }
-{
-    if live {
-        ValueRef::Int(1)
-    } else {
-        ValueRef::Int(0)
-    }
-}
 
 // Runs one statement in a transaction.
 fn run<S: Alter>(
@@ -79,7 +28,8 @@ fn run<S: Alter>(
     Ok(())
 }
 
-fn set_epoch<S: Alter>(tx: &mut Transaction<'_, S>, epoch: u64) -> Result<(), Error>
+/// Sets the epoch.
+pub(crate) fn set_epoch<S: Alter>(tx: &mut Transaction<'_, S>, epoch: u64) -> Result<(), Error>
     ensures same { tx.new.conn.ghost_name ≡ tx.old.conn.ghost_name }
     ensures ok { HasCleanDisk (state S.Store tx.new.conn.now) → OnOk result (Changed (Epoch epoch ∷ []) (state S.Store tx.old.conn.now) (state S.Store tx.new.conn.now)) }
     ensures kept { HasCleanDisk (state S.Store tx.new.conn.now) → KeepsCommit (state S.Store tx.old.conn.now) (state S.Store tx.new.conn.now) }
@@ -89,7 +39,8 @@ fn set_epoch<S: Alter>(tx: &mut Transaction<'_, S>, epoch: u64) -> Result<(), Er
     run(tx, "UPDATE meta SET epoch = ?1 WHERE id = 1", &[epoch])
 }
 
-fn set_next_instance<S: Alter>(tx: &mut Transaction<'_, S>, next: u64) -> Result<(), Error>
+/// Sets the instance of the next node.
+pub(crate) fn set_next_instance<S: Alter>(tx: &mut Transaction<'_, S>, next: u64) -> Result<(), Error>
     ensures same { tx.new.conn.ghost_name ≡ tx.old.conn.ghost_name }
     ensures ok { HasCleanDisk (state S.Store tx.new.conn.now) → OnOk result (Changed (NextInstance next ∷ []) (state S.Store tx.old.conn.now) (state S.Store tx.new.conn.now)) }
     ensures kept { HasCleanDisk (state S.Store tx.new.conn.now) → KeepsCommit (state S.Store tx.old.conn.now) (state S.Store tx.new.conn.now) }
@@ -103,7 +54,8 @@ fn set_next_instance<S: Alter>(tx: &mut Transaction<'_, S>, next: u64) -> Result
     )
 }
 
-fn put_node<S: Alter>(
+/// Puts a node: one that is there keeps the generation of its lock.
+pub(crate) fn put_node<S: Alter>(
     tx: &mut Transaction<'_, S>,
     name: &Name,
     view: &View,
@@ -134,7 +86,8 @@ fn put_node<S: Alter>(
     )
 }
 
-fn set_lock_generation<S: Alter>(
+/// Sets the generation of a node's lock, where the node is there.
+pub(crate) fn set_lock_generation<S: Alter>(
     tx: &mut Transaction<'_, S>,
     name: &Name,
     generation: u64,
@@ -152,7 +105,8 @@ fn set_lock_generation<S: Alter>(
     )
 }
 
-fn remove_node<S: Alter>(tx: &mut Transaction<'_, S>, name: &Name) -> Result<(), Error>
+/// Removes a node, and its locks with it.
+pub(crate) fn remove_node<S: Alter>(tx: &mut Transaction<'_, S>, name: &Name) -> Result<(), Error>
     ensures same { tx.new.conn.ghost_name ≡ tx.old.conn.ghost_name }
     ensures ok { HasCleanDisk (state S.Store tx.new.conn.now) → OnOk result (Changed (RemoveNode name.now ∷ []) (state S.Store tx.old.conn.now) (state S.Store tx.new.conn.now)) }
     ensures kept { HasCleanDisk (state S.Store tx.new.conn.now) → KeepsCommit (state S.Store tx.old.conn.now) (state S.Store tx.new.conn.now) }
@@ -165,7 +119,8 @@ fn remove_node<S: Alter>(tx: &mut Transaction<'_, S>, name: &Name) -> Result<(),
     )
 }
 
-fn put_session<S: Alter>(
+/// Puts a session, also to end it.
+pub(crate) fn put_session<S: Alter>(
     tx: &mut Transaction<'_, S>,
     client: u64,
     session: &Session,
@@ -185,7 +140,8 @@ fn put_session<S: Alter>(
     )
 }
 
-fn put_lock<S: Alter>(
+/// Puts a holder of a lock, or a lapsed lock.
+pub(crate) fn put_lock<S: Alter>(
     tx: &mut Transaction<'_, S>,
     key: &LockKey,
     row: &LockRow,
@@ -207,7 +163,8 @@ fn put_lock<S: Alter>(
     )
 }
 
-fn remove_lock<S: Alter>(tx: &mut Transaction<'_, S>, key: &LockKey) -> Result<(), Error>
+/// Removes a holder of a lock, or a lapsed lock.
+pub(crate) fn remove_lock<S: Alter>(tx: &mut Transaction<'_, S>, key: &LockKey) -> Result<(), Error>
     ensures same { tx.new.conn.ghost_name ≡ tx.old.conn.ghost_name }
     ensures ok { HasCleanDisk (state S.Store tx.new.conn.now) → OnOk result (Changed (RemoveLock key.now ∷ []) (state S.Store tx.old.conn.now) (state S.Store tx.new.conn.now)) }
     ensures kept { HasCleanDisk (state S.Store tx.new.conn.now) → KeepsCommit (state S.Store tx.old.conn.now) (state S.Store tx.new.conn.now) }
@@ -221,49 +178,4 @@ fn remove_lock<S: Alter>(tx: &mut Transaction<'_, S>, key: &LockKey) -> Result<(
         "DELETE FROM locks WHERE instance = ?1 AND client = ?2 AND handle = ?3",
         &[instance, client, handle],
     )
-}
-
-// Does one edit.
-fn edit<S: Alter>(tx: &mut Transaction<'_, S>, edit: &Edit) -> Result<(), Error>
-    ensures same { tx.new.conn.ghost_name ≡ tx.old.conn.ghost_name }
-    ensures ok { HasCleanDisk (state S.Store tx.new.conn.now) → OnOk result (Changed (edit.now ∷ []) (state S.Store tx.old.conn.now) (state S.Store tx.new.conn.now)) }
-    ensures kept { HasCleanDisk (state S.Store tx.new.conn.now) → KeepsCommit (state S.Store tx.old.conn.now) (state S.Store tx.new.conn.now) }
-    ensures survives { Survives (state S.Store tx.old.conn.now) (state S.Store tx.new.conn.now) (λ _. ⊥) }
-{
-    match edit {
-        Edit::Epoch(epoch) => set_epoch(tx, *epoch),
-        Edit::NextInstance(next) => set_next_instance(tx, *next),
-        Edit::PutNode(name, view) => put_node(tx, name, view),
-        Edit::LockGeneration(name, generation) => set_lock_generation(tx, name, *generation),
-        Edit::RemoveNode(name) => remove_node(tx, name),
-        Edit::PutSession(client, session) => put_session(tx, *client, session),
-        Edit::PutLock(key, row) => put_lock(tx, key, row),
-        Edit::RemoveLock(key) => remove_lock(tx, key),
-    }
-}
-
-// Does the edits in order.
-fn edit_all<S: Alter>(tx: &mut Transaction<'_, S>, change: &[Edit]) -> Result<(), Error>
-    ensures same { tx.new.conn.ghost_name ≡ tx.old.conn.ghost_name }
-    ensures ok { HasCleanDisk (state S.Store tx.new.conn.now) → OnOk result (Changed change.now (state S.Store tx.old.conn.now) (state S.Store tx.new.conn.now)) }
-    ensures kept { HasCleanDisk (state S.Store tx.new.conn.now) → KeepsCommit (state S.Store tx.old.conn.now) (state S.Store tx.new.conn.now) }
-    ensures survives { Survives (state S.Store tx.old.conn.now) (state S.Store tx.new.conn.now) (λ _. ⊥) }
-{
-    for it in change {
-        edit(tx, it)?;
-    }
-    Ok(())
-}
-
-/// Does the edits in order, in one transaction: all of them or, where the database refuses one, none.
-pub fn commit_all<S: Alter>(conn: &mut Connection<S>, change: &[Edit]) -> Result<(), Error>
-    requires { conn.old.in_transaction ≡ false }
-    ensures ended { conn.new.in_transaction ≡ false }
-    ensures ok { HasCleanDisk (state S.Store conn.new) → OnOk result (Committed change.now (state S.Store conn.old) (state S.Store conn.new)) }
-    ensures err { HasCleanDisk (state S.Store conn.new) → OnErr result (KeepsCommit (state S.Store conn.old) (state S.Store conn.new)) }
-    ensures survives { Survives (state S.Store conn.old) (state S.Store conn.new) (MayCommit change.now (state S.Store conn.old)) }
-{
-    let mut tx = conn.transaction();
-    edit_all(&mut tx, change)?;
-    tx.commit()
 }

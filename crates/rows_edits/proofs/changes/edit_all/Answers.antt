@@ -2,7 +2,7 @@ use Rattle.std.proofs.Common.{◌≡◌, ◌+◌, ◌<◌, suc, length, rules, �
 use Rattle.sqlite.specs.Held.{state}
 use Rattle.rows_edits.proofs.Steps.{Along}
 use Rattle.rows_edits.proofs.Steps.{along_step}
-use Rattle.rows_edits.proofs.edits.edit_all.Goals as goal
+use Rattle.rows_edits.proofs.changes.edit_all.Goals as goal
 
 pub loop-it-preserved : goal.loop-it-preserved
 loop-it-preserved g c =

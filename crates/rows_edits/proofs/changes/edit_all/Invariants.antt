@@ -1,7 +1,7 @@
 use Rattle.std.proofs.Common.{◌≡◌, drop}
 use Rattle.sqlite.specs.Held.{state}
 use Rattle.rows_edits.proofs.Steps.{Along}
-use Rattle.rows_edits.proofs.edits.edit_all.Given as goal
+use Rattle.rows_edits.proofs.changes.edit_all.Given as goal
 
 abbrev pub invariant-loop-it : goal.invariant-loop-it
 invariant-loop-it g l = record {

@@ -5,7 +5,7 @@ use Rattle.sqlite.specs.Held.{state}
 use Rattle.sqlite.proofs.InsideLemmas.{unchanged_keeps}
 use Rattle.rows_edits.specs.Ongoing.{Committed, MayCommit, Changed}
 use Rattle.rows_edits.proofs.Steps.{ok_then, err_then, keeps_from, fails_keeps, committed_all, survives_all, survives_none}
-use Rattle.rows_edits.proofs.edits.commit_all.Goals as goal
+use Rattle.rows_edits.proofs.changes.commit_all.Goals as goal
 
 pub returns-clause-ok : goal.returns-clause-ok
 returns-clause-ok g c =
