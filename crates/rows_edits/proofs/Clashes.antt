@@ -1,17 +1,15 @@
 -- When a row has the key of another.
-use Rattle.std.proofs.Common.{◌≡◌, ℤ, Bool, true, false, not, ◌&&◌, ◌||◌, List, [], ◌∷◌, Some, Less, Equal, Greater, Ordering, refl, sym, ap, ap₂, ◌∙◌, inl, inr}
+use Rattle.std.proofs.Common.{◌≡◌, ℤ, Bool, true, false, not, ◌&&◌, List, [], ◌∷◌, Some, Less, Equal, Greater, Ordering, refl, ap, ap₂, ◌∙◌, inl, inr}
 use Rattle.std.specs.List.{list_any}
-use Rattle.std.specs.FinMap.{int_cmp-IsAntisymmetric}
 use Rattle.std.specs.Ordering.{is_eq, is_ne, int_cmp, int_eq}
 use Rattle.std.proofs.lemmas.Bool.{and_parts, and_from, cases_Bool, both_ways, not-true}
-use Rattle.sqlite_value.specs.declared.value.Value.{Value}
 use Rattle.sqlite_value.specs.declared.value.Value.TheVariants.{Int}
 use Rattle.sqlite_value.specs.declared.keys.Collation.TheVariants.{Binary}
 use Rattle.sqlite_value.specs.Order.{Row, column, value_cmp}
 use Rattle.sqlite_value.specs.Keys.{first_key}
 use Rattle.sqlite_value.proofs.OrderLemmas.{value_cmp-Int}
 use Rattle.sqlite_trees.specs.Tree.{rowid}
-use Rattle.sqlite_trees.specs.View.{is_int, IsShaped}
+use Rattle.sqlite_trees.specs.View.{IsShaped}
 use Rattle.sqlite_trees.specs.declared.store.Shape.TheVariants as shape
 use Rattle.sqlite_sql.specs.Ops.{binary}
 use Rattle.sqlite_schema.specs.Rules.{equal, differ}
@@ -26,7 +24,7 @@ use Rattle.rows_schema.specs.OurSchema.{the_schema, nodes, sessions, locks}
 use Rattle.rows_edits.specs.Ongoing.{IsStore}
 use Rattle.rows_edits.proofs.Truths.{alone_or, equal_is}
 use Rattle.rows_edits.proofs.Trees.{same_row}
-use Rattle.rows_edits.proofs.Columns.{told, equal-Int}
+use Rattle.rows_edits.proofs.Columns.{told}
 use Rattle.rows_edits.proofs.Stores.{rule_kept}
 
 abbrev pub same_lock : Row → Row → Bool

@@ -1,5 +1,5 @@
 -- Numbers in SQL, and when two of them are equal.
-use Rattle.std.proofs.Common.{◌≡◌, ℕ, suc, cond, ℤ, pos, negsuc, true, false, Option, Some, None, refl, sym, ap, ap₂, ◌∙◌, arith}
+use Rattle.std.proofs.Common.{◌≡◌, ℕ, suc, cond, ℤ, pos, negsuc, true, false, Some, None, sym, ap, ap₂, ◌∙◌, arith}
 use Rattle.std.specs.Prelude.{int_lt}
 use Rattle.std.specs.Ordering.{int_eq, nat_cmp, is_eq}
 use Rattle.std.proofs.lemmas.Bool.Decides.{nat_tests}

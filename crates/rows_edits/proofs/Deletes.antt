@@ -1,29 +1,26 @@
 -- What a DELETE makes of the rows.
-use Rattle.std.proofs.Common.{◌≡◌, ◌≢◌, ◌⊎◌, inl, inr, ℕ, Bool, true, false, not, List, [], ◌∷◌, filter, map, slice_get, Option, Some, None, Ok, Err, Result, refl, sym, ap, ◌∙◌, subst}
-use Rattle.std.specs.List.{AllByRecursion}
+use Rattle.std.proofs.Common.{◌≡◌, ◌⊎◌, inl, inr, ℕ, Bool, not, List, [], ◌∷◌, filter, map, slice_get, Option, Some, None, Ok, Err, Result, sym, ap, ◌∙◌, subst}
 use Rattle.std.specs.List.Sorted.{IsPermutation}
 use Rattle.sqlite_value.specs.Order.{Row}
 use Rattle.sqlite.specs.Term.{Term, col}
 use Rattle.sqlite.specs.Program.{overlay}
 use Rattle.sqlite.specs.Table.{Table}
-use Rattle.sqlite.specs.Schema.{Schema}
-use Rattle.sqlite.specs.Tree.{Trees, rowid}
+use Rattle.sqlite.specs.Tree.{rowid}
 use Rattle.sqlite.specs.View.{IsShaped}
 use Rattle.sqlite_trees.specs.declared.store.Shape.TheVariants as shape
 use Rattle.sqlite.specs.Command.{Command}
 use Rattle.sqlite.specs.Command.TheVariants.{Delete}
 use Rattle.sqlite_schema.specs.declared.program.Program.{Program}
-use Rattle.sqlite_schema.specs.declared.command.Returning.{Returning}
 use Rattle.sqlite_rules.specs.Action as action
 use Rattle.sqlite.specs.Edit.{left_by}
-use Rattle.sqlite.specs.Edit.{Edit, edit_of, edited, taken_by, Applies, IsNoIndex}
+use Rattle.sqlite.specs.Edit.{edit_of, Applies}
 use Rattle.sqlite.specs.Rowids.TheVariants.{Given}
 use Rattle.sqlite_rules.specs.Calls.{ids_of}
 use Rattle.sqlite_rules.specs.Action.{works}
 use Rattle.sqlite_schema.specs.declared.schema.Keys.TheVariants.{Enforced}
 use Rattle.sqlite.specs.Effect.{Database}
-use Rattle.sqlite.specs.Does.{Tally, Does, AtPlace, OnRows, Concludes, WritesRows, Tested, Returns}
-use Rattle.sqlite.specs.Rows.{Written, Part, Task, Deletes, Queried, Edited, Gives}
+use Rattle.sqlite.specs.Does.{Tally, Does, AtPlace, OnRows, WritesRows}
+use Rattle.sqlite.specs.Rows.{Written, Task}
 use Rattle.sqlite.specs.State.{State, mode_of, Writes}
 use Rattle.sqlite.proofs.Callers.{one_step}
 use Rattle.rows_schema.specs.OurSchema.{the_schema}

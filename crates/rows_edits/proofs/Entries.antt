@@ -5,9 +5,9 @@ use Rattle.std.specs.List.Sorted.{IsPermutation, IsStrictlySortedBy}
 use Rattle.std.specs.Map.{keys_of, remove_entry, lookup}
 use Rattle.std.specs.BTreeMap.{is_at, insert_entry}
 use Rattle.std.specs.Cmp.{IsTotalOrder}
-use Rattle.std.specs.Ordering.{is_eq, match_ordering, ordering_reverse}
-use Rattle.std.proofs.lemmas.Bool.{cases_Bool, both_ways, false_from_ne_true}
-use Rattle.std.proofs.lemmas.Cmp.{tied_back, tied_itself}
+use Rattle.std.specs.Ordering.{is_eq, match_ordering}
+use Rattle.std.proofs.lemmas.Bool.{cases_Bool, false_from_ne_true}
+use Rattle.std.proofs.lemmas.Cmp.{tied_back}
 use Rattle.std.proofs.lemmas.Map.Lookups.{CmpEqualImpliesEq}
 use Rattle.std.proofs.lemmas.List.Sorted.{IsPermutation-sym}
 use Rattle.sqlite_value.specs.Order.{Row}
@@ -132,8 +132,8 @@ module _ {K V : Type 0} (cmp : K → K → Ordering) (total : IsTotalOrder cmp) 
         said =
             let moved = IsPermutation-filter (other k) (some es) (map read rows) h.said in
             let each : (r : Row) → Has rows r → other k (read r) ≡ not (goes r) = λ r there.
-                let e = entry_of r there in
-                ap (other k) e.2 ∙ ap not (sym (test r there e.0 e.2)) in
+            let e = entry_of r there in
+            ap (other k) e.2 ∙ ap not (sym (test r there e.0 e.2)) in
             let left : filter (other k) (map read rows) ≡ map read (filter (λ r. not (goes r)) rows) = filter-map (other k) read rows ∙ ap (map read) (filter_same _ _ rows (all_from _ rows each)) in
             subst (λ l. IsPermutation l (map read (filter (λ r. not (goes r)) rows))) (removed_is k es h.sorted) (subst (IsPermutation (filter (other k) (some es))) left moved);
       }

@@ -1,10 +1,9 @@
 -- What the tables say once a number of the cell was set.
-use Rattle.std.proofs.Common.{◌≡◌, ℕ, ℤ, pos, Bool, true, false, ◌&&◌, List, [], ◌∷◌, map, Option, Some, None, refl, sym, ap, ◌∙◌, cond, subst}
+use Rattle.std.proofs.Common.{◌≡◌, ℕ, ℤ, pos, Bool, true, ◌&&◌, List, [], ◌∷◌, map, Option, Some, refl, sym, ap, ◌∙◌, cond, subst}
 use Rattle.std.specs.Ordering.{int_eq}
 use Rattle.std.proofs.lemmas.Bool.{and_parts}
-use Rattle.std.proofs.Common.{inl, arith}
+use Rattle.std.proofs.Common.{inl}
 use Rattle.sqlite_value.specs.declared.value.ValueRef.{ValueRef}
-use Rattle.sqlite_value.specs.declared.value.ValueRef.TheVariants as given
 use Rattle.sqlite_value.specs.Order.{Row, column}
 use Rattle.sqlite.specs.Values.{bound}
 use Rattle.sqlite.specs.Edit.{id_in}
@@ -13,18 +12,17 @@ use Rattle.sqlite.specs.State.{State}
 use Rattle.sqlite.specs.Term.{Term}
 use Rattle.sqlite_trees.proofs.ListLemmas.{map-map}
 use Rattle.sqlite_rules.specs.Lists.{Has}
-use Rattle.rows_cell.specs.declared.tables.Rows.{Rows}
 use Rattle.rows_cell.specs.declared.tables.Edit.TheVariants.{Epoch, NextInstance}
 use Rattle.rows_read.specs.declared.stored.Meta.{Meta}
 use Rattle.rows_read.specs.Decode.{count_in, secret_in, component_in, meta_from, meta_in}
-use Rattle.rows_read.specs.Held.{Says, meta_of}
-use Rattle.rows_read.specs.Ready.{tables_of, meta_shown, node_shown, session_shown, lock_shown}
+use Rattle.rows_read.specs.Held.{meta_of}
+use Rattle.rows_read.specs.Ready.{meta_shown}
 use Rattle.rows_edits.specs.Texts.{set_epoch_text, set_next_instance_text}
 use Rattle.rows_edits.specs.Numbers.{IsNumber}
 use Rattle.rows_edits.specs.Ongoing.{IsStore, RanInside, Changed}
 use Rattle.rows_edits.proofs.Query.{passes}
 use Rattle.rows_edits.proofs.Trees.{renewed}
-use Rattle.rows_edits.proofs.Stores.{Rewrote, metas_say}
+use Rattle.rows_edits.proofs.Stores.{metas_say}
 use Rattle.rows_edits.proofs.SetNumbers.{terms, epoch_project, next_project, params, with_epoch, with_next, goes_is, set_epoch_done, set_next_done}
 
 one_mapped : {A B : Type 0} (f : A → B) (xs : List A) (y : B) → map f xs ≡ y ∷ [] → (x : A) × (xs ≡ x ∷ []) × (f x ≡ y)
@@ -65,8 +63,8 @@ epoch_done v n is old new run =
       says = λ store rows h. metas_say old.now new.now _ rows h (done store) (record rows { epoch = n }) refl refl refl
           (set_says old.now store e epoch_project (with_epoch e) (meta_of rows) (record (meta_of rows) { epoch = n })
           (λ x there said.
-            let s = epoch_from (is_first x) (count_in (column x 5)) (count_in (column x 6)) (secret_in (column x 4)) (component_in (column x 3)) (meta_of rows) n said in
-            (s.0, ap (λ o. meta_from (is_first x) o (count_in (column x 6)) (secret_in (column x 4)) (component_in (column x 3))) is.2 ∙ s.1))
+          let s = epoch_from (is_first x) (count_in (column x 5)) (count_in (column x 6)) (secret_in (column x 4)) (component_in (column x 3)) (meta_of rows) n said in
+          (s.0, ap (λ o. meta_from (is_first x) o (count_in (column x 6)) (secret_in (column x 4)) (component_in (column x 3))) is.2 ∙ s.1))
           h.meta);
     }
 
@@ -80,7 +78,7 @@ next_done v n is old new run =
       says = λ store rows h. metas_say old.now new.now _ rows h (done store) (record rows { next_instance = n }) refl refl refl
           (set_says old.now store e next_project (with_next e) (meta_of rows) (record (meta_of rows) { next_instance = n })
           (λ x there said.
-            let s = next_from (is_first x) (count_in (column x 5)) (count_in (column x 6)) (secret_in (column x 4)) (component_in (column x 3)) (meta_of rows) n said in
-            (s.0, ap (λ o. meta_from (is_first x) (count_in (column x 5)) o (secret_in (column x 4)) (component_in (column x 3))) is.2 ∙ s.1))
+          let s = next_from (is_first x) (count_in (column x 5)) (count_in (column x 6)) (secret_in (column x 4)) (component_in (column x 3)) (meta_of rows) n said in
+          (s.0, ap (λ o. meta_from (is_first x) (count_in (column x 5)) o (secret_in (column x 4)) (component_in (column x 3))) is.2 ∙ s.1))
           h.meta);
     }

@@ -1,5 +1,5 @@
 -- What the statement makes of the tables that puts a node.
-use Rattle.std.proofs.Common.{◌≡◌, ℕ, ℤ, pos, Bool, true, ◌&&◌, List, [], ◌∷◌, Option, Some, None, Ok, inl, inr, refl, sym, ap, ◌∙◌, subst}
+use Rattle.std.proofs.Common.{◌≡◌, ℕ, ℤ, pos, Bool, true, List, [], ◌∷◌, Some, None, Ok, inl, inr, refl, sym, ap, ◌∙◌, subst}
 use Rattle.std.specs.BTreeMap.{is_at}
 use Rattle.std.specs.Option.{option_map_or}
 use Rattle.std.specs.Ordering.{nat_cmp}
@@ -11,12 +11,12 @@ use Rattle.sqlite_value.specs.declared.value.Value.{Value}
 use Rattle.sqlite_value.specs.declared.value.Value.TheVariants.{Null, Int, Text, Blob}
 use Rattle.sqlite_value.specs.declared.value.ValueRef.{ValueRef}
 use Rattle.sqlite_value.specs.Value.{owned}
-use Rattle.sqlite_value.specs.Order.{Row, column, bytes}
+use Rattle.sqlite_value.specs.Order.{Row, column}
 use Rattle.sqlite.specs.Term.{Term, col, lit}
 use Rattle.sqlite.specs.Values.{bound, bound_value}
 use Rattle.sqlite.specs.Cast.{cast, cast_row}
 use Rattle.sqlite.specs.Kind.TheVariants.{Integer}
-use Rattle.sqlite.specs.Edit.{id_in, next_rowid}
+use Rattle.sqlite.specs.Edit.{next_rowid}
 use Rattle.sqlite.specs.Rowids.TheVariants.{Chosen}
 use Rattle.sqlite.specs.Tree.{rowid}
 use Rattle.sqlite_rules.specs.Edit.{with_rowid}
@@ -27,11 +27,10 @@ use Rattle.sqlite.specs.State.{State, Executes}
 use Rattle.names_cell.specs.Text.{is_component, is_name}
 use Rattle.node_core.specs.declared.views.View.{View}
 use Rattle.rows_cell.specs.declared.tables.Node.{Node}
-use Rattle.rows_cell.specs.declared.tables.Rows.{Rows}
 use Rattle.rows_cell.specs.declared.tables.Edit.TheVariants.{PutNode}
 use Rattle.rows_cell.specs.Rows.{stored_node}
-use Rattle.rows_schema.specs.OurSchema.{the_schema, nodes}
-use Rattle.rows_read.specs.Decode.{count_of, count_in, kind_of, life_of, component_in, name_in, acls_in, acls_from, numbers_from, node_from, node_in}
+use Rattle.rows_schema.specs.OurSchema.{nodes}
+use Rattle.rows_read.specs.Decode.{count_of, count_in, kind_of, life_of, acls_from, numbers_from, node_from, node_in}
 use Rattle.rows_read.specs.Held.{Holds}
 use Rattle.rows_read.specs.Ready.{node_shown}
 use Rattle.rows_edits.specs.Texts.{put_node_text}
@@ -43,7 +42,7 @@ use Rattle.rows_edits.proofs.Casts.{cast_null, cast_int, int_stays, text_stays, 
 use Rattle.rows_edits.proofs.Columns.{text_value}
 use Rattle.rows_edits.proofs.Clashes.{node_clash}
 use Rattle.rows_edits.proofs.Entries.{holds_put, found_at, none_at, entry_of}
-use Rattle.rows_edits.proofs.NodeKeys.{has_name, name_test, node_said}
+use Rattle.rows_edits.proofs.NodeKeys.{name_test, node_said}
 use Rattle.rows_edits.proofs.Runs.{CanPut, PutIn, ran_put}
 use Rattle.rows_edits.proofs.SetGeneration.{no_action, nor_none, one_named}
 use Rattle.rows_edits.proofs.Stores.{Rewrote, node_rows, nodes_say, held_as_shown, shown_as_held}
@@ -126,7 +125,7 @@ module _ (t : List ℕ) (view : View) (c : Counted) where
       stays = λ r there k.
           let typed = node_rows old.now store r there in
           λ j. int_stays (column r 0) (int_is (rowid r) (all_has _ es r store.nodes.1 there)) j ∷ text_stays (column r 1) typed.name j ∷ cast_int c.instance j ∷ cast_int c.kind j ∷ cast_int c.life j ∷ cast_int c.content j
-              ∷ cast_int c.acl j ∷ int_stays (column r 7) typed.lock_gen j ∷ Text view.read ∷ Text view.write ∷ Text view.change ∷ Blob view.content ∷ [];
+          ∷ cast_int c.acl j ∷ int_stays (column r 7) typed.lock_gen j ∷ Text view.read ∷ Text view.write ∷ Text view.change ∷ Blob view.content ∷ [];
       alone = no_action;
       idle = nor_none;
     }
@@ -172,7 +171,7 @@ pub node_there : (t : List ℕ) (view : View) (name i k l g a read write change 
     → Changed (PutNode t view ∷ []) old new
 node_there t view name i k l g a read write change content texts named names ni nk nl ng na old new run =
     let row : bound (name ∷ i ∷ k ∷ l ∷ g ∷ a ∷ read ∷ write ∷ change ∷ content ∷ []) ≡ Text t ∷ Int ni.0 ∷ Int nk.0 ∷ Int nl.0 ∷ Int ng.0 ∷ Int na.0 ∷ Text view.read ∷ Text view.write ∷ Text view.change ∷ Blob view.content ∷ [] = λ j.
-        texts.name_is j ∷ bound_value (owned (ni.1 j)) ∷ bound_value (owned (nk.1 j)) ∷ bound_value (owned (nl.1 j)) ∷ bound_value (owned (ng.1 j)) ∷ bound_value (owned (na.1 j)) ∷ texts.read_is j ∷ texts.write_is j ∷ texts.change_is j ∷ texts.content_is j ∷ [] in
+    texts.name_is j ∷ bound_value (owned (ni.1 j)) ∷ bound_value (owned (nk.1 j)) ∷ bound_value (owned (nl.1 j)) ∷ bound_value (owned (ng.1 j)) ∷ bound_value (owned (na.1 j)) ∷ texts.read_is j ∷ texts.write_is j ∷ texts.change_is j ∷ texts.content_is j ∷ [] in
     let r = subst (λ x. RanInside put_node_text x old new) row run in
     let c : Counted = record { instance = ni.0; kind = nk.0; life = nl.0; content = ng.0; acl = na.0 } in
     let counts : Counts view c = record { instance = ni.2; kind = nk.2; life = nl.2; content = ng.2; acl = na.2 } in

@@ -1,5 +1,5 @@
 -- What the statement makes of the tables that removes a lock.
-use Rattle.std.proofs.Common.{◌≡◌, ℕ, ℤ, Bool, not, List, [], ◌∷◌, map, filter, None, Ok, refl, sym, ap, ◌∙◌, subst}
+use Rattle.std.proofs.Common.{◌≡◌, ℕ, ℤ, not, List, [], ◌∷◌, filter, None, Ok, refl, sym, ◌∙◌, subst}
 use Rattle.sqlite_value.specs.declared.value.Value.TheVariants.{Int}
 use Rattle.sqlite_value.specs.declared.value.ValueRef.{ValueRef}
 use Rattle.sqlite_value.specs.Order.{Row}
@@ -18,7 +18,6 @@ use Rattle.sqlite.specs.Listing.{understood}
 use Rattle.sqlite.specs.State.{State, Executes, Writes}
 use Rattle.sqlite.proofs.Callers.{runs_as, statement_of}
 use Rattle.rows_cell.specs.declared.keys.LockKey.{LockKey}
-use Rattle.rows_cell.specs.declared.tables.Rows.{Rows}
 use Rattle.rows_cell.specs.declared.tables.Edit.TheVariants.{RemoveLock}
 use Rattle.rows_cell.specs.Keys.{lock_order}
 use Rattle.rows_schema.specs.OurSchema.{the_schema, locks}

@@ -1,5 +1,5 @@
 -- What the statement makes of the tables that removes a node.
-use Rattle.std.proofs.Common.{◌≡◌, ℕ, Bool, true, false, not, ◌&&◌, ◌==◌, List, [], ◌∷◌, map, filter, Option, Some, None, Ok, inl, inr, refl, sym, ap, ap₂, ◌∙◌, subst, arith}
+use Rattle.std.proofs.Common.{◌≡◌, ℕ, Bool, true, false, not, ◌==◌, List, [], ◌∷◌, map, filter, Option, Some, None, Ok, inl, inr, refl, sym, ap, ap₂, ◌∙◌, subst, arith}
 use Rattle.std.specs.List.{list_any}
 use Rattle.std.specs.BTreeMap.{is_at}
 use Rattle.std.specs.Map.{remove_entry}
@@ -32,7 +32,6 @@ use Rattle.sqlite.proofs.Callers.{runs_as, statement_of}
 use Rattle.rows_cell.specs.declared.keys.LockKey.{LockKey}
 use Rattle.rows_cell.specs.declared.tables.LockRow.{LockRow}
 use Rattle.rows_cell.specs.declared.tables.Node.{Node}
-use Rattle.rows_cell.specs.declared.tables.Rows.{Rows}
 use Rattle.rows_cell.specs.declared.tables.Edit.TheVariants.{RemoveNode}
 use Rattle.rows_cell.specs.Keys.{lock_order}
 use Rattle.rows_cell.specs.Rows.{StoredNodes, StoredLocks, stored_node, without_locks_of}
@@ -126,8 +125,8 @@ module _ (t : List ℕ) where
         let found : stored_node nodes t ≡ Some e.0.1 = found_at (slice_cmp nat_cmp) nat_list_cmp_total (λ r. node_in (node_shown r)) (old.trees 1) nodes held t (has_name t) test o h k e.0 e.2 in
         let instance : count_in (column o 2) ≡ Some e.0.1.view.instance = (node_said o e.0 e.2).2 in
         let same : (r : Row) → Has (old.trees 5) r → (l : LockKey × LockRow) → lock_in (lock_shown r) ≡ Some l → gone.child r ≡ (l.0.instance == e.0.1.view.instance) = λ r there l says.
-            gone.one o h k r ∙ alone_and _ ∙ ap₂ (equal Binary) (lock_rows old store r there).instance (node_rows old store o h).instance
-            ∙ equal_counts (id_in (column r 1)) (id_in (column o 2)) l.0.instance e.0.1.view.instance (lock_said r l says).instance instance ∙ same_number l.0.instance e.0.1.view.instance in
+        gone.one o h k r ∙ alone_and _ ∙ ap₂ (equal Binary) (lock_rows old store r there).instance (node_rows old store o h).instance
+        ∙ equal_counts (id_in (column r 1)) (id_in (column o 2)) l.0.instance e.0.1.view.instance (lock_said r l says).instance instance ∙ same_number l.0.instance e.0.1.view.instance in
         subst After (sym found)
         (holds_kept lock_order locks_total (λ r. lock_in (lock_shown r)) (old.trees 5) locks held_locks (λ l. not (l.0.instance == e.0.1.view.instance)) (λ r. not (gone.child r)) (λ r there l says. ap not (same r there l says)))
 

@@ -1,5 +1,5 @@
 -- What a statement makes of the store that updates a table, or puts a row into it.
-use Rattle.std.proofs.Common.{◌≡◌, ◌⊎◌, ℕ, true, List, [], map, filter, slice_get, Option, Some, None, Ok, ◌∷◌, refl, sym, subst}
+use Rattle.std.proofs.Common.{◌≡◌, ◌⊎◌, ℕ, true, List, [], map, filter, slice_get, Some, None, Ok, ◌∷◌, refl, sym, subst}
 use Rattle.sqlite_value.specs.Order.{Row}
 use Rattle.sqlite.specs.Term.{Term}
 use Rattle.sqlite.specs.Program.{overlay}
@@ -32,8 +32,8 @@ module _ (at : ℕ) (table : Table) (placed : slice_get the_schema.tables at ≡
   pub ran_update : command_of (understood the_schema sql) ≡ Update at q → IsPlain (understood the_schema sql) → (becomes : Row → Row) → IsStore old.now
       → updates.Renews old.step_limit table params params old.now.trees terms project plainly becomes → (count : ℕ) → Executes sql params old new_state (Ok count)
       → ((filter (passes table.tree terms project params) (old.now.trees table.tree) ≡ [])
-          ⊎ ((r : Row) × Has (old.now.trees table.tree) r × (passes table.tree terms project params r ≡ true) × (filter (passes table.tree terms project params) (old.now.trees table.tree) ≡ r ∷ [])))
-        × Rewrote table.tree (map (renewed (passes table.tree terms project params) becomes) (old.now.trees table.tree)) old.now new_state.now
+      ⊎ ((r : Row) × Has (old.now.trees table.tree) r × (passes table.tree terms project params r ≡ true) × (filter (passes table.tree terms project params) (old.now.trees table.tree) ≡ r ∷ [])))
+      × Rewrote table.tree (map (renewed (passes table.tree terms project params) becomes) (old.now.trees table.tree)) old.now new_state.now
   ran_update is plain becomes store how count ran =
       let text = statement_of sql (understood the_schema sql) in
       let w : Writes old new_state None (Update at q) text params count = runs_as sql params old new_state the_schema store.schema (Update at q) is plain count ran in

@@ -1,10 +1,8 @@
 -- What the statement makes of the tables that sets the generation of a node's lock.
-use Rattle.std.proofs.Common.{◌≡◌, ◌⊎◌, ℕ, ℤ, Bool, true, not, ◌&&◌, List, [], ◌∷◌, ◌++◌, map, filter, Option, Some, None, Ok, inl, inr, refl, sym, ap, ◌∙◌, subst}
-use Rattle.std.specs.BTreeMap.{is_at, insert_entry}
-use Rattle.std.specs.Map.{lookup}
+use Rattle.std.proofs.Common.{◌≡◌, ◌⊎◌, ℕ, ℤ, true, ◌&&◌, List, [], ◌∷◌, map, filter, Some, None, Ok, inl, inr, refl, sym, ap, ◌∙◌, subst}
+use Rattle.std.specs.BTreeMap.{is_at}
 use Rattle.std.specs.Ordering.{nat_cmp}
 use Rattle.std.specs.Cmp.Lexicographic.{slice_cmp}
-use Rattle.std.specs.List.Sorted.{IsPermutation}
 use Rattle.std.proofs.lemmas.Bool.{and_parts, false_from_ne_true}
 use Rattle.std.proofs.lemmas.Cmp.{nat_list_cmp_total}
 use Rattle.std.proofs.lemmas.Map.Lookups.{exact_bytes}
@@ -28,13 +26,12 @@ use Rattle.sqlite_rules.proofs.TableLemmas.{int_is}
 use Rattle.sqlite.specs.Effect.{Database}
 use Rattle.sqlite.specs.State.{State, Executes}
 use Rattle.rows_cell.specs.declared.tables.Node.{Node}
-use Rattle.rows_cell.specs.declared.tables.Rows.{Rows}
 use Rattle.rows_cell.specs.declared.tables.Edit.TheVariants.{LockGeneration}
 use Rattle.rows_cell.specs.Rows.{StoredNodes, stored_node, at_generation}
 use Rattle.rows_cell.proofs.EntriesInOrder.{put_is_set}
 use Rattle.rows_schema.specs.OurSchema.{the_schema, nodes}
 use Rattle.rows_read.specs.Decode.{count_of, count_in, kind_of, life_of, acls_in, name_in, numbers_from, node_from, node_in}
-use Rattle.rows_read.specs.Held.{Holds, HoldsNodes}
+use Rattle.rows_read.specs.Held.{Holds}
 use Rattle.rows_read.specs.Ready.{node_shown}
 use Rattle.rows_edits.specs.Texts.{set_lock_generation_text}
 use Rattle.rows_edits.specs.Commands.{is}
@@ -94,8 +91,8 @@ module _ (t : List ℕ) (g : ℤ) where
       fits = λ r h s.
           let typed = node_rows old.now store r h in
           λ j. int_stays (column r 0) (int_is (rowid r) (all_has _ es r store.nodes.1 h)) j ∷ text_stays (column r 1) typed.name j ∷ int_stays (column r 2) typed.instance j ∷ int_stays (column r 3) typed.kind j
-              ∷ int_stays (column r 4) typed.life j ∷ int_stays (column r 5) typed.content_gen j ∷ int_stays (column r 6) typed.acl_gen j ∷ cast_int g j ∷ text_stays (column r 8) typed.acl_read j
-              ∷ text_stays (column r 9) typed.acl_write j ∷ text_stays (column r 10) typed.acl_change j ∷ column r 11 ∷ [];
+          ∷ int_stays (column r 4) typed.life j ∷ int_stays (column r 5) typed.content_gen j ∷ int_stays (column r 6) typed.acl_gen j ∷ cast_int g j ∷ text_stays (column r 8) typed.acl_read j
+          ∷ text_stays (column r 9) typed.acl_write j ∷ text_stays (column r 10) typed.acl_change j ∷ column r 11 ∷ [];
       one = one_named old.now store t;
       alone = no_action;
       idle = nor_none;

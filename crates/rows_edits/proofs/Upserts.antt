@@ -1,12 +1,11 @@
 -- What an INSERT with an ON CONFLICT makes of the rows.
-use Rattle.std.proofs.Common.{◌≡◌, ◌≢◌, ◌⊎◌, inl, inr, ℕ, ℤ, Bool, true, false, not, ◌&&◌, List, [], ◌∷◌, ◌++◌, filter, map, Option, Some, None, Ok, Err, Result, refl, sym, ap, ap₂, ◌∙◌, subst}
+use Rattle.std.proofs.Common.{◌≡◌, ◌≢◌, ◌⊎◌, inl, inr, ℕ, ℤ, Bool, true, false, not, ◌&&◌, List, [], ◌∷◌, ◌++◌, filter, Option, Some, None, Ok, Err, Result, refl, sym, ap, ap₂, ◌∙◌, subst}
 use Rattle.std.specs.Prelude.{MatchBool, if◌then◌else◌, ◌/◌, length}
 use Rattle.std.specs.List.{AllByRecursion}
 use Rattle.std.specs.List.Sorted.{IsPermutation}
 use Rattle.std.specs.Ordering.{is_eq, is_lt, int_cmp, int_eq}
 use Rattle.std.proofs.lemmas.Bool.{and_parts, false_from_ne_true, not-true}
 use Rattle.std.proofs.lemmas.Cmp.{tied_itself, int_cmp_total}
-use Rattle.sqlite_value.specs.declared.value.Value.TheVariants.{Int}
 use Rattle.sqlite_value.specs.declared.keys.Collation.TheVariants.{Binary}
 use Rattle.sqlite_value.specs.Order.{Row, value_cmp}
 use Rattle.sqlite_value.proofs.OrderLemmas.{value_cmp-Int}
@@ -43,7 +42,7 @@ use Rattle.rows_schema.specs.OurSchema.{the_schema}
 use Rattle.rows_read.specs.Commands.{over}
 use Rattle.rows_edits.proofs.Columns.{equal-Int}
 use Rattle.rows_edits.proofs.Truths.{alone_and, equal_is, same_truth}
-use Rattle.rows_edits.proofs.Trees.{put_fresh, same_row, renewed, one_renewed}
+use Rattle.rows_edits.proofs.Trees.{put_fresh, same_row, one_renewed}
 use Rattle.rows_edits.proofs.Query.{passes, shows}
 use Rattle.rows_edits.proofs.Deletes.{went, same_value}
 use Rattle.rows_edits.proofs.Updates as updates

@@ -40,7 +40,10 @@ pub(crate) fn set_epoch<S: Alter>(tx: &mut Transaction<'_, S>, epoch: u64) -> Re
 }
 
 /// Sets the instance of the next node.
-pub(crate) fn set_next_instance<S: Alter>(tx: &mut Transaction<'_, S>, next: u64) -> Result<(), Error>
+pub(crate) fn set_next_instance<S: Alter>(
+    tx: &mut Transaction<'_, S>,
+    next: u64,
+) -> Result<(), Error>
     ensures same { tx.new.conn.ghost_name ≡ tx.old.conn.ghost_name }
     ensures ok { HasCleanDisk (state S.Store tx.new.conn.now) → OnOk result (Changed (NextInstance next ∷ []) (state S.Store tx.old.conn.now) (state S.Store tx.new.conn.now)) }
     ensures kept { HasCleanDisk (state S.Store tx.new.conn.now) → KeepsCommit (state S.Store tx.old.conn.now) (state S.Store tx.new.conn.now) }

@@ -1,4 +1,4 @@
-use Rattle.std.proofs.Common.{◌≡◌, refl, sym, ap, ◌∙◌, subst, arith, rules, inl, inr, true}
+use Rattle.std.proofs.Common.{◌≡◌, subst, arith, rules, inr, true}
 use Rattle.std.specs.Prelude.{OnOk, OnErr}
 use Rattle.sqlite.specs.State.{HasCleanDisk, KeepsCommit, Survives}
 use Rattle.sqlite.specs.Held.{state}

@@ -1,4 +1,4 @@
-use Rattle.std.proofs.Common.{◌≡◌, ◌+◌, ◌<◌, suc, length, rules, ◌∷◌, drop, drop-cons, add-one, arith, sym, ap, ◌∙◌, subst}
+use Rattle.std.proofs.Common.{◌≡◌, ◌+◌, ◌<◌, suc, length, rules, ◌∷◌, drop, drop-cons, add-one, sym, ap, ◌∙◌, subst}
 use Rattle.sqlite.specs.Held.{state}
 use Rattle.rows_edits.proofs.Steps.{Along}
 use Rattle.rows_edits.proofs.Steps.{along_step}
