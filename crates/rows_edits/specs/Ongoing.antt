@@ -1,0 +1,50 @@
+-- A transaction that does edits.
+use Rattle.std.specs.Prelude.{◌≡◌, ℕ, true, List, IsTrue, Ok}
+use Rattle.sqlite.specs.Tree.{Trees}
+use Rattle.sqlite.specs.Order.{Row}
+use Rattle.sqlite.specs.Effect.{Database, IsDatabase}
+use Rattle.sqlite.specs.View.{IsShaped}
+use Rattle.sqlite.specs.State.{State, Shows, Executes}
+use Rattle.sqlite_trees.specs.declared.store.Shape.TheVariants.{Table}
+use Rattle.rows_cell.specs.declared.tables.Rows.{Rows}
+use Rattle.rows_cell.specs.declared.tables.Edit.{Edit}
+use Rattle.rows_cell.specs.Rows.{changed_rows}
+use Rattle.rows_schema.specs.OurSchema.{the_schema}
+use Rattle.rows_read.specs.Held.{Says}
+use Rattle.rows_read.specs.Ready.{tables_of}
+
+-- it has the schema of a cell's store and obeys it, and the rowids of each table rise
+pub record IsStore (db : Database) : Type 0 where
+  pub schema : db.schema ≡ the_schema
+  pub sound : IsDatabase db
+  pub metas : IsShaped Table (db.trees 0)
+  pub nodes : IsShaped Table (db.trees 1)
+  pub sessions : IsShaped Table (db.trees 4)
+  pub locks : IsShaped Table (db.trees 5)
+
+-- a statement was run in a transaction, and did not end it
+pub record RanInside (sql : List ℕ) (params : Row) (old new : State) : Type 0 where
+  pub count : ℕ
+  pub inside : IsTrue old.in_transaction
+  pub ran : Executes sql params old new (Ok count)
+  pub shown : Shows old new new.now old.committed true
+
+-- whatever rows the tables said, they say the changed ones
+abbrev pub SaysChanged : List Edit → Trees → Trees → Type 0
+SaysChanged change old new = (rows : Rows) → Says (tables_of old) rows → Says (tables_of new) (changed_rows rows change)
+
+-- the edits were done, and a store is a store still
+pub record Changed (change : List Edit) (old new : State) : Type 0 where
+  pub store : IsStore old.now → IsStore new.now
+  pub says : IsStore old.now → SaysChanged change old.now.trees new.now.trees
+
+-- the same, and they are committed
+pub record Committed (change : List Edit) (old new : State) : Type 0 where
+  pub store : IsStore old.now → IsStore new.now
+  pub says : IsStore old.now → SaysChanged change old.now.trees new.now.trees
+  pub is_open : IsTrue new.is_open
+  pub committed : new.committed ≡ new.now
+
+-- what a crash may find beside what it could before
+abbrev pub MayCommit : List Edit → State → Trees → Type 0
+MayCommit change old db = IsStore old.now → SaysChanged change old.now.trees db

@@ -1,0 +1,8 @@
+//! Edits of the rows of a cell, done in the tables of a database.
+#![tactic(auto)]
+
+mod changes;
+mod edits;
+mod values;
+
+pub use changes::commit_all;
