@@ -1,9 +1,15 @@
+pub use Rattle.cache_core.specs.Caches
+pub use Rattle.cache_core.specs.Kept
+pub use Rattle.cache_core.specs.Standings
 pub use Rattle.tags_cell.specs.Messages
 pub use Rattle.tags_cell.specs.Modes
 pub use Rattle.tags_cell.specs.Numbers
 pub mod State
+pub mod Handles
 pub mod Poisons
+pub mod Serves
 pub mod Asks
+pub mod Lessons
 pub mod Gives
 pub mod Beats
 pub mod Cases

@@ -41,5 +41,5 @@ poisoned handles number handle = set_value (is_at (nat_cmp number)) handles (rec
 
 -- the handle of this number is poisoned, and nothing is sent
 abbrev pub with_poisoned : ClientState → ℕ → ℕ → ClientHandle → ClientState
-with_poisoned s noted number handle =
-    record s { clock = noted; handles = poisoned s.handles number handle; outstanding = dropped number s.outstanding }
+with_poisoned s moment number handle =
+    record s { clock = moment; handles = poisoned s.handles number handle; outstanding = dropped number s.outstanding }

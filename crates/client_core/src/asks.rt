@@ -2,7 +2,7 @@
 ghost use Rattle.std.specs.Prelude.{◌≡◌, IfOk};
 ghost use Rattle.client_core.specs.Asks.{call_on};
 
-use node_core::Line;
+use node_core::{Answer, Fault, Line};
 use plain::{Bytes, Items};
 use std::alloc::AllocError;
 use tags_cell::{AclNames, Call, HandleBytes, Open, Request};
@@ -62,9 +62,20 @@ impl NodeCall {
 
 /// What comes of it.
 #[derive(Debug, Drop)]
-pub enum Asked {
+pub enum Outcome {
     /// The message for the master. The call is outstanding until its reply was given to the client.
     Sent(Request),
-    /// The client answered by itself: the lines that are printed.
-    Answered(Items<Line>),
+    /// The client answered the call out of its cache.
+    Served(Answer),
+    /// The client did by itself what it was asked for, a Poison or the Close of a shared handle.
+    Answered,
+    /// The client refused it by itself.
+    Refused(Fault),
+}
+
+/// What comes of it, and the lines that are printed. The line of a refusal isn't among them.
+#[derive(Debug, Drop)]
+pub struct Asked {
+    pub lines: Items<Line>,
+    pub outcome: Outcome,
 }

@@ -1,8 +1,9 @@
 //! The invalidations that an Alive carries: those that the master didn't know to be processed, in order of their numbers
 //! (Burrows 2006, section 2.7). The numbers may be any that a u64 holds.
 ghost use Rattle.std.specs.Prelude.{◌≡◌};
-ghost use Rattle.client_core.specs.Gives.{follow, is_in_order, last_number};
+ghost use Rattle.client_core.specs.Gives.{follow, is_in_order, last_number, all_flushed};
 
+use cache_core::Cache;
 use tags_cell::Invalidation;
 
 // Whether the numbers rise by one, and begin at most one above what was processed.
@@ -37,5 +38,17 @@ pub(crate) fn last_number(invalidations: &[Invalidation]) -> u64
     match invalidations {
         [] => 0,
         [.., last] => last.number,
+    }
+}
+
+// Takes the entries of the names away that the invalidations above this number are of. What is invalidated is never
+// updated (Burrows 2006, section 2.7).
+pub(crate) fn flush_all(cache: &mut Cache, processed: u64, invalidations: &[Invalidation])
+    ensures { cache.new ≡ record cache.old { entries = all_flushed processed cache.old.entries invalidations.now } }
+{
+    for next in invalidations {
+        if next.number > processed {
+            cache.flush(&next.name);
+        }
     }
 }

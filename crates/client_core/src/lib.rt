@@ -4,23 +4,30 @@
 #![tactic(auto)]
 
 mod asks;
+mod calls;
 mod client;
 mod handles;
 mod invalidations;
 mod laws;
+mod lessons;
+mod notes;
 mod offers;
 mod plans;
 mod poisons;
+mod replies;
+mod serves;
 mod sessions;
+mod steps;
 mod targets;
 
-pub use asks::{Ask, Asked, NodeCall};
+pub use asks::{Ask, Asked, NodeCall, Outcome};
 pub use client::Client;
 pub use handles::ClientHandle;
 pub use laws::{
-    handle_numbers_rise, handle_numbers_stay, poison_is_asked, refused_call_changes_nothing,
-    repeated_reply_is_dropped,
+    handle_numbers_rise, handle_numbers_stay, refused_call_changes_nothing,
+    repeated_reply_is_dropped, safe_note_sets_the_clock,
 };
 pub use plans::Plan;
 pub use sessions::Session;
+pub use steps::{Beaten, Given};
 pub use targets::{Outstanding, Target};

@@ -3,6 +3,7 @@ ghost use Rattle.std.specs.Prelude.{◌≡◌};
 ghost use Rattle.client_core.specs.Asks.{session_fault};
 ghost use Rattle.client_core.specs.Gives.{session_after, session_without};
 
+use cache_core::Standing;
 use node_core::Fault;
 
 /// How a client stands with its master (Burrows 2006, section 2.7).
@@ -18,14 +19,15 @@ pub enum Session {
 }
 
 impl Session {
-    // Why no call may be sent; None while there is a session.
-    pub(crate) fn fault(self) -> Option<Fault>
-        ensures { result ≡ session_fault self }
+    // Why no call may be made; None in a session that the client may rely on.
+    pub(crate) fn fault(self, standing: Standing) -> Option<Fault>
+        ensures { result ≡ session_fault self standing }
     {
-        match self {
-            Session::Live => None,
-            Session::Lost => Some(Fault::SessionExpired),
-            Session::Unstarted | Session::TurnedAway => Some(Fault::NoSession),
+        match (self, standing) {
+            (Session::Live, Standing::Safe) => None,
+            (Session::Live, Standing::Jeopardy(_)) => Some(Fault::InJeopardy),
+            (Session::Live, Standing::Lost) | (Session::Lost, _) => Some(Fault::SessionExpired),
+            (Session::Unstarted | Session::TurnedAway, _) => Some(Fault::NoSession),
         }
     }
 

@@ -2,7 +2,7 @@
 ghost use Rattle.std.specs.Prelude.{◌≡◌};
 ghost use Rattle.std.specs.Option.{option_copied};
 ghost use Rattle.client_core.specs.Poisons.{is_on};
-ghost use Rattle.client_core.specs.Gives.{opening_of};
+ghost use Rattle.client_core.specs.Lessons.{opening_by};
 
 use tags_cell::{Call, Open, Request};
 
@@ -42,7 +42,7 @@ pub struct Outstanding {
 impl Outstanding {
     // What is opened, where it is an Open.
     pub(crate) fn opening(&self) -> Option<&Open>
-        ensures { option_copied result ≡ opening_of self.now.request }
+        ensures { option_copied result ≡ opening_by self.now.request }
     {
         match &self.request {
             Request::Start(_) | Request::Beat(_) => None,
