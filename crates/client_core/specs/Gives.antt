@@ -136,11 +136,11 @@ takes_offer s message = message.number == s.beats && takes_lease s.cache.lease (
 abbrev pub standing_under : Standing → LeaseTerms → ℕ → Standing
 standing_under standing lease moment = if is_unexpired lease.sent lease.span moment then reprieved standing else standing
 
+abbrev pub bettered : ClientState → ℕ → LeaseTerms → ClientState
+bettered s moment lease = record s { cache = under s.cache lease moment; standing = standing_under s.standing lease moment }
+
 abbrev pub with_lease : ClientState → ℕ → Alive → ClientState
-with_lease s moment message =
-    if takes_offer s message
-    then record s { cache = under s.cache (offered s message.span) moment; standing = standing_under s.standing (offered s message.span) moment }
-    else s
+with_lease s moment message = if takes_offer s message then bettered s moment (offered s message.span) else s
 
 abbrev pub is_jeopardy : Standing → Bool
 is_jeopardy standings.Safe = false
@@ -207,17 +207,21 @@ with_opened s handle opening = record s {
   opened = s.opened + 1;
 }
 
--- what a reply teaches is held. The lease runs then, so that of all that the noting of the time changes only the clock does
-abbrev pub learned : ClientState → ℕ → Option Lesson → ClientState
-learned s moment None = record (note s moment) { outstanding = None }
-learned s moment (Some taught) =
+-- the call has ended; a new handle is kept, a closed one is not
+abbrev pub ended_plainly : ClientState → Target → CallResult → ClientState
+ended_plainly s target (results.Opened handle) = with_opened s handle (opening_of s.outstanding)
+ended_plainly s target results.Closed = record s { outstanding = None; handles = closed s.handles target }
+ended_plainly s target _ = record s { outstanding = None }
+
+-- the call has ended, and what its reply teaches is held
+abbrev pub with_lesson : ClientState → ℕ → Lesson → ClientState
+with_lesson s moment taught =
     record s { clock = moment; cache = record s.cache { entries = installed s.cache.entries taught.0 taught.1 }; outstanding = None }
 
--- the call has ended; a new handle is kept, a closed one is not
-abbrev pub ended : ClientState → ℕ → Reply → Target → CallResult → ClientState
-ended s moment message target (results.Opened handle) = with_opened (note s moment) handle (opening_of s.outstanding)
-ended s moment message target results.Closed = record (note s moment) { outstanding = None; handles = closed s.handles target }
-ended s moment message target _ = learned s moment (lesson s moment message target)
+-- where the reply teaches something the lease runs, so that of all that the noting of the time changes only the clock does
+abbrev pub ended : ClientState → ℕ → Target → CallResult → Option Lesson → ClientState
+ended s moment target result None = ended_plainly (note s moment) target result
+ended s moment target result (Some taught) = with_lesson s moment taught
 
 -- a handle wants a number
 abbrev pub has_number : ClientState → CallResult → Bool
@@ -228,7 +232,7 @@ has_number s _ = true
 abbrev pub finish_step : ClientState → ℕ → Reply → Target → ClientState × Result Given Fault
 finish_step s moment message target =
     if has_number s message.result
-    then (ended s moment message target message.result, Ok (told s moment (lines.Done s.number message.number (answer_of s message.result) ∷ []) None))
+    then (ended s moment target message.result (lesson s moment message target), Ok (told s moment (lines.Done s.number message.number (answer_of s message.result) ∷ []) None))
     else (s, Err faults.Exhausted)
 
 -- a reply that is dropped ends its call too, and prints nothing
@@ -255,13 +259,12 @@ session_after session present epoch faults.NoSession = session_without session p
 session_after session present epoch _ = None
 
 -- a client without a session holds nothing
-abbrev pub emptied : CacheState → CacheState
-emptied cache = record cache { entries = []; enabled = false }
+abbrev pub lost : ClientState → Session → ClientState
+lost s session = record s { session = session; cache = record s.cache { entries = []; enabled = false }; standing = standings.Lost }
 
 abbrev pub lose_step : ClientState → ℕ → Option Session → ClientState × Result Given Fault
 lose_step s moment None = passed_over s moment
-lose_step s moment (Some session) =
-    (record (note s moment) { session = session; cache = emptied s.cache; standing = standings.Lost }, Ok (told s moment (lines.Lost s.number ∷ []) None))
+lose_step s moment (Some session) = (lost (note s moment) session, Ok (told s moment (lines.Lost s.number ∷ []) None))
 
 abbrev pub refused_step : ClientState → ℕ → Refused → ClientState × Result Given Fault
 refused_step s moment message = lose_step s moment (session_after (session_then s moment) s.epoch message.epoch message.fault)

@@ -13,4 +13,3 @@ pub mod Lessons
 pub mod Gives
 pub mod Beats
 pub mod Cases
-pub mod Laws

@@ -92,9 +92,12 @@ abbrev pub session_then : ClientState → ℕ → Session
 session_then s moment = session_in s.session s moment
 
 -- in a session a client looks at its lease: where that has ended it empties its cache, and is in jeopardy, until it gives the session up
-abbrev pub note_in : Session → ClientState → ℕ → ClientState
-note_in sessions.Live s moment =
+abbrev pub note_live : ClientState → ℕ → ClientState
+note_live s moment =
     record s { clock = moment; session = session_behind (standing_then s moment); cache = noted s.cache moment; standing = standing_then s moment }
+
+abbrev pub note_in : Session → ClientState → ℕ → ClientState
+note_in sessions.Live s moment = note_live s moment
 note_in session s moment = at_moment s moment
 
 abbrev pub note : ClientState → ℕ → ClientState

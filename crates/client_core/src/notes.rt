@@ -1,5 +1,7 @@
 //! A client notes the time.
 ghost use Rattle.std.specs.Prelude.{◌≡◌, IfOk};
+ghost use Rattle.std.specs.Option.{option_to_list};
+ghost use Rattle.cache_core.specs.Standings.{turn_line};
 ghost use Rattle.lease_core.specs.Lease.{IsMoment};
 ghost use Rattle.client_core.specs.State.{moment, standing_then, session_then, note, note_lines};
 ghost use Rattle.client_core.specs.Asks.{fault_then};
@@ -53,12 +55,19 @@ impl Client {
     pub(crate) fn note_lines(&self, moment: u64) -> Result<Items<Line>, AllocError>
         ensures { IfOk result (λ lines. lines ≡ note_lines self.now moment) }
     {
+        match self.session {
+            Session::Live => self.turn_lines(self.standing_then(moment)),
+            Session::Unstarted | Session::Lost | Session::TurnedAway => Ok(Items::new(self.alloc)),
+        }
+    }
+
+    // The line that is printed where the client stands like this from here on, if there is one.
+    fn turn_lines(&self, standing: Standing) -> Result<Items<Line>, AllocError>
+        ensures { IfOk result (λ lines. lines ≡ option_to_list (turn_line self.now.number self.now.standing standing)) }
+    {
         let mut lines = Items::new(self.alloc);
-        if self.session == Session::Live {
-            let standing = self.standing_then(moment);
-            if let Some(line) = standing.turn_line(self.number.get(), self.standing) {
-                lines.push(line)?;
-            }
+        if let Some(line) = standing.turn_line(self.number.get(), self.standing) {
+            lines.push(line)?;
         }
         Ok(lines)
     }

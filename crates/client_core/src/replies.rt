@@ -1,10 +1,12 @@
 //! A client is given the reply to its outstanding call, or a refusal.
-ghost use Rattle.std.specs.Prelude.{◌≡◌, ◌++◌, ◌∷◌, [], IsSome, true, OnOk, OnErr, IfOk, Ok};
-ghost use Rattle.std.specs.Option.{option_copied};
+ghost use Rattle.std.specs.Prelude.{◌≡◌, ◌++◌, ◌∷◌, [], true, OnOk, OnErr, IfOk, Ok};
+ghost use Rattle.std.specs.BTreeMap.{insert_entry};
+ghost use Rattle.std.specs.Ordering.{nat_cmp};
+ghost use Rattle.cache_core.specs.Kept.{with_kept};
 ghost use Rattle.lease_core.specs.Lease.{IsMoment};
-ghost use Rattle.client_core.specs.State.{note_lines, Does};
+ghost use Rattle.client_core.specs.State.{note, note_lines, Does};
 ghost use Rattle.client_core.specs.Lessons.{opening_of, lesson};
-ghost use Rattle.client_core.specs.Gives.{awaited, answer_of, has_number, handles_behind, kept_behind, with_opened, learned, ended, finish_step, reply_for, reply_step, refused_step};
+ghost use Rattle.client_core.specs.Gives.{awaited, answer_of, has_number, handles_behind, kept_behind, ended_plainly, ended, finish_step, reply_for, reply_step, lost, refused_step};
 
 use crate::client::Client;
 use crate::handles::{ClientHandle, is_shareable};
@@ -118,61 +120,43 @@ impl Client {
         })
     }
 
-    // Ends the outstanding call: keeps a new handle, lets a closed one go, and holds what a reply teaches.
+    // Ends the outstanding call, and holds what the reply teaches of a name, where the cache takes it.
     fn end_call(&mut self, moment: u64, reply: &Reply, target: Target) -> Result<(), AllocError>
         requires moment { IsMoment moment }
         requires number { has_number self.old reply.now.result ≡ true }
-        ensures ok { OnOk result (self.new ≡ ended self.old moment reply.now target reply.now.result) }
+        ensures ok { OnOk result (self.new ≡ ended self.old moment target reply.now.result (lesson self.old moment reply.now target)) }
         ensures err { OnErr result (self.new ≡ self.old) }
     {
-        match &reply.result {
-            CallResult::Opened(handle) => self.end_open(moment, handle),
-            CallResult::Closed => {
-                self.note(moment);
-                self.end_close(target);
-                Ok(())
-            }
-            _ => self.learn(moment, reply, target),
-        }
-    }
-
-    // Ends the outstanding Close: its handle is open no more.
-    fn end_close(&mut self, target: Target)
-        ensures { self.new ≡ record self.old { outstanding = None; handles = closed self.old.handles target } }
-    {
-        if let Target::Closing(number) = target {
-            drop(self.handles.remove(&number));
-        }
-        self.end();
-    }
-
-    // Holds what the reply teaches of a name, where the cache takes it, and ends the call.
-    fn learn(&mut self, moment: u64, reply: &Reply, target: Target) -> Result<(), AllocError>
-        requires { IsMoment moment }
-        ensures ok { OnOk result (self.new ≡ learned self.old moment (lesson self.old moment reply.now target)) }
-        ensures err { OnErr result (self.new ≡ self.old) }
-    {
-        match self.lesson(moment, reply, target)? {
-            Some((name, entry)) => {
-                self.cache.install(name, entry)?;
-                self.clock = moment;
-            }
-            None => self.note(moment),
-        }
+        let Some((name, entry)) = self.lesson(moment, reply, target)? else {
+            return self.end_plainly(moment, target, &reply.result);
+        };
+        self.cache.install(name, entry)?;
+        self.clock = moment;
         self.end();
         Ok(())
     }
 
-    // Ends the outstanding Open, and keeps the new handle under the next number.
-    fn end_open(&mut self, moment: u64, handle: &NewHandle) -> Result<(), AllocError>
+    // Ends it, keeps a new handle, and lets a closed one go.
+    fn end_plainly(
+        &mut self,
+        moment: u64,
+        target: Target,
+        outcome: &CallResult,
+    ) -> Result<(), AllocError>
         requires moment { IsMoment moment }
-        requires number { self.old.opened + 1 < 2 ^ 63 }
-        ensures ok { OnOk result (self.new ≡ with_opened (note self.old moment) handle.now (opening_of self.old.outstanding)) }
+        requires number { has_number self.old outcome.now ≡ true }
+        ensures ok { OnOk result (self.new ≡ ended_plainly (note self.old moment) target outcome.now) }
         ensures err { OnErr result (self.new ≡ self.old) }
     {
-        self.keep_handle(self.opened + 1, handle)?;
+        if let CallResult::Opened(handle) = outcome {
+            self.keep_handle(self.opened + 1, handle)?;
+        }
         self.note(moment);
-        self.opened += 1;
+        match (outcome, target) {
+            (CallResult::Opened(_), _) => self.opened += 1,
+            (CallResult::Closed, Target::Closing(number)) => drop(self.handles.remove(&number)),
+            _ => {}
+        }
         self.end();
         Ok(())
     }
@@ -262,7 +246,7 @@ impl Client {
 
     // A client without a session holds nothing.
     fn lose(&mut self, session: Session)
-        ensures { self.new ≡ record self.old { session = session; cache = emptied self.old.cache; standing = Standing.Lost } }
+        ensures { self.new ≡ lost self.old session }
     {
         self.session = session;
         self.cache.clear();

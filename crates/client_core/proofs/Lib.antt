@@ -1,4 +1,0 @@
-pub mod AskCases
-pub mod GiveCases
-pub mod Numbered
-pub mod Leases
