@@ -185,7 +185,7 @@ pub record IsAwaited (s : ClientState) (now : ℕ) (message : Reply) (call : Out
 
 -- what a reply teaches of a name, under a lease that runs, where no invalidation was processed since
 pub record IsLearned (s : ClientState) (now : ℕ) (message : Reply) (call : Outstanding) (taught : Lesson) (stamp : ℕ) : Type 0 where
-  pub taught : lesson s (noted_moment s now) message call.target ≡ Some taught
+  pub teaches : lesson s (noted_moment s now) message call.target ≡ Some taught
   pub safe : IsSafe s now
   pub enabled : s.cache.enabled ≡ true
   pub stamped : message.stamp ≡ Some stamp

@@ -13,3 +13,4 @@ pub mod Lessons
 pub mod Gives
 pub mod Beats
 pub mod Cases
+pub mod Laws

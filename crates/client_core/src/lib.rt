@@ -8,6 +8,7 @@ mod calls;
 mod client;
 mod handles;
 mod invalidations;
+mod laws;
 mod lessons;
 mod notes;
 mod offers;
@@ -22,6 +23,10 @@ mod targets;
 pub use asks::{Ask, Asked, NodeCall, Outcome};
 pub use client::Client;
 pub use handles::ClientHandle;
+pub use laws::{
+    handle_numbers_rise, handle_numbers_stay, refused_call_changes_nothing,
+    repeated_reply_is_dropped, safe_note_sets_the_clock, shared_numbers_rise,
+};
 pub use plans::Plan;
 pub use sessions::Session;
 pub use steps::{Beaten, Given};
