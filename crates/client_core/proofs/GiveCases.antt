@@ -133,7 +133,7 @@ alive_case s now out message sessions.TurnedAway heard is at = (AliveDropped mes
 
 -- ---- what it teaches
 
-taught_if : (b : Bool) (o : Option Lesson) (t : Lesson) → cond b o None ≡ Some t → (b ≡ true) × (o ≡ Some t)
+pub taught_if : (b : Bool) (o : Option Lesson) (t : Lesson) → cond b o None ≡ Some t → (b ≡ true) × (o ≡ Some t)
 taught_if true o t h = (refl, h)
 taught_if false o t h = cc
 

@@ -1,3 +1,4 @@
 pub mod Noting
 pub mod AskCases
 pub mod GiveCases
+pub mod Numbered

@@ -135,3 +135,69 @@ relied_lines s moment r =
 
 pub safe_note_sets_the_clock : SafeNoteSetsTheClock
 safe_note_sets_the_clock s moment h = let r = faultless s moment h in (r.leased, relied_note s moment r, relied_lines s moment r)
+
+-- ---- what stays
+
+pub note_number : (s : ClientState) (session : Session) (moment : ℕ) → (note_in session s moment).number ≡ s.number
+note_number s sessions.Unstarted moment = refl
+note_number s sessions.Live moment = refl
+note_number s sessions.Lost moment = refl
+note_number s sessions.TurnedAway moment = refl
+
+pub note_clock : (s : ClientState) (session : Session) (moment : ℕ) → (note_in session s moment).clock ≡ moment
+note_clock s sessions.Unstarted moment = refl
+note_clock s sessions.Live moment = refl
+note_clock s sessions.Lost moment = refl
+note_clock s sessions.TurnedAway moment = refl
+
+pub note_beats : (s : ClientState) (session : Session) (moment : ℕ) → (note_in session s moment).beats ≡ s.beats
+note_beats s sessions.Unstarted moment = refl
+note_beats s sessions.Live moment = refl
+note_beats s sessions.Lost moment = refl
+note_beats s sessions.TurnedAway moment = refl
+
+pub note_sent : (s : ClientState) (session : Session) (moment : ℕ) → (note_in session s moment).sent ≡ s.sent
+note_sent s sessions.Unstarted moment = refl
+note_sent s sessions.Live moment = refl
+note_sent s sessions.Lost moment = refl
+note_sent s sessions.TurnedAway moment = refl
+
+pub note_epoch : (s : ClientState) (session : Session) (moment : ℕ) → (note_in session s moment).epoch ≡ s.epoch
+note_epoch s sessions.Unstarted moment = refl
+note_epoch s sessions.Live moment = refl
+note_epoch s sessions.Lost moment = refl
+note_epoch s sessions.TurnedAway moment = refl
+
+pub note_processed : (s : ClientState) (session : Session) (moment : ℕ) → (note_in session s moment).processed ≡ s.processed
+note_processed s sessions.Unstarted moment = refl
+note_processed s sessions.Live moment = refl
+note_processed s sessions.Lost moment = refl
+note_processed s sessions.TurnedAway moment = refl
+
+pub note_outstanding : (s : ClientState) (session : Session) (moment : ℕ) → (note_in session s moment).outstanding ≡ s.outstanding
+note_outstanding s sessions.Unstarted moment = refl
+note_outstanding s sessions.Live moment = refl
+note_outstanding s sessions.Lost moment = refl
+note_outstanding s sessions.TurnedAway moment = refl
+
+pub note_opened : (s : ClientState) (session : Session) (moment : ℕ) → (note_in session s moment).opened ≡ s.opened
+note_opened s sessions.Unstarted moment = refl
+note_opened s sessions.Live moment = refl
+note_opened s sessions.Lost moment = refl
+note_opened s sessions.TurnedAway moment = refl
+
+pub note_lease : (s : ClientState) (session : Session) (moment : ℕ) → (note_in session s moment).cache.lease ≡ s.cache.lease
+note_lease s sessions.Unstarted moment = refl
+note_lease s sessions.Live moment = noted_lease s.cache moment
+note_lease s sessions.Lost moment = refl
+note_lease s sessions.TurnedAway moment = refl
+
+note_session_in : (s : ClientState) (session : Session) (moment : ℕ) → s.session ≡ session → (note_in session s moment).session ≡ session_in session s moment
+note_session_in s sessions.Unstarted moment is = is
+note_session_in s sessions.Live moment is = refl
+note_session_in s sessions.Lost moment is = is
+note_session_in s sessions.TurnedAway moment is = is
+
+-- the session is the one that is tested
+pub note_session : (s : ClientState) (moment : ℕ) → (note s moment).session ≡ session_then s moment
+note_session s moment = note_session_in s s.session moment refl
