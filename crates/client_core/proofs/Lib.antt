@@ -2,3 +2,5 @@ pub mod Noting
 pub mod AskCases
 pub mod GiveCases
 pub mod Numbered
+pub mod Leases
+pub mod OneEntry
