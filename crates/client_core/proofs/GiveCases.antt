@@ -16,15 +16,17 @@ use Rattle.tags_cell.specs.declared.beats.Alive.{Alive as AliveMessage}
 use Rattle.tags_cell.specs.declared.outs.Reply.{Reply}
 use Rattle.tags_cell.specs.declared.outs.Refused.{Refused as RefusedMessage}
 use Rattle.tags_cell.specs.Messages.{request_number, out_client}
-use Rattle.client_core.specs.declared.sessions.Session.{Session}
-use Rattle.client_core.specs.declared.sessions.Session.TheVariants as sessions
-use Rattle.client_core.specs.declared.steps.Given.{Given}
-use Rattle.client_core.specs.declared.targets.Target.{Target}
-use Rattle.client_core.specs.declared.targets.Target.TheVariants as targets
-use Rattle.client_core.specs.declared.targets.Outstanding.{Outstanding}
+use Rattle.client_parts.specs.declared.sessions.Session.{Session}
+use Rattle.client_parts.specs.declared.sessions.Session.TheVariants as sessions
+use Rattle.client_parts.specs.declared.steps.Given.{Given}
+use Rattle.client_parts.specs.declared.targets.Target.{Target}
+use Rattle.client_parts.specs.declared.targets.Target.TheVariants as targets
+use Rattle.client_parts.specs.declared.targets.Outstanding.{Outstanding}
 use Rattle.client_core.specs.State.{ClientState, standing_then, session_then, note_in, note, note_live, note_lines}
 use Rattle.client_core.specs.Lessons.{Lesson, is_safe, is_fresh, may_install, taught, lesson}
-use Rattle.client_core.specs.Gives.{is_live, is_unstarted, is_span, told, passed_over, rejected, offered, begun, is_in_order, with_processed, takes_offer, bettered, with_lease, safe_lines, kept_alive, target_for, awaited, answer_of, has_number, ended_plainly, ended, finish_step, reply_for, session_without, session_after, lost, lose_step, taken, taken_own, give_at, give_step}
+use Rattle.client_core.specs.Gives.{is_live, is_unstarted, is_span, told, passed_over, rejected, offered, begun, with_processed, takes_offer, bettered, with_lease, safe_lines, kept_alive, target_for, awaited, answer_of, has_number, ended_plainly, ended, finish_step, reply_for, lost, lose_step, taken, taken_own, give_at, give_step}
+use Rattle.client_parts.specs.Invalidations.{is_in_order}
+use Rattle.client_parts.specs.Sessions.{session_without, session_after}
 use Rattle.client_core.specs.Cases.{noted_moment, IsSafe, IsHeard, IsLive, IsStarted, IsAlive, IsFit, IsTaken, IsAwaited, IsLearned, GiveCase, given_in}
 use Rattle.client_core.specs.Cases.GiveCase.{GivenTooLate, OfAnother, Started, StartedUnfit, StartedDropped, LeaseTaken, LeaseStays, AliveUnfit, AliveDropped, OutOfNumbers, Replied, Installed, ReplyDropped, NotAwaited, Lost, TurnedAway, RefusalDropped}
 use Rattle.client_core.proofs.Noting.{either, less, not_less, same, other, up_to, both, safely, live_before, unstarted_before, noted_lease}

@@ -15,15 +15,16 @@ use Rattle.tags_cell.specs.declared.outs.Started.{Started as StartedMessage}
 use Rattle.tags_cell.specs.declared.beats.Alive.{Alive as AliveMessage}
 use Rattle.tags_cell.specs.declared.outs.CallResult.{CallResult}
 use Rattle.tags_cell.specs.declared.outs.CallResult.TheVariants as results
-use Rattle.client_core.specs.declared.asks.Ask.{Ask}
-use Rattle.client_core.specs.declared.sessions.Session.{Session}
-use Rattle.client_core.specs.declared.sessions.Session.TheVariants as sessions
-use Rattle.client_core.specs.declared.steps.Beaten.{Beaten}
-use Rattle.client_core.specs.declared.targets.Target.{Target}
+use Rattle.client_parts.specs.declared.asks.Ask.{Ask}
+use Rattle.client_parts.specs.declared.sessions.Session.{Session}
+use Rattle.client_parts.specs.declared.sessions.Session.TheVariants as sessions
+use Rattle.client_parts.specs.declared.steps.Beaten.{Beaten}
+use Rattle.client_parts.specs.declared.targets.Target.{Target}
 use Rattle.client_core.specs.State.{ClientState, standing_then, session_behind, session_in, session_then, note_in, note, note_live, note_lines}
 use Rattle.client_core.specs.Asks.{ask_step}
 use Rattle.client_core.specs.Beats.{start_message, beat_message, with_beat, beaten, beat_step}
-use Rattle.client_core.specs.Gives.{offered, is_in_order, last_number, ended_plainly, give_step}
+use Rattle.client_core.specs.Gives.{offered, ended_plainly, give_step}
+use Rattle.client_parts.specs.Invalidations.{is_in_order, last_number}
 use Rattle.client_core.specs.Cases.{noted_moment, IsLive, IsStarted, IsAlive, IsFit, IsTaken, AskCase, asked_in, BeatCase, beaten_in, GiveCase, given_in, noted}
 use Rattle.client_core.specs.Cases.AskCase.{AskedTooLate, Unsafe, Refused, ReadServed, AbsenceServed, Shared, OutOfHandles, Released, OutOfCalls, Sent, Poisoned}
 use Rattle.client_core.specs.Cases.BeatCase.{BeatTooLate, OutOfBeats, Starts, Beats, Quiet}

@@ -20,18 +20,18 @@ use Rattle.tags_cell.specs.declared.outs.Reply.{Reply}
 use Rattle.tags_cell.specs.declared.outs.CallResult.{CallResult}
 use Rattle.tags_cell.specs.declared.outs.CallResult.TheVariants as results
 use Rattle.tags_cell.specs.Messages.{request_number, out_client}
-use Rattle.client_core.specs.declared.asks.Ask.{Ask}
-use Rattle.client_core.specs.declared.asks.Asked.{Asked}
-use Rattle.client_core.specs.declared.asks.Outcome.{Outcome}
-use Rattle.client_core.specs.declared.asks.Outcome.TheVariants as outcomes
-use Rattle.client_core.specs.declared.handles.ClientHandle.{ClientHandle}
-use Rattle.client_core.specs.declared.sessions.Session.{Session}
-use Rattle.client_core.specs.declared.sessions.Session.TheVariants as sessions
-use Rattle.client_core.specs.declared.steps.Given.{Given}
-use Rattle.client_core.specs.declared.targets.Target.{Target}
-use Rattle.client_core.specs.declared.targets.Outstanding.{Outstanding}
+use Rattle.client_parts.specs.declared.asks.Ask.{Ask}
+use Rattle.client_parts.specs.declared.asks.Asked.{Asked}
+use Rattle.client_parts.specs.declared.asks.Outcome.{Outcome}
+use Rattle.client_parts.specs.declared.asks.Outcome.TheVariants as outcomes
+use Rattle.client_parts.specs.declared.handles.ClientHandle.{ClientHandle}
+use Rattle.client_parts.specs.declared.sessions.Session.{Session}
+use Rattle.client_parts.specs.declared.sessions.Session.TheVariants as sessions
+use Rattle.client_parts.specs.declared.steps.Given.{Given}
+use Rattle.client_parts.specs.declared.targets.Target.{Target}
+use Rattle.client_parts.specs.declared.targets.Outstanding.{Outstanding}
 use Rattle.client_core.specs.State.{ClientState, standing_then, session_then, note, note_live, note_lines_in, note_lines}
-use Rattle.client_core.specs.Serves.{read_answer}
+use Rattle.client_parts.specs.Opens.{read_answer}
 use Rattle.client_core.specs.Asks.{asked_for}
 use Rattle.client_core.specs.Lessons.{Lesson, may_install, taught}
 use Rattle.client_core.specs.Gives.{is_live, told, passed_over, with_processed, safe_lines, target_for, awaited, answer_of, ended_plainly}

@@ -11,15 +11,16 @@ use Rattle.tags_cell.specs.declared.beats.Invalidation.{Invalidation}
 use Rattle.tags_cell.specs.declared.outs.Out.{Out}
 use Rattle.tags_cell.specs.declared.outs.Out.TheVariants as outs
 use Rattle.tags_cell.specs.declared.outs.Reply.{Reply}
-use Rattle.client_core.specs.declared.asks.Ask.{Ask}
-use Rattle.client_core.specs.declared.sessions.Session.{Session}
-use Rattle.client_core.specs.declared.sessions.Session.TheVariants as sessions
-use Rattle.client_core.specs.declared.targets.Outstanding.{Outstanding}
+use Rattle.client_parts.specs.declared.asks.Ask.{Ask}
+use Rattle.client_parts.specs.declared.sessions.Session.{Session}
+use Rattle.client_parts.specs.declared.sessions.Session.TheVariants as sessions
+use Rattle.client_parts.specs.declared.targets.Outstanding.{Outstanding}
 use Rattle.client_core.specs.State.{ClientState, note_in, note, note_live}
 use Rattle.client_core.specs.Asks.{ask_step}
 use Rattle.client_core.specs.Beats.{beat_step}
 use Rattle.client_core.specs.Lessons.{Lesson}
-use Rattle.client_core.specs.Gives.{under, offered, all_flushed, ended_plainly, give_step}
+use Rattle.client_core.specs.Gives.{under, offered, ended_plainly, give_step}
+use Rattle.client_parts.specs.Invalidations.{all_flushed}
 use Rattle.client_core.specs.Cases.{noted_moment, IsAwaited, IsLearned, AskCase, asked_in, BeatCase, beaten_in, GiveCase, given_in}
 use Rattle.client_core.specs.Cases.AskCase.{AskedTooLate, Unsafe, Refused, ReadServed, AbsenceServed, Shared, OutOfHandles, Released, OutOfCalls, Sent, Poisoned}
 use Rattle.client_core.specs.Cases.BeatCase.{BeatTooLate, OutOfBeats, Starts, Beats, Quiet}

@@ -16,37 +16,26 @@ use Rattle.tags_cell.specs.declared.calls.Call.TheVariants as calls
 use Rattle.tags_cell.specs.declared.calls.Open.{Open}
 use Rattle.tags_cell.specs.declared.requests.Request.{Request}
 use Rattle.tags_cell.specs.declared.requests.Request.TheVariants as requests
-use Rattle.client_core.specs.declared.sessions.Session.{Session}
-use Rattle.client_core.specs.declared.sessions.Session.TheVariants as sessions
-use Rattle.client_core.specs.declared.asks.Ask.{Ask}
-use Rattle.client_core.specs.declared.asks.Ask.TheVariants as asks
-use Rattle.client_core.specs.declared.asks.NodeCall.{NodeCall}
-use Rattle.client_core.specs.declared.asks.NodeCall.TheVariants as node_calls
-use Rattle.client_core.specs.declared.asks.Asked.{Asked}
-use Rattle.client_core.specs.declared.asks.Outcome.{Outcome}
-use Rattle.client_core.specs.declared.asks.Outcome.TheVariants.{Sent, Served, Answered, Refused}
-use Rattle.client_core.specs.declared.handles.ClientHandle.{ClientHandle}
-use Rattle.client_core.specs.declared.targets.Target.{Target}
-use Rattle.client_core.specs.declared.targets.Target.TheVariants as targets
+use Rattle.client_parts.specs.declared.sessions.Session.{Session}
+use Rattle.client_parts.specs.declared.sessions.Session.TheVariants as sessions
+use Rattle.client_parts.specs.declared.asks.Ask.{Ask}
+use Rattle.client_parts.specs.declared.asks.Ask.TheVariants as asks
+use Rattle.client_parts.specs.declared.asks.NodeCall.{NodeCall}
+use Rattle.client_parts.specs.declared.asks.NodeCall.TheVariants as node_calls
+use Rattle.client_parts.specs.declared.asks.Asked.{Asked}
+use Rattle.client_parts.specs.declared.asks.Outcome.{Outcome}
+use Rattle.client_parts.specs.declared.asks.Outcome.TheVariants.{Sent, Served, Answered, Refused}
+use Rattle.client_parts.specs.declared.handles.ClientHandle.{ClientHandle}
+use Rattle.client_parts.specs.declared.targets.Target.{Target}
+use Rattle.client_parts.specs.declared.targets.Target.TheVariants as targets
+use Rattle.client_parts.specs.Calls.{call_on}
+use Rattle.client_parts.specs.Sessions.{session_fault}
 use Rattle.client_core.specs.declared.plans.Plan.{Plan}
 use Rattle.client_core.specs.declared.plans.Plan.TheVariants as plans
 use Rattle.client_core.specs.State.{ClientState, moment, at_moment, standing_then, note, note_lines}
 use Rattle.client_core.specs.Handles.{handle_of}
 use Rattle.client_core.specs.Poisons.{with_poisoned, poison_lines}
 use Rattle.client_core.specs.Serves.{read_served, open_served}
-
--- why no call may be made
-abbrev pub standing_fault : Standing → Option Fault
-standing_fault standings.Safe = None
-standing_fault (standings.Jeopardy since) = Some faults.InJeopardy
-standing_fault standings.Lost = Some faults.SessionExpired
-
--- nothing in a session that the client may rely on
-abbrev pub session_fault : Session → Standing → Option Fault
-session_fault sessions.Unstarted standing = Some faults.NoSession
-session_fault sessions.Live standing = standing_fault standing
-session_fault sessions.Lost standing = Some faults.SessionExpired
-session_fault sessions.TurnedAway standing = Some faults.NoSession
 
 -- at a moment
 abbrev pub fault_then : ClientState → ℕ → Option Fault
@@ -58,15 +47,6 @@ fault_then s moment = session_fault s.session (standing_then s moment)
 abbrev pub usable_handle : Option ClientHandle → Result ClientHandle Fault
 usable_handle None = Err faults.BadHandle
 usable_handle (Some handle) = if handle.poisoned then Err faults.Poisoned else Ok handle
-
--- the call on a handle's node, with the bytes that the master gave for the handle
-abbrev pub call_on : List ℕ → NodeCall → Call
-call_on bytes node_calls.Read = calls.Read bytes
-call_on bytes node_calls.Stat = calls.Stat bytes
-call_on bytes node_calls.List = calls.List bytes
-call_on bytes (node_calls.Set content generation) = calls.Set bytes content generation
-call_on bytes (node_calls.SetAcl acls generation) = calls.SetAcl bytes acls generation
-call_on bytes node_calls.Delete = calls.Delete bytes
 
 -- ---- what is done, or the first reason why it may not be
 

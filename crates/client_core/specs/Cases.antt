@@ -20,27 +20,29 @@ use Rattle.tags_cell.specs.declared.outs.Reply.{Reply}
 use Rattle.tags_cell.specs.declared.outs.Refused.{Refused as RefusedMessage}
 use Rattle.tags_cell.specs.declared.outs.NewHandle.{NewHandle}
 use Rattle.tags_cell.specs.Messages.{request_number, out_client}
-use Rattle.client_core.specs.declared.asks.Ask.{Ask}
-use Rattle.client_core.specs.declared.asks.Ask.TheVariants as asks
-use Rattle.client_core.specs.declared.asks.NodeCall.TheVariants as node_calls
-use Rattle.client_core.specs.declared.asks.Asked.{Asked}
-use Rattle.client_core.specs.declared.asks.Outcome.TheVariants as outcomes
-use Rattle.client_core.specs.declared.handles.ClientHandle.{ClientHandle}
+use Rattle.client_parts.specs.declared.asks.Ask.{Ask}
+use Rattle.client_parts.specs.declared.asks.Ask.TheVariants as asks
+use Rattle.client_parts.specs.declared.asks.NodeCall.TheVariants as node_calls
+use Rattle.client_parts.specs.declared.asks.Asked.{Asked}
+use Rattle.client_parts.specs.declared.asks.Outcome.TheVariants as outcomes
+use Rattle.client_parts.specs.declared.handles.ClientHandle.{ClientHandle}
 use Rattle.client_core.specs.declared.plans.Plan.TheVariants as plans
-use Rattle.client_core.specs.declared.sessions.Session.TheVariants as sessions
-use Rattle.client_core.specs.declared.steps.Given.{Given}
-use Rattle.client_core.specs.declared.steps.Beaten.{Beaten}
-use Rattle.client_core.specs.declared.targets.Target.{Target}
-use Rattle.client_core.specs.declared.targets.Target.TheVariants as targets
-use Rattle.client_core.specs.declared.targets.Outstanding.{Outstanding}
+use Rattle.client_parts.specs.declared.sessions.Session.TheVariants as sessions
+use Rattle.client_parts.specs.declared.steps.Given.{Given}
+use Rattle.client_parts.specs.declared.steps.Beaten.{Beaten}
+use Rattle.client_parts.specs.declared.targets.Target.{Target}
+use Rattle.client_parts.specs.declared.targets.Target.TheVariants as targets
+use Rattle.client_parts.specs.declared.targets.Outstanding.{Outstanding}
 use Rattle.client_core.specs.State.{ClientState, at_moment, standing_then, session_then, note, note_live, note_lines}
 use Rattle.client_core.specs.Handles.{handle_of}
-use Rattle.client_core.specs.Serves.{read_answer, is_plain, is_read_only, kept_handle}
+use Rattle.client_parts.specs.Opens.{read_answer, is_plain, is_read_only, kept_handle}
 use Rattle.client_core.specs.Asks.{fault_then, plan_of, asked_for, message_of, with_call, with_shared, without_handle}
 use Rattle.client_core.specs.Poisons.{with_poisoned, poison_lines}
 use Rattle.client_core.specs.Beats.{start_message, beat_message, with_beat, beaten}
 use Rattle.client_core.specs.Lessons.{Lesson, lesson}
-use Rattle.client_core.specs.Gives.{told, passed_over, rejected, offered, begun, is_in_order, with_processed, bettered, safe_lines, awaited, answer_of, has_number, ended_plainly, with_lesson, session_after, lost}
+use Rattle.client_core.specs.Gives.{told, passed_over, rejected, offered, begun, with_processed, bettered, safe_lines, awaited, answer_of, has_number, ended_plainly, with_lesson, lost}
+use Rattle.client_parts.specs.Invalidations.{is_in_order}
+use Rattle.client_parts.specs.Sessions.{session_after}
 
 -- the moment that is noted
 abbrev pub noted_moment : ClientState → ℕ → ℕ

@@ -30,15 +30,17 @@ use Rattle.tags_cell.specs.declared.outs.CallResult.TheVariants as results
 use Rattle.tags_cell.specs.declared.outs.NewHandle.{NewHandle}
 use Rattle.tags_cell.specs.declared.calls.Open.{Open}
 use Rattle.tags_cell.specs.Messages.{request_number, out_client}
-use Rattle.client_core.specs.declared.sessions.Session.{Session}
-use Rattle.client_core.specs.declared.sessions.Session.TheVariants as sessions
-use Rattle.client_core.specs.declared.handles.ClientHandle.{ClientHandle}
-use Rattle.client_core.specs.declared.steps.Given.{Given}
-use Rattle.client_core.specs.declared.targets.Target.{Target}
-use Rattle.client_core.specs.declared.targets.Target.TheVariants as targets
-use Rattle.client_core.specs.declared.targets.Outstanding.{Outstanding}
+use Rattle.client_parts.specs.declared.sessions.Session.{Session}
+use Rattle.client_parts.specs.declared.sessions.Session.TheVariants as sessions
+use Rattle.client_parts.specs.declared.handles.ClientHandle.{ClientHandle}
+use Rattle.client_parts.specs.declared.steps.Given.{Given}
+use Rattle.client_parts.specs.declared.targets.Target.{Target}
+use Rattle.client_parts.specs.declared.targets.Target.TheVariants as targets
+use Rattle.client_parts.specs.declared.targets.Outstanding.{Outstanding}
+use Rattle.client_parts.specs.Sessions.{session_after}
+use Rattle.client_parts.specs.Invalidations.{is_in_order, last_number, all_flushed}
 use Rattle.client_core.specs.State.{ClientState, moment, at_moment, session_then, note, note_lines}
-use Rattle.client_core.specs.Serves.{is_shareable, kept_handle}
+use Rattle.client_parts.specs.Opens.{is_shareable, kept_handle}
 use Rattle.client_core.specs.Lessons.{Lesson, opening_of, lesson}
 
 abbrev pub is_unstarted : Session → Bool
@@ -98,26 +100,6 @@ started_step s moment message =
     else passed_over s moment
 
 -- ---- Alive: its invalidations
-
--- each number is one more than the one before
-abbrev pub follow : ℕ → List Invalidation → Bool
-follow last [] = true
-follow last (next ∷ others) = next.number == last + 1 && follow next.number others
-
--- they rise by one, and begin at most one above what was processed
-abbrev pub is_in_order : ℕ → List Invalidation → Bool
-is_in_order processed [] = true
-is_in_order processed (first ∷ others) = nat_le first.number (processed + 1) && follow first.number others
-
--- the last number, or this one where there is none
-abbrev pub last_number : ℕ → List Invalidation → ℕ
-last_number number [] = number
-last_number number (next ∷ others) = last_number next.number others
-
--- those above what was processed take their entries away
-abbrev pub all_flushed : ℕ → Entries → List Invalidation → Entries
-all_flushed processed entries [] = entries
-all_flushed processed entries (next ∷ others) = all_flushed processed (if nat_lt processed next.number then flushed entries next.name else entries) others
 
 -- an older message takes nothing back
 abbrev pub with_processed : ClientState → Alive → ClientState
@@ -245,18 +227,6 @@ abbrev pub reply_step : ClientState → ℕ → Reply → ClientState × Result 
 reply_step s moment message = reply_for s moment message (awaited s moment message)
 
 -- ---- Refused
-
--- the session where a master of this epoch knows none, by the client's present epoch; nothing where it stays as it is
-abbrev pub session_without : Session → ℕ → ℕ → Option Session
-session_without sessions.Unstarted present epoch = Some sessions.TurnedAway
-session_without sessions.Live present epoch = if nat_le present epoch then Some sessions.Lost else None
-session_without sessions.Lost present epoch = None
-session_without sessions.TurnedAway present epoch = None
-
--- of all refusals, that there is no session alone changes it
-abbrev pub session_after : Session → ℕ → ℕ → Fault → Option Session
-session_after session present epoch faults.NoSession = session_without session present epoch
-session_after session present epoch _ = None
 
 -- a client without a session holds nothing
 abbrev pub lost : ClientState → Session → ClientState

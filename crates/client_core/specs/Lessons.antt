@@ -14,13 +14,14 @@ use Rattle.tags_cell.specs.declared.outs.CallResult.TheVariants as results
 use Rattle.tags_cell.specs.declared.outs.Reply.{Reply}
 use Rattle.tags_cell.specs.declared.requests.Request.{Request}
 use Rattle.tags_cell.specs.declared.requests.Request.TheVariants as requests
-use Rattle.client_core.specs.declared.handles.ClientHandle.{ClientHandle}
-use Rattle.client_core.specs.declared.targets.Outstanding.{Outstanding}
-use Rattle.client_core.specs.declared.targets.Target.{Target}
-use Rattle.client_core.specs.declared.targets.Target.TheVariants as targets
+use Rattle.client_parts.specs.declared.handles.ClientHandle.{ClientHandle}
+use Rattle.client_parts.specs.declared.targets.Outstanding.{Outstanding}
+use Rattle.client_parts.specs.declared.targets.Target.{Target}
+use Rattle.client_parts.specs.declared.targets.Target.TheVariants as targets
+use Rattle.client_parts.specs.Targets.{opening_by}
 use Rattle.client_core.specs.State.{ClientState, standing_then}
 use Rattle.client_core.specs.Handles.{handle_of}
-use Rattle.client_core.specs.Serves.{is_plain}
+use Rattle.client_parts.specs.Opens.{is_plain}
 
 -- a name, and its view or its absence
 abbrev pub Lesson : Type 0
@@ -43,16 +44,6 @@ abbrev pub may_install : ClientState → ℕ → Option ℕ → Bool
 may_install s moment stamp = s.cache.enabled && (is_safe (standing_then s moment) && is_fresh s.processed stamp)
 
 -- ---- what it is
-
--- what is opened by a call, where it is an Open
-abbrev pub opening_in : Call → Option Open
-opening_in (calls.Open opening) = Some opening
-opening_in _ = None
-
-abbrev pub opening_by : Request → Option Open
-opening_by (requests.Start message) = None
-opening_by (requests.Beat message) = None
-opening_by (requests.Call message) = opening_in message.call
 
 abbrev pub opening_of : Option Outstanding → Option Open
 opening_of None = None

@@ -1,3 +1,8 @@
+pub use Rattle.client_parts.specs.Calls
+pub use Rattle.client_parts.specs.Opens
+pub use Rattle.client_parts.specs.Sessions
+pub use Rattle.client_parts.specs.Targets
+pub use Rattle.client_parts.specs.Invalidations
 pub use Rattle.cache_core.specs.Caches
 pub use Rattle.cache_core.specs.Kept
 pub use Rattle.cache_core.specs.Standings

@@ -8,18 +8,12 @@ use Rattle.node_core.specs.declared.answers.Answer.TheVariants as answers
 use Rattle.node_core.specs.declared.lines.Line.{Line}
 use Rattle.node_core.specs.declared.lines.Line.TheVariants as lines
 use Rattle.tags_cell.specs.Messages.{request_number}
-use Rattle.client_core.specs.declared.handles.ClientHandle.{ClientHandle}
-use Rattle.client_core.specs.declared.targets.Target.{Target}
-use Rattle.client_core.specs.declared.targets.Target.TheVariants as targets
-use Rattle.client_core.specs.declared.targets.Outstanding.{Outstanding}
+use Rattle.client_parts.specs.declared.handles.ClientHandle.{ClientHandle}
+use Rattle.client_parts.specs.declared.targets.Target.{Target}
+use Rattle.client_parts.specs.declared.targets.Target.TheVariants as targets
+use Rattle.client_parts.specs.declared.targets.Outstanding.{Outstanding}
+use Rattle.client_parts.specs.Targets.{is_on}
 use Rattle.client_core.specs.State.{ClientState}
-
--- whether it is a call on this handle, and neither a Close nor dropped already
-abbrev pub is_on : ℕ → Target → Bool
-is_on number targets.NewHandle = false
-is_on number (targets.Closing other) = false
-is_on number (targets.Handle other) = other == number
-is_on number targets.Dropped = false
 
 -- the outstanding call, if it is on the handle, is refused ..
 abbrev pub refused_lines : ClientState → ℕ → Option Outstanding → List Line

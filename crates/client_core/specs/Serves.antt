@@ -13,19 +13,15 @@ use Rattle.node_core.specs.declared.views.View.{View}
 use Rattle.tags_cell.specs.Modes.{Rights}
 use Rattle.tags_cell.specs.declared.calls.Open.{Open}
 use Rattle.tags_cell.specs.declared.outs.NewHandle.{NewHandle}
-use Rattle.client_core.specs.declared.asks.NodeCall.{NodeCall}
-use Rattle.client_core.specs.declared.asks.NodeCall.TheVariants as node_calls
-use Rattle.client_core.specs.declared.handles.ClientHandle.{ClientHandle}
+use Rattle.client_parts.specs.declared.asks.NodeCall.{NodeCall}
+use Rattle.client_parts.specs.declared.asks.NodeCall.TheVariants as node_calls
+use Rattle.client_parts.specs.declared.handles.ClientHandle.{ClientHandle}
+use Rattle.client_parts.specs.Opens.{is_plain, is_read_only, kept_handle, read_answer}
 use Rattle.client_core.specs.declared.plans.Plan.{Plan}
 use Rattle.client_core.specs.declared.plans.Plan.TheVariants as plans
 use Rattle.client_core.specs.State.{ClientState}
 
 -- ---- a read
-
--- the node that the handle is on, if it is the one that is cached
-abbrev pub read_answer : ClientHandle → Option View → Answer
-read_answer handle None = answers.Refused faults.StaleInstance
-read_answer handle (Some view) = if view.instance == handle.instance then answers.Viewed view else answers.Refused faults.StaleInstance
 
 abbrev pub serve_read : ClientState → ClientHandle → Option View → Plan
 serve_read s handle entry = plans.Serve (lines.Served s.number handle.name entry) (read_answer handle entry)
@@ -36,34 +32,6 @@ read_served s moment handle node_calls.Read = if handle.mode.read then option_ma
 read_served s moment handle _ = None
 
 -- ---- an Open
-
--- it makes nothing
-abbrev pub is_plain : Open → Bool
-is_plain opening = is_none opening.create
-
--- to read, and for nothing else
-abbrev pub is_read_only : Rights → Bool
-is_read_only mode = mode.read && (not mode.write && not mode.change)
-
-abbrev pub is_permanent : Life → Bool
-is_permanent lives.Permanent = true
-is_permanent lives.Ephemeral = false
-
--- such handles are kept and shared: of a plain Open to read, on a permanent node
-abbrev pub is_shareable : NewHandle → Open → Bool
-is_shareable handle opening = is_plain opening && (is_read_only opening.mode && is_permanent handle.life)
-
--- what is kept of a handle: name and mode are those that were asked for
-abbrev pub kept_handle : NewHandle → Open → Bool → ClientHandle
-kept_handle handle opening shared = record {
-  bytes = handle.bytes;
-  name = opening.name;
-  instance = handle.instance;
-  mode = opening.mode;
-  life = handle.life;
-  poisoned = false;
-  shared = shared;
-}
 
 abbrev pub serve_absence : ClientState → Open → Plan
 serve_absence s opening = plans.Serve (lines.Served s.number opening.name None) (answers.Refused faults.NotFound)

@@ -6,14 +6,12 @@ ghost use Rattle.client_core.specs.State.{Does};
 ghost use Rattle.client_core.specs.Asks.{ask_step, ask_by, plan_of, carried_out, send_step, share_step};
 ghost use Rattle.client_core.specs.declared.plans.Plan.TheVariants as plans;
 
-use crate::asks::{Ask, Asked, Outcome};
 use crate::client::Client;
-use crate::handles::ClientHandle;
 use crate::plans::Plan;
-use crate::targets::{Outstanding, Target};
+use client_parts::{Ask, Asked, ClientHandle, Outcome, Outstanding, Target, one_line};
 use node_core::{Answer, Fault, Line, NUMBER_LIMIT};
 use plain::Items;
-use std::alloc::{AllocError, Global};
+use std::alloc::AllocError;
 use std::mem;
 use tags_cell::{Call, CallMessage, MessageNumber, Request};
 
@@ -191,13 +189,4 @@ impl Client {
             outcome: Outcome::Answered,
         })
     }
-}
-
-// A line by itself.
-fn one_line(alloc: Global, line: Line) -> Result<Items<Line>, AllocError>
-    ensures { IfOk result (λ lines. lines ≡ line ∷ []) }
-{
-    let mut lines = Items::new(alloc);
-    lines.push(line)?;
-    Ok(lines)
 }

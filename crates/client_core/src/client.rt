@@ -6,11 +6,8 @@ ghost use Rattle.client_core.specs.State.{new_client, note, note_lines, Does};
 ghost use Rattle.client_core.specs.Beats.{beat_step, sends, start_message, beat_message, with_beat};
 ghost use Rattle.client_core.specs.Gives.{give_step, taken_own, told};
 
-use crate::handles::ClientHandle;
-use crate::sessions::Session;
-use crate::steps::{Beaten, Given};
-use crate::targets::Outstanding;
 use cache_core::{Cache, KeptHandles, Standing};
+use client_parts::{Beaten, ClientHandle, Given, Outstanding, Session};
 use names_cell::Principal;
 use node_core::Fault;
 use plain::Table;

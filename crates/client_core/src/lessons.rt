@@ -4,9 +4,8 @@ ghost use Rattle.client_core.specs.Handles.{handle_of};
 ghost use Rattle.client_core.specs.Lessons.{is_fresh, may_install, viewed, view_taught, absent, absence_taught, taught, lesson, opening_of};
 
 use crate::client::Client;
-use crate::handles::is_plain;
-use crate::targets::Target;
 use cache_core::Standing;
+use client_parts::{Target, is_plain};
 use names_cell::Name;
 use node_core::{Fault, View};
 use std::alloc::AllocError;

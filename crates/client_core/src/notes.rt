@@ -7,8 +7,8 @@ ghost use Rattle.client_core.specs.State.{moment, standing_then, session_then, n
 ghost use Rattle.client_core.specs.Asks.{fault_then};
 
 use crate::client::Client;
-use crate::sessions::Session;
 use cache_core::Standing;
+use client_parts::Session;
 use lease_core::MOMENT_LIMIT;
 use node_core::{Fault, Line};
 use plain::Items;

@@ -8,10 +8,8 @@ ghost use Rattle.client_core.specs.State.{Does};
 ghost use Rattle.client_core.specs.Gives.{is_span, offered, under, started_step, alive_step, kept_alive, with_processed, with_lease, takes_offer, is_jeopardy};
 
 use crate::client::Client;
-use crate::invalidations::{flush_all, is_in_order, last_number};
-use crate::sessions::Session;
-use crate::steps::Given;
 use cache_core::{CacheOp, Standing};
+use client_parts::{Given, Session, flush_all, is_in_order, last_number};
 use lease_core::Lease;
 use node_core::{Fault, Line};
 use tags_cell::{Alive, Started};

@@ -5,10 +5,8 @@ ghost use Rattle.plain.specs.Results.{Gives};
 ghost use Rattle.client_core.specs.Handles.{handle_of};
 ghost use Rattle.client_core.specs.Asks.{plan_of, send_plan, open_plan, close_plan, node_plan, usable_handle};
 
-use crate::asks::{Ask, NodeCall};
 use crate::client::Client;
-use crate::handles::ClientHandle;
-use crate::targets::Target;
+use client_parts::{Ask, ClientHandle, NodeCall, Target};
 use node_core::{Answer, Fault, Line};
 use tags_cell::{Call, Open};
 

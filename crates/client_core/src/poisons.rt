@@ -2,15 +2,13 @@
 ghost use Rattle.std.specs.Prelude.{◌≡◌, IfOk, Ok};
 ghost use Rattle.lease_core.specs.Lease.{IsMoment};
 ghost use Rattle.client_core.specs.State.{Does};
-ghost use Rattle.client_core.specs.declared.asks.Ask.TheVariants as asks;
+ghost use Rattle.client_parts.specs.declared.asks.Ask.TheVariants as asks;
 ghost use Rattle.client_core.specs.declared.plans.Plan.TheVariants as plans;
 ghost use Rattle.client_core.specs.Asks.{ask_step, carried_out};
 ghost use Rattle.client_core.specs.Poisons.{poison_lines, poisoned, dropped};
 
-use crate::asks::{Ask, Asked, Outcome};
 use crate::client::Client;
-use crate::handles::ClientHandle;
-use crate::targets::Target;
+use client_parts::{Ask, Asked, ClientHandle, Outcome, Target};
 use node_core::{Answer, Fault, Line};
 use plain::Items;
 use std::alloc::AllocError;

@@ -9,11 +9,8 @@ ghost use Rattle.client_core.specs.Lessons.{opening_of, lesson};
 ghost use Rattle.client_core.specs.Gives.{awaited, answer_of, has_number, handles_behind, kept_behind, ended_plainly, ended, finish_step, reply_for, reply_step, lost, refused_step};
 
 use crate::client::Client;
-use crate::handles::{ClientHandle, is_shareable};
-use crate::sessions::Session;
-use crate::steps::Given;
-use crate::targets::Target;
 use cache_core::{Kept, Standing};
+use client_parts::{ClientHandle, Given, Session, Target, is_shareable, pushed, share_of};
 use node_core::{Answer, Fault, Line, NUMBER_LIMIT};
 use plain::Items;
 use std::alloc::AllocError;
@@ -253,24 +250,4 @@ impl Client {
         self.cache.disable();
         self.standing = Standing::Lost;
     }
-}
-
-// A handle that is kept to be shared.
-fn share_of(handle: &NewHandle, opening: &Open) -> Result<Kept<NewHandle>, AllocError>
-    ensures { IfOk result (λ kept. kept ≡ record { name = opening.now.name; instance = handle.now.instance; handle = handle.now }) }
-{
-    Ok(Kept {
-        name: opening.name.clone()?,
-        instance: handle.instance.get(),
-        handle: handle.clone()?,
-    })
-}
-
-// One line more.
-fn pushed(lines: Items<Line>, line: Line) -> Result<Items<Line>, AllocError>
-    ensures { IfOk result (λ more. more ≡ lines ++ line ∷ []) }
-{
-    let mut lines = lines;
-    lines.push(line)?;
-    Ok(lines)
 }

@@ -4,10 +4,9 @@ ghost use Rattle.client_core.specs.declared.plans.Plan.TheVariants as plans;
 ghost use Rattle.node_core.specs.declared.lines.Line.TheVariants as lines;
 ghost use Rattle.client_core.specs.Serves.{read_served, open_served, entry_served, handle_shared, serve_read};
 
-use crate::asks::NodeCall;
 use crate::client::Client;
-use crate::handles::{ClientHandle, is_plain, is_read_only};
 use crate::plans::Plan;
+use client_parts::{ClientHandle, NodeCall, is_plain, is_read_only};
 use names_cell::Name;
 use node_core::{Answer, Fault, Line, Right, View};
 use std::alloc::AllocError;

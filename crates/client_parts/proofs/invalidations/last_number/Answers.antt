@@ -1,7 +1,7 @@
 use Rattle.std.proofs.Common.{◌≡◌, ℕ, ◌+◌, length, List, [], ◌∷◌, get_or, ap, subst, arith}
 use Rattle.tags_cell.specs.declared.beats.Invalidation.{Invalidation}
-use Rattle.client_core.specs.Gives.{last_number}
-use Rattle.client_core.proofs.invalidations.last_number.Goals as goal
+use Rattle.client_parts.specs.Invalidations.{last_number}
+use Rattle.client_parts.proofs.invalidations.last_number.Goals as goal
 
 number_behind : (first : Invalidation) (others : List Invalidation) (last : Invalidation) → last ≡ get_or (first ∷ others) (length others) last → last.number ≡ last_number first.number others
 number_behind first [] last is = ap (λ (x : Invalidation). x.number) is

@@ -1,7 +1,7 @@
 //! How a client stands with its master.
 ghost use Rattle.std.specs.Prelude.{◌≡◌};
-ghost use Rattle.client_core.specs.Asks.{session_fault};
-ghost use Rattle.client_core.specs.Gives.{session_after, session_without};
+ghost use Rattle.client_parts.specs.Sessions.{session_fault};
+ghost use Rattle.client_parts.specs.Sessions.{session_after, session_without};
 
 use cache_core::Standing;
 use node_core::Fault;
@@ -19,8 +19,8 @@ pub enum Session {
 }
 
 impl Session {
-    // Why no call may be made; None in a session that the client may rely on.
-    pub(crate) fn fault(self, standing: Standing) -> Option<Fault>
+    /// Why no call may be made; None in a session that the client may rely on.
+    pub fn fault(self, standing: Standing) -> Option<Fault>
         ensures { result ≡ session_fault self standing }
     {
         match (self, standing) {
@@ -31,8 +31,8 @@ impl Session {
         }
     }
 
-    // What a refusal of this epoch makes of it, in the client's present epoch; None where it stays.
-    pub(crate) fn after(self, present: u64, epoch: u64, fault: Fault) -> Option<Session>
+    /// What a refusal of this epoch makes of it, in the client's present epoch; None where it stays.
+    pub fn after(self, present: u64, epoch: u64, fault: Fault) -> Option<Session>
         ensures { result ≡ session_after self present epoch fault }
     {
         match fault {

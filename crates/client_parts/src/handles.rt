@@ -1,7 +1,8 @@
 //! What a client keeps of a handle.
 ghost use Rattle.std.specs.Prelude.{◌≡◌, IfOk};
-ghost use Rattle.client_core.specs.Serves.{is_plain, is_read_only, is_shareable, kept_handle, read_answer};
+ghost use Rattle.client_parts.specs.Opens.{is_plain, is_read_only, is_shareable, kept_handle, read_answer};
 
+use cache_core::Kept;
 use names_cell::Name;
 use node_core::{Answer, Fault, Life, Right, View};
 use std::alloc::AllocError;
@@ -41,8 +42,8 @@ impl Clone for ClientHandle {
 }
 
 impl ClientHandle {
-    // What is kept of the handle that an Open gave.
-    pub(crate) fn of(
+    /// What is kept of the handle that an Open gave.
+    pub fn of(
         handle: &NewHandle,
         opening: &Open,
         shared: bool,
@@ -60,8 +61,8 @@ impl ClientHandle {
         })
     }
 
-    // How a read of it ends where this is cached under its name: only a view of its own instance is of use.
-    pub(crate) fn read_answer(&self, entry: &Option<View>) -> Result<Answer, AllocError>
+    /// How a read of it ends where this is cached under its name: only a view of its own instance is of use.
+    pub fn read_answer(&self, entry: &Option<View>) -> Result<Answer, AllocError>
         ensures { IfOk result (λ answer. answer ≡ read_answer self.now entry.now) }
     {
         match entry {
@@ -71,23 +72,34 @@ impl ClientHandle {
     }
 }
 
-// Whether an Open makes nothing.
-pub(crate) fn is_plain(opening: &Open) -> bool
+/// Whether an Open makes nothing.
+pub fn is_plain(opening: &Open) -> bool
     ensures { result ≡ is_plain opening.now }
 {
     opening.create.is_none()
 }
 
-// Whether it is to read, and for nothing else.
-pub(crate) fn is_read_only(mode: Mode) -> bool
+/// Whether it is to read, and for nothing else.
+pub fn is_read_only(mode: Mode) -> bool
     ensures { result ≡ is_read_only mode }
 {
     mode.has(Right::Read) && !mode.has(Right::Write) && !mode.has(Right::Change)
 }
 
-// Whether the handle that an Open gave is kept, to be shared: of a plain Open to read, on a permanent node.
-pub(crate) fn is_shareable(handle: &NewHandle, opening: &Open) -> bool
+/// Whether the handle that an Open gave is kept, to be shared: of a plain Open to read, on a permanent node.
+pub fn is_shareable(handle: &NewHandle, opening: &Open) -> bool
     ensures { result ≡ is_shareable handle.now opening.now }
 {
     is_plain(opening) && is_read_only(opening.mode) && handle.life == Life::Permanent
+}
+
+/// A handle that is kept to be shared.
+pub fn share_of(handle: &NewHandle, opening: &Open) -> Result<Kept<NewHandle>, AllocError>
+    ensures { IfOk result (λ kept. kept ≡ record { name = opening.now.name; instance = handle.now.instance; handle = handle.now }) }
+{
+    Ok(Kept {
+        name: opening.name.clone()?,
+        instance: handle.instance.get(),
+        handle: handle.clone()?,
+    })
 }

@@ -1,6 +1,6 @@
 //! What a client is asked for, and what comes of it.
 ghost use Rattle.std.specs.Prelude.{◌≡◌, IfOk};
-ghost use Rattle.client_core.specs.Asks.{call_on};
+ghost use Rattle.client_parts.specs.Calls.{call_on};
 
 use node_core::{Answer, Fault, Line};
 use plain::{Bytes, Items};
@@ -37,8 +37,8 @@ pub enum NodeCall {
 }
 
 impl NodeCall {
-    // The call for the master, with the bytes that it gave for the handle.
-    pub(crate) fn on(&self, handle: HandleBytes) -> Result<Call, AllocError>
+    /// The call for the master, with the bytes that it gave for the handle.
+    pub fn on(&self, handle: HandleBytes) -> Result<Call, AllocError>
         ensures { IfOk result (λ call. call ≡ call_on handle self.now) }
     {
         Ok(match self {

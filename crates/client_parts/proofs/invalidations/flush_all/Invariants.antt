@@ -1,6 +1,6 @@
 use Rattle.std.proofs.Common.{◌≡◌, drop}
-use Rattle.client_core.specs.Gives.{all_flushed}
-use Rattle.client_core.proofs.invalidations.flush_all.Given as goal
+use Rattle.client_parts.specs.Invalidations.{all_flushed}
+use Rattle.client_parts.proofs.invalidations.flush_all.Given as goal
 
 -- to flush what is left comes to the same as to flush all of it
 abbrev pub invariant-loop-next : goal.invariant-loop-next

@@ -1,8 +1,8 @@
 //! The call that has no reply yet.
 ghost use Rattle.std.specs.Prelude.{◌≡◌};
 ghost use Rattle.std.specs.Option.{option_copied};
-ghost use Rattle.client_core.specs.Poisons.{is_on};
-ghost use Rattle.client_core.specs.Lessons.{opening_by};
+ghost use Rattle.client_parts.specs.Targets.{is_on};
+ghost use Rattle.client_parts.specs.Targets.{opening_by};
 
 use tags_cell::{Call, Open, Request};
 
@@ -20,8 +20,8 @@ pub enum Target {
 }
 
 impl Target {
-    // Whether a Poison of this handle drops the reply.
-    pub(crate) fn is_on(self, number: u64) -> bool
+    /// Whether a Poison of this handle drops the reply.
+    pub fn is_on(self, number: u64) -> bool
         ensures { result ≡ is_on number self }
     {
         match self {
@@ -40,8 +40,8 @@ pub struct Outstanding {
 }
 
 impl Outstanding {
-    // What is opened, where it is an Open.
-    pub(crate) fn opening(&self) -> Option<&Open>
+    /// What is opened, where it is an Open.
+    pub fn opening(&self) -> Option<&Open>
         ensures { option_copied result ≡ opening_by self.now.request }
     {
         match &self.request {

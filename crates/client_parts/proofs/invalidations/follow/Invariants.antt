@@ -1,6 +1,6 @@
 use Rattle.std.proofs.Common.{◌≡◌, drop}
-use Rattle.client_core.specs.Gives.{follow}
-use Rattle.client_core.proofs.invalidations.follow.Given as goal
+use Rattle.client_parts.specs.Invalidations.{follow}
+use Rattle.client_parts.proofs.invalidations.follow.Given as goal
 
 -- what is left follows the last one exactly where all of them follow the first
 abbrev pub invariant-loop-next : goal.invariant-loop-next
