@@ -16,14 +16,23 @@ use std::mem;
 use tags_cell::{Call, CallMessage, MessageNumber, Request};
 
 impl Client {
-    /// Asks for a call. Refused, in this order: without a session as NoSession, and where it was lost as SessionExpired;
-    /// for a handle number that isn't open as BadHandle; for a poisoned handle, but for a Close, as Poisoned; while a
-    /// call is outstanding as CallOutstanding; behind the last call number, 2^63-1, as Exhausted. The last of these
-    /// changes nothing, and the others note the time alone.
+    /// Asks for a call. First the time is noted; where that prints lines they come first, also where the call is refused.
+    /// Refused, in this order: without a session as NoSession, in jeopardy as InJeopardy, and where the session was lost
+    /// as SessionExpired; for a handle number that isn't open as BadHandle; for a poisoned handle, but for a Close, as
+    /// Poisoned; and, if the client doesn't answer it by itself, while a call is outstanding as CallOutstanding. These
+    /// change nothing but what the noting of the time does.
     ///
-    /// A Poison sends nothing, and waits for no call: the client answers it, as call 0. An outstanding call on the
-    /// handle that isn't a Close is then told as refused, and its reply is dropped when it comes. Until then it stays
-    /// outstanding.
+    /// The client answers by itself, also beside an outstanding call: a read on a handle to read under whose name its
+    /// cache holds something, as StaleInstance where that is no view of the handle's instance; a plain Open of a name
+    /// under which its cache holds absence, as NotFound; a plain Open to read alone, where its cache holds a view on whose
+    /// instance a handle is kept (Burrows 2006, section 2.7), which then has the next number beside; and the Close of a
+    /// handle that is kept so, which stays open at the master.
+    ///
+    /// A Poison sends nothing either: the client answers it, as call 0. An outstanding call on the handle that isn't a
+    /// Close is then told as refused, and its reply is dropped when it comes. Until then it stays outstanding.
+    ///
+    /// Err for want of memory, and as Exhausted for a moment of 2^53 or more, behind the last call number and behind the
+    /// last handle number, 2^63-1: nothing is noted then.
     #[tactic(auto, unfolding(crate::specs::Asks::ask_step))]
     pub fn ask(&mut self, now: u64, asked: &Ask) -> Result<Asked, Fault>
         ensures { Does self.old self.new result (ask_step self.old now asked.now) }

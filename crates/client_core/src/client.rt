@@ -15,22 +15,25 @@ use std::alloc::{AllocError, Global};
 use std::marker::Model;
 use tags_cell::{Beat, ClientNumber, MessageNumber, NewHandle, Out, Request, Start};
 
-/// A client of a cell (Burrows 2006, section 2.7): its session with the lease on it, its handles, and its call that has no
-/// reply yet. To a contract, the record of these.
+/// A client of a cell (Burrows 2006, section 2.7): its session, its cache under the lease on it, its handles, and its call
+/// that has no reply yet. To a contract, the record of these.
 ///
 /// Each of `ask`, `give` and `beat` first notes the time, in milliseconds by the client's own clock: a moment that is
 /// earlier than the last one counts as that, and one of 2^53 or more is refused as Exhausted and changes nothing. Where
 /// memory runs out nothing changes either, not even the noted time.
 ///
+/// Where a client in a session notes that its lease has ended it empties its cache, serves nothing more, and is in
+/// jeopardy: the master may have ended the session. A better lease that runs ends the jeopardy; after 45,000 ms of it the
+/// session is given up (Burrows 2006, section 2.8).
+///
 /// A lease counts from the moment that was noted when its Start or Beat was sent, and not from when the answer came: the
 /// master counts its promise from the receipt, which is no earlier (Gray and Cheriton 1989, section 2; Burrows 2006,
 /// section 2.8).
 ///
-/// It processes the invalidations that its master sends, in order of their numbers, and acknowledges them by its next
-/// Beat (Burrows 2006, section 2.7). It caches nothing yet, so to process one is to note its number.
+/// The invalidations that its master sends take entries out of its cache, in order of their numbers, and are acknowledged
+/// by its next Beat (Burrows 2006, section 2.7).
 ///
-/// What isn't there yet: a cache; jeopardy, and the loss of a session by time; events; locks; and a change of the
-/// master's epoch.
+/// What isn't there yet: events, locks, and a change of the master's epoch.
 #[derive(Drop)]
 pub struct Client {
     pub(crate) alloc: Global,
@@ -78,7 +81,7 @@ impl Model for Client {
 }
 
 impl Client {
-    /// A client without a session, its clock at 0, its lease of span 0. Takes no memory yet. A number is used by one
+    /// A client without a session, its clock at 0, its cache empty and without a lease. Takes no memory yet. A number is used by one
     /// client alone, which is the caller's to see to.
     pub fn new(alloc: Global, number: ClientNumber, principal: Principal) -> Client
         ensures { result ≡ new_client number principal }
@@ -106,7 +109,8 @@ impl Client {
     /// Asks for what keeps the session, under the next number: a Start until the client has a session, then a Beat, which
     /// acknowledges the invalidations that it has processed, and no events yet; where the session is lost, or the client
     /// was told that it gets none, nothing more. The lease that it is answered with counts from the moment that is noted
-    /// now. Behind the last number, 2^63-1, it is refused as Exhausted, and nothing changes.
+    /// now. The lines are those that the noting of the time prints. Behind the last number, 2^63-1, it is refused as
+    /// Exhausted, and nothing changes.
     #[tactic(auto, unfolding(crate::specs::Beats::beat_step))]
     pub fn beat(&mut self, now: u64) -> Result<Beaten, Fault>
         ensures { Does self.old self.new result (beat_step self.old now) }
@@ -126,13 +130,14 @@ impl Client {
         }
     }
 
-    /// Gives the client a message of a master, and answers the lines that are printed.
+    /// Gives the client a message of a master, and answers the lines that are printed: first those that the noting of the
+    /// time prints.
     ///
     /// A Started gives it the session that its newest Start asked for, with the lease on it. An Alive that answers its
-    /// newest Beat gives it a lease, if it is of the client's epoch and the lease ends later than the one that there is.
-    /// Of every Alive of its epoch, whichever Beat that answers, it processes the invalidations, in order of their numbers,
-    /// and skips those that it has processed before (Burrows 2006, section 2.7). As it caches nothing yet, it only notes
-    /// the last number, to acknowledge it by its next Beat.
+    /// newest Beat gives it a lease, if it is of the client's epoch and the lease ends later than the one that there is;
+    /// it is taken even if it has ended already, and one that runs ends a jeopardy and lets the cache serve. Of every Alive
+    /// of its epoch, whichever Beat that answers, it processes the invalidations, in order of their numbers, and skips
+    /// those that it has processed before (Burrows 2006, section 2.7): what they name goes out of the cache.
     ///
     /// Refused as ProtocolFault, since no master sends it: in that Started, and in every Alive of the client's epoch, a
     /// span of 2^53 or more; and an Alive of its epoch in which the numbers of the invalidations don't rise by one, or
@@ -140,9 +145,17 @@ impl Client {
     ///
     /// A Reply ends the outstanding call, if it is for that call and of the client's epoch; a handle gets the client's next
     /// number for it, none is given out twice, and the number of a closed handle is open no more. Where the call's handle
-    /// was poisoned since, its Reply prints nothing. A refusal as NoSession, unless it is of an earlier epoch, ends the
-    /// session. Every other message changes nothing but the noted time: a repeated one, one of another epoch, another
-    /// refusal, and one for another client, which can't come where messages are delivered to those that they name.
+    /// was poisoned since, its Reply prints nothing. A handle that a plain Open to read alone got on a permanent node is
+    /// kept beside, to be shared, at most 4,096 of them. The view of a read, and the absence that a plain Open met, go into
+    /// the cache where the master stamped the answer, no invalidation was processed since that isn't counted in the stamp,
+    /// and the lease runs; never in jeopardy.
+    ///
+    /// A refusal as NoSession, unless it is of an earlier epoch, ends the session. Every other message changes nothing but
+    /// what the noting of the time does: a repeated one, one of another epoch, another refusal, any message once the
+    /// session is lost, and one for another client, which can't come where messages are delivered to those that they name.
+    ///
+    /// Err for want of memory, and as Exhausted for a moment of 2^53 or more and for a handle behind the last handle
+    /// number, 2^63-1: nothing is noted then.
     #[tactic(auto, unfolding(crate::specs::Gives::give_step))]
     pub fn give(&mut self, now: u64, out: &Out) -> Result<Given, Fault>
         ensures { Does self.old self.new result (give_step self.old now out.now) }
