@@ -1,5 +1,5 @@
 -- The arm of the table by which a client is asked for a call, or for a Start.
-use Rattle.std.proofs.Common.{◌≡◌, ◌≢◌, ℕ, ◌+◌, ◌<◌, ◌≤◌, max, Bool, true, false, cond, List, [], ◌∷◌, Option, Some, None, Result, Ok, Err, refl, sym, ap, ◌∙◌, subst, arith}
+use Rattle.std.proofs.Common.{◌≡◌, ◌≢◌, ℕ, ◌+◌, ◌<◌, max, Bool, true, false, cond, [], ◌∷◌, Option, Some, None, Result, Ok, Err, refl, sym, ap, ◌∙◌}
 use Rattle.std.specs.Prelude.{nat_lt, is_some}
 use Rattle.std.specs.Option.{option_map}
 use Rattle.lease_core.specs.Lease.{moment_limit}
@@ -36,10 +36,10 @@ use Rattle.client_core.specs.State.{ClientState, standing_then, session_behind, 
 use Rattle.client_core.specs.Handles.{handle_of}
 use Rattle.client_core.specs.Serves.{serve_read, share, entry_served}
 use Rattle.client_parts.specs.Opens.{is_plain, is_read_only, kept_handle}
-use Rattle.client_core.specs.Asks.{fault_then, usable_handle, send_plan, served_or, close_plan, poison_plan, node_plan, plan_of, asked_for, message_of, with_call, with_shared, send_step, share_step, ask_by, ask_in, ask_at, ask_step}
+use Rattle.client_core.specs.Asks.{fault_then, usable_handle, send_plan, served_or, close_plan, poison_plan, node_plan, plan_of, asked_for, message_of, with_call, with_shared, ask_by, ask_in, ask_at, ask_step}
 use Rattle.client_parts.specs.Calls.{call_on}
 use Rattle.client_core.specs.Beats.{start_message, beat_message, with_beat, beaten, sends, beat_by, beat_at, beat_step}
-use Rattle.client_core.specs.Cases.{noted_moment, IsSafe, IsUsable, IsReadable, IsShared, AskCase, asked_in, BeatCase, beaten_in}
+use Rattle.client_core.specs.Cases.{noted_moment, IsSafe, IsUsable, IsShared, AskCase, asked_in, BeatCase, beaten_in}
 use Rattle.client_core.specs.Cases.AskCase.{AskedTooLate, Unsafe, Refused, ReadServed, AbsenceServed, Shared, OutOfHandles, Released, OutOfCalls, Sent, Poisoned}
 use Rattle.client_core.specs.Cases.BeatCase.{BeatTooLate, OutOfBeats, Starts, Beats, Quiet}
 use Rattle.client_core.proofs.Noting.{either, less, not_less, faultless, then_in}

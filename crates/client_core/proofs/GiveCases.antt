@@ -1,9 +1,9 @@
 -- The arm of the table by which a client is given a message.
-use Rattle.std.proofs.Common.{◌≡◌, ◌≢◌, inl, inr, ℕ, ◌<◌, ◌≤◌, max, Bool, true, false, cond, List, [], ◌∷◌, Option, Some, None, Result, Ok, Err, refl, sym, ap, ◌∙◌, subst, arith, eqb}
+use Rattle.std.proofs.Common.{◌≡◌, ◌≢◌, inl, inr, ℕ, ◌<◌, ◌≤◌, max, Bool, true, false, cond, [], ◌∷◌, Option, Some, None, Result, Ok, Err, refl, sym, ap, ◌∙◌, subst, arith, eqb}
 use Rattle.std.specs.Prelude.{◌==◌, ◌&&◌, nat_lt, nat_le}
 use Rattle.std.proofs.lemmas.Bool.Decides.{nat_tests}
 use Rattle.lease_core.specs.Lease.{moment_limit}
-use Rattle.cache_core.specs.Caches.{noted, takes_lease}
+use Rattle.cache_core.specs.Caches.{takes_lease}
 use Rattle.cache_core.specs.declared.standings.Standing.{Standing}
 use Rattle.cache_core.specs.declared.standings.Standing.TheVariants as standings
 use Rattle.node_core.specs.declared.refusals.Fault.{Fault}
@@ -22,12 +22,12 @@ use Rattle.client_parts.specs.declared.steps.Given.{Given}
 use Rattle.client_parts.specs.declared.targets.Target.{Target}
 use Rattle.client_parts.specs.declared.targets.Target.TheVariants as targets
 use Rattle.client_parts.specs.declared.targets.Outstanding.{Outstanding}
-use Rattle.client_core.specs.State.{ClientState, standing_then, session_then, note_in, note, note_live, note_lines}
+use Rattle.client_core.specs.State.{ClientState, standing_then, session_then, note_in, note, note_live}
 use Rattle.client_core.specs.Lessons.{Lesson, is_safe, is_fresh, may_install, taught, lesson}
 use Rattle.client_core.specs.Gives.{is_live, is_unstarted, is_span, told, passed_over, rejected, offered, begun, with_processed, takes_offer, bettered, with_lease, safe_lines, kept_alive, target_for, awaited, answer_of, has_number, ended_plainly, ended, finish_step, reply_for, lost, lose_step, taken, taken_own, give_at, give_step}
 use Rattle.client_parts.specs.Invalidations.{is_in_order}
 use Rattle.client_parts.specs.Sessions.{session_without, session_after}
-use Rattle.client_core.specs.Cases.{noted_moment, IsSafe, IsHeard, IsLive, IsStarted, IsAlive, IsFit, IsTaken, IsAwaited, IsLearned, GiveCase, given_in}
+use Rattle.client_core.specs.Cases.{noted_moment, IsHeard, IsLive, IsStarted, IsAlive, IsFit, IsAwaited, GiveCase, given_in}
 use Rattle.client_core.specs.Cases.GiveCase.{GivenTooLate, OfAnother, Started, StartedUnfit, StartedDropped, LeaseTaken, LeaseStays, AliveUnfit, AliveDropped, OutOfNumbers, Replied, Installed, ReplyDropped, NotAwaited, Lost, TurnedAway, RefusalDropped}
 use Rattle.client_core.proofs.Noting.{either, less, not_less, same, other, up_to, both, safely, live_before, unstarted_before, noted_lease}
 

@@ -1,5 +1,5 @@
 -- What the steps make of a client's clock, of its Starts and Beats, of its lease, and of the invalidations that it has processed: each by the cases of the step.
-use Rattle.std.proofs.Common.{◌≡◌, ◌≢◌, ◌⊎◌, inl, inr, ℕ, ◌<◌, ◌≤◌, max, Bool, true, false, cond, List, [], Option, Some, None, Result, Ok, Err, refl, sym, ap, ◌∙◌, subst, arith}
+use Rattle.std.proofs.Common.{◌≡◌, ◌≢◌, ◌⊎◌, inl, inr, ℕ, ◌<◌, ◌≤◌, max, Bool, true, false, cond, [], Option, Some, None, Result, Ok, Err, refl, sym, ap, ◌∙◌, subst, arith}
 use Rattle.lease_core.specs.Lease.{LeaseTerms, moment_limit}
 use Rattle.cache_core.specs.Caches.{CacheState}
 use Rattle.cache_core.specs.declared.standings.Standing.{Standing}
@@ -20,16 +20,16 @@ use Rattle.client_parts.specs.declared.sessions.Session.{Session}
 use Rattle.client_parts.specs.declared.sessions.Session.TheVariants as sessions
 use Rattle.client_parts.specs.declared.steps.Beaten.{Beaten}
 use Rattle.client_parts.specs.declared.targets.Target.{Target}
-use Rattle.client_core.specs.State.{ClientState, standing_then, session_behind, session_in, session_then, note_in, note, note_live, note_lines}
+use Rattle.client_core.specs.State.{ClientState, standing_then, session_behind, session_in, note_in, note, note_live, note_lines}
 use Rattle.client_core.specs.Asks.{ask_step}
 use Rattle.client_core.specs.Beats.{start_message, beat_message, with_beat, beaten, beat_step}
 use Rattle.client_core.specs.Gives.{offered, ended_plainly, give_step}
-use Rattle.client_parts.specs.Invalidations.{is_in_order, last_number}
-use Rattle.client_core.specs.Cases.{noted_moment, IsLive, IsStarted, IsAlive, IsFit, IsTaken, AskCase, asked_in, BeatCase, beaten_in, GiveCase, given_in, noted}
+use Rattle.client_parts.specs.Invalidations.{last_number}
+use Rattle.client_core.specs.Cases.{noted_moment, IsLive, IsStarted, IsFit, IsTaken, AskCase, asked_in, BeatCase, beaten_in, GiveCase, given_in, noted}
 use Rattle.client_core.specs.Cases.AskCase.{AskedTooLate, Unsafe, Refused, ReadServed, AbsenceServed, Shared, OutOfHandles, Released, OutOfCalls, Sent, Poisoned}
 use Rattle.client_core.specs.Cases.BeatCase.{BeatTooLate, OutOfBeats, Starts, Beats, Quiet}
 use Rattle.client_core.specs.Cases.GiveCase.{GivenTooLate, OfAnother, Started, StartedUnfit, StartedDropped, LeaseTaken, LeaseStays, AliveUnfit, AliveDropped, OutOfNumbers, Replied, Installed, ReplyDropped, NotAwaited, Lost, TurnedAway, RefusalDropped}
-use Rattle.client_core.proofs.Noting.{noted_lease, note_clock, note_beats, note_sent, note_epoch, note_processed, note_lease, note_session}
+use Rattle.client_core.proofs.Noting.{noted_lease, note_clock, note_beats, note_sent, note_epoch, note_processed, note_lease}
 use Rattle.client_core.proofs.AskCases.{ask_case, beat_case}
 use Rattle.client_core.proofs.GiveCases.{give_case}
 

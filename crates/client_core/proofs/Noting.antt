@@ -1,8 +1,7 @@
 -- What the noting of the time does, by how the client stands.
-use Rattle.std.proofs.Common.{◌≡◌, ◌≢◌, ℕ, ◌<◌, ◌≤◌, Bool, true, false, cond, List, [], Option, Some, None, refl, sym, ap, ◌∙◌, subst, arith, eqb}
+use Rattle.std.proofs.Common.{◌≡◌, ◌≢◌, ℕ, ◌<◌, ◌≤◌, Bool, true, false, cond, [], None, refl, sym, ap, ◌∙◌, arith, eqb}
 use Rattle.std.specs.Prelude.{◌&&◌, nat_lt, nat_le, ◌-◌}
 use Rattle.std.proofs.lemmas.Bool.Decides.{nat_tests}
-use Rattle.lease_core.specs.Lease.{LeaseTerms}
 use Rattle.cache_core.specs.Caches.{CacheState, is_leased, noted}
 use Rattle.std.specs.Option.{option_to_list}
 use Rattle.cache_core.specs.Standings.{grace_period, standing_at, turn_line}
@@ -10,7 +9,7 @@ use Rattle.cache_core.specs.declared.standings.Standing.{Standing}
 use Rattle.cache_core.specs.declared.standings.Standing.TheVariants as standings
 use Rattle.client_parts.specs.declared.sessions.Session.{Session}
 use Rattle.client_parts.specs.declared.sessions.Session.TheVariants as sessions
-use Rattle.client_core.specs.State.{ClientState, at_moment, standing_then, session_behind, session_in, session_then, note_in, note, note_live, note_lines_in, note_lines}
+use Rattle.client_core.specs.State.{ClientState, at_moment, standing_then, session_behind, session_in, session_then, note_in, note, note_lines_in, note_lines}
 use Rattle.client_core.specs.Asks.{fault_then}
 use Rattle.client_parts.specs.Sessions.{standing_fault, session_fault}
 use Rattle.client_core.specs.Laws.{SafeNoteSetsTheClock}

@@ -1,5 +1,5 @@
 -- What the steps make of the handle numbers, of a reply that comes again, and of what is refused: each by the cases of the step.
-use Rattle.std.proofs.Common.{◌≡◌, ◌≢◌, ◌⊎◌, inl, inr, ℕ, ◌+◌, ◌<◌, ◌≤◌, max, Bool, true, false, cond, List, [], ◌∷◌, ◌++◌, Option, Some, None, Result, Ok, Err, refl, sym, ap, ◌∙◌, arith}
+use Rattle.std.proofs.Common.{◌≡◌, ◌≢◌, ◌⊎◌, inl, inr, ℕ, ◌+◌, ◌<◌, ◌≤◌, Bool, true, false, cond, List, [], ◌∷◌, ◌++◌, Option, Some, None, Result, Ok, Err, refl, sym, ap, ◌∙◌, arith}
 use Rattle.std.specs.Prelude.{◌==◌, ◌&&◌}
 use Rattle.std.specs.Option.{option_to_list}
 use Rattle.std.proofs.lemmas.Bool.Decides.{nat_tests}
@@ -32,11 +32,10 @@ use Rattle.client_parts.specs.declared.targets.Target.{Target}
 use Rattle.client_parts.specs.declared.targets.Outstanding.{Outstanding}
 use Rattle.client_core.specs.State.{ClientState, standing_then, session_then, note, note_live, note_lines_in, note_lines}
 use Rattle.client_parts.specs.Opens.{read_answer}
-use Rattle.client_core.specs.Asks.{asked_for}
 use Rattle.client_core.specs.Lessons.{Lesson, may_install, taught}
-use Rattle.client_core.specs.Gives.{is_live, told, passed_over, with_processed, safe_lines, target_for, awaited, answer_of, ended_plainly}
+use Rattle.client_core.specs.Gives.{is_live, told, passed_over, target_for, awaited, answer_of, ended_plainly}
 use Rattle.client_core.specs.Laws.{HandleNumbersRise, SharedNumbersRise, HandleNumbersStay, RepeatedReplyIsDropped, RefusedCallChangesNothing}
-use Rattle.client_core.specs.Cases.{noted_moment, IsSafe, IsAwaited, AskCase, asked_in, BeatCase, beaten_in, GiveCase, given_in, noted}
+use Rattle.client_core.specs.Cases.{noted_moment, IsSafe, IsAwaited, AskCase, asked_in, BeatCase, beaten_in, GiveCase, given_in}
 use Rattle.client_core.specs.Cases.AskCase.{AskedTooLate, Unsafe, Refused, ReadServed, AbsenceServed, Shared, OutOfHandles, Released, OutOfCalls, Sent, Poisoned}
 use Rattle.client_core.specs.Cases.BeatCase.{BeatTooLate, OutOfBeats, Starts, Beats, Quiet}
 use Rattle.client_core.specs.Cases.GiveCase.{GivenTooLate, OfAnother, Started, StartedUnfit, StartedDropped, LeaseTaken, LeaseStays, AliveUnfit, AliveDropped, OutOfNumbers, Replied, Installed, ReplyDropped, NotAwaited, Lost, TurnedAway, RefusalDropped}

@@ -1,5 +1,5 @@
 -- What the steps make of a client's cache, for one name: its entry stays or goes, and is installed by a reply alone. Each by the cases of the step.
-use Rattle.std.proofs.Common.{◌≡◌, ◌≢◌, ◌⊎◌, inl, inr, ℕ, ◌<◌, ◌≤◌, Bool, true, false, cond, List, [], ◌∷◌, ◌++◌, Option, Some, None, Result, Ok, Err, refl, sym, ap, ◌∙◌, subst, arith}
+use Rattle.std.proofs.Common.{◌≡◌, ◌≢◌, ◌⊎◌, inl, inr, ℕ, ◌<◌, Bool, true, false, cond, List, [], ◌∷◌, ◌++◌, Option, Some, None, refl, sym, ap, ◌∙◌, subst, arith}
 use Rattle.std.specs.Prelude.{nat_lt}
 use Rattle.std.specs.Cmp.Lexicographic.{bytes_decides, nat_list_eq_equiv}
 use Rattle.std.proofs.lemmas.Bool.Decides.{nat_tests}
@@ -18,8 +18,7 @@ use Rattle.client_parts.specs.declared.targets.Outstanding.{Outstanding}
 use Rattle.client_core.specs.State.{ClientState, note_in, note, note_live}
 use Rattle.client_core.specs.Asks.{ask_step}
 use Rattle.client_core.specs.Beats.{beat_step}
-use Rattle.client_core.specs.Lessons.{Lesson}
-use Rattle.client_core.specs.Gives.{under, offered, ended_plainly, give_step}
+use Rattle.client_core.specs.Gives.{under, offered, give_step}
 use Rattle.client_parts.specs.Invalidations.{all_flushed}
 use Rattle.client_core.specs.Cases.{noted_moment, IsAwaited, IsLearned, AskCase, asked_in, BeatCase, beaten_in, GiveCase, given_in}
 use Rattle.client_core.specs.Cases.AskCase.{AskedTooLate, Unsafe, Refused, ReadServed, AbsenceServed, Shared, OutOfHandles, Released, OutOfCalls, Sent, Poisoned}

@@ -3,8 +3,6 @@ use Rattle.std.specs.Prelude.{ℕ, ◌+◌, nat_lt, List, [], ◌∷◌, Option,
 use Rattle.std.specs.Map.{remove_entry}
 use Rattle.std.specs.BTreeMap.{is_at, insert_entry}
 use Rattle.std.specs.Ordering.{nat_cmp}
-use Rattle.cache_core.specs.declared.standings.Standing.{Standing}
-use Rattle.cache_core.specs.declared.standings.Standing.TheVariants as standings
 use Rattle.node_core.specs.Limits.{number_end}
 use Rattle.node_core.specs.declared.refusals.Fault.{Fault}
 use Rattle.node_core.specs.declared.refusals.Fault.TheVariants as faults
@@ -16,12 +14,9 @@ use Rattle.tags_cell.specs.declared.calls.Call.TheVariants as calls
 use Rattle.tags_cell.specs.declared.calls.Open.{Open}
 use Rattle.tags_cell.specs.declared.requests.Request.{Request}
 use Rattle.tags_cell.specs.declared.requests.Request.TheVariants as requests
-use Rattle.client_parts.specs.declared.sessions.Session.{Session}
-use Rattle.client_parts.specs.declared.sessions.Session.TheVariants as sessions
 use Rattle.client_parts.specs.declared.asks.Ask.{Ask}
 use Rattle.client_parts.specs.declared.asks.Ask.TheVariants as asks
 use Rattle.client_parts.specs.declared.asks.NodeCall.{NodeCall}
-use Rattle.client_parts.specs.declared.asks.NodeCall.TheVariants as node_calls
 use Rattle.client_parts.specs.declared.asks.Asked.{Asked}
 use Rattle.client_parts.specs.declared.asks.Outcome.{Outcome}
 use Rattle.client_parts.specs.declared.asks.Outcome.TheVariants.{Sent, Served, Answered, Refused}

@@ -1,7 +1,7 @@
 -- By which arm of its table a client does a step. Each law of the client is a match on these.
-use Rattle.std.specs.Prelude.{◌≡◌, ◌≢◌, ◌⊎◌, ℕ, ◌+◌, ◌<◌, ◌≤◌, max, true, false, List, [], ◌∷◌, ◌++◌, Option, Some, None, Result, Ok, Err}
+use Rattle.std.specs.Prelude.{◌≡◌, ◌≢◌, ◌⊎◌, ℕ, ◌+◌, ◌<◌, ◌≤◌, max, true, false, [], ◌∷◌, Option, Some, None, Result, Ok, Err}
 use Rattle.lease_core.specs.Lease.{moment_limit}
-use Rattle.cache_core.specs.Caches.{is_leased, takes_lease, answer, installed}
+use Rattle.cache_core.specs.Caches.{is_leased, takes_lease, answer}
 use Rattle.cache_core.specs.Kept.{serving}
 use Rattle.cache_core.specs.declared.standings.Standing.TheVariants as standings
 use Rattle.node_core.specs.Limits.{number_end}
@@ -33,7 +33,7 @@ use Rattle.client_parts.specs.declared.steps.Beaten.{Beaten}
 use Rattle.client_parts.specs.declared.targets.Target.{Target}
 use Rattle.client_parts.specs.declared.targets.Target.TheVariants as targets
 use Rattle.client_parts.specs.declared.targets.Outstanding.{Outstanding}
-use Rattle.client_core.specs.State.{ClientState, at_moment, standing_then, session_then, note, note_live, note_lines}
+use Rattle.client_core.specs.State.{ClientState, at_moment, session_then, note, note_live, note_lines}
 use Rattle.client_core.specs.Handles.{handle_of}
 use Rattle.client_parts.specs.Opens.{read_answer, is_plain, is_read_only, kept_handle}
 use Rattle.client_core.specs.Asks.{fault_then, plan_of, asked_for, message_of, with_call, with_shared, without_handle}

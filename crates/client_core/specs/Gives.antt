@@ -1,11 +1,10 @@
 -- A client is given a message of a master.
-use Rattle.std.specs.Prelude.{ℕ, ◌+◌, ◌==◌, ◌&&◌, nat_lt, nat_le, max, Bool, true, false, List, [], ◌∷◌, ◌++◌, Option, Some, None, Result, Ok, Err, if◌then◌else◌}
-use Rattle.std.specs.Option.{option_map_or}
+use Rattle.std.specs.Prelude.{ℕ, ◌+◌, ◌==◌, ◌&&◌, nat_lt, max, Bool, true, false, List, [], ◌∷◌, ◌++◌, Option, Some, None, Result, Ok, Err, if◌then◌else◌}
 use Rattle.std.specs.Map.{remove_entry}
 use Rattle.std.specs.BTreeMap.{is_at, insert_entry}
 use Rattle.std.specs.Ordering.{nat_cmp}
 use Rattle.lease_core.specs.Lease.{LeaseTerms, moment_limit, is_unexpired}
-use Rattle.cache_core.specs.Caches.{Entries, CacheState, flushed, installed, is_leased, takes_lease, noted}
+use Rattle.cache_core.specs.Caches.{CacheState, installed, takes_lease}
 use Rattle.cache_core.specs.Kept.{with_kept}
 use Rattle.cache_core.specs.Standings.{reprieved}
 use Rattle.cache_core.specs.declared.kept.Kept.{Kept}
@@ -22,7 +21,6 @@ use Rattle.tags_cell.specs.declared.outs.Out.{Out}
 use Rattle.tags_cell.specs.declared.outs.Out.TheVariants as outs
 use Rattle.tags_cell.specs.declared.outs.Started.{Started}
 use Rattle.tags_cell.specs.declared.beats.Alive.{Alive}
-use Rattle.tags_cell.specs.declared.beats.Invalidation.{Invalidation}
 use Rattle.tags_cell.specs.declared.outs.Reply.{Reply}
 use Rattle.tags_cell.specs.declared.outs.Refused.{Refused}
 use Rattle.tags_cell.specs.declared.outs.CallResult.{CallResult}
@@ -39,7 +37,7 @@ use Rattle.client_parts.specs.declared.targets.Target.TheVariants as targets
 use Rattle.client_parts.specs.declared.targets.Outstanding.{Outstanding}
 use Rattle.client_parts.specs.Sessions.{session_after}
 use Rattle.client_parts.specs.Invalidations.{is_in_order, last_number, all_flushed}
-use Rattle.client_core.specs.State.{ClientState, moment, at_moment, session_then, note, note_lines}
+use Rattle.client_core.specs.State.{ClientState, moment, session_then, note, note_lines}
 use Rattle.client_parts.specs.Opens.{is_shareable, kept_handle}
 use Rattle.client_core.specs.Lessons.{Lesson, opening_of, lesson}
 

@@ -1,5 +1,5 @@
 -- What holds of every client, whatever it is asked for and given.
-use Rattle.std.specs.Prelude.{◌≡◌, ℕ, ◌<◌, ◌≤◌, max, true, List, [], ◌∷◌, ◌++◌, None, Result, Ok, Err}
+use Rattle.std.specs.Prelude.{◌≡◌, ℕ, ◌<◌, ◌≤◌, max, true, List, [], ◌∷◌, ◌++◌, None, Ok}
 use Rattle.lease_core.specs.Lease.{IsMoment}
 use Rattle.cache_core.specs.Caches.{is_leased}
 use Rattle.node_core.specs.declared.refusals.Fault.{Fault}

@@ -1,19 +1,14 @@
 -- What a reply teaches a client of a name.
 use Rattle.std.specs.Prelude.{ℕ, ◌&&◌, nat_le, Bool, true, false, List, Option, Some, None, if◌then◌else◌}
-use Rattle.std.specs.Option.{option_map}
 use Rattle.cache_core.specs.declared.standings.Standing.{Standing}
 use Rattle.cache_core.specs.declared.standings.Standing.TheVariants as standings
 use Rattle.node_core.specs.declared.refusals.Fault.{Fault}
 use Rattle.node_core.specs.declared.refusals.Fault.TheVariants as faults
 use Rattle.node_core.specs.declared.views.View.{View}
-use Rattle.tags_cell.specs.declared.calls.Call.{Call}
-use Rattle.tags_cell.specs.declared.calls.Call.TheVariants as calls
 use Rattle.tags_cell.specs.declared.calls.Open.{Open}
 use Rattle.tags_cell.specs.declared.outs.CallResult.{CallResult}
 use Rattle.tags_cell.specs.declared.outs.CallResult.TheVariants as results
 use Rattle.tags_cell.specs.declared.outs.Reply.{Reply}
-use Rattle.tags_cell.specs.declared.requests.Request.{Request}
-use Rattle.tags_cell.specs.declared.requests.Request.TheVariants as requests
 use Rattle.client_parts.specs.declared.handles.ClientHandle.{ClientHandle}
 use Rattle.client_parts.specs.declared.targets.Outstanding.{Outstanding}
 use Rattle.client_parts.specs.declared.targets.Target.{Target}

@@ -1,16 +1,12 @@
 -- What a client answers out of its cache.
-use Rattle.std.specs.Prelude.{ℕ, ◌==◌, ◌&&◌, Bool, true, false, not, is_none, Option, Some, None, if◌then◌else◌}
+use Rattle.std.specs.Prelude.{ℕ, true, Option, Some, None, if◌then◌else◌}
 use Rattle.std.specs.Option.{option_map}
 use Rattle.cache_core.specs.Caches.{answer}
 use Rattle.cache_core.specs.Kept.{serving}
-use Rattle.node_core.specs.declared.kinds.Life.{Life}
-use Rattle.node_core.specs.declared.kinds.Life.TheVariants as lives
 use Rattle.node_core.specs.declared.refusals.Fault.TheVariants as faults
-use Rattle.node_core.specs.declared.answers.Answer.{Answer}
 use Rattle.node_core.specs.declared.answers.Answer.TheVariants as answers
 use Rattle.node_core.specs.declared.lines.Line.TheVariants as lines
 use Rattle.node_core.specs.declared.views.View.{View}
-use Rattle.tags_cell.specs.Modes.{Rights}
 use Rattle.tags_cell.specs.declared.calls.Open.{Open}
 use Rattle.tags_cell.specs.declared.outs.NewHandle.{NewHandle}
 use Rattle.client_parts.specs.declared.asks.NodeCall.{NodeCall}
