@@ -93,16 +93,18 @@ offer_case : (s : ClientState) (now : ℕ) (out : Out) (message : AliveMessage) 
 offer_case s now out message true heard is fit h =
     let e = both (message.number == s.beats) (takes_lease s.cache.lease (offered s message.span)) h in
     let m = noted_moment s now in
-    let n = processed_live s (noted_moment s now) message in
-    (LeaseTaken message heard is fit (record { newest = same message.number s.beats e.0; better = e.1 }),
-     ap {B = ClientState × Result Given Fault} (λ b. (cond b (bettered n m (offered s message.span)) n, Ok (told s m (safe_lines n m message) None))) (offer_same s m message ∙ h))
+    let n = processed_live s (noted_moment s now) message in (
+      LeaseTaken message heard is fit (record { newest = same message.number s.beats e.0; better = e.1 }),
+      ap {B = ClientState × Result Given Fault} (λ b. (cond b (bettered n m (offered s message.span)) n, Ok (told s m (safe_lines n m message) None))) (offer_same s m message ∙ h),
+    )
 offer_case s now out message false heard is fit h =
     let m = noted_moment s now in
     let n = processed_live s (noted_moment s now) message in
-    let e = offer_same s m message ∙ h in
-    (LeaseStays message heard is fit (λ newest. worse (message.number == s.beats) (takes_lease s.cache.lease (offered s message.span)) h (not_same message.number s.beats newest)),
-     ap {B = ClientState × Result Given Fault} (λ b. (cond b (bettered n m (offered s message.span)) n, Ok (told s m (safe_lines n m message) None))) e
-     ∙ ap {B = ClientState × Result Given Fault} (λ l. (n, Ok (told s m l None))) (taken_lines (takes_offer n message) _ _ _ _ e))
+    let e = offer_same s m message ∙ h in (
+      LeaseStays message heard is fit (λ newest. worse (message.number == s.beats) (takes_lease s.cache.lease (offered s message.span)) h (not_same message.number s.beats newest)),
+      ap {B = ClientState × Result Given Fault} (λ b. (cond b (bettered n m (offered s message.span)) n, Ok (told s m (safe_lines n m message) None))) e
+          ∙ ap {B = ClientState × Result Given Fault} (λ l. (n, Ok (told s m l None))) (taken_lines (takes_offer n message) _ _ _ _ e),
+    )
 
 fit_case : (s : ClientState) (now : ℕ) (out : Out) (message : AliveMessage) → IsHeard s now out → out ≡ outs.Alive message → IsFit s now message → IsGiven s now out (kept_alive s (noted_moment s now) message)
 fit_case s now out message heard is fit =
@@ -159,9 +161,10 @@ installed_case s now out message call t heard is for room h =
     (Installed message call t k.0 heard is for (record { teaches = h; safe = record { early = heard.early; live = r.live; safe = r.safe; leased = r.leased }; enabled = f.0; stamped = k.1; fresh = k.2 }), refl)
 
 lesson_case : (s : ClientState) (now : ℕ) (out : Out) (message : Reply) (call : Outstanding) (o : Option Lesson) → IsHeard s now out → out ≡ outs.Reply message → IsAwaited s now message call → call.target ≢ targets.Dropped → has_number s message.result ≡ true → lesson s (noted_moment s now) message call.target ≡ o → IsGiven s now out (ended s (noted_moment s now) call.target message.result o, Ok (told s (noted_moment s now) (lines.Done s.number message.number (answer_of s message.result) ∷ []) None))
-lesson_case s now out message call None heard is for kept room h =
-    (Replied message call heard is for room kept h,
-     in_session s now (λ n. (ended_plainly n call.target message.result, Ok (told s (noted_moment s now) (lines.Done s.number message.number (answer_of s message.result) ∷ []) None))) for.live.live)
+lesson_case s now out message call None heard is for kept room h = (
+  Replied message call heard is for room kept h,
+  in_session s now (λ n. (ended_plainly n call.target message.result, Ok (told s (noted_moment s now) (lines.Done s.number message.number (answer_of s message.result) ∷ []) None))) for.live.live,
+)
 lesson_case s now out message call (Some t) heard is for kept room h = installed_case s now out message call t heard is for room h
 
 room_case : (s : ClientState) (now : ℕ) (out : Out) (message : Reply) (call : Outstanding) (b : Bool) → IsHeard s now out → out ≡ outs.Reply message → IsAwaited s now message call → call.target ≢ targets.Dropped → has_number s message.result ≡ b → IsGiven s now out (cond b (ended s (noted_moment s now) call.target message.result (lesson s (noted_moment s now) message call.target), Ok (told s (noted_moment s now) (lines.Done s.number message.number (answer_of s message.result) ∷ []) None)) (s, Err faults.Exhausted))
@@ -214,15 +217,17 @@ stays_case : (s : ClientState) (now : ℕ) (out : Out) (message : RefusedMessage
 stays_case s now out message heard is stays = (RefusalDropped message heard is stays, refl)
 
 loss_case : (s : ClientState) (now : ℕ) (out : Out) (message : RefusedMessage) (b : Bool) → IsHeard s now out → out ≡ outs.Refused message → message.fault ≡ faults.NoSession → IsLive s now → nat_le s.epoch message.epoch ≡ b → left s now message ≡ cond b (Some sessions.Lost) None → IsGiven s now out (lose_step s (noted_moment s now) (cond b (Some sessions.Lost) None))
-loss_case s now out message true heard is fault live h after =
-    (Lost message heard is (record { fault = fault; live = live; epoch = up_to s.epoch message.epoch h }),
-     in_session s now (λ n. (lost n sessions.Lost, Ok (told s (noted_moment s now) (lines.Lost s.number ∷ []) None))) live.live)
+loss_case s now out message true heard is fault live h after = (
+  Lost message heard is (record { fault = fault; live = live; epoch = up_to s.epoch message.epoch h }),
+  in_session s now (λ n. (lost n sessions.Lost, Ok (told s (noted_moment s now) (lines.Lost s.number ∷ []) None))) live.live,
+)
 loss_case s now out message false heard is fault live h after = stays_case s now out message heard is after
 
 away_case : (s : ClientState) (now : ℕ) (out : Out) (message : RefusedMessage) → IsHeard s now out → out ≡ outs.Refused message → message.fault ≡ faults.NoSession → s.session ≡ sessions.Unstarted → IsGiven s now out (lose_step s (noted_moment s now) (Some sessions.TurnedAway))
-away_case s now out message heard is fault unstarted =
-    (TurnedAway message heard is fault unstarted,
-     ap (λ x. (lost (note_in x s (noted_moment s now)) sessions.TurnedAway, Ok (told s (noted_moment s now) (lines.Lost s.number ∷ []) None))) unstarted)
+away_case s now out message heard is fault unstarted = (
+  TurnedAway message heard is fault unstarted,
+  ap (λ x. (lost (note_in x s (noted_moment s now)) sessions.TurnedAway, Ok (told s (noted_moment s now) (lines.Lost s.number ∷ []) None))) unstarted,
+)
 
 without_case : (s : ClientState) (now : ℕ) (out : Out) (message : RefusedMessage) (session : Session) → IsHeard s now out → out ≡ outs.Refused message → message.fault ≡ faults.NoSession → session_then s (noted_moment s now) ≡ session → left s now message ≡ session_without session s.epoch message.epoch → IsGiven s now out (lose_step s (noted_moment s now) (session_without session s.epoch message.epoch))
 without_case s now out message sessions.Unstarted heard is fault at after = away_case s now out message heard is fault (unstarted_before s s.session (noted_moment s now) at)

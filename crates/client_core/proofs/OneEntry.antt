@@ -204,8 +204,8 @@ given_entry s now out name (StartedDropped message heard is old) h = EntryStays 
 given_entry s now out name (LeaseTaken message heard is fit taken) h =
     let all = all_flushed s.processed (noted_cache s.cache (noted_moment s now)).entries message.invalidations in
     EntryStays (then_cache s.cache.entries all _ name
-      (then_cache s.cache.entries (noted_cache s.cache (noted_moment s now)).entries all name (noted_stays s.cache (noted_moment s now) name h) (flushed_stays s.processed (noted_cache s.cache (noted_moment s now)).entries message.invalidations name))
-      (under_stays (record (noted_cache s.cache (noted_moment s now)) { entries = all }) (offered s message.span) (noted_moment s now) name))
+    (then_cache s.cache.entries (noted_cache s.cache (noted_moment s now)).entries all name (noted_stays s.cache (noted_moment s now) name h) (flushed_stays s.processed (noted_cache s.cache (noted_moment s now)).entries message.invalidations name))
+    (under_stays (record (noted_cache s.cache (noted_moment s now)) { entries = all }) (offered s message.span) (noted_moment s now) name))
 given_entry s now out name (LeaseStays message heard is fit worse) h =
     EntryStays (then_cache s.cache.entries (noted_cache s.cache (noted_moment s now)).entries _ name (noted_stays s.cache (noted_moment s now) name h) (flushed_stays s.processed (noted_cache s.cache (noted_moment s now)).entries message.invalidations name))
 given_entry s now out name (AliveUnfit message heard is alive unfit) h = EntryStays (note_stays s (noted_moment s now) name h)

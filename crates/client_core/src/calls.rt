@@ -187,10 +187,7 @@ impl Client {
         requires { IsMoment moment }
         ensures { Does self.old self.new result (carried_out self.old moment (plans.Release number)) }
     {
-        let lines = one_line(
-            self.alloc,
-            Line::Done(self.number.get(), 0, Answer::Closed),
-        )?;
+        let lines = one_line(self.alloc, Line::Done(self.number.get(), 0, Answer::Closed))?;
         self.clock = moment;
         drop(self.handles.remove(&number));
         Ok(Asked {

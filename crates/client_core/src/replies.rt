@@ -229,10 +229,7 @@ impl Client {
         let Some(session) = session.after(self.epoch, refused.epoch, refused.fault) else {
             return self.pass_over(moment, None);
         };
-        let lines = pushed(
-            self.note_lines(moment)?,
-            Line::Lost(self.number.get()),
-        )?;
+        let lines = pushed(self.note_lines(moment)?, Line::Lost(self.number.get()))?;
         self.note(moment);
         self.lose(session);
         Ok(Given {

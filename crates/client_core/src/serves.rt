@@ -58,11 +58,7 @@ impl Client {
         }
     }
 
-    fn entry_served(
-        &self,
-        opening: &Open,
-        entry: &Option<View>,
-    ) -> Result<Option<Plan>, AllocError>
+    fn entry_served(&self, opening: &Open, entry: &Option<View>) -> Result<Option<Plan>, AllocError>
         ensures { IfOk result (λ plan. plan ≡ entry_served self.now opening.now (Some entry.now)) }
     {
         match entry {

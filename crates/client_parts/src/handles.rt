@@ -43,11 +43,7 @@ impl Clone for ClientHandle {
 
 impl ClientHandle {
     /// What is kept of the handle that an Open gave.
-    pub fn of(
-        handle: &NewHandle,
-        opening: &Open,
-        shared: bool,
-    ) -> Result<ClientHandle, AllocError>
+    pub fn of(handle: &NewHandle, opening: &Open, shared: bool) -> Result<ClientHandle, AllocError>
         ensures { IfOk result (λ kept. kept ≡ kept_handle handle.now opening.now shared) }
     {
         Ok(ClientHandle {
