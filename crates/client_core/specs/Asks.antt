@@ -38,7 +38,7 @@ fault_then s moment = session_fault s.session (standing_then s moment)
 
 -- ---- handles
 
--- for all else it may not be poisoned
+-- an open handle that is not poisoned
 abbrev pub usable_handle : Option ClientHandle → Result ClientHandle Fault
 usable_handle None = Err faults.BadHandle
 usable_handle (Some handle) = if handle.poisoned then Err faults.Poisoned else Ok handle

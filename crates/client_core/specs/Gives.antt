@@ -99,7 +99,7 @@ started_step s moment message =
 
 -- ---- Alive: its invalidations
 
--- an older message takes nothing back
+-- what is invalidated goes out of the cache; an older message takes nothing back
 abbrev pub with_processed : ClientState → Alive → ClientState
 with_processed s message = record s {
   processed = max s.processed (last_number 0 message.invalidations);
