@@ -3,3 +3,4 @@ mod Notes
 mod Filtered
 mod TakenOver
 pub mod TakeCases
+pub mod Told

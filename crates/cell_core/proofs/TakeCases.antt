@@ -1,5 +1,5 @@
 -- The arm of the table that a message takes.
-use Rattle.std.proofs.Common.{◌≡◌, ◌≢◌, ℕ, ◌<◌, [], Bool, true, false, cond, Option, Some, None, Result, Ok, Err, refl, arith, eqb, inl, inr}
+use Rattle.std.proofs.Common.{◌≡◌, ◌≢◌, ℕ, ◌<◌, List, [], Bool, true, false, cond, Option, Some, None, Result, Ok, Err, refl, arith, eqb, inl, inr}
 use Rattle.std.specs.Prelude.{◌==◌, ◌||◌, nat_lt, is_none}
 use Rattle.std.proofs.lemmas.Bool.Decides.{nat_tests}
 use Rattle.node_core.specs.declared.refusals.Fault.{Fault}
@@ -18,9 +18,9 @@ use Rattle.session_core.specs.declared.records.Kept.{Kept}
 use Rattle.session_core.specs.Session.{beat_fault, kept_answer}
 use Rattle.cell_core.specs.declared.pending.Work.TheVariants as works
 use Rattle.cell_core.specs.State.{MasterState}
-use Rattle.cell_core.specs.Step.{session_of, kept_of, is_live, is_full, may_start, turned_away, refusal, queued, replied, waits, nothing, with_note, admission_of, admit_step, new_call_by, new_call, kept_step, call_step, start_step, beat_by, beat_step, take_at, take_step, is_past_end, is_spent, noted}
+use Rattle.cell_core.specs.Step.{session_of, kept_of, is_live, is_full, may_start, turned_away, refusal, queued, replied, is_cachable, granting, telling, waits, nothing, with_note, admission_of, admit_step, new_call_by, new_call, kept_step, call_step, start_step, beat_by, beat_step, take_at, take_step, is_past_end, is_spent, noted}
 use Rattle.cell_core.specs.Cases.{IsHeard, IsNew, TakeCase, taken_by}
-use Rattle.cell_core.specs.Cases.TakeCase.{StartRefused, StartRecovering, StartFull, StartQueued, OldBeat, BeatRefused, BeatParked, OldEpoch, NoSession, Repeated, OlderCall, Outstanding, Recovering, Answered, Waits}
+use Rattle.cell_core.specs.Cases.TakeCase.{StartRefused, StartRecovering, StartFull, StartQueued, OldBeat, BeatRefused, BeatParked, OldEpoch, NoSession, Repeated, OlderCall, Outstanding, Recovering, Answered, Granted, Waits}
 
 -- one of the cases is what is done
 abbrev pub IsCase : (s : MasterState) → Request → MasterState × Taken → Type 0
@@ -52,15 +52,24 @@ some_reply (Some reply) h = (reply, refl)
 
 -- ---- a new call
 
+-- an answer, by the name of which it tells
+told_case : (s : MasterState) (request : Request) (message : CallMessage) (admission : Admission) (answer : CallResult) (o : Option (List ℕ)) → IsNew s request message → s.recovering ≡ false → admission_of s message.client message.number message.call ≡ admission → admission.answer ≡ Some answer → admission.told ≡ o → IsCase s request (telling (with_note s admission.note) message.client message.number answer o)
+told_case s request message admission answer None new serving is some none =
+    (Answered message admission.note answer new serving (record { is_noted = rw is refl; is_answer = inl (rw is some, rw (is, none) tt) }), refl)
+told_case s request message admission answer (Some name) new serving is some told =
+    let t : MasterState = with_note s admission.note in
+    either s request (is_cachable t message.client name) (granting t message.client message.number answer name) (replied t message.client message.number answer)
+    (λ may. (Granted message admission.note answer name new serving (record { is_noted = rw is refl; is_answer = rw is some; is_told = rw is told; cachable = may }), refl))
+    (λ kept. (Answered message admission.note answer new serving (record { is_noted = rw is refl; is_answer = inl (rw is some, rw (is, told) kept) }), refl))
+
 -- by what it is answered at once, and whether there is room
-admit_case : (s : MasterState) (request : Request) (message : CallMessage) (admission : Admission) (o : Option CallResult) → IsNew s request message → s.recovering ≡ false → admission_of s message.client message.number message.call ≡ admission → admission.answer ≡ o → IsCase s request (admit_step (with_note s admission.note) message.client message.number message.call admission.touched o)
+admit_case : (s : MasterState) (request : Request) (message : CallMessage) (admission : Admission) (o : Option CallResult) → IsNew s request message → s.recovering ≡ false → admission_of s message.client message.number message.call ≡ admission → admission.answer ≡ o → IsCase s request (admit_step (with_note s admission.note) message.client message.number message.call admission.touched admission.told o)
 admit_case s request message admission None new serving is none =
     let t : MasterState = with_note s admission.note in
     either s request (is_full t) (replied t message.client message.number (results.Refused faults.Busy)) (waits t message.client message.number message.call admission.touched)
     (λ full. (Answered message admission.note (results.Refused faults.Busy) new serving (record { is_noted = rw is refl; is_answer = inr (rw is none, full, refl) }), refl))
     (λ room. (Waits message admission.note admission.touched new serving (record { is_touched = rw is refl; is_noted = rw is refl; passes = rw is none; room = room }), refl))
-admit_case s request message admission (Some answer) new serving is some =
-    (Answered message admission.note answer new serving (record { is_noted = rw is refl; is_answer = inl (rw is some) }), refl)
+admit_case s request message admission (Some answer) new serving is some = told_case s request message admission answer admission.told new serving is some refl
 
 new_case : (s : MasterState) (request : Request) (message : CallMessage) → IsNew s request message → IsCase s request (new_call s message.client message.number message.call)
 new_case s request message new =

@@ -1,5 +1,5 @@
 -- What a master is.
-use Rattle.std.specs.Prelude.{ℕ, Bool, not, List, [], ◌∷◌, map, filter, ◌==◌, true, false, fold, Option, Some, None}
+use Rattle.std.specs.Prelude.{ℕ, Bool, not, List, [], map, filter, ◌==◌, true, false, fold, Option}
 use Rattle.std.specs.Option.{option_map}
 use Rattle.std.specs.BTreeMap.{insert_entry}
 use Rattle.std.specs.Ordering.{nat_cmp}

@@ -1,7 +1,8 @@
 //! The tests of a new call.
-ghost use Rattle.std.specs.Prelude.{◌≡◌, [], ◌∷◌, Some, None, IfOk};
+ghost use Rattle.std.specs.Prelude.{◌≡◌, Some, None, IfOk};
+ghost use Rattle.std.specs.Option.{option_and_then};
 ghost use Rattle.tags_cell.specs.Handles.{read_handle};
-ghost use Rattle.cell_core.specs.Step.{admission_of, admission_of_open, open_admission, handle_admission, shown_note, bytes_of, is_of_cell, touched_by};
+ghost use Rattle.cell_core.specs.Step.{admission_of, admission_of_open, open_admission, handle_admission, shown_note, bytes_of, is_of_cell, touched_by, viewed_name, told_by_open};
 
 use crate::answers::node_fault;
 use crate::cells::Cell;
@@ -9,8 +10,7 @@ use crate::handles::{HandleKey, Note, OpenHandle};
 use crate::shown::bytes_of;
 use names_cell::Name;
 use node_core::Fault;
-use plain::Items;
-use std::alloc::{AllocError, Global};
+use std::alloc::AllocError;
 use tags_cell::{Call, CallResult, ClientNumber, Handle, MessageNumber, Open};
 
 /// What the tests of a new call give. It is made before anything changes.
@@ -18,19 +18,22 @@ use tags_cell::{Call, CallResult, ClientNumber, Handle, MessageNumber, Open};
 pub(crate) struct Admission {
     /// What is noted of a handle first.
     pub note: Option<Note>,
-    /// The names whose view the call may change, where it waits.
-    pub touched: Items<Name>,
+    /// The name whose view the call may change, where it waits.
+    pub touched: Option<Name>,
+    /// The name of which the answer tells what it shows: the view of its node, or that there is none.
+    pub told: Option<Name>,
     /// What is answered at once; None where the call waits for its turn.
     pub answer: Option<CallResult>,
 }
 
 impl Admission {
-    fn refused(alloc: Global, fault: Fault) -> Admission
-        ensures { result ≡ record { note = None; touched = []; answer = Some (CallResult.Refused fault) } }
+    fn refused(fault: Fault) -> Admission
+        ensures { result ≡ record { note = None; touched = None; told = None; answer = Some (CallResult.Refused fault) } }
     {
         Admission {
             note: None,
-            touched: Items::new(alloc),
+            touched: None,
+            told: None,
             answer: Some(CallResult::Refused(fault)),
         }
     }
@@ -48,7 +51,7 @@ impl Cell {
         match call {
             Call::Open(opening) => self.open_admission(client, number, opening),
             _ => match self.shown_handle(client, bytes_of(call))? {
-                None => Ok(Admission::refused(self.alloc, Fault::BadHandle)),
+                None => Ok(Admission::refused(Fault::BadHandle)),
                 Some(handle) => self.handle_admission(&handle, call),
             },
         }
@@ -62,7 +65,8 @@ impl Cell {
         let answer = self.answer_on(handle, call)?;
         Ok(Admission {
             note: self.shown_note(handle, bytes_of(call))?,
-            touched: touched_by(self.alloc, handle, call)?,
+            touched: touched_by(handle, call)?,
+            told: viewed_name(&handle.name, &answer)?,
             answer,
         })
     }
@@ -88,13 +92,14 @@ impl Cell {
         ensures { IfOk result (λ admission. admission ≡ open_admission self.now client number opening.now) }
     {
         if !self.is_of_cell(&opening.name) {
-            return Ok(Admission::refused(self.alloc, Fault::OtherCell));
+            return Ok(Admission::refused(Fault::OtherCell));
         }
         match &opening.create {
             None => self.plain_admission(client, number, opening),
             Some(create) => Ok(Admission {
                 note: None,
-                touched: one_name(self.alloc, &opening.name)?,
+                touched: Some(opening.name.clone()?),
+                told: None,
                 answer: node_fault(&create.node),
             }),
         }
@@ -109,10 +114,12 @@ impl Cell {
         ensures { IfOk result (λ admission. admission ≡ admission_of_open self.now client number opening.now None) }
     {
         let opened = self.plain_open(client, number, opening)?;
+        let told = told_by_open(&opening.name, &opened)?;
         let (note, answer) = self.opened(opened)?;
         Ok(Admission {
             note,
-            touched: Items::new(self.alloc),
+            touched: None,
+            told,
             answer: Some(answer),
         })
     }
@@ -124,20 +131,32 @@ impl Cell {
     }
 }
 
-// The names that a call on a handle's node touches.
-fn touched_by(alloc: Global, handle: &Handle, call: &Call) -> Result<Items<Name>, AllocError>
+// The name that a call on a handle's node touches.
+fn touched_by(handle: &Handle, call: &Call) -> Result<Option<Name>, AllocError>
     ensures { IfOk result (λ touched. touched ≡ touched_by handle.now call.now) }
 {
     match call {
-        Call::Set { .. } | Call::SetAcl { .. } | Call::Delete(_) => one_name(alloc, &handle.name),
-        _ => Ok(Items::new(alloc)),
+        Call::Set { .. } | Call::SetAcl { .. } | Call::Delete(_) => Ok(Some(handle.name.clone()?)),
+        _ => Ok(None),
     }
 }
 
-fn one_name(alloc: Global, name: &Name) -> Result<Items<Name>, AllocError>
-    ensures { IfOk result (λ names. names ≡ name.now ∷ []) }
+// A read tells what its node's name shows.
+fn viewed_name(name: &Name, answer: &Option<CallResult>) -> Result<Option<Name>, AllocError>
+    ensures { IfOk result (λ told. told ≡ option_and_then (viewed_name name.now) answer.now) }
 {
-    let mut names = Items::new(alloc);
-    names.push(name.clone()?)?;
-    Ok(names)
+    match answer {
+        Some(CallResult::Viewed(_)) => Ok(Some(name.clone()?)),
+        _ => Ok(None),
+    }
+}
+
+// An Open that finds nothing tells that.
+fn told_by_open(name: &Name, opened: &Result<Handle, Fault>) -> Result<Option<Name>, AllocError>
+    ensures { IfOk result (λ told. told ≡ told_by_open name.now opened.now) }
+{
+    match opened {
+        Err(Fault::NotFound) => Ok(Some(name.clone()?)),
+        _ => Ok(None),
+    }
 }

@@ -9,6 +9,7 @@ use gate_core::Gate;
 use names_cell::Component;
 use node_core::Map;
 use plain::{Items, Secret, Table};
+use rights_core::Rights;
 use rows_cell::{LockKey, LockState, Rows};
 use session_core::Sessions;
 use std::alloc::{AllocError, Global};
@@ -16,7 +17,8 @@ use std::marker::Model;
 use tags_cell::Reply;
 
 /// A master in memory: what it read from the rows when it came up and has committed since, the changes that wait, its
-/// sessions with the last call of each client, and the handles that it knows. It commits nothing by itself.
+/// sessions with the last call of each client, the handles that it knows, and the rights to cache names that it granted.
+/// It commits nothing by itself.
 #[derive(Drop)]
 pub struct Cell {
     pub(crate) alloc: Global,
@@ -30,6 +32,7 @@ pub struct Cell {
     pub(crate) sessions: Sessions<Reply>,
     pub(crate) recovering: bool,
     pub(crate) handles: Table<HandleKey, HandleState>,
+    pub(crate) rights: Rights,
     pub(crate) gate: Gate<Task>,
     pub(crate) clock: u64,
 }
@@ -51,6 +54,7 @@ impl Model for Cell {
       sessions = c.sessions;
       recovering = c.recovering;
       handles = c.handles;
+      rights = c.rights;
       gate = c.gate;
       clock = c.clock;
     } };
@@ -61,11 +65,11 @@ impl Model for Cell {
 impl Cell {
     ghost use Rattle.std.specs.Prelude.{◌≡◌, IfOk};
     ghost use Rattle.std.specs.Option.{option_copied};
-    ghost use Rattle.cell_core.specs.State.{master_of, locks_of, first_number, task_at};
+    ghost use Rattle.cell_core.specs.State.{master_of, locks_of, next_change, task_at};
     ghost use Rattle.cell_core.specs.Step.{noted};
 
-    /// A master that comes up with these rows, with its lease and the moment in milliseconds: nothing waits, and it
-    /// knows of no call and of no handle. Where a session is live it is in recovery.
+    /// A master that comes up with these rows, with its lease and the moment in milliseconds: nothing waits, no right is
+    /// held, and it knows of no call and of no handle. Where a session is live it is in recovery.
     pub fn of_rows(alloc: Global, rows: Rows, lease: u64, now: u64) -> Result<Cell, AllocError>
         requires range { (least_lease ≤ lease) × (lease ≤ longest_lease) }
         requires moment { IsMoment now }
@@ -95,6 +99,7 @@ impl Cell {
             sessions,
             recovering,
             handles: Table::new(alloc),
+            rights: Rights::new(alloc),
             gate: Gate::new(alloc),
             clock: now,
         })
@@ -145,14 +150,18 @@ impl Cell {
         self.alloc
     }
 
-    /// The number of the change that waits longest.
-    pub fn first_waiting(&self) -> Option<u64>
-        ensures { result ≡ first_number self.now.gate.waiting }
+    /// The rights to cache a name that it granted in this epoch, those that have ended included.
+    pub fn rights(&self) -> &Rights
+        ensures { result.now ≡ self.now.rights }
     {
-        match self.gate.as_slice() {
-            [] => None,
-            [first, ..] => Some(first.number),
-        }
+        &self.rights
+    }
+
+    /// The number of the lowest change that waits and that no right holds up. Takes no memory.
+    pub fn next_change(&self) -> Option<u64>
+        ensures { result ≡ next_change self.now }
+    {
+        self.gate.ready(&self.rights)
     }
 
     /// What the change of a number does, while it waits.

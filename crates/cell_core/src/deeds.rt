@@ -8,6 +8,7 @@ use crate::handles::{HandleKey, HandleState, Note};
 use names_cell::{Name, Principal};
 use node_core::{Mod, View};
 use plain::Items;
+use rights_core::Ending;
 use rows_cell::LockKey;
 use session_core::Kept;
 use std::alloc::AllocError;
@@ -20,7 +21,7 @@ pub enum SessionDeed {
     Begins(ClientNumber, Principal),
     /// It lives for a lease from now on.
     Prolongs(ClientNumber),
-    /// It has ended, which is committed, and so is that these locks are let go.
+    /// It has ended, which is committed, and so is that these locks are let go. It holds no right any more.
     Ends(u64, Principal, Items<LockKey>),
     /// Its parked Beat is answered.
     Answers(ClientNumber),
@@ -217,7 +218,10 @@ impl Cell {
             Some(SessionDeed::Prolongs(client)) => {
                 self.sessions.prolong(*client, now + self.sessions.lease());
             }
-            Some(SessionDeed::Ends(client, ..)) => self.sessions.expire(*client),
+            Some(SessionDeed::Ends(client, ..)) => {
+                self.sessions.expire(*client);
+                self.rights.end(*client, Ending::Expiry);
+            }
             Some(SessionDeed::Answers(client)) => self.sessions.answer(*client, now),
             _ => {}
         }

@@ -1,16 +1,18 @@
 //! What a master sends, and the tests of who may call.
-ghost use Rattle.std.specs.Prelude.{◌≡◌, [], ◌∷◌, IfOk};
-ghost use Rattle.cell_core.specs.Step.{refusal, turned_away, reply_of, sends, repeated, may_start, is_live, is_full};
+ghost use Rattle.std.specs.Prelude.{◌≡◌, [], ◌∷◌, map, IfOk};
+ghost use Rattle.rights_core.specs.Rights.{numbers_ending, grant_answer};
+ghost use Rattle.cell_core.specs.Step.{refusal, turned_away, reply_of, stamped_reply, issued_to, sends, repeated, granted_lines, acknowledgement, may_start, is_live, is_full, is_spent};
 
 use crate::cells::Cell;
 use crate::pending::Taken;
 use gate_core::PENDING_LIMIT;
-use names_cell::Principal;
-use node_core::{Fault, Line};
+use names_cell::{Name, Principal};
+use node_core::{Fault, Line, NUMBER_LIMIT};
 use plain::Items;
+use rights_core::{Ending, Grant};
 use session_core::Kept;
 use std::alloc::AllocError;
-use tags_cell::{CallResult, ClientNumber, MessageNumber, Out, Refused, Reply};
+use tags_cell::{Beat, CallResult, ClientNumber, MessageNumber, Out, Refused, Reply};
 
 impl Cell {
     // What is sent and printed, and not recorded.
@@ -45,7 +47,7 @@ impl Cell {
         }))
     }
 
-    /// The reply to a call.
+    /// The reply to a call: an answer that no client may keep in its cache.
     pub fn reply_of(&self, client: ClientNumber, number: MessageNumber, answer: CallResult) -> Reply
         ensures { result ≡ reply_of self.now client number answer }
     {
@@ -53,8 +55,66 @@ impl Cell {
             client,
             epoch: self.epoch,
             number,
+            stamp: None,
             result: answer,
         }
+    }
+
+    // The reply to a call, whose client may keep the answer in its cache unless it has processed an invalidation that is
+    // issued later.
+    pub(crate) fn stamped_reply(
+        &self,
+        client: ClientNumber,
+        number: MessageNumber,
+        answer: CallResult,
+    ) -> Reply
+        ensures { result ≡ stamped_reply self.now client number answer }
+    {
+        Reply {
+            client,
+            epoch: self.epoch,
+            number,
+            stamp: Some(self.issued_to(client)),
+            result: answer,
+        }
+    }
+
+    // How many invalidations were issued to a client's session.
+    fn issued_to(&self, client: ClientNumber) -> u64
+        ensures { result ≡ issued_to self.now client }
+    {
+        match self.sessions.get(client.get()) {
+            None => 0,
+            Some(session) => session.invalidations.issued,
+        }
+    }
+
+    // The line of a right that is granted; none of one that the client holds already.
+    pub(crate) fn granted_lines(
+        &self,
+        client: ClientNumber,
+        name: &Name,
+    ) -> Result<Items<Line>, AllocError>
+        ensures { IfOk result (λ lines. lines ≡ granted_lines client name.now (grant_answer client name.now self.now.rights)) }
+    {
+        let mut lines = Items::new(self.alloc);
+        if let Ok(Grant::Granted(number)) = self.rights.answer(client.get(), name) {
+            lines.push(Line::Granted(number, client.get(), name.clone()?))?;
+        }
+        Ok(lines)
+    }
+
+    // A line of each right that a Beat ends.
+    pub(crate) fn acked_lines(&self, beat: &Beat) -> Result<Items<Line>, AllocError>
+        ensures { IfOk result (λ lines. lines ≡ map Line.Acked (numbers_ending beat.now.client (acknowledgement beat.now) self.now.rights)) }
+    {
+        let ending = Ending::Acknowledgement(beat.invalidations);
+        let numbers = self.rights.ending(beat.client.get(), ending)?;
+        let mut lines = Items::new(self.alloc);
+        for number in numbers.as_slice() {
+            lines.push(Line::Acked(*number))?;
+        }
+        Ok(lines)
     }
 
     /// What is sent of a reply.
@@ -109,5 +169,12 @@ impl Cell {
         ensures { result ≡ is_full self.now }
     {
         self.gate.as_slice().len() >= PENDING_LIMIT
+    }
+
+    // Whether a count is at its end, of the changes that ever waited or of the rights that were ever granted.
+    pub(crate) fn is_spent(&self) -> bool
+        ensures { result ≡ is_spent self.now }
+    {
+        self.gate.pushed() >= NUMBER_LIMIT || self.rights.as_slice().len() as u64 >= NUMBER_LIMIT
     }
 }

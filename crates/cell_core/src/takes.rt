@@ -1,6 +1,6 @@
 //! What a master does with a message.
-ghost use Rattle.std.specs.Prelude.{◌≡◌, ◌≢◌, ◌-◌, ◌<◌, ◌^◌, [], false, Some, Ok, Err, IfOk, IfErr, OnOk, OnErr};
-ghost use Rattle.cell_core.specs.Step.{take_step, take_at, start_step, beat_step, call_step, kept_step, kept_of, new_call, with_note, admit_step, waits, is_full, queued, replied};
+ghost use Rattle.std.specs.Prelude.{◌≡◌, ◌≢◌, true, false, Some, None, Ok, Err, IfOk, IfErr, OnOk, OnErr};
+ghost use Rattle.cell_core.specs.Step.{take_step, take_at, start_step, beat_step, call_step, kept_step, kept_of, new_call, with_note, admit_step, telling, granting, is_cachable, waits, recorded, queued, is_full, is_spent, replied};
 ghost use Rattle.session_core.specs.Session.{kept_answer};
 
 use crate::admissions::Admission;
@@ -10,23 +10,26 @@ use crate::pending::{Taken, Task, Work, answered_by};
 use gate_core::Pending;
 use lease_core::MOMENT_LIMIT;
 use names_cell::Name;
-use node_core::{Fault, NUMBER_LIMIT};
+use node_core::Fault;
 use plain::Items;
+use rights_core::Ending;
 use session_core::Kept;
 use std::alloc::AllocError;
-use tags_cell::{Beat, Call, CallMessage, CallResult, ClientNumber, MessageNumber, Request, Start};
+use tags_cell::{
+    Beat, CallMessage, CallResult, ClientNumber, MessageNumber, Reply, Request, Start,
+};
 
 impl Cell {
     /// One step by a request that came. A moment, in milliseconds, that is earlier than the last one counts as that;
-    /// one of 2^53 or more is refused as Exhausted, and so is every request once 2^63-1 changes have waited. Nothing is
-    /// committed.
+    /// one of 2^53 or more is refused as Exhausted, and so is every request once 2^63-1 changes have waited or as many
+    /// rights were granted. Nothing is committed.
     #[tactic(auto, unfolding(crate::specs::Step::take_step))]
     pub fn take(&mut self, now: u64, request: &Request) -> Result<Taken, Fault>
         ensures ok { IfOk result (λ taken. take_step self.old now request.now ≡ Ok (self.new, taken)) }
         ensures fault { IfErr result (λ e. e ≢ Fault.NoMemory → take_step self.old now request.now ≡ Err e) }
         ensures err { OnErr result (self.new ≡ self.old) }
     {
-        if now >= MOMENT_LIMIT || self.gate.pushed() >= NUMBER_LIMIT {
+        if now >= MOMENT_LIMIT || self.is_spent() {
             return Err(Fault::Exhausted);
         }
         let before = self.note_moment(now);
@@ -40,7 +43,7 @@ impl Cell {
     }
 
     fn take_at(&mut self, request: &Request) -> Result<Taken, AllocError>
-        requires { self.old.gate.pushed < 2 ^ 63 - 1 }
+        requires { is_spent self.old ≡ false }
         ensures ok { IfOk result (λ taken. take_at self.old request.now ≡ (self.new, taken)) }
         ensures err { OnErr result (self.new ≡ self.old) }
     {
@@ -52,7 +55,7 @@ impl Cell {
     }
 
     fn start(&mut self, start: &Start) -> Result<Taken, AllocError>
-        requires { self.old.gate.pushed < 2 ^ 63 - 1 }
+        requires { is_spent self.old ≡ false }
         ensures ok { IfOk result (λ taken. start_step self.old start.now ≡ (self.new, taken)) }
         ensures err { OnErr result (self.new ≡ self.old) }
     {
@@ -70,7 +73,7 @@ impl Cell {
         Ok(self.nothing())
     }
 
-    // It acknowledges, and waits for its answer.
+    // It acknowledges, which ends rights, and waits for its answer.
     fn beat(&mut self, beat: &Beat) -> Result<Taken, AllocError>
         ensures ok { IfOk result (λ taken. beat_step self.old beat.now ≡ (self.new, taken)) }
         ensures err { OnErr result (self.new ≡ self.old) }
@@ -79,14 +82,22 @@ impl Cell {
             let present = self.epoch;
             return self.refusal(beat.client, beat.number, Fault::OldEpoch(present));
         }
+        let lines = self.acked_lines(beat)?;
         match self.sessions.beat(beat, self.clock) {
-            Ok(()) => Ok(self.nothing()),
+            Ok(()) => {
+                let ending = Ending::Acknowledgement(beat.invalidations);
+                self.rights.end(beat.client.get(), ending);
+                Ok(Taken {
+                    lines,
+                    outs: Items::new(self.alloc),
+                })
+            }
             Err(fault) => self.refusal(beat.client, beat.number, fault),
         }
     }
 
     fn call(&mut self, message: &CallMessage) -> Result<Taken, AllocError>
-        requires { self.old.gate.pushed < 2 ^ 63 - 1 }
+        requires { is_spent self.old ≡ false }
         ensures ok { IfOk result (λ taken. call_step self.old message.now ≡ (self.new, taken)) }
         ensures err { OnErr result (self.new ≡ self.old) }
     {
@@ -99,49 +110,44 @@ impl Cell {
         if !self.is_live(client) {
             return self.refusal(client, number, Fault::NoSession);
         }
-        self.by_kept(client, number, &message.call)
+        self.by_kept(message)
     }
 
     // By the last call of the client.
-    fn by_kept(
-        &mut self,
-        client: ClientNumber,
-        number: MessageNumber,
-        call: &Call,
-    ) -> Result<Taken, AllocError>
-        requires { self.old.gate.pushed < 2 ^ 63 - 1 }
-        ensures ok { IfOk result (λ taken. kept_step self.old client number call.now (kept_answer (kept_of self.old client) number) ≡ (self.new, taken)) }
+    fn by_kept(&mut self, message: &CallMessage) -> Result<Taken, AllocError>
+        requires { is_spent self.old ≡ false }
+        ensures ok { IfOk result (λ taken. kept_step self.old message.now.client message.now.number message.now.call (kept_answer (kept_of self.old message.now.client) message.now.number) ≡ (self.new, taken)) }
         ensures err { OnErr result (self.new ≡ self.old) }
     {
+        let client = message.client;
+        let number = message.number;
         match self.sessions.kept(client, number) {
             Err(fault) => self.refusal(client, number, fault),
             Ok(Some(kept)) => self.repeated(kept),
-            Ok(None) => self.new_call(client, number, call),
+            Ok(None) => self.new_call(message),
         }
     }
 
     // A call that is neither repeated nor too early. During recovery each is refused, and that is recorded.
-    fn new_call(
-        &mut self,
-        client: ClientNumber,
-        number: MessageNumber,
-        call: &Call,
-    ) -> Result<Taken, AllocError>
-        requires { self.old.gate.pushed < 2 ^ 63 - 1 }
-        ensures ok { IfOk result (λ taken. new_call self.old client number call.now ≡ (self.new, taken)) }
+    fn new_call(&mut self, message: &CallMessage) -> Result<Taken, AllocError>
+        requires { is_spent self.old ≡ false }
+        ensures ok { IfOk result (λ taken. new_call self.old message.now.client message.now.number message.now.call ≡ (self.new, taken)) }
         ensures err { OnErr result (self.new ≡ self.old) }
     {
+        let client = message.client;
+        let number = message.number;
         if self.recovering {
             return self.reply(client, number, CallResult::Refused(Fault::Recovering));
         }
         let Admission {
             note,
             touched,
+            told,
             answer,
-        } = self.admission(client, number, call)?;
+        } = self.admission(client, number, &message.call)?;
         match note {
-            None => self.admit(client, number, call, touched, answer),
-            Some(note) => self.admit_noted(note, client, number, call, touched, answer),
+            None => self.admit(message, touched, told, answer),
+            Some(note) => self.admit_noted(note, message, touched, told, answer),
         }
     }
 
@@ -149,19 +155,18 @@ impl Cell {
     fn admit_noted(
         &mut self,
         note: Note,
-        client: ClientNumber,
-        number: MessageNumber,
-        call: &Call,
-        touched: Items<Name>,
+        message: &CallMessage,
+        touched: Option<Name>,
+        told: Option<Name>,
         answer: Option<CallResult>,
     ) -> Result<Taken, AllocError>
-        requires { self.old.gate.pushed < 2 ^ 63 - 1 }
-        ensures ok { IfOk result (λ taken. admit_step (with_note self.old (Some note)) client number call.now touched answer ≡ (self.new, taken)) }
+        requires { is_spent self.old ≡ false }
+        ensures ok { IfOk result (λ taken. admit_step (with_note self.old (Some note)) message.now.client message.now.number message.now.call touched told answer ≡ (self.new, taken)) }
         ensures err { OnErr result (self.new ≡ self.old) }
     {
         let Note { key, state } = note;
         let former = self.handles.put(key, state)?;
-        match self.admit(client, number, call, touched, answer) {
+        match self.admit(message, touched, told, answer) {
             Ok(taken) => {
                 drop(former);
                 Ok(taken)
@@ -176,49 +181,110 @@ impl Cell {
     // A call that is answered at once, or waits where there is room.
     fn admit(
         &mut self,
-        client: ClientNumber,
-        number: MessageNumber,
-        call: &Call,
-        touched: Items<Name>,
+        message: &CallMessage,
+        touched: Option<Name>,
+        told: Option<Name>,
         answer: Option<CallResult>,
     ) -> Result<Taken, AllocError>
-        requires { self.old.gate.pushed < 2 ^ 63 - 1 }
-        ensures ok { IfOk result (λ taken. admit_step self.old client number call.now touched answer ≡ (self.new, taken)) }
+        requires { is_spent self.old ≡ false }
+        ensures ok { IfOk result (λ taken. admit_step self.old message.now.client message.now.number message.now.call touched told answer ≡ (self.new, taken)) }
         ensures err { OnErr result (self.new ≡ self.old) }
     {
         match answer {
-            Some(result) => self.reply(client, number, result),
+            Some(result) => self.tell(message.client, message.number, result, told),
             None => {
                 if self.is_full() {
-                    self.reply(client, number, CallResult::Refused(Fault::Busy))
+                    let busy = CallResult::Refused(Fault::Busy);
+                    self.reply(message.client, message.number, busy)
                 } else {
-                    self.wait(client, number, call, touched)
+                    self.wait(message, touched)
                 }
             }
         }
     }
 
-    // Queues a call, and keeps that it waits.
-    fn wait(
+    // An answer, by the name of which it tells what it shows.
+    fn tell(
         &mut self,
         client: ClientNumber,
         number: MessageNumber,
-        call: &Call,
-        touched: Items<Name>,
+        answer: CallResult,
+        told: Option<Name>,
     ) -> Result<Taken, AllocError>
-        requires room { is_full self.old ≡ false }
-        requires more { self.old.gate.pushed < 2 ^ 63 - 1 }
-        ensures ok { IfOk result (λ taken. waits self.old client number call.now touched ≡ (self.new, taken)) }
+        requires { is_spent self.old ≡ false }
+        ensures ok { IfOk result (λ taken. telling self.old client number answer told ≡ (self.new, taken)) }
         ensures err { OnErr result (self.new ≡ self.old) }
     {
-        let work = Work::Calls(call.clone()?);
+        let Some(name) = told else {
+            return self.reply(client, number, answer);
+        };
+        if self.gate.cachable(&self.rights, client.get(), &name) {
+            self.grant(client, number, answer, &name)
+        } else {
+            self.reply(client, number, answer)
+        }
+    }
+
+    // Grants the client the right to keep its answer.
+    fn grant(
+        &mut self,
+        client: ClientNumber,
+        number: MessageNumber,
+        answer: CallResult,
+        name: &Name,
+    ) -> Result<Taken, AllocError>
+        requires cachable { is_cachable self.old client name.now ≡ true }
+        requires more { is_spent self.old ≡ false }
+        ensures ok { IfOk result (λ taken. granting self.old client number answer name.now ≡ (self.new, taken)) }
+        ensures err { OnErr result (self.new ≡ self.old) }
+    {
+        let reply = self.stamped_reply(client, number, answer);
+        let Taken { lines: _, outs } = self.sends(&reply)?;
+        let lines = self.granted_lines(client, name)?;
+        if self.rights.grant(client.get(), name).is_err() {
+            return Err(AllocError);
+        }
+        self.sessions.keep(client, answered_by(reply));
+        Ok(Taken { lines, outs })
+    }
+
+    // Queues a call, and keeps that it waits; who holds the name that it touches is asked for it.
+    fn wait(&mut self, message: &CallMessage, touched: Option<Name>) -> Result<Taken, AllocError>
+        requires room { is_full self.old ≡ false }
+        requires more { is_spent self.old ≡ false }
+        ensures ok { IfOk result (λ taken. waits self.old message.now.client message.now.number message.now.call touched ≡ (self.new, taken)) }
+        ensures err { OnErr result (self.new ≡ self.old) }
+    {
+        let mut names = Items::new(self.alloc);
+        let Some(name) = touched else {
+            self.queue_call(message, names)?;
+            return Ok(self.nothing());
+        };
+        let asked = self.rights.to_ask(&name)?;
+        names.push(name.clone()?)?;
+        self.queue_call(message, names)?;
+        self.rights.mark(&name, &asked);
+        self.sessions.issue_all(&asked);
+        Ok(self.nothing())
+    }
+
+    // A call stands behind all others, and is the last one of its client.
+    fn queue_call(&mut self, message: &CallMessage, touched: Items<Name>) -> Result<(), AllocError>
+        requires room { is_full self.old ≡ false }
+        requires more { is_spent self.old ≡ false }
+        ensures ok { OnOk result (self.new ≡ queued (recorded self.old message.now.client (record { number = message.now.number; reply = None })) touched (record { client = message.now.client; number = message.now.number; work = Work.Calls message.now.call })) }
+        ensures err { OnErr result (self.new ≡ self.old) }
+    {
+        let client = message.client;
+        let number = message.number;
+        let work = Work::Calls(message.call.clone()?);
         self.queue(client, number, work, touched)?;
         let kept = Kept {
             number,
             reply: None,
         };
         self.sessions.keep(client, kept);
-        Ok(self.nothing())
+        Ok(())
     }
 
     // What waits stands behind all others.
@@ -230,7 +296,7 @@ impl Cell {
         touched: Items<Name>,
     ) -> Result<(), AllocError>
         requires room { is_full self.old ≡ false }
-        requires more { self.old.gate.pushed < 2 ^ 63 - 1 }
+        requires more { is_spent self.old ≡ false }
         ensures ok { OnOk result (self.new ≡ queued self.old touched (record { client = client; number = number; work = work })) }
         ensures err { OnErr result (self.new ≡ self.old) }
     {
@@ -245,7 +311,7 @@ impl Cell {
         }
     }
 
-    // Records a reply, and sends it.
+    // Records a reply that no client may keep in its cache, and sends it.
     fn reply(
         &mut self,
         client: ClientNumber,
