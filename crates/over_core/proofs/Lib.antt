@@ -6,4 +6,5 @@ mod KeptByUps
 mod OrderlyChanges
 pub mod OwnedRights
 mod SweepRefused
+mod UpCases
 pub mod SweepCases
