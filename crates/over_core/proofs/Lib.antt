@@ -6,5 +6,4 @@ mod KeptByUps
 mod OrderlyChanges
 pub mod OwnedRights
 mod SweepRefused
-mod UpCases
 pub mod SweepCases
