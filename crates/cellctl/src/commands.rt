@@ -6,20 +6,15 @@ use crate::check::check_store;
 use crate::exits::{unread_status, unwritten_status};
 use crate::help::{SCRIPTS, STORES, VERSION};
 use crate::settings::settings;
+use crate::stores::run_over;
 use anyhow::{Context, Result, bail};
 use clap::error::{Error, ErrorKind};
 use clap::{Arg, ArgAction, ArgMatches, Command};
-use rows_cell::{ListRecords, Settings};
-use script_cell::script;
 use std::alloc::{AllocError, Global};
 use std::env::{self, Args};
-use std::io::BufWriter;
-
-/// How many bytes are written at once.
-const WRITE_SIZE: usize = 0x4_0000;
 
 /// Does what the command line asks for, and answers the exit status: that of the script; 0 for a sound store and 3 for one
-/// that is refused; 0 behind help and the version; 1 where these can't be written; 2 for a wrong command line, also one
+/// that is refused or can't be opened; 0 behind help and the version; 1 where these can't be written; 2 for a wrong command line, also one
 /// that isn't UTF-8, and for settings that aren't any; 4 where memory runs out before.
 pub(crate) fn run(rt: &HostRuntime) -> u8
     ensures { IsExit result }
@@ -63,11 +58,10 @@ fn do_command(rt: &HostRuntime, matches: &ArgMatches<'_>) -> Result<u8>
     if let Some(found) = matches.subcommand_matches("check") {
         return check_store(rt, found.get_str("FILE").unwrap_or_default());
     }
-    let named = match matches.subcommand_matches("run") {
-        Some(found) => found.get_str("settings"),
-        None => None,
-    };
-    run_script(rt, named)
+    match matches.subcommand_matches("run") {
+        Some(found) => run_script(rt, found.get_str("settings"), found.get_str("store")),
+        None => run_script(rt, None, None),
+    }
 }
 
 fn cellctl<'a>(alloc: Global) -> Result<Command<'a>, AllocError> {
@@ -85,12 +79,18 @@ fn run_words<'a>(alloc: Global) -> Result<Command<'a>, AllocError> {
         .value_name("FILE")
         .help("The settings of the cell, in TOML")
         .action(ArgAction::Set);
+    let store = Arg::new(alloc, "store")
+        .long("store")
+        .value_name("FILE")
+        .help("The SQLite file of the store; without it the store stands in memory")
+        .action(ArgAction::Set);
     Command::new(alloc, "run")
         .about(
             "Runs a script: its steps on standard input, the lines that they print on standard output",
         )
         .after_help(SCRIPTS)
-        .arg(settings)
+        .arg(settings)?
+        .arg(store)
 }
 
 fn check_words<'a>(alloc: Global) -> Result<Command<'a>, AllocError> {
@@ -119,30 +119,13 @@ fn tell(rt: &HostRuntime, words: &Error) -> u8
     }
 }
 
-// A script of standard input, over rows in memory, with the settings of a file or the standard ones.
-fn run_script(rt: &HostRuntime, named: Option<&str>) -> Result<u8>
+// A script of standard input, with the settings of a file or the standard ones, over the store in a file or a new one in
+// memory.
+fn run_script(rt: &HostRuntime, named: Option<&str>, store: Option<&str>) -> Result<u8>
     ensures { IfOk result IsExit }
 {
     match settings(rt, named) {
-        Ok(settings) => run_with(rt, &settings),
+        Ok(settings) => run_over(rt, &settings, store),
         Err(status) => Ok(status),
     }
-}
-
-fn run_with(rt: &HostRuntime, settings: &Settings) -> Result<u8>
-    ensures { IfOk result IsExit }
-{
-    let alloc = rt.alloc();
-    let records = ListRecords::new(alloc, settings).context("making the rows")?;
-    let mut output = BufWriter::with_capacity(alloc, WRITE_SIZE, rt.stdout()).context(
-        "making room for the output",
-    )?;
-    Ok(script(
-        alloc,
-        settings,
-        records,
-        rt.reader(),
-        &mut output,
-        rt.stderr(),
-    ))
 }

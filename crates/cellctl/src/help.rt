@@ -46,7 +46,11 @@ Exit status:
   0                 the script ran to its end; a refused step is a line like others
   1                 a bad step, behind which nothing is done; or the output can't be written
   2                 a wrong command line, or settings that aren't any
+  3                 the store can't be opened, or holds no rows of a cell
   4                 memory ran out outside a step
+
+The store is a SQLite file. Where it isn't there, or has no table, a new store is made in it; else its rows are taken as
+they are. Nobody else may write it meanwhile.
 
 Settings are a table in TOML. A key that isn't there has its value here:
   cell       = \"c\"               a component

@@ -6,6 +6,7 @@ mod commands;
 mod exits;
 mod help;
 mod settings;
+mod stores;
 
 use std::process::ExitCode;
 

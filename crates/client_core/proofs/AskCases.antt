@@ -1,43 +1,48 @@
 -- The arm of the table by which a client is asked for a call, or for a Start.
-use Rattle.std.proofs.Common.{◌≡◌, inl, inr, ℕ, ◌+◌, ◌<◌, ◌≤◌, max, Bool, true, false, cond, List, Option, Some, None, Result, Ok, Err, refl, sym, ap, ◌∙◌, subst, arith}
+use Rattle.std.proofs.Common.{◌≡◌, ◌≢◌, ℕ, ◌+◌, ◌<◌, max, Bool, true, false, cond, [], ◌∷◌, Option, Some, None, Result, Ok, Err, refl, sym, ap, ◌∙◌}
 use Rattle.std.specs.Prelude.{nat_lt, is_some}
-use Rattle.std.proofs.lemmas.Bool.Decides.{nat_tests}
+use Rattle.std.specs.Option.{option_map}
 use Rattle.lease_core.specs.Lease.{moment_limit}
+use Rattle.cache_core.specs.Caches.{answer}
+use Rattle.cache_core.specs.Kept.{serving}
+use Rattle.cache_core.specs.declared.standings.Standing.{Standing}
+use Rattle.cache_core.specs.declared.standings.Standing.TheVariants as standings
 use Rattle.node_core.specs.Limits.{number_end}
 use Rattle.node_core.specs.declared.refusals.Fault.{Fault}
 use Rattle.node_core.specs.declared.refusals.Fault.TheVariants as faults
+use Rattle.node_core.specs.declared.answers.Answer.TheVariants as answers
+use Rattle.node_core.specs.declared.lines.Line.TheVariants as lines
+use Rattle.node_core.specs.declared.views.View.{View}
 use Rattle.tags_cell.specs.declared.calls.Call.{Call}
 use Rattle.tags_cell.specs.declared.calls.Call.TheVariants as calls
-use Rattle.tags_cell.specs.declared.requests.Request.{Request}
-use Rattle.client_core.specs.declared.asks.Ask.{Ask}
-use Rattle.client_core.specs.declared.asks.Ask.TheVariants as asks
-use Rattle.client_core.specs.declared.asks.NodeCall.{NodeCall}
-use Rattle.client_core.specs.declared.asks.Asked.{Asked}
-use Rattle.client_core.specs.declared.asks.Asked.TheVariants as asked
-use Rattle.client_core.specs.declared.handles.ClientHandle.{ClientHandle}
+use Rattle.tags_cell.specs.declared.calls.Open.{Open}
+use Rattle.tags_cell.specs.declared.outs.NewHandle.{NewHandle}
+use Rattle.client_parts.specs.declared.asks.Ask.{Ask}
+use Rattle.client_parts.specs.declared.asks.Ask.TheVariants as asks
+use Rattle.client_parts.specs.declared.asks.NodeCall.{NodeCall}
+use Rattle.client_parts.specs.declared.asks.NodeCall.TheVariants as node_calls
+use Rattle.client_parts.specs.declared.asks.Asked.{Asked}
+use Rattle.client_parts.specs.declared.asks.Outcome.TheVariants as outcomes
+use Rattle.client_parts.specs.declared.handles.ClientHandle.{ClientHandle}
 use Rattle.client_core.specs.declared.plans.Plan.{Plan}
 use Rattle.client_core.specs.declared.plans.Plan.TheVariants as plans
-use Rattle.client_core.specs.declared.sessions.Session.{Session}
-use Rattle.client_core.specs.declared.sessions.Session.TheVariants as sessions
-use Rattle.client_core.specs.declared.targets.Target.{Target}
-use Rattle.client_core.specs.declared.targets.Target.TheVariants as targets
-use Rattle.client_core.specs.declared.targets.Outstanding.{Outstanding}
-use Rattle.client_core.specs.State.{ClientState}
-use Rattle.client_core.specs.Asks.{session_fault, handle_of, open_bytes, usable_handle, usable_bytes, call_on, send_plan, close_plan, poison_plan, node_plan, session_plan, plan_in, plan_of, message_of, with_call, send_step, ask_by, ask_at, ask_step}
-use Rattle.client_core.specs.Beats.{start_message, beat_message, with_beat, sends, beat_by, beat_at, beat_step}
-use Rattle.client_core.specs.Cases.{IsSendable, AskCase, asked_in, BeatCase, beaten_in}
-use Rattle.client_core.specs.Cases.AskCase.{AskedTooLate, Refused, OutOfCalls, Sent, Poisoned}
+use Rattle.client_parts.specs.declared.sessions.Session.{Session}
+use Rattle.client_parts.specs.declared.sessions.Session.TheVariants as sessions
+use Rattle.client_parts.specs.declared.steps.Beaten.{Beaten}
+use Rattle.client_parts.specs.declared.targets.Target.{Target}
+use Rattle.client_parts.specs.declared.targets.Target.TheVariants as targets
+use Rattle.client_parts.specs.declared.targets.Outstanding.{Outstanding}
+use Rattle.client_core.specs.State.{ClientState, standing_then, session_behind, session_in, session_then, note_in, note_lines_in, note_lines}
+use Rattle.client_core.specs.Handles.{handle_of}
+use Rattle.client_core.specs.Serves.{serve_read, share, entry_served}
+use Rattle.client_parts.specs.Opens.{is_plain, is_read_only, kept_handle}
+use Rattle.client_core.specs.Asks.{fault_then, usable_handle, send_plan, served_or, close_plan, poison_plan, node_plan, plan_of, asked_for, message_of, with_call, with_shared, ask_by, ask_in, ask_at, ask_step}
+use Rattle.client_parts.specs.Calls.{call_on}
+use Rattle.client_core.specs.Beats.{start_message, beat_message, with_beat, beaten, sends, beat_by, beat_at, beat_step}
+use Rattle.client_core.specs.Cases.{noted_moment, IsSafe, IsUsable, IsShared, AskCase, asked_in, BeatCase, beaten_in}
+use Rattle.client_core.specs.Cases.AskCase.{AskedTooLate, Unsafe, Refused, ReadServed, AbsenceServed, Shared, OutOfHandles, Released, OutOfCalls, Sent, Poisoned}
 use Rattle.client_core.specs.Cases.BeatCase.{BeatTooLate, OutOfBeats, Starts, Beats, Quiet}
-
-pub either : {A : Type 0} (P : A → Type 0) (b : Bool) (x y : A) → (b ≡ true → P x) → (b ≡ false → P y) → P (cond b x y)
-either P true x y h k = h refl
-either P false x y h k = k refl
-
-pub less : (n m : ℕ) → nat_lt n m ≡ true → n < m
-less n m h = grind (arith, nat_tests)
-
-pub not_less : (n m : ℕ) → nat_lt n m ≡ false → m ≤ n
-not_less n m h = grind (arith, nat_tests)
+use Rattle.client_core.proofs.Noting.{either, less, not_less, faultless, then_in}
 
 -- ---- ask
 
@@ -45,120 +50,143 @@ not_less n m h = grind (arith, nat_tests)
 abbrev pub IsAsked : (s : ClientState) (now : ℕ) (ask : Ask) → ClientState × Result Asked Fault → Type 0
 IsAsked s now ask p = (c : AskCase s now ask) × (p ≡ asked_in s now ask c)
 
--- what may be sent: nothing while another call is outstanding
-free_to : (s : ClientState) (o : Option Outstanding) (call c : Call) (target t : Target) → s.outstanding ≡ o → cond {A = Result Plan Fault} (is_some o) (Err faults.CallOutstanding) (Ok (plans.Send call target)) ≡ Ok (plans.Send c t) → s.outstanding ≡ None
-free_to s None call c target t is h = is
-free_to s (Some former) call c target t is h = cc
+-- a plan is carried out
+abbrev IsDone : (s : ClientState) (now : ℕ) (ask : Ask) → Result Plan Fault → Type 0
+IsDone s now ask plan = plan_of s (noted_moment s now) ask ≡ plan → IsAsked s now ask (ask_by s (noted_moment s now) plan)
 
-free_to_send : (s : ClientState) (call c : Call) (target t : Target) → send_plan s call target ≡ Ok (plans.Send c t) → s.outstanding ≡ None
-free_to_send s call c target t h = free_to s s.outstanding call c target t refl h
+send_case : (s : ClientState) (now : ℕ) (ask : Ask) (call : Call) (target : Target) → IsSafe s now → s.outstanding ≡ None → IsDone s now ask (Ok (plans.Send call target))
+send_case s now ask call target safe free is =
+    either (IsAsked s now ask) (nat_lt (s.calls + 1) number_end) (with_call s (noted_moment s now) call target, Ok (asked_for [] (outcomes.Sent (message_of s call)))) (s, Err faults.Exhausted)
+    (λ h. (Sent call target (record { safe = safe; is_plan = is; free = free }) (less (s.calls + 1) number_end h), refl))
+    (λ h. (OutOfCalls call target (record { safe = safe; is_plan = is; free = free }) (not_less (s.calls + 1) number_end h), refl))
 
-free_to_close : (s : ClientState) (number : ℕ) (r : Result (List ℕ) Fault) (c : Call) (t : Target) → close_plan s number r ≡ Ok (plans.Send c t) → s.outstanding ≡ None
-free_to_close s number (Ok bytes) c t h = free_to_send s (calls.Close bytes) c (targets.Closing number) t h
-free_to_close s number (Err fault) c t h = cc
+sends_beside : (s : ClientState) (now : ℕ) (ask : Ask) (call : Call) (target : Target) (o : Option Outstanding) → IsSafe s now → s.outstanding ≡ o → IsDone s now ask (cond (is_some o) (Err faults.CallOutstanding) (Ok (plans.Send call target)))
+sends_beside s now ask call target None safe free is = send_case s now ask call target safe free is
+sends_beside s now ask call target (Some former) safe busy is = (Refused faults.CallOutstanding safe is, refl)
 
-free_to_call : (s : ClientState) (number : ℕ) (call : NodeCall) (r : Result (List ℕ) Fault) (c : Call) (t : Target) → node_plan s number call r ≡ Ok (plans.Send c t) → s.outstanding ≡ None
-free_to_call s number call (Ok bytes) c t h = free_to_send s (call_on bytes call) c (targets.Handle number) t h
-free_to_call s number call (Err fault) c t h = cc
+sends_case : (s : ClientState) (now : ℕ) (ask : Ask) (call : Call) (target : Target) → IsSafe s now → IsDone s now ask (send_plan s call target)
+sends_case s now ask call target safe is = sends_beside s now ask call target s.outstanding safe refl is
 
-no_send : (number : ℕ) (r : Result ClientHandle Fault) (c : Call) (t : Target) (X : Type 0) → poison_plan number r ≡ Ok (plans.Send c t) → X
-no_send number (Ok handle) c t X h = cc
-no_send number (Err fault) c t X h = cc
+-- ---- an Open
 
-free_in : (s : ClientState) (ask : Ask) (c : Call) (t : Target) → session_plan s ask ≡ Ok (plans.Send c t) → s.outstanding ≡ None
-free_in s (asks.Open opening) c t h = free_to_send s (calls.Open opening) c targets.NewHandle t h
-free_in s (asks.Close number) c t h = free_to_close s number (open_bytes (handle_of s.handles number)) c t h
-free_in s (asks.Poison number) c t h = no_send number (usable_handle (handle_of s.handles number)) c t _ h
-free_in s (asks.Node number call) c t h = free_to_call s number call (usable_bytes (handle_of s.handles number)) c t h
+share_case : (s : ClientState) (now : ℕ) (opening : Open) (view : View) (handle : NewHandle) → IsSafe s now → IsShared s now opening view handle → IsAsked s now (asks.Open opening) (ask_by s (noted_moment s now) (Ok (share s opening view handle)))
+share_case s now opening view handle safe shared =
+    either (IsAsked s now (asks.Open opening)) (nat_lt (s.opened + 1) number_end)
+    (with_shared s (noted_moment s now) (kept_handle handle opening true), Ok (asked_for (lines.Served s.number opening.name (Some view) ∷ lines.Done s.number 0 (answers.Opened (s.opened + 1)) ∷ []) (outcomes.Served (answers.Opened (s.opened + 1)))))
+    (s, Err faults.Exhausted)
+    (λ h. (Shared opening view handle safe refl shared (less (s.opened + 1) number_end h), refl))
+    (λ h. (OutOfHandles opening view handle safe refl shared (not_less (s.opened + 1) number_end h), refl))
 
--- what may be poisoned
-usable_at : (b : Bool) (handle other : ClientHandle) → handle.poisoned ≡ b → cond {A = Result ClientHandle Fault} b (Err faults.Poisoned) (Ok handle) ≡ Ok other → (handle ≡ other) × (b ≡ false)
-usable_at true handle other is h = cc
-usable_at false handle other is h = (cc, refl)
+-- what is sent where the cache doesn't answer
+abbrev sent_open : ClientState → Open → Result Plan Fault
+sent_open s opening = send_plan s (calls.Open opening) targets.NewHandle
 
-usable_found : (o : Option ClientHandle) (handle : ClientHandle) → usable_handle o ≡ Ok handle → (o ≡ Some handle) × (handle.poisoned ≡ false)
-usable_found None handle h = cc
-usable_found (Some found) handle h =
-    let e = usable_at found.poisoned found handle refl h in
-    (ap Some e.0, sym (ap (λ (x : ClientHandle). x.poisoned) e.0) ∙ e.1)
+kept_case : (s : ClientState) (now : ℕ) (opening : Open) (view : View) (k : Option NewHandle) → IsSafe s now → is_plain opening ≡ true → answer s.cache (noted_moment s now) opening.name ≡ Some (Some view) → is_read_only opening.mode ≡ true → serving s.kept opening.name view.instance ≡ k → IsDone s now (asks.Open opening) (served_or (option_map (share s opening view) k) (sent_open s opening))
+kept_case s now opening view None safe plain cached reads kept is = sends_case s now (asks.Open opening) (calls.Open opening) targets.NewHandle safe is
+kept_case s now opening view (Some handle) safe plain cached reads kept is = share_case s now opening view handle safe (record { plain = plain; reads = reads; cached = cached; kept = kept })
 
-poison_of : (number n : ℕ) (r : Result ClientHandle Fault) (handle : ClientHandle) → poison_plan number r ≡ Ok (plans.Poison n handle) → (number ≡ n) × (r ≡ Ok handle)
-poison_of number n (Ok other) handle h = (cc, cc)
-poison_of number n (Err fault) handle h = cc
+view_case : (s : ClientState) (now : ℕ) (opening : Open) (view : View) (b : Bool) → IsSafe s now → is_plain opening ≡ true → answer s.cache (noted_moment s now) opening.name ≡ Some (Some view) → is_read_only opening.mode ≡ b → IsDone s now (asks.Open opening) (served_or (cond b (option_map (share s opening view) (serving s.kept opening.name view.instance)) None) (sent_open s opening))
+view_case s now opening view true safe plain cached reads is = kept_case s now opening view (serving s.kept opening.name view.instance) safe plain cached reads refl is
+view_case s now opening view false safe plain cached reads is = sends_case s now (asks.Open opening) (calls.Open opening) targets.NewHandle safe is
 
-no_poison : (s : ClientState) (b : Bool) (call : Call) (target : Target) (n : ℕ) (handle : ClientHandle) (X : Type 0) → cond {A = Result Plan Fault} b (Err faults.CallOutstanding) (Ok (plans.Send call target)) ≡ Ok (plans.Poison n handle) → X
-no_poison s true call target n handle X h = cc
-no_poison s false call target n handle X h = cc
+entry_case : (s : ClientState) (now : ℕ) (opening : Open) (o : Option (Option View)) → IsSafe s now → is_plain opening ≡ true → answer s.cache (noted_moment s now) opening.name ≡ o → IsDone s now (asks.Open opening) (served_or (entry_served s opening o) (sent_open s opening))
+entry_case s now opening None safe plain cached is = sends_case s now (asks.Open opening) (calls.Open opening) targets.NewHandle safe is
+entry_case s now opening (Some None) safe plain cached is = (AbsenceServed opening safe refl plain cached, refl)
+entry_case s now opening (Some (Some view)) safe plain cached is = view_case s now opening view (is_read_only opening.mode) safe plain cached refl is
 
-no_poison_to_close : (s : ClientState) (number n : ℕ) (r : Result (List ℕ) Fault) (handle : ClientHandle) (X : Type 0) → close_plan s number r ≡ Ok (plans.Poison n handle) → X
-no_poison_to_close s number n (Ok bytes) handle X h = no_poison s (is_some s.outstanding) (calls.Close bytes) (targets.Closing number) n handle X h
-no_poison_to_close s number n (Err fault) handle X h = cc
+plain_case : (s : ClientState) (now : ℕ) (opening : Open) (b : Bool) → IsSafe s now → is_plain opening ≡ b → IsDone s now (asks.Open opening) (served_or (cond b (entry_served s opening (answer s.cache (noted_moment s now) opening.name)) None) (sent_open s opening))
+plain_case s now opening true safe plain is = entry_case s now opening (answer s.cache (noted_moment s now) opening.name) safe plain refl is
+plain_case s now opening false safe plain is = sends_case s now (asks.Open opening) (calls.Open opening) targets.NewHandle safe is
 
-no_poison_to_call : (s : ClientState) (number n : ℕ) (call : NodeCall) (r : Result (List ℕ) Fault) (handle : ClientHandle) (X : Type 0) → node_plan s number call r ≡ Ok (plans.Poison n handle) → X
-no_poison_to_call s number n call (Ok bytes) handle X h = no_poison s (is_some s.outstanding) (call_on bytes call) (targets.Handle number) n handle X h
-no_poison_to_call s number n call (Err fault) handle X h = cc
+-- ---- a call on a handle
 
--- an open handle of this number, which isn't poisoned
-abbrev IsUsable : ClientState → ℕ → ClientHandle → Type 0
-IsUsable s number handle = (handle_of s.handles number ≡ Some handle) × (handle.poisoned ≡ false)
+shared_case : (s : ClientState) (now number : ℕ) (handle : ClientHandle) (b : Bool) → IsSafe s now → handle_of s.handles number ≡ Some handle → handle.shared ≡ b → IsDone s now (asks.Close number) (cond b (Ok (plans.Release number)) (send_plan s (calls.Close handle.bytes) (targets.Closing number)))
+shared_case s now number handle true safe found shared is = (Released number handle safe refl found shared, refl)
+shared_case s now number handle false safe found shared is = sends_case s now (asks.Close number) (calls.Close handle.bytes) (targets.Closing number) safe is
 
-usable_poison : (s : ClientState) (ask : Ask) (n : ℕ) (handle : ClientHandle) → session_plan s ask ≡ Ok (plans.Poison n handle) → IsUsable s n handle
-usable_poison s (asks.Open opening) n handle h = no_poison s (is_some s.outstanding) (calls.Open opening) targets.NewHandle n handle _ h
-usable_poison s (asks.Close number) n handle h = no_poison_to_close s number n (open_bytes (handle_of s.handles number)) handle _ h
-usable_poison s (asks.Poison number) n handle h =
-    let e = poison_of number n (usable_handle (handle_of s.handles number)) handle h in
-    subst (λ k. IsUsable s k handle) e.0 (usable_found (handle_of s.handles number) handle e.1)
-usable_poison s (asks.Node number call) n handle h = no_poison_to_call s number n call (usable_bytes (handle_of s.handles number)) handle _ h
+close_case : (s : ClientState) (now number : ℕ) (h : Option ClientHandle) → IsSafe s now → handle_of s.handles number ≡ h → IsDone s now (asks.Close number) (close_plan s number h)
+close_case s now number None safe found is = (Refused faults.BadHandle safe is, refl)
+close_case s now number (Some handle) safe found is = shared_case s now number handle handle.shared safe found refl is
 
--- what is planned at all is planned in a session
-planned_in : (s : ClientState) (ask : Ask) (session : Session) (plan : Plan) → plan_in s ask (session_fault session) ≡ Ok plan → (session ≡ sessions.Live) × (session_plan s ask ≡ Ok plan)
-planned_in s ask sessions.Unstarted plan h = cc
-planned_in s ask sessions.Live plan h = (refl, h)
-planned_in s ask sessions.Lost plan h = cc
-planned_in s ask sessions.TurnedAway plan h = cc
+poisoned_case : (s : ClientState) (now number : ℕ) (handle : ClientHandle) (b : Bool) → IsSafe s now → handle_of s.handles number ≡ Some handle → handle.poisoned ≡ b → IsDone s now (asks.Poison number) (poison_plan number (cond b (Err faults.Poisoned) (Ok handle)))
+poisoned_case s now number handle true safe found at is = (Refused faults.Poisoned safe is, refl)
+poisoned_case s now number handle false safe found at is = (Poisoned number handle safe refl (record { found = found; usable = at }), refl)
 
-send_case : (s : ClientState) (now : ℕ) (ask : Ask) (call : Call) (target : Target) → IsSendable s now ask call target → IsAsked s now ask (send_step s (max s.clock now) call target)
-send_case s now ask call target sendable =
-    either (IsAsked s now ask) (nat_lt (s.calls + 1) number_end) (with_call s (max s.clock now) call target, Ok (asked.Sent (message_of s call))) (s, Err faults.Exhausted)
-    (λ h. (Sent call target sendable (less (s.calls + 1) number_end h), refl)) (λ h. (OutOfCalls call target sendable (not_less (s.calls + 1) number_end h), refl))
+poison_case : (s : ClientState) (now number : ℕ) (h : Option ClientHandle) → IsSafe s now → handle_of s.handles number ≡ h → IsDone s now (asks.Poison number) (poison_plan number (usable_handle h))
+poison_case s now number None safe found is = (Refused faults.BadHandle safe is, refl)
+poison_case s now number (Some handle) safe found is = poisoned_case s now number handle handle.poisoned safe found refl is
 
-plan_case : (s : ClientState) (now : ℕ) (ask : Ask) (plan : Result Plan Fault) → now < moment_limit → plan_of s ask ≡ plan → IsAsked s now ask (ask_by s (max s.clock now) plan)
-plan_case s now ask (Ok (plans.Send call target)) early is =
-    let e = planned_in s ask s.session (plans.Send call target) is in
-    send_case s now ask call target (record { early = early; is_plan = is; live = e.0; free = free_in s ask call target e.1 })
-plan_case s now ask (Ok (plans.Poison number handle)) early is =
-    let e = planned_in s ask s.session (plans.Poison number handle) is in
-    let u = usable_poison s ask number handle e.1 in
-    (Poisoned number handle (record { early = early; is_plan = is; live = e.0; found = u.0; usable = u.1 }), refl)
-plan_case s now ask (Err fault) early is = (Refused fault early is, refl)
+cached_case : (s : ClientState) (now number : ℕ) (handle : ClientHandle) (o : Option (Option View)) → IsSafe s now → IsUsable s number handle → handle.mode.read ≡ true → answer s.cache (noted_moment s now) handle.name ≡ o → IsDone s now (asks.Node number node_calls.Read) (served_or (option_map (serve_read s handle) o) (send_plan s (calls.Read handle.bytes) (targets.Handle number)))
+cached_case s now number handle None safe usable reads cached is = sends_case s now (asks.Node number node_calls.Read) (calls.Read handle.bytes) (targets.Handle number) safe is
+cached_case s now number handle (Some entry) safe usable reads cached is = (ReadServed number handle entry safe refl (record { of_handle = usable; reads = reads; cached = cached }), refl)
+
+reads_case : (s : ClientState) (now number : ℕ) (handle : ClientHandle) (b : Bool) → IsSafe s now → IsUsable s number handle → handle.mode.read ≡ b → IsDone s now (asks.Node number node_calls.Read) (served_or (cond b (option_map (serve_read s handle) (answer s.cache (noted_moment s now) handle.name)) None) (send_plan s (calls.Read handle.bytes) (targets.Handle number)))
+reads_case s now number handle true safe usable reads is = cached_case s now number handle (answer s.cache (noted_moment s now) handle.name) safe usable reads refl is
+reads_case s now number handle false safe usable reads is = sends_case s now (asks.Node number node_calls.Read) (calls.Read handle.bytes) (targets.Handle number) safe is
+
+call_case : (s : ClientState) (now number : ℕ) (handle : ClientHandle) (call : NodeCall) → IsSafe s now → IsUsable s number handle → IsDone s now (asks.Node number call) (node_plan s (noted_moment s now) number call (Ok handle))
+call_case s now number handle node_calls.Read safe usable is = reads_case s now number handle handle.mode.read safe usable refl is
+call_case s now number handle call safe usable is = sends_case s now (asks.Node number call) (call_on handle.bytes call) (targets.Handle number) safe is
+
+usable_case : (s : ClientState) (now number : ℕ) (handle : ClientHandle) (call : NodeCall) (b : Bool) → IsSafe s now → handle_of s.handles number ≡ Some handle → handle.poisoned ≡ b → IsDone s now (asks.Node number call) (node_plan s (noted_moment s now) number call (cond b (Err faults.Poisoned) (Ok handle)))
+usable_case s now number handle call true safe found at is = (Refused faults.Poisoned safe is, refl)
+usable_case s now number handle call false safe found at is = call_case s now number handle call safe (record { found = found; usable = at }) is
+
+node_case : (s : ClientState) (now number : ℕ) (call : NodeCall) (h : Option ClientHandle) → IsSafe s now → handle_of s.handles number ≡ h → IsDone s now (asks.Node number call) (node_plan s (noted_moment s now) number call (usable_handle h))
+node_case s now number call None safe found is = (Refused faults.BadHandle safe is, refl)
+node_case s now number call (Some handle) safe found is = usable_case s now number handle call handle.poisoned safe found refl is
+
+-- ---- the lemma
+
+plan_case : (s : ClientState) (now : ℕ) (ask : Ask) → IsSafe s now → IsAsked s now ask (ask_by s (noted_moment s now) (plan_of s (noted_moment s now) ask))
+plan_case s now (asks.Open opening) safe = plain_case s now opening (is_plain opening) safe refl refl
+plan_case s now (asks.Close number) safe = close_case s now number (handle_of s.handles number) safe refl refl
+plan_case s now (asks.Poison number) safe = poison_case s now number (handle_of s.handles number) safe refl refl
+plan_case s now (asks.Node number call) safe = node_case s now number call (handle_of s.handles number) safe refl refl
+
+fault_case : (s : ClientState) (now : ℕ) (ask : Ask) (o : Option Fault) → now < moment_limit → fault_then s (noted_moment s now) ≡ o → IsAsked s now ask (ask_in s (noted_moment s now) ask o)
+fault_case s now ask (Some fault) early is = (Unsafe fault early is, refl)
+fault_case s now ask None early is =
+    let r = faultless s (noted_moment s now) is in
+    plan_case s now ask (record { early = early; live = r.live; safe = r.safe; leased = r.leased })
 
 pub ask_case : (s : ClientState) (now : ℕ) (ask : Ask) → IsAsked s now ask (ask_step s now ask)
 unfolding ask_step
 ask_case s now ask =
     either {A = Result ℕ Fault} (λ m. IsAsked s now ask (ask_at s ask m)) (nat_lt now moment_limit) (Ok (max s.clock now)) (Err faults.Exhausted)
-    (λ h. plan_case s now ask (plan_of s ask) (less now moment_limit h) refl) (λ h. (AskedTooLate (not_less now moment_limit h), refl))
+    (λ h. fault_case s now ask (fault_then s (noted_moment s now)) (less now moment_limit h) refl) (λ h. (AskedTooLate (not_less now moment_limit h), refl))
 
 -- ---- beat
 
 -- one of the cases is what is done
-abbrev pub IsBeaten : (s : ClientState) (now : ℕ) → ClientState × Result (Option Request) Fault → Type 0
+abbrev pub IsBeaten : (s : ClientState) (now : ℕ) → ClientState × Result Beaten Fault → Type 0
 IsBeaten s now p = (c : BeatCase s now) × (p ≡ beaten_in s now c)
 
-starts_case : (s : ClientState) (now : ℕ) → now < moment_limit → s.session ≡ sessions.Unstarted → IsBeaten s now (sends s (max s.clock now) (start_message s))
+starts_case : (s : ClientState) (now : ℕ) → now < moment_limit → s.session ≡ sessions.Unstarted → IsBeaten s now (sends s (noted_moment s now) (start_message s))
 starts_case s now early is =
-    either (IsBeaten s now) (nat_lt (s.beats + 1) number_end) (with_beat s (max s.clock now), Ok (Some (start_message s))) (s, Err faults.Exhausted)
-    (λ h. (Starts early is (less (s.beats + 1) number_end h), refl)) (λ h. (OutOfBeats early (inl is) (not_less (s.beats + 1) number_end h), refl))
+    either (IsBeaten s now) (nat_lt (s.beats + 1) number_end) (with_beat (note_in s.session s (noted_moment s now)) (noted_moment s now), Ok (beaten (note_lines_in s.session s (noted_moment s now)) (Some (start_message s)))) (s, Err faults.Exhausted)
+    (λ h. (Starts early is (less (s.beats + 1) number_end h), ap (λ x. (with_beat (note_in x s (noted_moment s now)) (noted_moment s now), Ok (beaten (note_lines_in x s (noted_moment s now)) (Some (start_message s))))) is))
+    (λ h. (OutOfBeats early (not_less (s.beats + 1) number_end h), refl))
 
-beats_case : (s : ClientState) (now : ℕ) → now < moment_limit → s.session ≡ sessions.Live → IsBeaten s now (sends s (max s.clock now) (beat_message s))
-beats_case s now early is =
-    either (IsBeaten s now) (nat_lt (s.beats + 1) number_end) (with_beat s (max s.clock now), Ok (Some (beat_message s))) (s, Err faults.Exhausted)
-    (λ h. (Beats early is (less (s.beats + 1) number_end h), refl)) (λ h. (OutOfBeats early (inr is) (not_less (s.beats + 1) number_end h), refl))
+beats_case : (s : ClientState) (now : ℕ) → now < moment_limit → s.session ≡ sessions.Live → session_then s (noted_moment s now) ≡ sessions.Live → IsBeaten s now (sends s (noted_moment s now) (beat_message s))
+beats_case s now early live then =
+    either (IsBeaten s now) (nat_lt (s.beats + 1) number_end) (with_beat (note_in s.session s (noted_moment s now)) (noted_moment s now), Ok (beaten (note_lines s (noted_moment s now)) (Some (beat_message s)))) (s, Err faults.Exhausted)
+    (λ h. (Beats early live then (less (s.beats + 1) number_end h), ap (λ x. (with_beat (note_in x s (noted_moment s now)) (noted_moment s now), Ok (beaten (note_lines s (noted_moment s now)) (Some (beat_message s))))) live))
+    (λ h. (OutOfBeats early (not_less (s.beats + 1) number_end h), refl))
 
-session_case : (s : ClientState) (now : ℕ) (session : Session) → now < moment_limit → s.session ≡ session → IsBeaten s now (beat_by s (max s.clock now) session)
+quiet_case : (s : ClientState) (now : ℕ) (session : Session) → now < moment_limit → session_then s (noted_moment s now) ≡ session → session ≢ sessions.Unstarted → session ≢ sessions.Live → IsBeaten s now (beat_by s (noted_moment s now) sessions.Lost)
+quiet_case s now session early is started live = (Quiet early (λ e. started (sym is ∙ e)) (λ e. live (sym is ∙ e)), refl)
+
+live_case : (s : ClientState) (now : ℕ) (standing : Standing) → now < moment_limit → s.session ≡ sessions.Live → standing_then s (noted_moment s now) ≡ standing → IsBeaten s now (beat_by s (noted_moment s now) (session_behind standing))
+live_case s now standings.Safe early live at = beats_case s now early live (then_in s (noted_moment s now) sessions.Live live (ap session_behind at))
+live_case s now (standings.Jeopardy since) early live at = beats_case s now early live (then_in s (noted_moment s now) sessions.Live live (ap session_behind at))
+live_case s now standings.Lost early live at = quiet_case s now sessions.Lost early (then_in s (noted_moment s now) sessions.Lost live (ap session_behind at)) (λ e. cc) (λ e. cc)
+
+session_case : (s : ClientState) (now : ℕ) (session : Session) → now < moment_limit → s.session ≡ session → IsBeaten s now (beat_by s (noted_moment s now) (session_in session s (noted_moment s now)))
 session_case s now sessions.Unstarted early is = starts_case s now early is
-session_case s now sessions.Live early is = beats_case s now early is
-session_case s now sessions.Lost early is = (Quiet early (λ e. cc) (λ e. cc), refl)
-session_case s now sessions.TurnedAway early is = (Quiet early (λ e. cc) (λ e. cc), refl)
+session_case s now sessions.Live early is = live_case s now (standing_then s (noted_moment s now)) early is refl
+session_case s now sessions.Lost early is = quiet_case s now sessions.Lost early (ap (λ x. session_in x s (noted_moment s now)) is) (λ e. cc) (λ e. cc)
+session_case s now sessions.TurnedAway early is = quiet_case s now sessions.TurnedAway early (ap (λ x. session_in x s (noted_moment s now)) is) (λ e. cc) (λ e. cc)
 
 pub beat_case : (s : ClientState) (now : ℕ) → IsBeaten s now (beat_step s now)
 unfolding beat_step

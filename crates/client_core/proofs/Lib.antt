@@ -1,4 +1,6 @@
+pub mod Noting
 pub mod AskCases
 pub mod GiveCases
 pub mod Numbered
 pub mod Leases
+pub mod OneEntry

@@ -1,149 +1,136 @@
 -- A client is asked for a call.
-use Rattle.std.specs.Prelude.{ℕ, ◌+◌, nat_lt, List, Option, Some, None, Result, Ok, Err, if◌then◌else◌, is_some}
-use Rattle.std.specs.Map.{lookup}
-use Rattle.std.specs.BTreeMap.{is_at}
+use Rattle.std.specs.Prelude.{ℕ, ◌+◌, nat_lt, List, [], ◌∷◌, Option, Some, None, Result, Ok, Err, if◌then◌else◌, is_some}
+use Rattle.std.specs.Map.{remove_entry}
+use Rattle.std.specs.BTreeMap.{is_at, insert_entry}
 use Rattle.std.specs.Ordering.{nat_cmp}
 use Rattle.node_core.specs.Limits.{number_end}
 use Rattle.node_core.specs.declared.refusals.Fault.{Fault}
 use Rattle.node_core.specs.declared.refusals.Fault.TheVariants as faults
+use Rattle.node_core.specs.declared.answers.Answer.TheVariants as answers
 use Rattle.node_core.specs.declared.lines.Line.{Line}
+use Rattle.node_core.specs.declared.lines.Line.TheVariants as lines
 use Rattle.tags_cell.specs.declared.calls.Call.{Call}
 use Rattle.tags_cell.specs.declared.calls.Call.TheVariants as calls
+use Rattle.tags_cell.specs.declared.calls.Open.{Open}
 use Rattle.tags_cell.specs.declared.requests.Request.{Request}
 use Rattle.tags_cell.specs.declared.requests.Request.TheVariants as requests
-use Rattle.client_core.specs.declared.sessions.Session.{Session}
-use Rattle.client_core.specs.declared.sessions.Session.TheVariants as sessions
-use Rattle.client_core.specs.declared.asks.Ask.{Ask}
-use Rattle.client_core.specs.declared.asks.Ask.TheVariants as asks
-use Rattle.client_core.specs.declared.asks.NodeCall.{NodeCall}
-use Rattle.client_core.specs.declared.asks.NodeCall.TheVariants as node_calls
-use Rattle.client_core.specs.declared.asks.Asked.{Asked}
-use Rattle.client_core.specs.declared.asks.Asked.TheVariants.{Sent, Answered}
-use Rattle.client_core.specs.declared.handles.ClientHandle.{ClientHandle}
-use Rattle.client_core.specs.declared.targets.Target.{Target}
-use Rattle.client_core.specs.declared.targets.Target.TheVariants as targets
+use Rattle.client_parts.specs.declared.asks.Ask.{Ask}
+use Rattle.client_parts.specs.declared.asks.Ask.TheVariants as asks
+use Rattle.client_parts.specs.declared.asks.NodeCall.{NodeCall}
+use Rattle.client_parts.specs.declared.asks.Asked.{Asked}
+use Rattle.client_parts.specs.declared.asks.Outcome.{Outcome}
+use Rattle.client_parts.specs.declared.asks.Outcome.TheVariants.{Sent, Served, Answered, Refused}
+use Rattle.client_parts.specs.declared.handles.ClientHandle.{ClientHandle}
+use Rattle.client_parts.specs.declared.targets.Target.{Target}
+use Rattle.client_parts.specs.declared.targets.Target.TheVariants as targets
+use Rattle.client_parts.specs.Calls.{call_on}
+use Rattle.client_parts.specs.Sessions.{session_fault}
 use Rattle.client_core.specs.declared.plans.Plan.{Plan}
 use Rattle.client_core.specs.declared.plans.Plan.TheVariants as plans
-use Rattle.client_core.specs.State.{ClientState, moment, at_moment}
+use Rattle.client_core.specs.State.{ClientState, moment, at_moment, standing_then, note, note_lines}
+use Rattle.client_core.specs.Handles.{handle_of}
 use Rattle.client_core.specs.Poisons.{with_poisoned, poison_lines}
+use Rattle.client_core.specs.Serves.{read_served, open_served}
 
--- why no call may be sent; nothing while there is a session
-abbrev pub session_fault : Session → Option Fault
-session_fault sessions.Unstarted = Some faults.NoSession
-session_fault sessions.Live = None
-session_fault sessions.Lost = Some faults.SessionExpired
-session_fault sessions.TurnedAway = Some faults.NoSession
+-- at a moment
+abbrev pub fault_then : ClientState → ℕ → Option Fault
+fault_then s moment = session_fault s.session (standing_then s moment)
 
 -- ---- handles
 
--- the handle that the client has under a number
-abbrev pub handle_of : List (ℕ × ClientHandle) → ℕ → Option ClientHandle
-handle_of handles number = lookup (is_at (nat_cmp number)) handles
-
--- an open handle may be closed
-abbrev pub open_bytes : Option ClientHandle → Result (List ℕ) Fault
-open_bytes None = Err faults.BadHandle
-open_bytes (Some handle) = Ok handle.bytes
-
--- for all else it may not be poisoned
+-- an open handle that is not poisoned
 abbrev pub usable_handle : Option ClientHandle → Result ClientHandle Fault
 usable_handle None = Err faults.BadHandle
 usable_handle (Some handle) = if handle.poisoned then Err faults.Poisoned else Ok handle
 
-abbrev pub bytes_of : Result ClientHandle Fault → Result (List ℕ) Fault
-bytes_of (Err fault) = Err fault
-bytes_of (Ok handle) = Ok handle.bytes
-
-abbrev pub usable_bytes : Option ClientHandle → Result (List ℕ) Fault
-usable_bytes handle = bytes_of (usable_handle handle)
-
--- the call on a handle's node, with the bytes that the master gave for the handle
-abbrev pub call_on : List ℕ → NodeCall → Call
-call_on bytes node_calls.Read = calls.Read bytes
-call_on bytes node_calls.Stat = calls.Stat bytes
-call_on bytes node_calls.List = calls.List bytes
-call_on bytes (node_calls.Set content generation) = calls.Set bytes content generation
-call_on bytes (node_calls.SetAcl acls generation) = calls.SetAcl bytes acls generation
-call_on bytes node_calls.Delete = calls.Delete bytes
-
--- ---- what may be done now, or the first reason why it may not
+-- ---- what is done, or the first reason why it may not be
 
 -- one call at a time
 abbrev pub send_plan : ClientState → Call → Target → Result Plan Fault
 send_plan s call target = if is_some s.outstanding then Err faults.CallOutstanding else Ok (plans.Send call target)
 
-abbrev pub close_plan : ClientState → ℕ → Result (List ℕ) Fault → Result Plan Fault
-close_plan s number (Err fault) = Err fault
-close_plan s number (Ok bytes) = send_plan s (calls.Close bytes) (targets.Closing number)
+-- what the cache answers is answered, and all else is sent
+abbrev pub served_or : Option Plan → Result Plan Fault → Result Plan Fault
+served_or (Some plan) sent = Ok plan
+served_or None sent = sent
+
+abbrev pub open_plan : ClientState → ℕ → Open → Result Plan Fault
+open_plan s moment opening = served_or (open_served s moment opening) (send_plan s (calls.Open opening) targets.NewHandle)
+
+-- a shared handle stays open at the master, so that the client closes it by itself
+abbrev pub close_plan : ClientState → ℕ → Option ClientHandle → Result Plan Fault
+close_plan s number None = Err faults.BadHandle
+close_plan s number (Some handle) = if handle.shared then Ok (plans.Release number) else send_plan s (calls.Close handle.bytes) (targets.Closing number)
 
 -- a Poison waits for no call
 abbrev pub poison_plan : ℕ → Result ClientHandle Fault → Result Plan Fault
 poison_plan number (Err fault) = Err fault
 poison_plan number (Ok handle) = Ok (plans.Poison number handle)
 
-abbrev pub node_plan : ClientState → ℕ → NodeCall → Result (List ℕ) Fault → Result Plan Fault
-node_plan s number call (Err fault) = Err fault
-node_plan s number call (Ok bytes) = send_plan s (call_on bytes call) (targets.Handle number)
+abbrev pub node_plan : ClientState → ℕ → ℕ → NodeCall → Result ClientHandle Fault → Result Plan Fault
+node_plan s moment number call (Err fault) = Err fault
+node_plan s moment number call (Ok handle) = served_or (read_served s moment handle call) (send_plan s (call_on handle.bytes call) (targets.Handle number))
 
-abbrev pub session_plan : ClientState → Ask → Result Plan Fault
-session_plan s (asks.Open opening) = send_plan s (calls.Open opening) targets.NewHandle
-session_plan s (asks.Close number) = close_plan s number (open_bytes (handle_of s.handles number))
-session_plan s (asks.Poison number) = poison_plan number (usable_handle (handle_of s.handles number))
-session_plan s (asks.Node number call) = node_plan s number call (usable_bytes (handle_of s.handles number))
-
-abbrev pub plan_in : ClientState → Ask → Option Fault → Result Plan Fault
-plan_in s ask (Some fault) = Err fault
-plan_in s ask None = session_plan s ask
-
--- first the session, then the handle, then the outstanding call
-abbrev pub plan_of : ClientState → Ask → Result Plan Fault
-plan_of s ask = plan_in s ask (session_fault s.session)
+-- first the handle, then the cache, then the outstanding call
+abbrev pub plan_of : ClientState → ℕ → Ask → Result Plan Fault
+plan_of s moment (asks.Open opening) = open_plan s moment opening
+plan_of s moment (asks.Close number) = close_plan s number (handle_of s.handles number)
+plan_of s moment (asks.Poison number) = poison_plan number (usable_handle (handle_of s.handles number))
+plan_of s moment (asks.Node number call) = node_plan s moment number call (usable_handle (handle_of s.handles number))
 
 -- ---- one step
+
+-- what comes of it, and the lines that are printed
+abbrev pub asked_for : List Line → Outcome → Asked
+asked_for lines outcome = record { lines = lines; outcome = outcome }
 
 abbrev pub message_of : ClientState → Call → Request
 message_of s call = requests.Call (record { client = s.number; epoch = s.epoch; number = s.calls + 1; call = call })
 
 -- the call is outstanding
 abbrev pub with_call : ClientState → ℕ → Call → Target → ClientState
-with_call s noted call target =
-    record s { clock = noted; calls = s.calls + 1; outstanding = Some (record { request = message_of s call; target = target }) }
+with_call s moment call target =
+    record s { clock = moment; calls = s.calls + 1; outstanding = Some (record { request = message_of s call; target = target }) }
 
 -- it is sent under the next number; behind the last number nothing changes
 abbrev pub send_step : ClientState → ℕ → Call → Target → ClientState × Result Asked Fault
-send_step s noted call target =
-    if nat_lt (s.calls + 1) number_end then (with_call s noted call target, Ok (Sent (message_of s call))) else (s, Err faults.Exhausted)
+send_step s moment call target =
+    if nat_lt (s.calls + 1) number_end then (with_call s moment call target, Ok (asked_for [] (Sent (message_of s call)))) else (s, Err faults.Exhausted)
 
--- what is refused notes the time alone
+-- a handle that is shared has the next number
+abbrev pub with_shared : ClientState → ℕ → ClientHandle → ClientState
+with_shared s moment handle = record s { clock = moment; handles = insert_entry nat_cmp s.handles (s.opened + 1) handle; opened = s.opened + 1 }
+
+-- it is told as an Open that ended; behind the last number nothing changes
+abbrev pub share_step : ClientState → ℕ → Line → ClientHandle → ClientState × Result Asked Fault
+share_step s moment line handle =
+    if nat_lt (s.opened + 1) number_end
+    then (with_shared s moment handle, Ok (asked_for (line ∷ lines.Done s.number 0 (answers.Opened (s.opened + 1)) ∷ []) (Served (answers.Opened (s.opened + 1)))))
+    else (s, Err faults.Exhausted)
+
+-- the number is open no more
+abbrev pub without_handle : ClientState → ℕ → ℕ → ClientState
+without_handle s moment number = record s { clock = moment; handles = remove_entry (is_at (nat_cmp number)) s.handles }
+
+abbrev pub carried_out : ClientState → ℕ → Plan → ClientState × Result Asked Fault
+carried_out s moment (plans.Send call target) = send_step s moment call target
+carried_out s moment (plans.Poison number handle) = (with_poisoned s moment number handle, Ok (asked_for (poison_lines s number) Answered))
+carried_out s moment (plans.Serve line answer) = (at_moment s moment, Ok (asked_for (line ∷ []) (Served answer)))
+carried_out s moment (plans.Share line handle) = share_step s moment line handle
+carried_out s moment (plans.Release number) = (without_handle s moment number, Ok (asked_for (lines.Done s.number 0 answers.Closed ∷ []) Answered))
+
 abbrev pub ask_by : ClientState → ℕ → Result Plan Fault → ClientState × Result Asked Fault
-ask_by s noted (Ok (plans.Send call target)) = send_step s noted call target
-ask_by s noted (Ok (plans.Poison number handle)) = (with_poisoned s noted number handle, Ok (Answered (poison_lines s number)))
-ask_by s noted (Err fault) = (at_moment s noted, Err fault)
+ask_by s moment (Ok plan) = carried_out s moment plan
+ask_by s moment (Err fault) = (at_moment s moment, Ok (asked_for [] (Refused fault)))
+
+-- first the time is noted. Where the client may rely on its session, its clock alone changes by that, and nothing is printed
+abbrev pub ask_in : ClientState → ℕ → Ask → Option Fault → ClientState × Result Asked Fault
+ask_in s moment ask (Some fault) = (note s moment, Ok (asked_for (note_lines s moment) (Refused fault)))
+ask_in s moment ask None = ask_by s moment (plan_of s moment ask)
 
 abbrev pub ask_at : ClientState → Ask → Result ℕ Fault → ClientState × Result Asked Fault
-ask_at s ask (Ok noted) = ask_by s noted (plan_of s ask)
+ask_at s ask (Ok moment) = ask_in s moment ask (fault_then s moment)
 ask_at s ask (Err fault) = (s, Err fault)
 
 unfoldable pub ask_step : ClientState → ℕ → Ask → ClientState × Result Asked Fault
 ask_step s now ask = ask_at s ask (moment s.clock now)
-
--- ---- a Poison by itself: the same tests, and the same is done
-
-abbrev pub usable_in : ClientState → ℕ → Option Fault → Result ClientHandle Fault
-usable_in s number (Some fault) = Err fault
-usable_in s number None = usable_handle (handle_of s.handles number)
-
--- first the session, then the handle
-abbrev pub usable_of : ClientState → ℕ → Result ClientHandle Fault
-usable_of s number = usable_in s number (session_fault s.session)
-
-abbrev pub poison_by : ClientState → ℕ → ℕ → Result ClientHandle Fault → ClientState × Result (List Line) Fault
-poison_by s noted number (Ok handle) = (with_poisoned s noted number handle, Ok (poison_lines s number))
-poison_by s noted number (Err fault) = (at_moment s noted, Err fault)
-
-abbrev pub poison_at : ClientState → ℕ → Result ℕ Fault → ClientState × Result (List Line) Fault
-poison_at s number (Ok noted) = poison_by s noted number (usable_of s number)
-poison_at s number (Err fault) = (s, Err fault)
-
-unfoldable pub poison_step : ClientState → ℕ → ℕ → ClientState × Result (List Line) Fault
-poison_step s now number = poison_at s number (moment s.clock now)

@@ -1,13 +1,15 @@
 -- A client is asked for a Start or a Beat.
-use Rattle.std.specs.Prelude.{ℕ, ◌+◌, nat_lt, Option, Some, None, Result, Ok, Err, if◌then◌else◌}
+use Rattle.std.specs.Prelude.{ℕ, ◌+◌, nat_lt, List, Option, Some, None, Result, Ok, Err, if◌then◌else◌}
 use Rattle.node_core.specs.Limits.{number_end}
 use Rattle.node_core.specs.declared.refusals.Fault.{Fault}
 use Rattle.node_core.specs.declared.refusals.Fault.TheVariants as faults
+use Rattle.node_core.specs.declared.lines.Line.{Line}
 use Rattle.tags_cell.specs.declared.requests.Request.{Request}
 use Rattle.tags_cell.specs.declared.requests.Request.TheVariants as requests
-use Rattle.client_core.specs.declared.sessions.Session.{Session}
-use Rattle.client_core.specs.declared.sessions.Session.TheVariants as sessions
-use Rattle.client_core.specs.State.{ClientState, moment, at_moment}
+use Rattle.client_parts.specs.declared.sessions.Session.{Session}
+use Rattle.client_parts.specs.declared.sessions.Session.TheVariants as sessions
+use Rattle.client_parts.specs.declared.steps.Beaten.{Beaten}
+use Rattle.client_core.specs.State.{ClientState, moment, session_then, note, note_lines}
 
 abbrev pub start_message : ClientState → Request
 start_message s = requests.Start (record { client = s.number; number = s.beats + 1; principal = s.principal })
@@ -18,22 +20,26 @@ beat_message s = requests.Beat (record { client = s.number; epoch = s.epoch; num
 
 -- a lease that answers it counts from now on
 abbrev pub with_beat : ClientState → ℕ → ClientState
-with_beat s noted = record s { clock = noted; beats = s.beats + 1; sent = noted }
+with_beat s moment = record s { clock = moment; beats = s.beats + 1; sent = moment }
 
--- it goes out under the next number; behind the last number nothing changes
-abbrev pub sends : ClientState → ℕ → Request → ClientState × Result (Option Request) Fault
-sends s noted message = if nat_lt (s.beats + 1) number_end then (with_beat s noted, Ok (Some message)) else (s, Err faults.Exhausted)
+abbrev pub beaten : List Line → Option Request → Beaten
+beaten lines request = record { lines = lines; request = request }
+
+-- first the time is noted. It goes out under the next number; behind the last number nothing changes
+abbrev pub sends : ClientState → ℕ → Request → ClientState × Result Beaten Fault
+sends s moment message =
+    if nat_lt (s.beats + 1) number_end then (with_beat (note s moment) moment, Ok (beaten (note_lines s moment) (Some message))) else (s, Err faults.Exhausted)
 
 -- a client asks for a session until it has one, and then for its being kept, or is told that it gets none
-abbrev pub beat_by : ClientState → ℕ → Session → ClientState × Result (Option Request) Fault
-beat_by s noted sessions.Unstarted = sends s noted (start_message s)
-beat_by s noted sessions.Live = sends s noted (beat_message s)
-beat_by s noted sessions.Lost = (at_moment s noted, Ok None)
-beat_by s noted sessions.TurnedAway = (at_moment s noted, Ok None)
+abbrev pub beat_by : ClientState → ℕ → Session → ClientState × Result Beaten Fault
+beat_by s moment sessions.Unstarted = sends s moment (start_message s)
+beat_by s moment sessions.Live = sends s moment (beat_message s)
+beat_by s moment sessions.Lost = (note s moment, Ok (beaten (note_lines s moment) None))
+beat_by s moment sessions.TurnedAway = (note s moment, Ok (beaten (note_lines s moment) None))
 
-abbrev pub beat_at : ClientState → Result ℕ Fault → ClientState × Result (Option Request) Fault
-beat_at s (Ok noted) = beat_by s noted s.session
+abbrev pub beat_at : ClientState → Result ℕ Fault → ClientState × Result Beaten Fault
+beat_at s (Ok moment) = beat_by s moment (session_then s moment)
 beat_at s (Err fault) = (s, Err fault)
 
-unfoldable pub beat_step : ClientState → ℕ → ClientState × Result (Option Request) Fault
+unfoldable pub beat_step : ClientState → ℕ → ClientState × Result Beaten Fault
 beat_step s now = beat_at s (moment s.clock now)

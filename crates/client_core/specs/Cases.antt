@@ -1,93 +1,149 @@
 -- By which arm of its table a client does a step. Each law of the client is a match on these.
-use Rattle.std.specs.Prelude.{◌≡◌, ◌≢◌, ◌⊎◌, ℕ, ◌+◌, ◌<◌, ◌≤◌, max, true, false, List, [], ◌∷◌, Option, Some, None, Result, Ok, Err}
-use Rattle.lease_core.specs.Lease.{moment_limit, is_better}
+use Rattle.std.specs.Prelude.{◌≡◌, ◌≢◌, ◌⊎◌, ℕ, ◌+◌, ◌<◌, ◌≤◌, max, true, false, [], ◌∷◌, Option, Some, None, Result, Ok, Err}
+use Rattle.lease_core.specs.Lease.{moment_limit}
+use Rattle.cache_core.specs.Caches.{is_leased, takes_lease, answer}
+use Rattle.cache_core.specs.Kept.{serving}
+use Rattle.cache_core.specs.declared.standings.Standing.TheVariants as standings
 use Rattle.node_core.specs.Limits.{number_end}
 use Rattle.node_core.specs.declared.refusals.Fault.{Fault}
 use Rattle.node_core.specs.declared.refusals.Fault.TheVariants as faults
-use Rattle.node_core.specs.declared.lines.Line.{Line}
+use Rattle.node_core.specs.declared.answers.Answer.TheVariants as answers
 use Rattle.node_core.specs.declared.lines.Line.TheVariants as lines
+use Rattle.node_core.specs.declared.views.View.{View}
 use Rattle.tags_cell.specs.declared.calls.Call.{Call}
-use Rattle.tags_cell.specs.declared.requests.Request.{Request}
+use Rattle.tags_cell.specs.declared.calls.Open.{Open}
 use Rattle.tags_cell.specs.declared.outs.Out.{Out}
 use Rattle.tags_cell.specs.declared.outs.Out.TheVariants as outs
 use Rattle.tags_cell.specs.declared.outs.Started.{Started as StartedMessage}
 use Rattle.tags_cell.specs.declared.beats.Alive.{Alive as AliveMessage}
 use Rattle.tags_cell.specs.declared.outs.Reply.{Reply}
 use Rattle.tags_cell.specs.declared.outs.Refused.{Refused as RefusedMessage}
+use Rattle.tags_cell.specs.declared.outs.NewHandle.{NewHandle}
 use Rattle.tags_cell.specs.Messages.{request_number, out_client}
-use Rattle.client_core.specs.declared.asks.Ask.{Ask}
-use Rattle.client_core.specs.declared.asks.Asked.{Asked}
-use Rattle.client_core.specs.declared.asks.Asked.TheVariants as asked
-use Rattle.client_core.specs.declared.handles.ClientHandle.{ClientHandle}
+use Rattle.client_parts.specs.declared.asks.Ask.{Ask}
+use Rattle.client_parts.specs.declared.asks.Ask.TheVariants as asks
+use Rattle.client_parts.specs.declared.asks.NodeCall.TheVariants as node_calls
+use Rattle.client_parts.specs.declared.asks.Asked.{Asked}
+use Rattle.client_parts.specs.declared.asks.Outcome.TheVariants as outcomes
+use Rattle.client_parts.specs.declared.handles.ClientHandle.{ClientHandle}
 use Rattle.client_core.specs.declared.plans.Plan.TheVariants as plans
-use Rattle.client_core.specs.declared.sessions.Session.TheVariants as sessions
-use Rattle.client_core.specs.declared.targets.Target.{Target}
-use Rattle.client_core.specs.declared.targets.Target.TheVariants as targets
-use Rattle.client_core.specs.declared.targets.Outstanding.{Outstanding}
-use Rattle.client_core.specs.State.{ClientState, at_moment}
-use Rattle.client_core.specs.Asks.{handle_of, plan_of, message_of, with_call}
+use Rattle.client_parts.specs.declared.sessions.Session.TheVariants as sessions
+use Rattle.client_parts.specs.declared.steps.Given.{Given}
+use Rattle.client_parts.specs.declared.steps.Beaten.{Beaten}
+use Rattle.client_parts.specs.declared.targets.Target.{Target}
+use Rattle.client_parts.specs.declared.targets.Target.TheVariants as targets
+use Rattle.client_parts.specs.declared.targets.Outstanding.{Outstanding}
+use Rattle.client_core.specs.State.{ClientState, at_moment, session_then, note, note_live, note_lines}
+use Rattle.client_core.specs.Handles.{handle_of}
+use Rattle.client_parts.specs.Opens.{read_answer, is_plain, is_read_only, kept_handle}
+use Rattle.client_core.specs.Asks.{fault_then, plan_of, asked_for, message_of, with_call, with_shared, without_handle}
 use Rattle.client_core.specs.Poisons.{with_poisoned, poison_lines}
-use Rattle.client_core.specs.Beats.{start_message, beat_message, with_beat}
-use Rattle.client_core.specs.Gives.{offered, begun, is_in_order, with_processed, awaited, answer_of, ended, session_after}
+use Rattle.client_core.specs.Beats.{start_message, beat_message, with_beat, beaten}
+use Rattle.client_core.specs.Lessons.{Lesson, lesson}
+use Rattle.client_core.specs.Gives.{told, passed_over, rejected, offered, begun, with_processed, bettered, safe_lines, awaited, answer_of, has_number, ended_plainly, with_lesson, lost}
+use Rattle.client_parts.specs.Invalidations.{is_in_order}
+use Rattle.client_parts.specs.Sessions.{session_after}
 
--- the client at the moment that it notes
+-- the moment that is noted
+abbrev pub noted_moment : ClientState → ℕ → ℕ
+noted_moment s now = max s.clock now
+
+-- the client once it noted the moment
 abbrev pub noted : ClientState → ℕ → ClientState
-noted s now = at_moment s (max s.clock now)
+noted s now = note s (noted_moment s now)
 
 -- ---- ask
 
--- it is in time, and this call may be sent for it: in a session, beside no other call
-pub record IsSendable (s : ClientState) (now : ℕ) (ask : Ask) (call : Call) (target : Target) : Type 0 where
+-- it is in time, and the client may rely on its session: its lease runs
+pub record IsSafe (s : ClientState) (now : ℕ) : Type 0 where
   pub early : now < moment_limit
-  pub is_plan : plan_of s ask ≡ Ok (plans.Send call target)
   pub live : s.session ≡ sessions.Live
+  pub safe : s.standing ≡ standings.Safe
+  pub leased : is_leased s.cache.lease (noted_moment s now) ≡ true
+
+-- this call may be sent, beside no other call
+pub record IsSendable (s : ClientState) (now : ℕ) (ask : Ask) (call : Call) (target : Target) : Type 0 where
+  pub safe : IsSafe s now
+  pub is_plan : plan_of s (noted_moment s now) ask ≡ Ok (plans.Send call target)
   pub free : s.outstanding ≡ None
 
--- it is in time, and this handle of this number may be poisoned for it
-pub record IsPoisonable (s : ClientState) (now : ℕ) (ask : Ask) (number : ℕ) (handle : ClientHandle) : Type 0 where
-  pub early : now < moment_limit
-  pub is_plan : plan_of s ask ≡ Ok (plans.Poison number handle)
-  pub live : s.session ≡ sessions.Live
+-- an open handle that isn't poisoned
+pub record IsUsable (s : ClientState) (number : ℕ) (handle : ClientHandle) : Type 0 where
   pub found : handle_of s.handles number ≡ Some handle
   pub usable : handle.poisoned ≡ false
+
+-- a handle to read, and what is cached under its name
+pub record IsReadable (s : ClientState) (now : ℕ) (number : ℕ) (handle : ClientHandle) (entry : Option View) : Type 0 where
+  pub of_handle : IsUsable s number handle
+  pub reads : handle.mode.read ≡ true
+  pub cached : answer s.cache (noted_moment s now) handle.name ≡ Some entry
+
+-- an Open to read alone, the view that is cached under its name, and the handle that is kept on that instance
+pub record IsShared (s : ClientState) (now : ℕ) (opening : Open) (view : View) (handle : NewHandle) : Type 0 where
+  pub plain : is_plain opening ≡ true
+  pub reads : is_read_only opening.mode ≡ true
+  pub cached : answer s.cache (noted_moment s now) opening.name ≡ Some (Some view)
+  pub kept : serving s.kept opening.name view.instance ≡ Some handle
 
 pub data AskCase (s : ClientState) (now : ℕ) (ask : Ask) : Type 0 where
   -- THE MOMENT IS PAST THE END
   AskedTooLate : moment_limit ≤ now → AskCase s now ask
+  -- NO SESSION, OR ONE THAT THE CLIENT MAY NOT RELY ON
+  Unsafe : (fault : Fault) → now < moment_limit → fault_then s (noted_moment s now) ≡ Some fault → AskCase s now ask
   -- THE CLIENT REFUSES IT BY ITSELF
-  Refused : (fault : Fault) → now < moment_limit → plan_of s ask ≡ Err fault → AskCase s now ask
+  Refused : (fault : Fault) → IsSafe s now → plan_of s (noted_moment s now) ask ≡ Err fault → AskCase s now ask
+  -- THE CACHE ANSWERS
+  ReadServed : (number : ℕ) (handle : ClientHandle) (entry : Option View) → IsSafe s now → ask ≡ asks.Node number node_calls.Read → IsReadable s now number handle entry → AskCase s now ask
+  AbsenceServed : (opening : Open) → IsSafe s now → ask ≡ asks.Open opening → is_plain opening ≡ true → answer s.cache (noted_moment s now) opening.name ≡ Some None → AskCase s now ask
+  Shared : (opening : Open) (view : View) (handle : NewHandle) → IsSafe s now → ask ≡ asks.Open opening → IsShared s now opening view handle → s.opened + 1 < number_end → AskCase s now ask
+  OutOfHandles : (opening : Open) (view : View) (handle : NewHandle) → IsSafe s now → ask ≡ asks.Open opening → IsShared s now opening view handle → number_end ≤ s.opened + 1 → AskCase s now ask
+  -- A SHARED HANDLE IS CLOSED
+  Released : (number : ℕ) (handle : ClientHandle) → IsSafe s now → ask ≡ asks.Close number → handle_of s.handles number ≡ Some handle → handle.shared ≡ true → AskCase s now ask
   -- A CALL
   OutOfCalls : (call : Call) (target : Target) → IsSendable s now ask call target → number_end ≤ s.calls + 1 → AskCase s now ask
   Sent : (call : Call) (target : Target) → IsSendable s now ask call target → s.calls + 1 < number_end → AskCase s now ask
   -- A POISON
-  Poisoned : (number : ℕ) (handle : ClientHandle) → IsPoisonable s now ask number handle → AskCase s now ask
+  Poisoned : (number : ℕ) (handle : ClientHandle) → IsSafe s now → ask ≡ asks.Poison number → IsUsable s number handle → AskCase s now ask
 
 -- what the client is then, and answers
 abbrev pub asked_in : (s : ClientState) (now : ℕ) (ask : Ask) → AskCase s now ask → ClientState × Result Asked Fault
 asked_in s now ask (AskedTooLate late) = (s, Err faults.Exhausted)
-asked_in s now ask (Refused fault early is) = (noted s now, Err fault)
+asked_in s now ask (Unsafe fault early is) = (noted s now, Ok (asked_for (note_lines s (noted_moment s now)) (outcomes.Refused fault)))
+asked_in s now ask (Refused fault safe is) = (at_moment s (noted_moment s now), Ok (asked_for [] (outcomes.Refused fault)))
+asked_in s now ask (ReadServed number handle entry safe is readable) =
+    (at_moment s (noted_moment s now), Ok (asked_for (lines.Served s.number handle.name entry ∷ []) (outcomes.Served (read_answer handle entry))))
+asked_in s now ask (AbsenceServed opening safe is plain cached) =
+    (at_moment s (noted_moment s now), Ok (asked_for (lines.Served s.number opening.name None ∷ []) (outcomes.Served (answers.Refused faults.NotFound))))
+asked_in s now ask (Shared opening view handle safe is shared room) =
+    (with_shared s (noted_moment s now) (kept_handle handle opening true), Ok (asked_for (lines.Served s.number opening.name (Some view) ∷ lines.Done s.number 0 (answers.Opened (s.opened + 1)) ∷ []) (outcomes.Served (answers.Opened (s.opened + 1)))))
+asked_in s now ask (OutOfHandles opening view handle safe is shared last) = (s, Err faults.Exhausted)
+asked_in s now ask (Released number handle safe is found shared) =
+    (without_handle s (noted_moment s now) number, Ok (asked_for (lines.Done s.number 0 answers.Closed ∷ []) outcomes.Answered))
 asked_in s now ask (OutOfCalls call target sendable last) = (s, Err faults.Exhausted)
-asked_in s now ask (Sent call target sendable room) = (with_call s (max s.clock now) call target, Ok (asked.Sent (message_of s call)))
-asked_in s now ask (Poisoned number handle poisonable) = (with_poisoned s (max s.clock now) number handle, Ok (asked.Answered (poison_lines s number)))
+asked_in s now ask (Sent call target sendable room) = (with_call s (noted_moment s now) call target, Ok (asked_for [] (outcomes.Sent (message_of s call))))
+asked_in s now ask (Poisoned number handle safe is usable) =
+    (with_poisoned s (noted_moment s now) number handle, Ok (asked_for (poison_lines s number) outcomes.Answered))
 
 -- ---- beat
 
 pub data BeatCase (s : ClientState) (now : ℕ) : Type 0 where
   BeatTooLate : moment_limit ≤ now → BeatCase s now
   -- behind the last number
-  OutOfBeats : now < moment_limit → (s.session ≡ sessions.Unstarted) ⊎ (s.session ≡ sessions.Live) → number_end ≤ s.beats + 1 → BeatCase s now
+  OutOfBeats : now < moment_limit → number_end ≤ s.beats + 1 → BeatCase s now
   Starts : now < moment_limit → s.session ≡ sessions.Unstarted → s.beats + 1 < number_end → BeatCase s now
-  Beats : now < moment_limit → s.session ≡ sessions.Live → s.beats + 1 < number_end → BeatCase s now
+  -- in a session that isn't given up
+  Beats : now < moment_limit → s.session ≡ sessions.Live → session_then s (noted_moment s now) ≡ sessions.Live → s.beats + 1 < number_end → BeatCase s now
   -- NOTHING IS SENT
-  Quiet : now < moment_limit → s.session ≢ sessions.Unstarted → s.session ≢ sessions.Live → BeatCase s now
+  Quiet : now < moment_limit → session_then s (noted_moment s now) ≢ sessions.Unstarted → session_then s (noted_moment s now) ≢ sessions.Live → BeatCase s now
 
 -- what the client is then, and sends
-abbrev pub beaten_in : (s : ClientState) (now : ℕ) → BeatCase s now → ClientState × Result (Option Request) Fault
+abbrev pub beaten_in : (s : ClientState) (now : ℕ) → BeatCase s now → ClientState × Result Beaten Fault
 beaten_in s now (BeatTooLate late) = (s, Err faults.Exhausted)
-beaten_in s now (OutOfBeats early standing last) = (s, Err faults.Exhausted)
-beaten_in s now (Starts early unstarted room) = (with_beat s (max s.clock now), Ok (Some (start_message s)))
-beaten_in s now (Beats early live room) = (with_beat s (max s.clock now), Ok (Some (beat_message s)))
-beaten_in s now (Quiet early standing started) = (noted s now, Ok None)
+beaten_in s now (OutOfBeats early last) = (s, Err faults.Exhausted)
+beaten_in s now (Starts early unstarted room) = (with_beat s (noted_moment s now), Ok (beaten [] (Some (start_message s))))
+beaten_in s now (Beats early live then room) =
+    (with_beat (note_live s (noted_moment s now)) (noted_moment s now), Ok (beaten (note_lines s (noted_moment s now)) (Some (beat_message s))))
+beaten_in s now (Quiet early started live) = (noted s now, Ok (beaten (note_lines s (noted_moment s now)) None))
 
 -- ---- give
 
@@ -96,42 +152,51 @@ pub record IsHeard (s : ClientState) (now : ℕ) (out : Out) : Type 0 where
   pub early : now < moment_limit
   pub own : out_client out ≡ s.number
 
+-- in a session, which isn't given up
+pub record IsLive (s : ClientState) (now : ℕ) : Type 0 where
+  pub live : s.session ≡ sessions.Live
+  pub then : session_then s (noted_moment s now) ≡ sessions.Live
+
 -- the answer to the newest Start of a client without a session
 pub record IsStarted (s : ClientState) (message : StartedMessage) : Type 0 where
   pub unstarted : s.session ≡ sessions.Unstarted
   pub newest : message.number ≡ s.beats
 
 -- of the client's epoch, in its session
-pub record IsAlive (s : ClientState) (message : AliveMessage) : Type 0 where
-  pub live : s.session ≡ sessions.Live
+pub record IsAlive (s : ClientState) (now : ℕ) (message : AliveMessage) : Type 0 where
+  pub live : IsLive s now
   pub epoch : message.epoch ≡ s.epoch
+
+-- and one that a master sends
+pub record IsFit (s : ClientState) (now : ℕ) (message : AliveMessage) : Type 0 where
+  pub alive : IsAlive s now message
+  pub fits : message.span < moment_limit
+  pub in_order : is_in_order s.processed message.invalidations ≡ true
 
 -- an offer for the newest Beat, better than the lease that there is
 pub record IsTaken (s : ClientState) (message : AliveMessage) : Type 0 where
-  pub alive : IsAlive s message
-  pub fits : message.span < moment_limit
-  pub in_order : is_in_order s.processed message.invalidations ≡ true
   pub newest : message.number ≡ s.beats
-  pub better : is_better (offered s message.span) s.lease ≡ true
-
--- an offer that isn't
-pub record IsPassed (s : ClientState) (message : AliveMessage) : Type 0 where
-  pub alive : IsAlive s message
-  pub fits : message.span < moment_limit
-  pub in_order : is_in_order s.processed message.invalidations ≡ true
-  pub worse : message.number ≡ s.beats → is_better (offered s message.span) s.lease ≡ false
+  pub better : takes_lease s.cache.lease (offered s message.span) ≡ true
 
 -- a reply in the client's session and of its epoch, to its outstanding call
-pub record IsAwaited (s : ClientState) (message : Reply) (call : Outstanding) : Type 0 where
-  pub live : s.session ≡ sessions.Live
+pub record IsAwaited (s : ClientState) (now : ℕ) (message : Reply) (call : Outstanding) : Type 0 where
+  pub live : IsLive s now
   pub epoch : message.epoch ≡ s.epoch
   pub outstanding : s.outstanding ≡ Some call
   pub number : message.number ≡ request_number call.request
 
+-- what a reply teaches of a name, under a lease that runs, where no invalidation was processed since
+pub record IsLearned (s : ClientState) (now : ℕ) (message : Reply) (call : Outstanding) (taught : Lesson) (stamp : ℕ) : Type 0 where
+  pub teaches : lesson s (noted_moment s now) message call.target ≡ Some taught
+  pub safe : IsSafe s now
+  pub enabled : s.cache.enabled ≡ true
+  pub stamped : message.stamp ≡ Some stamp
+  pub fresh : s.processed ≤ stamp
+
 -- the master knows no session of the client, and is of no earlier epoch than the client's
-pub record IsLoss (s : ClientState) (message : RefusedMessage) : Type 0 where
+pub record IsLoss (s : ClientState) (now : ℕ) (message : RefusedMessage) : Type 0 where
   pub fault : message.fault ≡ faults.NoSession
-  pub live : s.session ≡ sessions.Live
+  pub live : IsLive s now
   pub epoch : s.epoch ≤ message.epoch
 
 pub data GiveCase (s : ClientState) (now : ℕ) (out : Out) : Type 0 where
@@ -142,34 +207,43 @@ pub data GiveCase (s : ClientState) (now : ℕ) (out : Out) : Type 0 where
   StartedUnfit : (message : StartedMessage) → IsHeard s now out → out ≡ outs.Started message → IsStarted s message → moment_limit ≤ message.span → GiveCase s now out
   StartedDropped : (message : StartedMessage) → IsHeard s now out → out ≡ outs.Started message → (s.session ≡ sessions.Unstarted → message.number ≢ s.beats) → GiveCase s now out
   -- AN ALIVE
-  LeaseTaken : (message : AliveMessage) → IsHeard s now out → out ≡ outs.Alive message → IsTaken s message → GiveCase s now out
-  LeaseStays : (message : AliveMessage) → IsHeard s now out → out ≡ outs.Alive message → IsPassed s message → GiveCase s now out
-  AliveUnfit : (message : AliveMessage) → IsHeard s now out → out ≡ outs.Alive message → IsAlive s message → (moment_limit ≤ message.span) ⊎ (is_in_order s.processed message.invalidations ≡ false) → GiveCase s now out
-  AliveDropped : (message : AliveMessage) → IsHeard s now out → out ≡ outs.Alive message → (s.session ≡ sessions.Live → message.epoch ≢ s.epoch) → GiveCase s now out
+  LeaseTaken : (message : AliveMessage) → IsHeard s now out → out ≡ outs.Alive message → IsFit s now message → IsTaken s message → GiveCase s now out
+  LeaseStays : (message : AliveMessage) → IsHeard s now out → out ≡ outs.Alive message → IsFit s now message → (message.number ≡ s.beats → takes_lease s.cache.lease (offered s message.span) ≡ false) → GiveCase s now out
+  AliveUnfit : (message : AliveMessage) → IsHeard s now out → out ≡ outs.Alive message → IsAlive s now message → (moment_limit ≤ message.span) ⊎ (is_in_order s.processed message.invalidations ≡ false) → GiveCase s now out
+  AliveDropped : (message : AliveMessage) → IsHeard s now out → out ≡ outs.Alive message → (session_then s (noted_moment s now) ≡ sessions.Live → message.epoch ≢ s.epoch) → GiveCase s now out
   -- A REPLY
-  Replied : (message : Reply) (call : Outstanding) → IsHeard s now out → out ≡ outs.Reply message → IsAwaited s message call → call.target ≢ targets.Dropped → GiveCase s now out
-  ReplyDropped : (message : Reply) (call : Outstanding) → IsHeard s now out → out ≡ outs.Reply message → IsAwaited s message call → call.target ≡ targets.Dropped → GiveCase s now out
-  NotAwaited : (message : Reply) → IsHeard s now out → out ≡ outs.Reply message → awaited s message ≡ None → GiveCase s now out
+  OutOfNumbers : (message : Reply) (call : Outstanding) → IsHeard s now out → out ≡ outs.Reply message → IsAwaited s now message call → has_number s message.result ≡ false → GiveCase s now out
+  -- the cache stays
+  Replied : (message : Reply) (call : Outstanding) → IsHeard s now out → out ≡ outs.Reply message → IsAwaited s now message call → has_number s message.result ≡ true → call.target ≢ targets.Dropped → lesson s (noted_moment s now) message call.target ≡ None → GiveCase s now out
+  -- an entry is installed
+  Installed : (message : Reply) (call : Outstanding) (taught : Lesson) (stamp : ℕ) → IsHeard s now out → out ≡ outs.Reply message → IsAwaited s now message call → IsLearned s now message call taught stamp → GiveCase s now out
+  ReplyDropped : (message : Reply) (call : Outstanding) → IsHeard s now out → out ≡ outs.Reply message → IsAwaited s now message call → call.target ≡ targets.Dropped → GiveCase s now out
+  NotAwaited : (message : Reply) → IsHeard s now out → out ≡ outs.Reply message → awaited s (noted_moment s now) message ≡ None → GiveCase s now out
   -- A REFUSAL
-  Lost : (message : RefusedMessage) → IsHeard s now out → out ≡ outs.Refused message → IsLoss s message → GiveCase s now out
+  Lost : (message : RefusedMessage) → IsHeard s now out → out ≡ outs.Refused message → IsLoss s now message → GiveCase s now out
   TurnedAway : (message : RefusedMessage) → IsHeard s now out → out ≡ outs.Refused message → message.fault ≡ faults.NoSession → s.session ≡ sessions.Unstarted → GiveCase s now out
-  RefusalDropped : (message : RefusedMessage) → IsHeard s now out → out ≡ outs.Refused message → session_after s.session s.epoch message.epoch message.fault ≡ None → GiveCase s now out
+  RefusalDropped : (message : RefusedMessage) → IsHeard s now out → out ≡ outs.Refused message → session_after (session_then s (noted_moment s now)) s.epoch message.epoch message.fault ≡ None → GiveCase s now out
 
 -- what the client is then, and prints
-abbrev pub given_in : (s : ClientState) (now : ℕ) (out : Out) → GiveCase s now out → ClientState × Result (List Line) Fault
+abbrev pub given_in : (s : ClientState) (now : ℕ) (out : Out) → GiveCase s now out → ClientState × Result Given Fault
 given_in s now out (GivenTooLate late) = (s, Err faults.Exhausted)
-given_in s now out (OfAnother early other) = (noted s now, Ok [])
-given_in s now out (Started message heard is standing fits) = (begun (noted s now) message, Ok [])
-given_in s now out (StartedUnfit message heard is standing long) = (noted s now, Err faults.ProtocolFault)
-given_in s now out (StartedDropped message heard is old) = (noted s now, Ok [])
-given_in s now out (LeaseTaken message heard is taken) = (record (with_processed (noted s now) message) { lease = offered s message.span }, Ok [])
-given_in s now out (LeaseStays message heard is passed) = (with_processed (noted s now) message, Ok [])
-given_in s now out (AliveUnfit message heard is alive unfit) = (noted s now, Err faults.ProtocolFault)
-given_in s now out (AliveDropped message heard is other) = (noted s now, Ok [])
-given_in s now out (Replied message call heard is for kept) =
-    (ended (noted s now) call.target message.result, Ok (lines.Done s.number message.number (answer_of s message.result) ∷ []))
-given_in s now out (ReplyDropped message call heard is for dropped) = (record (noted s now) { outstanding = None }, Ok [])
-given_in s now out (NotAwaited message heard is none) = (noted s now, Ok [])
-given_in s now out (Lost message heard is loss) = (record (noted s now) { session = sessions.Lost }, Ok (lines.Lost s.number ∷ []))
-given_in s now out (TurnedAway message heard is fault unstarted) = (record (noted s now) { session = sessions.TurnedAway }, Ok (lines.Lost s.number ∷ []))
-given_in s now out (RefusalDropped message heard is stays) = (noted s now, Ok [])
+given_in s now out (OfAnother early other) = passed_over s (noted_moment s now)
+given_in s now out (Started message heard is standing fits) = (begun s (noted_moment s now) message, Ok (told s (noted_moment s now) [] None))
+given_in s now out (StartedUnfit message heard is standing long) = rejected s (noted_moment s now)
+given_in s now out (StartedDropped message heard is old) = passed_over s (noted_moment s now)
+given_in s now out (LeaseTaken message heard is fit taken) =
+    (bettered (with_processed (note_live s (noted_moment s now)) message) (noted_moment s now) (offered s message.span), Ok (told s (noted_moment s now) (safe_lines (with_processed (note_live s (noted_moment s now)) message) (noted_moment s now) message) None))
+given_in s now out (LeaseStays message heard is fit worse) =
+    (with_processed (note_live s (noted_moment s now)) message, Ok (told s (noted_moment s now) [] None))
+given_in s now out (AliveUnfit message heard is alive unfit) = rejected s (noted_moment s now)
+given_in s now out (AliveDropped message heard is other) = passed_over s (noted_moment s now)
+given_in s now out (OutOfNumbers message call heard is for last) = (s, Err faults.Exhausted)
+given_in s now out (Replied message call heard is for room kept plain) =
+    (ended_plainly (note_live s (noted_moment s now)) call.target message.result, Ok (told s (noted_moment s now) (lines.Done s.number message.number (answer_of s message.result) ∷ []) None))
+given_in s now out (Installed message call taught stamp heard is for learned) =
+    (with_lesson s (noted_moment s now) taught, Ok (told s (noted_moment s now) (lines.Done s.number message.number (answer_of s message.result) ∷ []) None))
+given_in s now out (ReplyDropped message call heard is for dropped) = (record (note_live s (noted_moment s now)) { outstanding = None }, Ok (told s (noted_moment s now) [] None))
+given_in s now out (NotAwaited message heard is none) = passed_over s (noted_moment s now)
+given_in s now out (Lost message heard is loss) = (lost (note_live s (noted_moment s now)) sessions.Lost, Ok (told s (noted_moment s now) (lines.Lost s.number ∷ []) None))
+given_in s now out (TurnedAway message heard is fault unstarted) = (lost (at_moment s (noted_moment s now)) sessions.TurnedAway, Ok (told s (noted_moment s now) (lines.Lost s.number ∷ []) None))
+given_in s now out (RefusalDropped message heard is stays) = passed_over s (noted_moment s now)

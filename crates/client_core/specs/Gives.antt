@@ -1,10 +1,16 @@
 -- A client is given a message of a master.
-use Rattle.std.specs.Prelude.{ℕ, ◌+◌, ◌==◌, ◌&&◌, nat_lt, nat_le, max, Bool, true, false, List, [], ◌∷◌, Option, Some, None, Result, Ok, Err, if◌then◌else◌}
-use Rattle.std.specs.Option.{option_map_or}
+use Rattle.std.specs.Prelude.{ℕ, ◌+◌, ◌==◌, ◌&&◌, nat_lt, max, Bool, true, false, List, [], ◌∷◌, ◌++◌, Option, Some, None, Result, Ok, Err, if◌then◌else◌}
 use Rattle.std.specs.Map.{remove_entry}
 use Rattle.std.specs.BTreeMap.{is_at, insert_entry}
 use Rattle.std.specs.Ordering.{nat_cmp}
-use Rattle.lease_core.specs.Lease.{LeaseTerms, moment_limit, is_better}
+use Rattle.lease_core.specs.Lease.{LeaseTerms, moment_limit, is_unexpired}
+use Rattle.cache_core.specs.Caches.{CacheState, installed, takes_lease}
+use Rattle.cache_core.specs.Kept.{with_kept}
+use Rattle.cache_core.specs.Standings.{reprieved}
+use Rattle.cache_core.specs.declared.kept.Kept.{Kept}
+use Rattle.cache_core.specs.declared.standings.Standing.{Standing}
+use Rattle.cache_core.specs.declared.standings.Standing.TheVariants as standings
+use Rattle.node_core.specs.Limits.{number_end}
 use Rattle.node_core.specs.declared.refusals.Fault.{Fault}
 use Rattle.node_core.specs.declared.refusals.Fault.TheVariants as faults
 use Rattle.node_core.specs.declared.answers.Answer.{Answer}
@@ -15,25 +21,25 @@ use Rattle.tags_cell.specs.declared.outs.Out.{Out}
 use Rattle.tags_cell.specs.declared.outs.Out.TheVariants as outs
 use Rattle.tags_cell.specs.declared.outs.Started.{Started}
 use Rattle.tags_cell.specs.declared.beats.Alive.{Alive}
-use Rattle.tags_cell.specs.declared.beats.Invalidation.{Invalidation}
 use Rattle.tags_cell.specs.declared.outs.Reply.{Reply}
 use Rattle.tags_cell.specs.declared.outs.Refused.{Refused}
 use Rattle.tags_cell.specs.declared.outs.CallResult.{CallResult}
-use Rattle.tags_cell.specs.declared.outs.NewHandle.{NewHandle}
-use Rattle.tags_cell.specs.declared.calls.Call.{Call}
-use Rattle.tags_cell.specs.declared.calls.Call.TheVariants as calls
-use Rattle.tags_cell.specs.declared.calls.Open.{Open}
-use Rattle.tags_cell.specs.declared.requests.Request.{Request}
-use Rattle.tags_cell.specs.declared.requests.Request.TheVariants as requests
 use Rattle.tags_cell.specs.declared.outs.CallResult.TheVariants as results
+use Rattle.tags_cell.specs.declared.outs.NewHandle.{NewHandle}
+use Rattle.tags_cell.specs.declared.calls.Open.{Open}
 use Rattle.tags_cell.specs.Messages.{request_number, out_client}
-use Rattle.client_core.specs.declared.sessions.Session.{Session}
-use Rattle.client_core.specs.declared.sessions.Session.TheVariants as sessions
-use Rattle.client_core.specs.declared.handles.ClientHandle.{ClientHandle}
-use Rattle.client_core.specs.declared.targets.Target.{Target}
-use Rattle.client_core.specs.declared.targets.Target.TheVariants as targets
-use Rattle.client_core.specs.declared.targets.Outstanding.{Outstanding}
-use Rattle.client_core.specs.State.{ClientState, moment, at_moment}
+use Rattle.client_parts.specs.declared.sessions.Session.{Session}
+use Rattle.client_parts.specs.declared.sessions.Session.TheVariants as sessions
+use Rattle.client_parts.specs.declared.handles.ClientHandle.{ClientHandle}
+use Rattle.client_parts.specs.declared.steps.Given.{Given}
+use Rattle.client_parts.specs.declared.targets.Target.{Target}
+use Rattle.client_parts.specs.declared.targets.Target.TheVariants as targets
+use Rattle.client_parts.specs.declared.targets.Outstanding.{Outstanding}
+use Rattle.client_parts.specs.Sessions.{session_after}
+use Rattle.client_parts.specs.Invalidations.{is_in_order, last_number, all_flushed}
+use Rattle.client_core.specs.State.{ClientState, moment, session_then, note, note_lines}
+use Rattle.client_parts.specs.Opens.{is_shareable, kept_handle}
+use Rattle.client_core.specs.Lessons.{Lesson, opening_of, lesson}
 
 abbrev pub is_unstarted : Session → Bool
 is_unstarted sessions.Unstarted = true
@@ -47,7 +53,21 @@ is_live sessions.Live = true
 is_live sessions.Lost = false
 is_live sessions.TurnedAway = false
 
--- ---- Started
+-- ---- what is printed
+
+-- first what the noting of the time prints
+abbrev pub told : ClientState → ℕ → List Line → Option Fault → Given
+told s moment lines refused = record { lines = note_lines s moment ++ lines; refused = refused }
+
+-- the time is noted, and nothing else
+abbrev pub passed_over : ClientState → ℕ → ClientState × Result Given Fault
+passed_over s moment = (note s moment, Ok (told s moment [] None))
+
+-- nor where the message is one that no master sends
+abbrev pub rejected : ClientState → ℕ → ClientState × Result Given Fault
+rejected s moment = (note s moment, Ok (told s moment [] (Some faults.ProtocolFault)))
+
+-- ---- leases
 
 -- a span is a number of milliseconds
 abbrev pub is_span : ℕ → Bool
@@ -57,48 +77,70 @@ is_span span = nat_lt span moment_limit
 abbrev pub offered : ClientState → ℕ → LeaseTerms
 offered s span = record { sent = s.sent; span = span }
 
-abbrev pub begun : ClientState → Started → ClientState
-begun s message = record s { session = sessions.Live; epoch = message.epoch; lease = offered s message.span }
+-- a cache under a lease serves where that runs, and holds nothing where it has ended
+abbrev pub under : CacheState → LeaseTerms → ℕ → CacheState
+under cache lease moment =
+    if is_unexpired lease.sent lease.span moment
+    then record cache { lease = Some lease; enabled = true }
+    else record cache { entries = []; lease = Some lease; enabled = false }
+
+-- ---- Started
+
+abbrev pub begun : ClientState → ℕ → Started → ClientState
+begun s moment message =
+    record s { clock = moment; session = sessions.Live; epoch = message.epoch; cache = under s.cache (offered s message.span) moment }
 
 -- only a client without a session takes it, and only for its newest Start
-abbrev pub started_step : ClientState → Started → ClientState × Result (List Line) Fault
-started_step s message =
+abbrev pub started_step : ClientState → ℕ → Started → ClientState × Result Given Fault
+started_step s moment message =
     if is_unstarted s.session && message.number == s.beats
-    then (if is_span message.span then (begun s message, Ok []) else (s, Err faults.ProtocolFault))
-    else (s, Ok [])
+    then (if is_span message.span then (begun s moment message, Ok (told s moment [] None)) else rejected s moment)
+    else passed_over s moment
 
--- ---- Alive
+-- ---- Alive: its invalidations
 
--- each number is one more than the one before
-abbrev pub follow : ℕ → List Invalidation → Bool
-follow last [] = true
-follow last (next ∷ others) = next.number == last + 1 && follow next.number others
-
--- they rise by one, and begin at most one above what was processed
-abbrev pub is_in_order : ℕ → List Invalidation → Bool
-is_in_order processed [] = true
-is_in_order processed (first ∷ others) = nat_le first.number (processed + 1) && follow first.number others
-
--- the last number, or this one where there is none
-abbrev pub last_number : ℕ → List Invalidation → ℕ
-last_number number [] = number
-last_number number (next ∷ others) = last_number next.number others
-
--- an older message takes nothing back
+-- what is invalidated goes out of the cache; an older message takes nothing back
 abbrev pub with_processed : ClientState → Alive → ClientState
-with_processed s message = record s { processed = max s.processed (last_number 0 message.invalidations) }
+with_processed s message = record s {
+  processed = max s.processed (last_number 0 message.invalidations);
+  cache = record s.cache { entries = all_flushed s.processed s.cache.entries message.invalidations };
+}
+
+-- ---- Alive: its lease
 
 -- only an offer for the newest Beat counts, and only a better one than the lease that there is
-abbrev pub with_lease : ClientState → Alive → ClientState
-with_lease s message =
-    if message.number == s.beats && is_better (offered s message.span) s.lease then record s { lease = offered s message.span } else s
+abbrev pub takes_offer : ClientState → Alive → Bool
+takes_offer s message = message.number == s.beats && takes_lease s.cache.lease (offered s message.span)
+
+-- a lease that runs ends a jeopardy
+abbrev pub standing_under : Standing → LeaseTerms → ℕ → Standing
+standing_under standing lease moment = if is_unexpired lease.sent lease.span moment then reprieved standing else standing
+
+abbrev pub bettered : ClientState → ℕ → LeaseTerms → ClientState
+bettered s moment lease = record s { cache = under s.cache lease moment; standing = standing_under s.standing lease moment }
+
+abbrev pub with_lease : ClientState → ℕ → Alive → ClientState
+with_lease s moment message = if takes_offer s message then bettered s moment (offered s message.span) else s
+
+abbrev pub is_jeopardy : Standing → Bool
+is_jeopardy standings.Safe = false
+is_jeopardy (standings.Jeopardy since) = true
+is_jeopardy standings.Lost = false
+
+abbrev pub safe_lines : ClientState → ℕ → Alive → List Line
+safe_lines s moment message =
+    if takes_offer s message && (is_unexpired s.sent message.span moment && is_jeopardy s.standing) then lines.Safe s.number ∷ [] else []
+
+abbrev pub kept_alive : ClientState → ℕ → Alive → ClientState × Result Given Fault
+kept_alive s moment message =
+    (with_lease (with_processed (note s moment) message) moment message, Ok (told s moment (safe_lines (with_processed (note s moment) message) moment message) None))
 
 -- one of another epoch is dropped; one whose span or whose numbers no master sends is refused
-abbrev pub alive_step : ClientState → Alive → ClientState × Result (List Line) Fault
-alive_step s message =
-    if is_live s.session && message.epoch == s.epoch
-    then (if is_span message.span && is_in_order s.processed message.invalidations then (with_lease (with_processed s message) message, Ok []) else (s, Err faults.ProtocolFault))
-    else (s, Ok [])
+abbrev pub alive_step : ClientState → ℕ → Alive → ClientState × Result Given Fault
+alive_step s moment message =
+    if is_live (session_then s moment) && message.epoch == s.epoch
+    then (if is_span message.span && is_in_order s.processed message.invalidations then kept_alive s moment message else rejected s moment)
+    else passed_over s moment
 
 -- ---- Reply
 
@@ -107,8 +149,8 @@ target_for number None = None
 target_for number (Some call) = if number == request_number call.request then Some call.target else None
 
 -- what it is for, where it is of the client's epoch and for the outstanding call
-abbrev pub awaited : ClientState → Reply → Option Target
-awaited s message = if is_live s.session && message.epoch == s.epoch then target_for message.number s.outstanding else None
+abbrev pub awaited : ClientState → ℕ → Reply → Option Target
+awaited s moment message = if is_live (session_then s moment) && message.epoch == s.epoch then target_for message.number s.outstanding else None
 
 -- how the call ended, as it is told; a new handle has the next of the client's numbers
 abbrev pub answer_of : ClientState → CallResult → Answer
@@ -125,88 +167,92 @@ abbrev pub closed : List (ℕ × ClientHandle) → Target → List (ℕ × Clien
 closed handles (targets.Closing number) = remove_entry (is_at (nat_cmp number)) handles
 closed handles _ = handles
 
--- what is opened by a call, where it is an Open
-abbrev pub opening_in : Call → Option Open
-opening_in (calls.Open opening) = Some opening
-opening_in _ = None
+-- the handles behind the outstanding call, if it was an Open
+abbrev pub handles_behind : List (ℕ × ClientHandle) → ℕ → NewHandle → Option Open → List (ℕ × ClientHandle)
+handles_behind handles number handle None = handles
+handles_behind handles number handle (Some opening) = insert_entry nat_cmp handles number (kept_handle handle opening (is_shareable handle opening))
 
-abbrev pub opening_of : Request → Option Open
-opening_of (requests.Start message) = None
-opening_of (requests.Beat message) = None
-opening_of (requests.Call message) = opening_in message.call
+-- a handle that may be shared is kept
+abbrev pub kept_behind : List (Kept NewHandle) → NewHandle → Option Open → List (Kept NewHandle)
+kept_behind kept handle None = kept
+kept_behind kept handle (Some opening) =
+    if is_shareable handle opening then with_kept kept (record { name = opening.name; instance = handle.instance; handle = handle }) else kept
 
--- what is kept of a new handle: name and mode are those that were asked for
-abbrev pub kept_handle : NewHandle → Open → ClientHandle
-kept_handle handle opening = record {
-  bytes = handle.bytes;
-  name = opening.name;
-  instance = handle.instance;
-  mode = opening.mode;
-  life = handle.life;
-  poisoned = false;
+-- an Open has ended, and gave a handle
+abbrev pub with_opened : ClientState → NewHandle → Option Open → ClientState
+with_opened s handle opening = record s {
+  outstanding = None;
+  handles = handles_behind s.handles (s.opened + 1) handle opening;
+  kept = kept_behind s.kept handle opening;
+  opened = s.opened + 1;
 }
 
--- the handles behind the outstanding call, if it was an Open
-abbrev pub handles_behind : List (ℕ × ClientHandle) → ℕ → NewHandle → Option Outstanding → List (ℕ × ClientHandle)
-handles_behind handles number handle None = handles
-handles_behind handles number handle (Some call) = option_map_or (λ opening. insert_entry nat_cmp handles number (kept_handle handle opening)) (opening_of call.request) handles
-
 -- the call has ended; a new handle is kept, a closed one is not
-abbrev pub ended : ClientState → Target → CallResult → ClientState
-ended s target (results.Opened handle) =
-    record s { outstanding = None; handles = handles_behind s.handles (s.opened + 1) handle s.outstanding; opened = s.opened + 1 }
-ended s target results.Closed = record s { outstanding = None; handles = closed s.handles target }
-ended s target _ = record s { outstanding = None }
+abbrev pub ended_plainly : ClientState → Target → CallResult → ClientState
+ended_plainly s target (results.Opened handle) = with_opened s handle (opening_of s.outstanding)
+ended_plainly s target results.Closed = record s { outstanding = None; handles = closed s.handles target }
+ended_plainly s target _ = record s { outstanding = None }
+
+-- the call has ended, and what its reply teaches is held
+abbrev pub with_lesson : ClientState → ℕ → Lesson → ClientState
+with_lesson s moment taught =
+    record s { clock = moment; cache = record s.cache { entries = installed s.cache.entries taught.0 taught.1 }; outstanding = None }
+
+-- where the reply teaches something the lease runs, so that of all that the noting of the time changes only the clock does
+abbrev pub ended : ClientState → ℕ → Target → CallResult → Option Lesson → ClientState
+ended s moment target result None = ended_plainly (note s moment) target result
+ended s moment target result (Some taught) = with_lesson s moment taught
+
+-- a handle wants a number
+abbrev pub has_number : ClientState → CallResult → Bool
+has_number s (results.Opened handle) = nat_lt (s.opened + 1) number_end
+has_number s _ = true
+
+-- behind the last handle number nothing changes
+abbrev pub finish_step : ClientState → ℕ → Reply → Target → ClientState × Result Given Fault
+finish_step s moment message target =
+    if has_number s message.result
+    then (ended s moment target message.result (lesson s moment message target), Ok (told s moment (lines.Done s.number message.number (answer_of s message.result) ∷ []) None))
+    else (s, Err faults.Exhausted)
 
 -- a reply that is dropped ends its call too, and prints nothing
-abbrev pub reply_for : ClientState → Reply → Option Target → ClientState × List Line
-reply_for s message None = (s, [])
-reply_for s message (Some targets.Dropped) = (record s { outstanding = None }, [])
-reply_for s message (Some target) = (ended s target message.result, lines.Done s.number message.number (answer_of s message.result) ∷ [])
+abbrev pub reply_for : ClientState → ℕ → Reply → Option Target → ClientState × Result Given Fault
+reply_for s moment message None = passed_over s moment
+reply_for s moment message (Some targets.Dropped) = (record (note s moment) { outstanding = None }, Ok (told s moment [] None))
+reply_for s moment message (Some target) = finish_step s moment message target
 
-abbrev pub reply_step : ClientState → Reply → ClientState × List Line
-reply_step s message = reply_for s message (awaited s message)
+abbrev pub reply_step : ClientState → ℕ → Reply → ClientState × Result Given Fault
+reply_step s moment message = reply_for s moment message (awaited s moment message)
 
 -- ---- Refused
 
--- the session where a master of this epoch knows none, by the client's present epoch; nothing where it stays as it is
-abbrev pub session_without : Session → ℕ → ℕ → Option Session
-session_without sessions.Unstarted present epoch = Some sessions.TurnedAway
-session_without sessions.Live present epoch = if nat_le present epoch then Some sessions.Lost else None
-session_without sessions.Lost present epoch = None
-session_without sessions.TurnedAway present epoch = None
+-- a client without a session holds nothing
+abbrev pub lost : ClientState → Session → ClientState
+lost s session = record s { session = session; cache = record s.cache { entries = []; enabled = false }; standing = standings.Lost }
 
--- of all refusals, that there is no session alone changes it
-abbrev pub session_after : Session → ℕ → ℕ → Fault → Option Session
-session_after session present epoch faults.NoSession = session_without session present epoch
-session_after session present epoch _ = None
+abbrev pub lose_step : ClientState → ℕ → Option Session → ClientState × Result Given Fault
+lose_step s moment None = passed_over s moment
+lose_step s moment (Some session) = (lost (note s moment) session, Ok (told s moment (lines.Lost s.number ∷ []) None))
 
-abbrev pub lose_step : ClientState → Option Session → ClientState × List Line
-lose_step s None = (s, [])
-lose_step s (Some session) = (record s { session = session }, lines.Lost s.number ∷ [])
-
-abbrev pub refused_step : ClientState → Refused → ClientState × List Line
-refused_step s message = lose_step s (session_after s.session s.epoch message.epoch message.fault)
+abbrev pub refused_step : ClientState → ℕ → Refused → ClientState × Result Given Fault
+refused_step s moment message = lose_step s moment (session_after (session_then s moment) s.epoch message.epoch message.fault)
 
 -- ---- every message
 
-abbrev pub told : ClientState × List Line → ClientState × Result (List Line) Fault
-told step = (step.0, Ok step.1)
-
-abbrev pub taken : ClientState → Out → ClientState × Result (List Line) Fault
-taken s (outs.Started message) = started_step s message
-taken s (outs.Alive message) = alive_step s message
-taken s (outs.Reply message) = told (reply_step s message)
-taken s (outs.Refused message) = told (refused_step s message)
+abbrev pub taken : ClientState → ℕ → Out → ClientState × Result Given Fault
+taken s moment (outs.Started message) = started_step s moment message
+taken s moment (outs.Alive message) = alive_step s moment message
+taken s moment (outs.Reply message) = reply_step s moment message
+taken s moment (outs.Refused message) = refused_step s moment message
 
 -- a message for another client changes nothing
-abbrev pub taken_own : ClientState → Out → ClientState × Result (List Line) Fault
-taken_own s out = if out_client out == s.number then taken s out else (s, Ok [])
+abbrev pub taken_own : ClientState → ℕ → Out → ClientState × Result Given Fault
+taken_own s moment out = if out_client out == s.number then taken s moment out else passed_over s moment
 
--- what no master sends notes the time alone
-abbrev pub give_at : ClientState → Out → Result ℕ Fault → ClientState × Result (List Line) Fault
-give_at s out (Ok noted) = taken_own (at_moment s noted) out
+abbrev pub give_at : ClientState → Out → Result ℕ Fault → ClientState × Result Given Fault
+give_at s out (Ok moment) = taken_own s moment out
 give_at s out (Err fault) = (s, Err fault)
 
-unfoldable pub give_step : ClientState → ℕ → Out → ClientState × Result (List Line) Fault
+-- first the time is noted
+unfoldable pub give_step : ClientState → ℕ → Out → ClientState × Result Given Fault
 give_step s now out = give_at s out (moment s.clock now)

@@ -1,6 +1,7 @@
 -- What holds of every client, whatever it is asked for and given.
-use Rattle.std.specs.Prelude.{◌≡◌, ℕ, ◌<◌, ◌≤◌, max, List, [], ◌∷◌, Result, Ok, Err}
+use Rattle.std.specs.Prelude.{◌≡◌, ℕ, ◌<◌, ◌≤◌, max, true, List, [], ◌∷◌, ◌++◌, None, Ok}
 use Rattle.lease_core.specs.Lease.{IsMoment}
+use Rattle.cache_core.specs.Caches.{is_leased}
 use Rattle.node_core.specs.declared.refusals.Fault.{Fault}
 use Rattle.node_core.specs.declared.answers.Answer.TheVariants as answers
 use Rattle.node_core.specs.declared.lines.Line.{Line}
@@ -8,42 +9,44 @@ use Rattle.node_core.specs.declared.lines.Line.TheVariants as lines
 use Rattle.tags_cell.specs.declared.outs.Out.{Out}
 use Rattle.tags_cell.specs.declared.outs.Out.TheVariants as outs
 use Rattle.tags_cell.specs.declared.outs.Reply.{Reply}
-use Rattle.client_core.specs.declared.asks.Ask.{Ask}
-use Rattle.client_core.specs.declared.asks.Ask.TheVariants as asks
-use Rattle.client_core.specs.declared.asks.Asked.{Asked}
-use Rattle.client_core.specs.declared.asks.Asked.TheVariants.{Answered}
-use Rattle.client_core.specs.State.{ClientState, at_moment}
-use Rattle.client_core.specs.Asks.{ask_step, poison_step}
+use Rattle.client_parts.specs.declared.asks.Ask.{Ask}
+use Rattle.client_parts.specs.declared.asks.Outcome.TheVariants.{Served, Refused}
+use Rattle.client_parts.specs.declared.steps.Given.{Given}
+use Rattle.client_core.specs.State.{ClientState, at_moment, note, note_lines}
+use Rattle.client_core.specs.Asks.{fault_then, asked_for, ask_step}
 use Rattle.client_core.specs.Beats.{beat_step}
-use Rattle.client_core.specs.Gives.{give_step}
+use Rattle.client_core.specs.Gives.{told, give_step}
 
--- a handle number that is given out is above all that were given out before, and counts from then on
+-- a handle number that is given out is above all that were given out before, and counts from then on: of a handle that a master gave ..
 abbrev pub HandleNumbersRise : Type 0
 HandleNumbersRise =
-    (s new : ClientState) (now client call handle : ℕ) (out : Out) → give_step s now out ≡ (new, Ok (lines.Done client call (answers.Opened handle) ∷ []))
+    (s new : ClientState) (now client call handle : ℕ) (out : Out) (before : List Line) → give_step s now out ≡ (new, Ok (record { lines = before ++ lines.Done client call (answers.Opened handle) ∷ []; refused = None }))
+    → (s.opened < handle) × (new.opened ≡ handle)
+
+-- .. and of one that is shared
+abbrev pub SharedNumbersRise : Type 0
+SharedNumbersRise =
+    (s new : ClientState) (now handle : ℕ) (ask : Ask) (printed : List Line) → ask_step s now ask ≡ (new, Ok (asked_for printed (Served (answers.Opened handle))))
     → (s.opened < handle) × (new.opened ≡ handle)
 
 -- nothing takes a handle number back
 abbrev pub HandleNumbersStay : Type 0
 HandleNumbersStay =
-    (s : ClientState) (now : ℕ) (ask : Ask) (out : Out) → ((ask_step s now ask).0.opened ≡ s.opened) × ((beat_step s now).0.opened ≡ s.opened) × (s.opened ≤ (give_step s now out).0.opened)
+    (s : ClientState) (now : ℕ) (ask : Ask) (out : Out) → (s.opened ≤ (ask_step s now ask).0.opened) × ((beat_step s now).0.opened ≡ s.opened) × (s.opened ≤ (give_step s now out).0.opened)
 
--- a reply that was given before changes nothing but the noted time
+-- a reply that was given before changes nothing but what the noting of the time does
 abbrev pub RepeatedReplyIsDropped : Type 0
 RepeatedReplyIsDropped =
-    (s new : ClientState) (now later : ℕ) (reply : Reply) (printed : List Line) → give_step s now (outs.Reply reply) ≡ (new, Ok printed) → IsMoment later
-    → give_step new later (outs.Reply reply) ≡ (at_moment new (max new.clock later), Ok [])
+    (s new : ClientState) (now later : ℕ) (reply : Reply) (given : Given) → give_step s now (outs.Reply reply) ≡ (new, Ok given) → IsMoment later
+    → give_step new later (outs.Reply reply) ≡ (note new (max new.clock later), Ok (told new (max new.clock later) [] None))
 
--- what the client refuses by itself changes nothing but the noted time
+-- nor does a call that the client refuses by itself
 abbrev pub RefusedCallChangesNothing : Type 0
-RefusedCallChangesNothing = (s new : ClientState) (now : ℕ) (ask : Ask) (fault : Fault) → ask_step s now ask ≡ (new, Err fault) → new ≡ at_moment s new.clock
+RefusedCallChangesNothing =
+    (s new : ClientState) (now : ℕ) (ask : Ask) (printed : List Line) (fault : Fault) → ask_step s now ask ≡ (new, Ok (asked_for printed (Refused fault)))
+    → (new ≡ note s new.clock) × (printed ≡ note_lines s new.clock)
 
-abbrev pub answered_here : Result (List Line) Fault → Result Asked Fault
-answered_here (Ok told) = Ok (Answered told)
-answered_here (Err fault) = Err fault
-
--- to ask for a Poison is to poison
-abbrev pub PoisonIsAsked : Type 0
-PoisonIsAsked =
-    (s : ClientState) (now number : ℕ) → ((ask_step s now (asks.Poison number)).0 ≡ (poison_step s now number).0)
-    × ((ask_step s now (asks.Poison number)).1 ≡ answered_here (poison_step s now number).1)
+-- where a client may rely on its session its lease runs, and to note the time is to set the clock
+abbrev pub SafeNoteSetsTheClock : Type 0
+SafeNoteSetsTheClock =
+    (s : ClientState) (moment : ℕ) → fault_then s moment ≡ None → (is_leased s.cache.lease moment ≡ true) × (note s moment ≡ at_moment s moment) × (note_lines s moment ≡ [])

@@ -1,5 +1,5 @@
 -- A client poisons a handle.
-use Rattle.std.specs.Prelude.{ℕ, ◌==◌, Bool, true, false, List, [], ◌∷◌, ◌++◌, Option, Some, None, if◌then◌else◌}
+use Rattle.std.specs.Prelude.{ℕ, true, List, [], ◌∷◌, ◌++◌, Option, Some, None, if◌then◌else◌}
 use Rattle.std.specs.Map.{set_value}
 use Rattle.std.specs.BTreeMap.{is_at}
 use Rattle.std.specs.Ordering.{nat_cmp}
@@ -8,18 +8,11 @@ use Rattle.node_core.specs.declared.answers.Answer.TheVariants as answers
 use Rattle.node_core.specs.declared.lines.Line.{Line}
 use Rattle.node_core.specs.declared.lines.Line.TheVariants as lines
 use Rattle.tags_cell.specs.Messages.{request_number}
-use Rattle.client_core.specs.declared.handles.ClientHandle.{ClientHandle}
-use Rattle.client_core.specs.declared.targets.Target.{Target}
-use Rattle.client_core.specs.declared.targets.Target.TheVariants as targets
-use Rattle.client_core.specs.declared.targets.Outstanding.{Outstanding}
+use Rattle.client_parts.specs.declared.handles.ClientHandle.{ClientHandle}
+use Rattle.client_parts.specs.declared.targets.Target.TheVariants as targets
+use Rattle.client_parts.specs.declared.targets.Outstanding.{Outstanding}
+use Rattle.client_parts.specs.Targets.{is_on}
 use Rattle.client_core.specs.State.{ClientState}
-
--- whether it is a call on this handle, and neither a Close nor dropped already
-abbrev pub is_on : ℕ → Target → Bool
-is_on number targets.NewHandle = false
-is_on number (targets.Closing other) = false
-is_on number (targets.Handle other) = other == number
-is_on number targets.Dropped = false
 
 -- the outstanding call, if it is on the handle, is refused ..
 abbrev pub refused_lines : ClientState → ℕ → Option Outstanding → List Line
@@ -41,5 +34,5 @@ poisoned handles number handle = set_value (is_at (nat_cmp number)) handles (rec
 
 -- the handle of this number is poisoned, and nothing is sent
 abbrev pub with_poisoned : ClientState → ℕ → ℕ → ClientHandle → ClientState
-with_poisoned s noted number handle =
-    record s { clock = noted; handles = poisoned s.handles number handle; outstanding = dropped number s.outstanding }
+with_poisoned s moment number handle =
+    record s { clock = moment; handles = poisoned s.handles number handle; outstanding = dropped number s.outstanding }

@@ -1,13 +1,21 @@
 -- What a client is, and when it is.
-use Rattle.std.specs.Prelude.{◌≡◌, ◌≢◌, ℕ, ◌+◌, ◌<◌, ◌≤◌, nat_lt, max, List, [], Option, Some, None, Result, Ok, Err, if◌then◌else◌}
+use Rattle.std.specs.Prelude.{◌≡◌, ◌≢◌, ℕ, ◌<◌, nat_lt, max, List, [], Option, Some, None, Result, Ok, Err, if◌then◌else◌}
+use Rattle.std.specs.Option.{option_to_list}
 use Rattle.lease_core.specs.Lease.{LeaseTerms, IsMoment, moment_limit}
+use Rattle.cache_core.specs.Caches.{CacheState, new_cache, is_leased, noted}
+use Rattle.cache_core.specs.Standings.{standing_at, turn_line}
+use Rattle.cache_core.specs.declared.kept.Kept.{Kept}
+use Rattle.cache_core.specs.declared.standings.Standing.{Standing}
+use Rattle.cache_core.specs.declared.standings.Standing.TheVariants as standings
 use Rattle.node_core.specs.Limits.{number_end}
 use Rattle.node_core.specs.declared.refusals.Fault.{Fault}
 use Rattle.node_core.specs.declared.refusals.Fault.TheVariants as faults
-use Rattle.client_core.specs.declared.handles.ClientHandle.{ClientHandle}
-use Rattle.client_core.specs.declared.targets.Outstanding.{Outstanding}
-use Rattle.client_core.specs.declared.sessions.Session.{Session}
-use Rattle.client_core.specs.declared.sessions.Session.TheVariants as sessions
+use Rattle.node_core.specs.declared.lines.Line.{Line}
+use Rattle.tags_cell.specs.declared.outs.NewHandle.{NewHandle}
+use Rattle.client_parts.specs.declared.handles.ClientHandle.{ClientHandle}
+use Rattle.client_parts.specs.declared.targets.Outstanding.{Outstanding}
+use Rattle.client_parts.specs.declared.sessions.Session.{Session}
+use Rattle.client_parts.specs.declared.sessions.Session.TheVariants as sessions
 
 pub record ClientState : Type 0 where
   pub number : ℕ
@@ -23,37 +31,38 @@ pub record ClientState : Type 0 where
   pub epoch : ℕ
   -- the number of the last invalidation that it has processed in its epoch, 0 before the first
   pub processed : ℕ
-  -- how long it may rely on its session; of span 0 before the first
-  pub lease : LeaseTerms
+  -- what it holds of nodes, under the lease on its session
+  pub cache : CacheState
+  -- whether it may rely on its session
+  pub standing : Standing
   -- the number of its newest call, 0 before the first
   pub calls : ℕ
   -- the call that has no reply yet
   pub outstanding : Option Outstanding
   -- its open handles by its own numbers for them
   pub handles : List (ℕ × ClientHandle)
-  -- the newest of these numbers, 0 before the first
+  -- the handles that its Opens share, as the master gave them
+  pub kept : List (Kept NewHandle)
+  -- the newest of its handle numbers, 0 before the first
   pub opened : ℕ
 
--- a lease that is never unexpired
-abbrev pub no_lease : LeaseTerms
-no_lease = record { sent = 0; span = 0 }
+-- the lease on the session; of span 0, which is never unexpired, before the first
+abbrev pub lease_of : Option LeaseTerms → LeaseTerms
+lease_of None = record { sent = 0; span = 0 }
+lease_of (Some lease) = lease
 
 -- a client that has done nothing yet
 abbrev pub new_client : ℕ → List ℕ → ClientState
 new_client number principal =
-    record { number = number; principal = principal; clock = 0; beats = 0; sent = 0; session = sessions.Unstarted; epoch = 0; processed = 0; lease = no_lease; calls = 0; outstanding = None; handles = []; opened = 0 }
+    record { number = number; principal = principal; clock = 0; beats = 0; sent = 0; session = sessions.Unstarted; epoch = 0; processed = 0; cache = new_cache; standing = standings.Safe; calls = 0; outstanding = None; handles = []; kept = []; opened = 0 }
 
-abbrev pub count_of : Option Outstanding → ℕ
-count_of None = 0
-count_of (Some call) = 1
-
--- moments and the numbers of messages are within their limits; each handle came of a call of its own that has ended
-pub record IsWithin (clock sent beats calls opened : ℕ) (outstanding : Option Outstanding) : Type 0 where
+-- moments and numbers are within their limits
+pub record IsWithin (clock sent beats calls opened : ℕ) : Type 0 where
   pub last_moment : IsMoment clock
   pub last_sending : IsMoment sent
   pub last_beat : beats < number_end
   pub last_call : calls < number_end
-  pub ended_calls : opened + count_of outstanding ≤ calls
+  pub last_handle : opened < number_end
 
 -- the moment that is noted: an earlier one counts as the last one, and moments have an end
 abbrev pub moment : ℕ → ℕ → Result ℕ Fault
@@ -62,6 +71,47 @@ moment clock now = if nat_lt now moment_limit then Ok (max clock now) else Err f
 -- the client at a moment
 abbrev pub at_moment : ClientState → ℕ → ClientState
 at_moment s noted = record s { clock = noted }
+
+-- ---- the time is noted
+
+-- in a session: how the client stands at a moment, by the lease that it has
+abbrev pub standing_then : ClientState → ℕ → Standing
+standing_then s moment = standing_at s.standing (is_leased s.cache.lease moment) moment
+
+-- a session that is given up is lost
+abbrev pub session_behind : Standing → Session
+session_behind standings.Safe = sessions.Live
+session_behind (standings.Jeopardy since) = sessions.Live
+session_behind standings.Lost = sessions.Lost
+
+abbrev pub session_in : Session → ClientState → ℕ → Session
+session_in sessions.Live s moment = session_behind (standing_then s moment)
+session_in session s moment = session
+
+abbrev pub session_then : ClientState → ℕ → Session
+session_then s moment = session_in s.session s moment
+
+-- in a session a client looks at its lease: where that has ended it empties its cache, and is in jeopardy, until it gives the session up
+abbrev pub note_live : ClientState → ℕ → ClientState
+note_live s moment =
+    record s { clock = moment; session = session_behind (standing_then s moment); cache = noted s.cache moment; standing = standing_then s moment }
+
+abbrev pub note_in : Session → ClientState → ℕ → ClientState
+note_in sessions.Live s moment = note_live s moment
+note_in session s moment = at_moment s moment
+
+abbrev pub note : ClientState → ℕ → ClientState
+note s moment = note_in s.session s moment
+
+-- what is printed then
+abbrev pub note_lines_in : Session → ClientState → ℕ → List Line
+note_lines_in sessions.Live s moment = option_to_list (turn_line s.number s.standing (standing_then s moment))
+note_lines_in session s moment = []
+
+abbrev pub note_lines : ClientState → ℕ → List Line
+note_lines s moment = note_lines_in s.session s moment
+
+-- ---- methods
 
 -- a method does the step, with its new state and its answer; or memory ran out, and nothing changed
 abbrev pub Does : {X : Type 0} → ClientState → ClientState → Result X Fault → ClientState × Result X Fault → Type 0

@@ -1,26 +1,25 @@
-//! The client library: it keeps a client's session and the lease on it, its handles and its one outstanding call.
+//! The client library: it keeps a client's session and the lease on it, its cache, its handles and its one outstanding call.
 //!
 //! Every moment is a number of milliseconds by the client's own clock.
 #![tactic(auto)]
 
-mod asks;
+mod calls;
 mod client;
-mod handles;
-mod invalidations;
 mod laws;
+mod lessons;
+mod notes;
 mod offers;
 mod plans;
 mod poisons;
-mod sessions;
-mod targets;
+mod replies;
+mod serves;
 
-pub use asks::{Ask, Asked, NodeCall};
 pub use client::Client;
-pub use handles::ClientHandle;
+pub use client_parts::{
+    Ask, Asked, Beaten, ClientHandle, Given, NodeCall, Outcome, Outstanding, Session, Target,
+};
 pub use laws::{
-    handle_numbers_rise, handle_numbers_stay, poison_is_asked, refused_call_changes_nothing,
-    repeated_reply_is_dropped,
+    handle_numbers_rise, handle_numbers_stay, refused_call_changes_nothing,
+    repeated_reply_is_dropped, safe_note_sets_the_clock, shared_numbers_rise,
 };
 pub use plans::Plan;
-pub use sessions::Session;
-pub use targets::{Outstanding, Target};

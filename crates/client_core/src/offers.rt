@@ -2,65 +2,113 @@
 //! answered, in milliseconds by its own clock, and not from when the answer came. So where the clocks are fair its count
 //! ends no later than the master's promise, however long the answer was on its way (Gray and Cheriton 1989, section 2;
 //! Burrows 2006, section 2.8).
-ghost use Rattle.std.specs.Prelude.{◌≡◌, Some, None, if◌then◌else◌};
-ghost use Rattle.client_core.specs.State.{no_lease, Does};
-ghost use Rattle.client_core.specs.Gives.{is_span, offered, started_step, alive_step};
+ghost use Rattle.std.specs.Prelude.{◌≡◌, ◌&&◌, Some, None, if◌then◌else◌};
+ghost use Rattle.lease_core.specs.Lease.{IsMoment, is_unexpired};
+ghost use Rattle.client_core.specs.State.{Does};
+ghost use Rattle.client_core.specs.Gives.{is_span, offered, under, started_step, alive_step, kept_alive, with_processed, with_lease, takes_offer, is_jeopardy};
 
 use crate::client::Client;
-use crate::invalidations::{is_in_order, last_number};
-use crate::sessions::Session;
+use cache_core::{CacheOp, Standing};
+use client_parts::{Given, Session, flush_all, is_in_order, last_number};
 use lease_core::Lease;
 use node_core::{Fault, Line};
-use plain::Items;
 use tags_cell::{Alive, Started};
-
-// The lease of a client that was offered none.
-pub(crate) fn first_lease() -> Lease
-    ensures { result ≡ no_lease }
-{
-    let Some(lease) = Lease::new(0, 0) else {
-        unreachable!()
-    };
-    lease
-}
 
 impl Client {
     // Takes the session that the newest Start asked for, and the lease on it.
-    pub(crate) fn take_started(&mut self, started: &Started) -> Result<Items<Line>, Fault>
-        ensures { Does self.old self.new result (started_step self.old started.now) }
+    pub(crate) fn take_started(&mut self, moment: u64, started: &Started) -> Result<Given, Fault>
+        requires { IsMoment moment }
+        ensures { Does self.old self.new result (started_step self.old moment started.now) }
     {
         if self.session != Session::Unstarted || started.number.get() != self.beats {
-            return Ok(Items::new(self.alloc));
+            return Ok(self.pass_over(moment, None)?);
         }
         let Some(lease) = self.offered(started.span) else {
-            return Err(Fault::ProtocolFault);
+            return Ok(self.pass_over(moment, Some(Fault::ProtocolFault))?);
         };
+        let lines = self.note_lines(moment)?;
+        self.clock = moment;
         self.session = Session::Live;
         self.epoch = started.epoch;
-        self.lease = lease;
-        Ok(Items::new(self.alloc))
+        self.put_under(lease, moment);
+        Ok(Given {
+            lines,
+            refused: None,
+        })
     }
 
     // Processes the invalidations, and takes the lease that the newest Beat was answered with, if it is better than the
     // present one.
-    pub(crate) fn take_alive(&mut self, alive: &Alive) -> Result<Items<Line>, Fault>
-        ensures { Does self.old self.new result (alive_step self.old alive.now) }
+    pub(crate) fn take_alive(&mut self, moment: u64, alive: &Alive) -> Result<Given, Fault>
+        requires { IsMoment moment }
+        ensures { Does self.old self.new result (alive_step self.old moment alive.now) }
     {
-        if self.session != Session::Live || alive.epoch != self.epoch {
-            return Ok(Items::new(self.alloc));
+        if self.session_then(moment) != Session::Live || alive.epoch != self.epoch {
+            return Ok(self.pass_over(moment, None)?);
         }
         let Some(lease) = self.offered(alive.span) else {
-            return Err(Fault::ProtocolFault);
+            return Ok(self.pass_over(moment, Some(Fault::ProtocolFault))?);
         };
+        if !is_in_order(self.processed, alive.invalidations.as_slice()) {
+            return Ok(self.pass_over(moment, Some(Fault::ProtocolFault))?);
+        }
+        self.keep_alive(moment, alive, lease)
+    }
+
+    // The line that there may be is made before anything changes.
+    fn keep_alive(&mut self, moment: u64, alive: &Alive, lease: Lease) -> Result<Given, Fault>
+        requires moment { IsMoment moment }
+        requires lease { lease ≡ offered self.old alive.now.span }
+        ensures { Does self.old self.new result (kept_alive self.old moment alive.now) }
+    {
+        let mut lines = self.note_lines(moment)?;
+        lines.push(Line::Safe(self.number.get()))?;
+        self.note(moment);
+        self.process(alive);
+        if !self.take_offer(moment, alive, lease) {
+            drop(lines.pop());
+        }
+        Ok(Given {
+            lines,
+            refused: None,
+        })
+    }
+
+    // What is invalidated goes, and the last number is acknowledged by the next Beat.
+    fn process(&mut self, alive: &Alive)
+        ensures { self.new ≡ with_processed self.old alive.now }
+    {
         let invalidations = alive.invalidations.as_slice();
-        if !is_in_order(self.processed, invalidations) {
-            return Err(Fault::ProtocolFault);
-        }
+        flush_all(&mut self.cache, self.processed, invalidations);
         self.processed = self.processed.max(last_number(invalidations));
-        if alive.number.get() == self.beats && lease.better(self.lease) {
-            self.lease = lease;
+    }
+
+    // Takes the lease, if it is for the newest Beat and better than the present one; says whether that ends a jeopardy.
+    fn take_offer(&mut self, moment: u64, alive: &Alive, lease: Lease) -> bool
+        requires { lease ≡ offered self.old alive.now.span }
+        ensures safe { result ≡ (takes_offer self.old alive.now && (is_unexpired self.old.sent alive.now.span moment && is_jeopardy self.old.standing)) }
+        ensures taken { self.new ≡ with_lease self.old moment alive.now }
+    {
+        if alive.number.get() != self.beats || !self.cache.take_lease(lease) {
+            return false;
         }
-        Ok(Items::new(self.alloc))
+        self.put_under(lease, moment);
+        if !lease.unexpired(moment) {
+            return false;
+        }
+        let former = self.standing;
+        self.standing = former.reprieved();
+        matches!(former, Standing::Jeopardy(_))
+    }
+
+    // From here on the cache stands under this lease: it serves where the lease runs, and is emptied where it has ended.
+    fn put_under(&mut self, lease: Lease, moment: u64)
+        ensures { self.new ≡ record self.old { cache = under self.old.cache lease moment } }
+    {
+        self.cache.set_lease(Some(lease));
+        if self.cache.note(moment) {
+            self.cache.enable();
+        }
     }
 
     // The lease that the newest Start or Beat is answered with; None where the span is none.

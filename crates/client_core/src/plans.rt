@@ -1,45 +1,40 @@
 //! What is done for what a client is asked for.
-ghost use Rattle.std.specs.Prelude.{◌≡◌};
+ghost use Rattle.std.specs.Prelude.{◌≡◌, Some, IfOk};
+ghost use Rattle.std.specs.Option.{option_copied};
 ghost use Rattle.plain.specs.Results.{Gives};
-ghost use Rattle.client_core.specs.Asks.{plan_of, send_plan, open_bytes, usable_bytes, handle_of};
+ghost use Rattle.client_core.specs.Handles.{handle_of};
+ghost use Rattle.client_core.specs.Asks.{plan_of, send_plan, open_plan, close_plan, node_plan, usable_handle};
 
-use crate::asks::Ask;
 use crate::client::Client;
-use crate::handles::ClientHandle;
-use crate::targets::Target;
-use node_core::Fault;
-use tags_cell::{Call, HandleBytes};
+use client_parts::{Ask, ClientHandle, NodeCall, Target};
+use node_core::{Answer, Fault, Line};
+use tags_cell::{Call, Open};
 
 /// What a client does next.
-#[derive(Debug, Drop)]
+#[derive(Drop)]
 pub enum Plan {
     /// It sends a call.
     Send(Call, Target),
     /// It poisons this handle of this number.
     Poison(u64, ClientHandle),
+    /// It answers this, and prints this line.
+    Serve(Line, Answer),
+    /// It prints this line, and gives this handle the next number.
+    Share(Line, ClientHandle),
+    /// It closes this number by itself.
+    Release(u64),
 }
 
 impl Client {
     // What is done now, before anything changes.
-    pub(crate) fn plan(&self, asked: &Ask) -> Result<Plan, Fault>
-        ensures { Gives Fault.NoMemory result (plan_of self.now asked.now) }
+    pub(crate) fn plan(&self, moment: u64, asked: &Ask) -> Result<Plan, Fault>
+        ensures { Gives Fault.NoMemory result (plan_of self.now moment asked.now) }
     {
-        if let Some(fault) = self.session.fault() {
-            return Err(fault);
-        }
         match asked {
-            Ask::Open(opening) => {
-                self.send_plan(Call::Open(opening.clone()?), Target::NewHandle)
-            }
-            Ask::Close(number) => {
-                let handle = self.open_bytes(*number)?;
-                self.send_plan(Call::Close(handle), Target::Closing(*number))
-            }
+            Ask::Open(opening) => self.open_plan(moment, opening),
+            Ask::Close(number) => self.close_plan(*number),
             Ask::Poison(number) => Ok(Plan::Poison(*number, self.usable_handle(*number)?)),
-            Ask::Node(number, call) => {
-                let handle = self.usable_bytes(*number)?;
-                self.send_plan(call.on(handle)?, Target::Handle(*number))
-            }
+            Ask::Node(number, call) => self.node_plan(moment, *number, call),
         }
     }
 
@@ -54,19 +49,40 @@ impl Client {
         Ok(Plan::Send(call, target))
     }
 
-    // The bytes of an open handle.
-    fn open_bytes(&self, number: u64) -> Result<HandleBytes, Fault>
-        ensures { Gives Fault.NoMemory result (open_bytes (handle_of self.now.handles number)) }
+    fn open_plan(&self, moment: u64, opening: &Open) -> Result<Plan, Fault>
+        ensures { Gives Fault.NoMemory result (open_plan self.now moment opening.now) }
+    {
+        if let Some(plan) = self.open_served(moment, opening)? {
+            return Ok(plan);
+        }
+        self.send_plan(Call::Open(opening.clone()?), Target::NewHandle)
+    }
+
+    fn close_plan(&self, number: u64) -> Result<Plan, Fault>
+        ensures { Gives Fault.NoMemory result (close_plan self.now number (handle_of self.now.handles number)) }
     {
         let Some(handle) = self.handles.get(&number) else {
             return Err(Fault::BadHandle);
         };
-        Ok(handle.bytes.clone()?)
+        if handle.shared {
+            return Ok(Plan::Release(number));
+        }
+        self.send_plan(Call::Close(handle.bytes.clone()?), Target::Closing(number))
     }
 
-    // The bytes of an open handle that isn't poisoned.
-    fn usable_bytes(&self, number: u64) -> Result<HandleBytes, Fault>
-        ensures { Gives Fault.NoMemory result (usable_bytes (handle_of self.now.handles number)) }
+    fn node_plan(&self, moment: u64, number: u64, call: &NodeCall) -> Result<Plan, Fault>
+        ensures { Gives Fault.NoMemory result (node_plan self.now moment number call.now (usable_handle (handle_of self.now.handles number))) }
+    {
+        let handle = self.usable_handle(number)?;
+        if let Some(plan) = self.read_served(moment, &handle, call)? {
+            return Ok(plan);
+        }
+        self.send_plan(call.on(handle.bytes)?, Target::Handle(number))
+    }
+
+    // An open handle that isn't poisoned.
+    fn usable_handle(&self, number: u64) -> Result<ClientHandle, Fault>
+        ensures { Gives Fault.NoMemory result (usable_handle (handle_of self.now.handles number)) }
     {
         let Some(handle) = self.handles.get(&number) else {
             return Err(Fault::BadHandle);
@@ -74,6 +90,6 @@ impl Client {
         if handle.poisoned {
             return Err(Fault::Poisoned);
         }
-        Ok(handle.bytes.clone()?)
+        Ok(handle.clone()?)
     }
 }

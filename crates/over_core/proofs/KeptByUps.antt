@@ -93,15 +93,15 @@ up_kept cell rows lease now h sessions locks = record {
 }
 
 -- the same of a store that was read and then commits the epoch
-pub up_stands : (old read new : Store) (rows : Rows) (s : MasterState) (lease now : ℕ) → sound old.cell (changed_rows old.rows (up_edits old.rows)) ≡ true → rows ≡ changed_rows old.rows (up_edits old.rows) → IsStrictlySortedBy nat_cmp (keys_of rows.sessions) → IsStrictlySortedBy lock_order (keys_of rows.locks) → read ≡ old → s ≡ master_of rows lease now → IsCommitted (Epoch rows.epoch ∷ []) read new → IsKept old.cell new.rows s
-up_stands old read new rows s lease now h next sessions locks stays is committed =
-    let epoch : rows.epoch ≡ old.rows.epoch + 1 = ap (λ (r : Rows). r.epoch) next in
+pub up_stands : (read new : Store) (rows : Rows) (s : MasterState) (lease now : ℕ) → sound read.cell (changed_rows read.rows (up_edits read.rows)) ≡ true → rows ≡ changed_rows read.rows (up_edits read.rows) → IsStrictlySortedBy nat_cmp (keys_of rows.sessions) → IsStrictlySortedBy lock_order (keys_of rows.locks) → s ≡ master_of rows lease now → IsCommitted (Epoch rows.epoch ∷ []) read new → IsKept new.cell new.rows s
+up_stands read new rows s lease now h next sessions locks is committed =
+    let epoch : rows.epoch ≡ read.rows.epoch + 1 = ap (λ (r : Rows). r.epoch) next in
     let same : new.rows ≡ rows =
     committed.rows
-    ∙ ap (λ (store : Store). changed_rows store.rows (Epoch rows.epoch ∷ [])) stays
-    ∙ ap (λ n. changed_rows old.rows (Epoch n ∷ [])) epoch
+    ∙ ap (λ n. changed_rows read.rows (Epoch n ∷ [])) epoch
     ∙ sym next in
-    let P : Rows → Type 0 = λ r. sound old.cell r ≡ true in
-    let Q : Rows → Type 0 = λ r. IsKept old.cell r s in
-    let T : MasterState → Type 0 = IsKept old.cell rows in
-    subst Q (sym same) (subst T (sym is) (up_kept old.cell rows lease now (subst P (sym next) h) sessions locks))
+    let P : Rows → Type 0 = λ r. sound read.cell r ≡ true in
+    let C : List ℕ → Type 0 = λ cell. IsKept cell new.rows s in
+    let Q : Rows → Type 0 = λ r. IsKept read.cell r s in
+    let T : MasterState → Type 0 = IsKept read.cell rows in
+    subst C (sym committed.cell) (subst Q (sym same) (subst T (sym is) (up_kept read.cell rows lease now (subst P (sym next) h) sessions locks)))

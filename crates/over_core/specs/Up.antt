@@ -1,5 +1,5 @@
 -- A master comes up.
-use Rattle.std.specs.Prelude.{◌≡◌, ℕ, false, ◌+◌, not, List, [], ◌∷◌, Result, Ok, Err, if◌then◌else◌}
+use Rattle.std.specs.Prelude.{◌≡◌, ◌⊎◌, ℕ, true, false, ◌+◌, not, List, [], ◌∷◌, Result, Ok, Err, if◌then◌else◌}
 use Rattle.node_core.specs.declared.refusals.Fault.{Fault}
 use Rattle.node_core.specs.declared.refusals.Fault.TheVariants as faults
 use Rattle.rows_cell.specs.declared.tables.Rows.{Rows}
@@ -10,7 +10,7 @@ use Rattle.rows_cell.specs.Sound.{sound}
 use Rattle.cell_core.specs.State.{MasterState, master_of}
 use Rattle.cell_core.specs.Step.{is_past_end}
 use Rattle.over_core.specs.Effect.{is_last}
-use Rattle.rows_cell.specs.Stores.{Store, StoreRefuses, MayLeave}
+use Rattle.rows_cell.specs.Stores.{Store, IsRead, IsUnread, IsCommitted, IsRefused}
 
 -- it commits the next epoch
 abbrev pub up_edits : Rows → List Edit
@@ -36,12 +36,21 @@ abbrev pub up_commit : Result MasterState Fault → Rows → List Edit
 up_commit (Ok master) rows = up_edits rows
 up_commit (Err fault) rows = []
 
--- why the store lets no master come up: asked for its rows, or for the commit, it refuses; it isn't asked for a moment past the end
-abbrev pub MayRefuseUp : ℕ → Fault → ℕ → ℕ → Type 0
-MayRefuseUp now fault before after = (is_past_end now ≡ false) × StoreRefuses fault before after
+-- the master comes up by the rows that were read, and its epoch is committed over them
+pub record ComesUp (lease now : ℕ) (master : MasterState) (old new : Store) : Type 0 where
+  pub read : Store
+  pub was_read : IsRead old read
+  pub came : up_step read.cell read.rows lease now ≡ Ok master
+  pub committed : IsCommitted (up_edits read.rows) read new
 
--- behind a master that doesn't come up: the rows stand, and a crash may perhaps leave those that were to be committed
-pub record IsLeft (edits : List Edit) (old new : Store) : Type 0 where
-  pub cell : new.cell ≡ old.cell
-  pub rows : new.rows ≡ old.rows
-  pub leave : MayLeave edits old.rows old.may_leave new.may_leave
+-- what was read lets no master come up and stands, or memory is wanting, or the store refuses the commit
+pub record IsKeptDown (lease now : ℕ) (fault : Fault) (old new : Store) : Type 0 where
+  pub read : Store
+  pub was_read : IsRead old read
+  pub why : ((up_step read.cell read.rows lease now ≡ Err fault) × (new ≡ read)) ⊎ IsRefused fault (up_commit (up_step read.cell read.rows lease now) read.rows) read new
+
+-- no master comes up: the moment is past the end, or the store isn't read, or what was read keeps the master down
+abbrev pub StaysDown : ℕ → ℕ → Fault → Store → Store → Type 0
+StaysDown lease now fault old new =
+    ((is_past_end now ≡ true) × (fault ≡ faults.Exhausted) × (new ≡ old))
+    ⊎ ((is_past_end now ≡ false) × (IsUnread fault old new ⊎ IsKeptDown lease now fault old new))

@@ -7,10 +7,10 @@ ghost use Rattle.rows_cell.specs.Keys.{lock_order};
 ghost use Rattle.rows_cell.specs.Rows.{changed_rows};
 ghost use Rattle.rows_cell.specs.Sound.{sound};
 ghost use Rattle.cell_core.specs.Step.{take_step};
-ghost use Rattle.rows_cell.specs.Stores.{Commits, IsCommitted, IsRefused, StoreRefuses};
+ghost use Rattle.rows_cell.specs.Stores.{Commits, IsCommitted, IsRead, IsRefused, IsUnread};
 ghost use Rattle.over_core.specs.Sweep.{sweep_step, sweep_edits};
 ghost use Rattle.over_core.specs.Kept.{IsKept};
-ghost use Rattle.over_core.specs.Up.{up_edits, up_step, up_commit, next_epoch, MayRefuseUp, IsLeft};
+ghost use Rattle.over_core.specs.Up.{up_edits, next_epoch, ComesUp, StaysDown};
 
 use crate::sweeps::{Swept, sweep_by};
 use cell_core::{Cell as Master, Taken};
@@ -23,7 +23,8 @@ use std::marker::Model;
 use tags_cell::Request;
 
 /// A master of a cell with the records that outlive it (Burrows 2006, sections 2.7 and 2.13). To a contract, what the
-/// master is, the name of its cell, the rows that stand, the rows that a crash may leave, and how often the store refused.
+/// master is, the name of its cell, the rows that stand, the rows that a crash may leave, how often the store refused, and
+/// how often what is read from it was in doubt.
 #[derive(Drop)]
 pub struct Cell<R: Records> {
     records: R,
@@ -48,14 +49,11 @@ impl<R: Records> Cell<R> {
     ///
     /// Refused, in this order: a moment of 2^53 or more as Exhausted; where the store refuses to be read, or its rows
     /// aren't sound; behind the last epoch, 2^63-1, as Exhausted; where the store refuses the commit. The records then
-    /// come back, with the rows as they were.
+    /// come back, with the rows as they were, or as they were read. They were read as they were where nothing is in doubt.
     pub fn up(alloc: Global, mut records: R, lease: u64, now: u64) -> Result<Cell<R>, (Fault, R)>
         requires { (1000 ≤ lease) × (lease ≤ 60000) }
-        ensures ok { IfOk result (λ cell. up_step (R.store records).cell (R.store records).rows lease now ≡ Ok cell.master) }
-        ensures committed { IfOk result (λ cell. IsCommitted (up_edits (R.store records).rows) (R.store records) cell.store) }
-        ensures fault { IfErr result (λ e. (up_step (R.store records).cell (R.store records).rows lease now ≡ Err e.0 × R.store e.1 ≡ R.store records)
-            ⊎ MayRefuseUp now e.0 (R.store records).refusals (R.store e.1).refusals) }
-        ensures left { IfErr result (λ e. IsLeft (up_commit (up_step (R.store records).cell (R.store records).rows lease now) (R.store records).rows) (R.store records) (R.store e.1)) }
+        ensures ok { IfOk result (λ cell. ComesUp lease now cell.master (R.store records) cell.store) }
+        ensures fault { IfErr result (λ e. StaysDown lease now e.0 (R.store records) (R.store e.1)) }
     {
         match next_master(alloc, &mut records, lease, now) {
             Ok(master) => Ok(Cell { records, master }),
@@ -126,12 +124,9 @@ fn next_master<R: Records>(
     now: u64,
 ) -> Result<Master, Fault>
     requires { (1000 ≤ lease) × (lease ≤ 60000) }
-    ensures ok { IfOk result (λ master. up_step (R.store records.old).cell (R.store records.old).rows lease now ≡ Ok master) }
-    ensures kept { IfOk result (λ master. IsKept (R.store records.old).cell (R.store records.new).rows master) }
-    ensures committed { OnOk result (IsCommitted (up_edits (R.store records.old).rows) (R.store records.old) (R.store records.new)) }
-    ensures fault { IfErr result (λ e. (up_step (R.store records.old).cell (R.store records.old).rows lease now ≡ Err e × R.store records.new ≡ R.store records.old)
-        ⊎ MayRefuseUp now e (R.store records.old).refusals (R.store records.new).refusals) }
-    ensures left { OnErr result (IsLeft (up_commit (up_step (R.store records.old).cell (R.store records.old).rows lease now) (R.store records.old).rows) (R.store records.old) (R.store records.new)) }
+    ensures ok { IfOk result (λ master. ComesUp lease now master (R.store records.old) (R.store records.new)) }
+    ensures kept { IfOk result (λ master. IsKept (R.store records.new).cell (R.store records.new).rows master) }
+    ensures fault { IfErr result (λ e. StaysDown lease now e (R.store records.old) (R.store records.new)) }
 {
     if now >= MOMENT_LIMIT {
         return Err(Fault::Exhausted);
@@ -150,15 +145,14 @@ fn next_master<R: Records>(
 
 // Reads the rows, and gives them with the next epoch.
 fn next_rows<R: Records>(records: &mut R) -> Result<Rows, Fault>
-    ensures ok { IfOk result (λ rows. next_epoch (R.store records.old).cell (R.store records.old).rows ≡ Ok rows) }
-    ensures next { IfOk result (λ rows. rows ≡ changed_rows (R.store records.old).rows (up_edits (R.store records.old).rows)) }
-    ensures sound { OnOk result (sound (R.store records.old).cell (changed_rows (R.store records.old).rows (up_edits (R.store records.old).rows)) ≡ true) }
+    ensures ok { IfOk result (λ rows. next_epoch (R.store records.new).cell (R.store records.new).rows ≡ Ok rows) }
+    ensures next { IfOk result (λ rows. rows ≡ changed_rows (R.store records.new).rows (up_edits (R.store records.new).rows)) }
+    ensures sound { OnOk result (sound (R.store records.new).cell (changed_rows (R.store records.new).rows (up_edits (R.store records.new).rows)) ≡ true) }
     ensures sessions { IfOk result (λ rows. IsStrictlySortedBy nat_cmp (keys_of rows.sessions)) }
     ensures locks { IfOk result (λ rows. IsStrictlySortedBy lock_order (keys_of rows.locks)) }
-    ensures fault { IfErr result (λ e. (next_epoch (R.store records.old).cell (R.store records.old).rows ≡ Err e × R.store records.new ≡ R.store records.old)
-        ⊎ StoreRefuses e (R.store records.old).refusals (R.store records.new).refusals) }
-    ensures ok_stays { OnOk result (R.store records.new ≡ R.store records.old) }
-    ensures stays { R.store records.new ≡ record (R.store records.old) { refusals = (R.store records.new).refusals } }
+    ensures read { OnOk result (IsRead (R.store records.old) (R.store records.new)) }
+    ensures fault { IfErr result (λ e. IsUnread e (R.store records.old) (R.store records.new)
+        ⊎ (IsRead (R.store records.old) (R.store records.new) × next_epoch (R.store records.new).cell (R.store records.new).rows ≡ Err e)) }
 {
     let mut rows = records.load()?;
     if rows.epoch >= NUMBER_LIMIT {

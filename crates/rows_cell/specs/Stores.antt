@@ -1,5 +1,5 @@
 -- A store as one value, and what becomes of it when it is read and when it is asked for a commit.
-use Rattle.std.specs.Prelude.{◌≡◌, ◌⊎◌, ℕ, true, false, ◌+◌, List, [], ◌∷◌, ◌++◌, Result, Ok, Err}
+use Rattle.std.specs.Prelude.{◌≡◌, ◌⊎◌, ◌≤◌, ℕ, true, false, ◌+◌, List, [], ◌∷◌, ◌++◌, Result, Ok, Err}
 use Rattle.node_core.specs.Limits.{number_limit}
 use Rattle.node_core.specs.declared.refusals.Fault.{Fault}
 use Rattle.node_core.specs.declared.refusals.Fault.TheVariants as faults
@@ -10,12 +10,14 @@ use Rattle.rows_cell.specs.declared.records.StoreFault.TheVariants.{NoMemory, Ex
 use Rattle.rows_cell.specs.Rows.{changed_rows}
 use Rattle.rows_cell.specs.Sound.{sound}
 
--- the cell that the settings name, the rows that stand, the rows that a crash may leave, and how often the store refused
+-- the cell that the settings name, the rows that stand, the rows that a crash may leave, how often the store refused,
+-- and how often what is read was in doubt: 0 where nobody else writes the store and it gives back what was written
 pub record Store : Type 0 where
   pub cell : List ℕ
   pub rows : Rows
   pub may_leave : List Rows
   pub refusals : ℕ
+  pub doubt : ℕ
 
 -- how a store's fault is printed
 abbrev pub store_fault : StoreFault → Fault
@@ -49,6 +51,7 @@ pub record IsCommitted (edits : List Edit) (old new : Store) : Type 0 where
   pub rows : new.rows ≡ changed_rows old.rows edits
   pub leave : new.may_leave ≡ left_by edits old.may_leave new.rows
   pub counted : new.refusals ≡ old.refusals
+  pub doubted : old.doubt ≤ new.doubt
 
 -- want of memory, which may refuse anything, and leaves the count of the store's refusals
 abbrev pub IsWant : Fault → ℕ → ℕ → Type 0
@@ -70,20 +73,36 @@ pub record IsRefused (fault : Fault) (edits : List Edit) (old new : Store) : Typ
   pub rows : new.rows ≡ old.rows
   pub leave : MayLeave edits old.rows old.may_leave new.may_leave
   pub why : MayRefuse edits fault old.refusals new.refusals
+  pub doubted : old.doubt ≤ new.doubt
 
--- the edits are committed, all of them, or the commit is refused; where there are none, the store isn't asked and stays
+-- the edits are committed, all of them, or the commit is refused; where there are none, the store stays but for the doubt
 abbrev pub Commits : {X : Type 0} → List Edit → Store → Store → Result X Fault → Type 0
 Commits edits old new (Ok x) = IsCommitted edits old new
 Commits edits old new (Err fault) = IsRefused fault edits old new
 
 -- ---- a load
 
--- why a store isn't read: its rows aren't sound, or it refuses
-abbrev pub MayNotRead : Fault → Store → ℕ → Type 0
-MayNotRead faults.StoreDamaged store after = (sound store.cell store.rows ≡ false) × (after ≡ store.refusals)
-MayNotRead fault store after = StoreRefuses fault store.refusals after
+-- what was read: the rows that stand now, which are those of before where nothing is in doubt
+pub record IsRead (old read : Store) : Type 0 where
+  pub cell : read.cell ≡ old.cell
+  pub counted : read.refusals ≡ old.refusals
+  pub doubted : old.doubt ≤ read.doubt
+  pub same : read.doubt ≡ 0 → read ≡ old
 
--- the rows that stand, which are then sound, and the store stays; or it isn't read, and all but the count of its refusals stays
+-- why a store isn't read: its rows aren't sound, unless that is in doubt, or it refuses
+abbrev pub MayNotRead : Fault → Store → Store → Type 0
+MayNotRead faults.StoreDamaged old new = (new.doubt ≡ 0 → sound old.cell old.rows ≡ false) × (new.refusals ≡ old.refusals)
+MayNotRead fault old new = StoreRefuses fault old.refusals new.refusals
+
+-- the rows stand as they stood, and a crash may leave what it could before
+pub record IsUnread (fault : Fault) (old new : Store) : Type 0 where
+  pub cell : new.cell ≡ old.cell
+  pub rows : new.rows ≡ old.rows
+  pub leave : new.may_leave ≡ old.may_leave
+  pub doubted : old.doubt ≤ new.doubt
+  pub why : MayNotRead fault old new
+
+-- the rows that stand then, which are sound; or the store isn't read
 abbrev pub Loads : Store → Store → Result Rows Fault → Type 0
-Loads old new (Ok rows) = (rows ≡ old.rows) × (sound old.cell old.rows ≡ true) × (new ≡ old)
-Loads old new (Err fault) = (new ≡ record old { refusals = new.refusals }) × MayNotRead fault old new.refusals
+Loads old new (Ok rows) = (rows ≡ new.rows) × (sound new.cell new.rows ≡ true) × IsRead old new
+Loads old new (Err fault) = IsUnread fault old new

@@ -37,7 +37,7 @@ impl ListRecords {
 impl Records for ListRecords {
     ghost use Rattle.std.specs.Prelude.{◌∷◌, []};
 
-    ghost store = { λ s. record { cell = s.rows.cell; rows = s.rows; may_leave = s.rows ∷ []; refusals = 0 } };
+    ghost store = { λ s. record { cell = s.rows.cell; rows = s.rows; may_leave = s.rows ∷ []; refusals = 0; doubt = 0 } };
 
     fn load(&mut self) -> Result<Rows, StoreFault> {
         Ok(self.rows.clone()?)

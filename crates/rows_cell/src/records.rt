@@ -54,11 +54,12 @@ pub trait Records {
     ghost use Rattle.rows_cell.specs.Sound.{sound};
     ghost use Rattle.rows_cell.specs.Stores.{Store, Loads, Commits, told};
 
-    /// What is kept: the cell that the settings name, the rows, what a crash may leave of them, and how often the
-    /// store refused.
+    /// What is kept: the cell that the settings name, the rows, what a crash may leave of them, how often the store
+    /// refused, and how often what is read was in doubt: where that is 0, nobody else writes the store, and it gives
+    /// back what was written.
     ghost store: { Self → Store };
 
-    /// Reads all rows.
+    /// Reads all rows. They are those of before where nothing is in doubt.
     fn load(&mut self) -> Result<Rows, StoreFault>
         ensures { Loads (store self.old) (store self.new) (told result) };
 

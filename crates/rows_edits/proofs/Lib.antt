@@ -24,3 +24,8 @@ pub mod PutNode
 pub mod Cascades
 pub mod RemoveNode
 pub mod Steps
+pub mod MeaningOfCreation
+pub mod Creates
+pub mod PutCell
+pub mod OpeningEdits
+pub mod Made

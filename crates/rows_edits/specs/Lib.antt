@@ -5,3 +5,4 @@ pub mod Texts
 pub mod Commands
 pub mod Numbers
 pub mod Ongoing
+pub mod Creation

@@ -30,8 +30,8 @@ fn edit<S: Alter>(tx: &mut Transaction<'_, S>, edit: &Edit) -> Result<(), Error>
     }
 }
 
-// Does the edits in order.
-fn edit_all<S: Alter>(tx: &mut Transaction<'_, S>, change: &[Edit]) -> Result<(), Error>
+/// Does the edits in order.
+pub(crate) fn edit_all<S: Alter>(tx: &mut Transaction<'_, S>, change: &[Edit]) -> Result<(), Error>
     ensures same { tx.new.conn.ghost_name ≡ tx.old.conn.ghost_name }
     ensures ok { HasCleanDisk (state S.Store tx.new.conn.now) → OnOk result (Changed change.now (state S.Store tx.old.conn.now) (state S.Store tx.new.conn.now)) }
     ensures kept { HasCleanDisk (state S.Store tx.new.conn.now) → KeepsCommit (state S.Store tx.old.conn.now) (state S.Store tx.new.conn.now) }

@@ -13,8 +13,8 @@ use rows_cell::{LockKey, LockRow, Session};
 use sqlite::{Alter, Error, Transaction};
 use sqlite_value::value::ValueRef;
 
-// Runs one statement in a transaction.
-fn run<S: Alter>(
+/// Runs one statement in a transaction.
+pub(crate) fn run<S: Alter>(
     tx: &mut Transaction<'_, S>,
     sql: &str,
     params: &[ValueRef<'_>],

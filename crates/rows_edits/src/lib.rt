@@ -2,7 +2,9 @@
 #![tactic(auto)]
 
 mod changes;
+mod creation;
 mod edits;
 mod values;
 
 pub use changes::commit_all;
+pub use creation::make_store;

@@ -9,4 +9,5 @@ mod stored;
 
 pub use inspection::inspect;
 pub use load::load_said;
+pub use reads::can_read;
 pub use stored::{Acls, Meta, Numbers};

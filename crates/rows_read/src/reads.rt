@@ -1,5 +1,5 @@
 //! Reading the tables.
-ghost use Rattle.std.specs.Prelude.{[], map, IfOk, OnOk, IsPermutation};
+ghost use Rattle.std.specs.Prelude.{[], map, IfOk, OnOk, IsPermutation, IsTrue};
 ghost use Rattle.sqlite.specs.Listing.{understood};
 ghost use Rattle.sqlite.specs.Given.{IsPlain};
 ghost use Rattle.sqlite.specs.State.{HasCleanDisk, Shown};
@@ -37,6 +37,14 @@ fn read_metas<S: Alter>(conn: &mut Connection<S>) -> Result<Vec<Row>, Error>
         conn,
         "SELECT id, version, cell, secret, epoch, next_instance FROM meta ORDER BY id",
     )
+}
+
+/// Whether a database can be read: one plain read, of the table with the row of the cell.
+pub fn can_read<S: Alter>(conn: &mut Connection<S>) -> bool
+    ensures quiet { Quiet S.Store conn.old conn.new }
+    ensures ready { HasCleanDisk (state S.Store conn.new) → IsReady (state S.Store conn.old) → IsTrue result → IsStill (state S.Store conn.old) (state S.Store conn.new) }
+{
+    read_metas(conn).is_ok()
 }
 
 fn read_nodes<S: Alter>(conn: &mut Connection<S>) -> Result<Vec<Row>, Error>

@@ -2,7 +2,11 @@
 #![tactic(auto)]
 
 #[cfg(test)]
+mod changes;
+#[cfg(test)]
 mod files;
+#[cfg(test)]
+mod fuses;
 #[cfg(test)]
 mod settings;
 #[cfg(test)]

@@ -14,7 +14,7 @@ use Rattle.world_cell.specs.declared.steps.Step.{Step}
 use Rattle.world_cell.specs.declared.steps.Step.TheVariants as steps
 use Rattle.world_cell.specs.declared.worlds.Turn.{Turn}
 use Rattle.world_cell.specs.World.{WorldState, WorldView, world_step, world_sweep, without_quiet, step_edits, IsStored, IsLeft, MayRefuseStep}
-use Rattle.world_cell.specs.Runs.{IsMade, IsRefused}
+use Rattle.world_cell.specs.Runs.{IsMade, WasMade, WasRefused}
 use Rattle.world_cell.proofs.WereSent.{take_sent, give_sent}
 use Rattle.script_cell.specs.Settling.{Played, played, step_of, first_waiting, AreDelivered, IsFirst, marked, place_of, marked_at, PlaysMade, PlaysRefused, turn_step, is_waiting, is_quiet, is_idle}
 
@@ -101,29 +101,33 @@ was_sent w new (steps.Take number) place printed is h = let e : number - 1 ≡ p
 was_sent w new (steps.Give number) place printed is h = let e : number - 1 ≡ place = cc in rw (← e) (give_sent w new number printed h)
 was_sent w new _ place printed is h = cc
 
-pub plays_sent : (old new : WorldView) (step : Step) (place : ℕ) (before after : List Bool) (printed : List Line) → place_of step ≡ Some place → world_step old.world step ≡ Ok (new.world, printed) → IsStored (step_edits old.world step) old new → after ≡ marked before place → PlaysMade (played old before) step (played new after) printed
-plays_sent old new step place before after printed is made stored marks =
-    record { made = record { is_step = made; stored = stored }; delivered = marks ∙ ap (marked_at before) (sym is) }
+-- it is delivered to the world of before
+made_so : (old new : WorldView) (step : Step) (place : ℕ) (printed : List Line) → place_of step ≡ Some place → WasMade old step new printed → world_step old.world step ≡ Ok (new.world, printed)
+made_so old new (steps.Take number) place printed is h = (subst (λ w. IsMade w (steps.Take number) new printed) h.1 h.2).is_step
+made_so old new (steps.Give number) place printed is h = (subst (λ w. IsMade w (steps.Give number) new printed) h.1 h.2).is_step
+made_so old new _ place printed is h = cc
 
 -- a step that delivers what wasn't sent isn't made
-pub plays_unsent : (old new : WorldView) (step : Step) (place : ℕ) (marks : List Bool) (r : Result (List Line) Fault) → place_of step ≡ Some place → length old.world.messages ≤ place → IfOk r (λ printed. world_step old.world step ≡ Ok (new.world, printed)) → IfOk r (λ printed. PlaysMade (played old marks) step (played new marks) printed)
-plays_unsent old new step place marks (Ok printed) is none made = let sent = was_sent old.world new.world step place printed is made in absurd (omega arith)
+pub plays_unsent : (old new : WorldView) (step : Step) (place : ℕ) (marks : List Bool) (r : Result (List Line) Fault) → place_of step ≡ Some place → length old.world.messages ≤ place → IfOk r (λ printed. WasMade old step new printed) → IfOk r (λ printed. PlaysMade (played old marks) step (played new marks) printed)
+plays_unsent old new step place marks (Ok printed) is none made =
+    let sent = was_sent old.world new.world step place printed is (made_so old new step place printed is made) in
+    absurd (omega arith)
 plays_unsent old new step place marks (Err fault) is none made = tt
 
-pub plays_other : (old new : WorldView) (step : Step) (marks : List Bool) (r : Result (List Line) Fault) → place_of step ≡ None → IfOk r (λ printed. world_step old.world step ≡ Ok (new.world, printed)) → OnOk r (IsStored (step_edits old.world step) old new) → IfOk r (λ printed. PlaysMade (played old marks) step (played new marks) printed)
-plays_other old new step marks (Ok printed) none made stored = record { made = record { is_step = made; stored = stored }; delivered = ap (marked_at marks) (sym none) }
-plays_other old new step marks (Err fault) none made stored = tt
+pub plays_other : (old new : WorldView) (step : Step) (marks : List Bool) (r : Result (List Line) Fault) → place_of step ≡ None → IfOk r (λ printed. WasMade old step new printed) → IfOk r (λ printed. PlaysMade (played old marks) step (played new marks) printed)
+plays_other old new step marks (Ok printed) none made = record { made = made; delivered = ap (marked_at marks) (sym none) }
+plays_other old new step marks (Err fault) none made = tt
 
-pub plays_refused : (old new : WorldView) (step : Step) (marks : List Bool) (r : Result (List Line) Fault) → IfErr r (λ e. MayRefuseStep (world_step old.world step) step e old new) → OnErr r (IsLeft (step_edits old.world step) old new) → IfErr r (λ e. PlaysRefused (played old marks) step (played new marks) (lines.Refused e ∷ []))
-plays_refused old new step marks (Ok printed) why left = tt
-plays_refused old new step marks (Err e) why left = record { refused = record { fault = e; why = why; left = left; line = refl }; same = refl }
+pub plays_refused : (old new : WorldView) (step : Step) (marks : List Bool) (r : Result (List Line) Fault) → IfErr r (λ e. WasRefused old step new (lines.Refused e ∷ [])) → IfErr r (λ e. PlaysRefused (played old marks) step (played new marks) (lines.Refused e ∷ []))
+plays_refused old new step marks (Ok printed) refused = tt
+plays_refused old new step marks (Err e) refused = record { refused = refused; same = refl }
 
 -- want of memory for a mark refuses the step
 pub plays_want : (w : WorldView) (step : Step) (place : ℕ) (marks : List Bool) → place_of step ≡ Some place → PlaysRefused (played w marks) step (played w marks) (lines.Refused faults.NoMemory ∷ [])
 plays_want w (steps.Take number) place marks is =
-    record { refused = record { fault = faults.NoMemory; why = inr (refl, refl); left = record { same = refl; leave = refl }; line = refl }; same = refl }
+    record { refused = (w, refl, record { fault = faults.NoMemory; why = inr (refl, refl); left = record { same = refl; leave = refl; doubted = omega arith }; line = refl }); same = refl }
 plays_want w (steps.Give number) place marks is =
-    record { refused = record { fault = faults.NoMemory; why = inr (refl, refl); left = record { same = refl; leave = refl }; line = refl }; same = refl }
+    record { refused = (w, refl, record { fault = faults.NoMemory; why = inr (refl, refl); left = record { same = refl; leave = refl; doubted = omega arith }; line = refl }); same = refl }
 plays_want w _ place marks is = cc
 
 -- ---- turns
@@ -137,7 +141,7 @@ turn_sweeps s none = ap (λ o. unwrap_or o steps.Sweep) none
 pub swept_made : (old new : WorldView) (marks : List Bool) (r : Result Turn Fault) → first_waiting old.world.messages marks 1 ≡ None → IfOk r (λ turn. world_sweep old.world old.world.master ≡ Ok (new.world, turn)) → OnOk r (IsStored (step_edits old.world steps.Sweep) old new) → IfOk r (λ turn. PlaysMade (played old marks) (turn_step (played old marks)) (played new marks) turn.lines)
 unfolding world_step
 swept_made old new marks (Ok turn) none made stored =
-    rw (turn_sweeps (played old marks) none) (record { made = record { is_step = ap without_quiet made; stored = stored }; delivered = refl })
+    rw (turn_sweeps (played old marks) none) (record { made = (old, refl, record { is_step = ap without_quiet made; stored = stored }); delivered = refl })
 swept_made old new marks (Err fault) none made stored = tt
 
 pub swept_quiet : (w : WorldView) (new : WorldState) (marks : List Bool) (r : Result Turn Fault) → first_waiting w.world.messages marks 1 ≡ None → IfOk r (λ turn. world_sweep w.world w.world.master ≡ Ok (new, turn)) → IfOk r (λ turn. turn.quiet ≡ is_idle (played w marks))
@@ -152,7 +156,7 @@ swept_why old new fault (inr outside) = inr outside
 pub swept_refused : (old new : WorldView) (marks : List Bool) (r : Result Turn Fault) → first_waiting old.world.messages marks 1 ≡ None → IfErr r (λ e. MayRefuseStep (world_sweep old.world old.world.master) steps.Sweep e old new) → OnErr r (IsLeft (step_edits old.world steps.Sweep) old new) → IfErr r (λ e. PlaysRefused (played old marks) (turn_step (played old marks)) (played new marks) (lines.Refused e ∷ []))
 swept_refused old new marks (Ok turn) none why left = tt
 swept_refused old new marks (Err fault) none why left =
-    rw (turn_sweeps (played old marks) none) (record { refused = record { fault = fault; why = swept_why old new fault why; left = left; line = refl }; same = refl })
+    rw (turn_sweeps (played old marks) none) (record { refused = (old, refl, record { fault = fault; why = swept_why old new fault why; left = left; line = refl }); same = refl })
 
 -- a message is delivered
 pub turn_made : (old new : Played) (step : Step) (printed : List Line) → first_waiting old.view.world.messages old.delivered 1 ≡ Some step → PlaysMade old step new printed → PlaysMade old (turn_step old) new printed

@@ -12,7 +12,7 @@ use Rattle.world_cell.specs.declared.worlds.Turn.{Turn}
 use Rattle.world_cell.specs.declared.mail.Message.{Message}
 use Rattle.world_cell.specs.declared.mail.Message.TheVariants as messages
 use Rattle.world_cell.specs.World.{WorldState, WorldView, world_sweep}
-use Rattle.world_cell.specs.Runs.{IsMade, IsRefused}
+use Rattle.world_cell.specs.Runs.{WasMade, WasRefused}
 
 -- ---- what was delivered
 
@@ -66,12 +66,12 @@ marked_at marks (Some place) = marked marks place
 
 -- a step that was made, and the message that it delivers
 pub record PlaysMade (old : Played) (step : Step) (new : Played) (printed : List Line) : Type 0 where
-  pub made : IsMade old.view step new.view printed
+  pub made : WasMade old.view step new.view printed
   pub delivered : new.delivered ≡ marked_at old.delivered (place_of step)
 
 -- a refused one delivers nothing
 pub record PlaysRefused (old : Played) (step : Step) (new : Played) (printed : List Line) : Type 0 where
-  pub refused : IsRefused old.view step new.view printed
+  pub refused : WasRefused old.view step new.view printed
   pub same : new.delivered ≡ old.delivered
 
 -- ---- settle

@@ -14,10 +14,10 @@ use Rattle.tags_cell.specs.declared.calls.Disposition.TheVariants.{May, Must}
 use Rattle.tags_cell.specs.declared.calls.NewNode.{NewNode}
 use Rattle.tags_cell.specs.declared.calls.NewNode.TheVariants.{File, Directory}
 use Rattle.tags_cell.specs.declared.calls.Open.{Open}
-use Rattle.client_core.specs.declared.asks.Ask.{Ask}
-use Rattle.client_core.specs.declared.asks.Ask.TheVariants as calls
-use Rattle.client_core.specs.declared.asks.NodeCall.{NodeCall}
-use Rattle.client_core.specs.declared.asks.NodeCall.TheVariants as nodes
+use Rattle.client_parts.specs.declared.asks.Ask.{Ask}
+use Rattle.client_parts.specs.declared.asks.Ask.TheVariants as calls
+use Rattle.client_parts.specs.declared.asks.NodeCall.{NodeCall}
+use Rattle.client_parts.specs.declared.asks.NodeCall.TheVariants as nodes
 use Rattle.world_cell.specs.declared.steps.Step.{Step}
 use Rattle.world_cell.specs.declared.steps.Step.TheVariants as steps
 use Rattle.world_cell.specs.declared.steps.Ticks.{Ticks}

@@ -68,7 +68,7 @@ const BEATS: &[Row] = &[
         "answered_beat_prolongs",
         Before::Client,
         "beat 1; take 3; tick 8250 8250; sweep; give 4; tick 11999 11999; sweep; beat 1; take 5; tick 1 1; sweep; take 5; give 6",
-        "ended 1; refused 19 NoSession; lost 1",
+        "jeopardy 1; ended 1; refused 19 NoSession; lost 1",
     ),
     (
         "newer_beat_takes_the_place_of_the_older",
@@ -102,19 +102,19 @@ const ENDS: &[Row] = &[
         "ended_session_starts_no_more",
         Before::Client,
         "tick 12000 12000; sweep; take 1; give 3; ask 1 read 1; beat 1; take 4",
-        "ended 1; refused 19 NoSession; lost 1; refused 31 SessionExpired; refused 37 NoSuchMessage",
+        "ended 1; refused 19 NoSession; jeopardy 1; lost 1; refused 31 SessionExpired; refused 37 NoSuchMessage",
     ),
     (
         "start_that_waits_when_its_session_ends",
         Before::Client,
         "take 1; tick 12000 12000; sweep; sweep; give 3",
-        "ended 1; lost 1",
+        "ended 1; jeopardy 1; lost 1",
     ),
     (
         "start_of_a_live_session",
         Before::Client,
         "tick 6000 6000; take 1; sweep; give 3; tick 11999 11999; sweep; beat 1; take 4; tick 1 1; sweep; take 4",
-        "ended 1; refused 19 NoSession",
+        "jeopardy 1; ended 1; refused 19 NoSession",
     ),
     (
         "call_that_waits_when_its_session_ends",
@@ -131,8 +131,8 @@ const ENDS: &[Row] = &[
     (
         "call_of_an_ended_session",
         Before::File,
-        "tick 12000 12000; settle; ask 1 read 1; settle; ask 1 read 1; beat 1; settle",
-        "ended 1; ended 2; refused 19 NoSession; lost 1; refused 31 SessionExpired",
+        "ask 1 read 1; tick 12000 12000; sweep; sweep; take 9; give 10; ask 1 read 1; beat 1; settle",
+        "ended 1; ended 2; refused 19 NoSession; jeopardy 1; lost 1; refused 31 SessionExpired",
     ),
     (
         "client_that_never_had_its_session",

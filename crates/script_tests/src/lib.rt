@@ -2,6 +2,8 @@
 #![tactic(auto)]
 
 #[cfg(test)]
+mod caches;
+#[cfg(test)]
 mod leases;
 #[cfg(test)]
 mod masters;
@@ -11,3 +13,5 @@ mod parts;
 mod rights;
 #[cfg(test)]
 mod scripts;
+#[cfg(test)]
+mod stores;

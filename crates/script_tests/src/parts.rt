@@ -1,5 +1,5 @@
 //! Masters and a client by themselves.
-use client_core::{Ask, Asked, Client, NodeCall};
+use client_core::{Ask, Client, Given, NodeCall, Outcome};
 use names_cell::{Name, Principal};
 use node_core::Fault;
 use over_core::Cell;
@@ -134,15 +134,28 @@ fn beat_text(request: &Request) -> &'static str {
 
 fn beat(client: &mut Client) -> &'static str {
     match client.beat(0) {
-        Ok(Some(request)) => beat_text(&request),
-        Ok(None) => "nothing",
+        Ok(beaten) => match &beaten.request {
+            Some(request) => beat_text(request),
+            None => "nothing",
+        },
         Err(fault) => fault.name(),
+    }
+}
+
+fn given_text(given: &Given) -> &'static str {
+    match given.refused {
+        Some(fault) => fault.name(),
+        None => if given.lines.is_empty() {
+            "no line"
+        } else {
+            "lines"
+        },
     }
 }
 
 fn give(client: &mut Client, out: &Out) -> &'static str {
     match client.give(0, out) {
-        Ok(lines) => if lines.is_empty() { "no line" } else { "lines" },
+        Ok(given) => given_text(&given),
         Err(fault) => fault.name(),
     }
 }
@@ -177,10 +190,17 @@ fn again_text(client: &Client, request: &Request) -> &'static str {
     }
 }
 
+fn outcome_text(client: &Client, outcome: Outcome) -> &'static str {
+    match outcome {
+        Outcome::Sent(request) => again_text(client, &request),
+        Outcome::Refused(fault) => fault.name(),
+        _ => "lines",
+    }
+}
+
 fn ask(client: &mut Client, ask: &Ask) -> &'static str {
     match client.ask(0, ask) {
-        Ok(Asked::Sent(request)) => again_text(client, &request),
-        Ok(_) => "lines",
+        Ok(asked) => outcome_text(client, asked.outcome),
         Err(fault) => fault.name(),
     }
 }

@@ -32,8 +32,8 @@ const RIGHTS: &[Row] = &[
     (
         "right_that_is_held_already",
         Before::File,
-        "ask 1 read 1; settle; ask 1 read 1; settle; ask 2 read 1; settle",
-        "granted 1 1 /ls/c/f; done 1 2 view file 4 1 1 base base base permanent 1 61; done 1 3 view file 4 1 1 base base base permanent 1 61; granted 2 2 /ls/c/f; done 2 2 view file 4 1 1 base base base permanent 1 61",
+        "ask 1 read 1; settle; tick 0 0 1:11294; beat 1; tick 8250 8250; settle; ask 1 read 1; settle; ask 2 read 1; settle",
+        "granted 1 1 /ls/c/f; done 1 2 view file 4 1 1 base base base permanent 1 61; jeopardy 1; safe 1; done 1 3 view file 4 1 1 base base base permanent 1 61; granted 2 2 /ls/c/f; done 2 2 view file 4 1 1 base base base permanent 1 61",
     ),
     (
         "absence_is_granted",

@@ -2,7 +2,9 @@
 use node_core::Line;
 use plain::Items;
 use rows_cell::{ListRecords, Settings};
+use rows_sql::SqlRecords;
 use script_cell::{Counted, Parsed, content, mode, number, read_step, script};
+use sqlite::Connection;
 use std::alloc::Global;
 use std::io::{Read, Write};
 use std::process::Abort;
@@ -142,7 +144,7 @@ fn push_times(text: &mut String, count: u64, line: &str) -> Result<(), Fail> {
     Ok(())
 }
 
-fn text_of(alloc: Global, before: &str, row: &str) -> Result<String, Fail> {
+pub(crate) fn text_of(alloc: Global, before: &str, row: &str) -> Result<String, Fail> {
     let row = format!(in alloc; "{before}{row}")?;
     let mut text = String::new(alloc);
     push_lines(&mut text, row.as_str())?;
@@ -170,6 +172,23 @@ fn run_from<R: Read + Drop>(alloc: Global, reader: R) -> Result<Ran, Fail> {
     })
 }
 
+// The same over a new store in SQL, in memory.
+fn run_in_sql<R: Read + Drop>(alloc: Global, reader: R) -> Result<Ran, Fail> {
+    let settings = Settings::standard(alloc)?;
+    let conn = Connection::open_in_memory(alloc)?;
+    let records = SqlRecords::adopt(alloc, conn, &settings)
+        .ok()
+        .ok_or("adopted")?;
+    let mut output = Vec::new(alloc);
+    let mut errors = Vec::new(alloc);
+    let status = script(alloc, &settings, records, reader, &mut output, &mut errors);
+    Ok(Ran {
+        status,
+        output,
+        errors,
+    })
+}
+
 fn shown(bytes: &[u8]) -> &str {
     str::from_utf8(bytes).unwrap_or("no text")
 }
@@ -181,7 +200,7 @@ fn ended(rt: &impl Abort, name: &str, ran: &Ran, status: u8, lines: &str, words:
     assert!(rt; ran.status == status, "at {name}");
 }
 
-// A row's script prints its lines, and ends with status 0.
+// A row's script prints its lines, over rows in lists and over a store in SQL, and ends with status 0.
 pub(crate) fn prints(
     rt: &impl Abort,
     alloc: Global,
@@ -191,8 +210,21 @@ pub(crate) fn prints(
     let (steps_before, lines_before) = before.texts();
     let steps = text_of(alloc, steps_before, steps)?;
     let lines = text_of(alloc, lines_before, lines)?;
+    prints_text(rt, alloc, name, steps.as_str(), lines.as_str())
+}
+
+// The same of a script and lines that are whole texts.
+pub(crate) fn prints_text(
+    rt: &impl Abort,
+    alloc: Global,
+    name: &str,
+    steps: &str,
+    lines: &str,
+) -> Result<(), Fail> {
     let ran = run_from(alloc, steps.as_bytes())?;
-    ended(rt, name, &ran, 0, lines.as_str(), "");
+    ended(rt, name, &ran, 0, lines, "");
+    let ran = run_in_sql(alloc, steps.as_bytes())?;
+    ended(rt, name, &ran, 0, lines, "");
     Ok(())
 }
 
@@ -306,7 +338,7 @@ fn ends_of_scripts(rt: HostRuntime) -> Result<(), Fail> {
 }
 
 // The steps of a row, none of which is bad or refused.
-fn steps_of(alloc: Global, row: &str) -> Result<Vec<Step>, Fail> {
+pub(crate) fn steps_of(alloc: Global, row: &str) -> Result<Vec<Step>, Fail> {
     let mut steps = Vec::new(alloc);
     for line in row.split("; ") {
         match read_step(alloc, line)? {
@@ -339,7 +371,7 @@ fn printed(alloc: Global, row: &str) -> Result<String, Fail> {
     printed_by(alloc, &mut world, row)
 }
 
-fn text_of_lines(alloc: Global, lines: &[Line]) -> Result<String, Fail> {
+pub(crate) fn text_of_lines(alloc: Global, lines: &[Line]) -> Result<String, Fail> {
     let mut text = String::new(alloc);
     for line in lines {
         text.push_str(format!(in alloc; "{line}\n")?.as_str())?;

@@ -1,6 +1,6 @@
 -- Why a step of a consistent world leads to a consistent one.
 use Rattle.std.proofs.Common.{◌≡◌, ◌≢◌, ℕ, ◌+◌, ◌*◌, ◌≤◌, max, List, [], ◌∷◌, ◌++◌, true, false, cond, Option, Some, None, Result, Ok, Err, refl, sym, ap, ◌∙◌, inl, inr, arith, subst, map, zero, suc}
-use Rattle.std.specs.Prelude.{IfOk, OnErr}
+use Rattle.std.specs.Prelude.{IfOk, IfErr, OnOk, OnErr}
 use Rattle.std.specs.List.{slice_get}
 use Rattle.std.specs.Option.{option_map}
 use Rattle.std.specs.Map.{lookup}
@@ -14,12 +14,12 @@ use Rattle.coherence.proofs.Reached.{reached_at_start}
 use Rattle.node_core.specs.Nodes.{get_node}
 use Rattle.node_core.specs.declared.refusals.Fault.{Fault}
 use Rattle.node_core.specs.declared.lines.Line.{Line}
+use Rattle.node_core.specs.declared.lines.Line.TheVariants as lines
 use Rattle.node_core.specs.declared.views.Mod.{Mod}
 use Rattle.node_core.specs.declared.views.Mod.TheVariants.{Put, Gone}
 use Rattle.rows_cell.specs.declared.keys.LockKey.{LockKey}
 use Rattle.rows_cell.specs.declared.tables.Rows.{Rows}
 use Rattle.rows_cell.specs.declared.tables.Session as stored
-use Rattle.rows_cell.specs.declared.tables.Edit.{Edit}
 use Rattle.rows_cell.specs.declared.tables.Edit.TheVariants.{NextInstance, RemoveLock, PutSession}
 use Rattle.rows_cell.specs.Rows.{StoredLocks, changed_rows, edited, map_of}
 use Rattle.tags_cell.specs.declared.requests.Request.{Request}
@@ -41,7 +41,7 @@ use Rattle.cell_core.specs.Cases.TakeCase.{Repeated, StartQueued, BeatParked, An
 use Rattle.over_core.specs.SweepCase.SweepCase.{Quiet, Recovers, Expires, StartedAgain, Started as StartedFirst, OfEnded, Ended, Applied}
 use Rattle.over_core.specs.Kept.{IsKept}
 use Rattle.over_core.specs.Up.{up_edits}
-use Rattle.client_core.specs.declared.sessions.Session.TheVariants as sessions
+use Rattle.client_parts.specs.declared.sessions.Session.TheVariants as sessions
 use Rattle.client_core.specs.State.{ClientState}
 use Rattle.world_cell.specs.declared.steps.Step.{Step}
 use Rattle.world_cell.specs.declared.steps.Step.TheVariants as steps
@@ -52,13 +52,15 @@ use Rattle.world_cell.specs.declared.mail.Message.TheVariants.{ToMaster, ToClien
 use Rattle.world_cell.specs.declared.seats.Seat.{Seat}
 use Rattle.world_cell.specs.Seats.{Clients, new_seat, seated, each_seat, at_up}
 use Rattle.world_cell.specs.Messages.{request_at, out_at, call_of}
-use Rattle.world_cell.specs.World.{WorldState, WorldView, seat_of, new_world, world_step, world_sweep, without_quiet, IsLeft, clock_then, stays_fair, are_fair, moved, ticked}
+use Rattle.world_cell.specs.World.{WorldState, WorldView, IsUndoubted, seat_of, new_world, world_step, world_sweep, without_quiet, step_edits, IsStored, IsLeft, clock_then, stays_fair, are_fair, moved, ticked}
 use Rattle.world_cell.specs.Slices.{slice, standing_in}
-use Rattle.world_cell.specs.Consistent.{IsSeated, HasSent, FitsMessages, Agrees, Fits, IsNoted, IsInTurn, IsFairSince, AreFair, IsConsistent}
+use Rattle.world_cell.specs.Consistent.{IsSeated, Holds, HasSent, IsAnswer, FitsMessages, Agrees, Fits, IsNoted, IsInTurn, IsFairSince, AreFair, IsConsistent}
 use Rattle.world_cell.proofs.MessagesGrow.{none_sent, none_out, request_more, out_more, call_stays, call_more, call_new, no_call, no_request, one_call, its_call, one_request, one_no_out, out_among}
 use Rattle.world_cell.proofs.OneSession.{at_each, kept_in}
 use Rattle.world_cell.proofs.MasterFits.{fits_stays, take_fits, sweep_fits}
 use Rattle.world_cell.proofs.SeatsFound.{some_same, own_seat, other_seat, at_seats, each_found, at_each_seat, all_found, moves_so, fair_at_once, fair_beside}
+use Rattle.world_cell.specs.Runs.{WasMade, WasRefused}
+use Rattle.world_cell.proofs.AsRead.{made_doubts, made_sure, refused_doubts, refused_sure}
 use Rattle.world_cell.proofs.WorldCases.{WorldCase, world_case}
 use Rattle.world_cell.proofs.WorldCases.WorldCase.{ComesUp, Joins, Asks, Beats, Gives, Ticks, Takes, Sweeps}
 use Rattle.world_cell.proofs.OwnSteps.{IsNoCall, IsNextCall, Sends, OfEpoch, sending, IsOwn, asks_own, beats_own, gives_own}
@@ -101,12 +103,18 @@ pub fits_more : (old new : WorldState) (more : List Message) (o : Option MasterS
 fits_more old new more None e h = tt
 fits_more old new more (Some s) e h = subst (λ (xs : List Message). FitsMessages xs s) (sym e) (fits_stays old.messages more s h)
 
--- a world that agrees with its rows, and that schedules lead to, is consistent
-pub data Becomes (w : WorldState) : Type 0 where
-  OnceReached : (Agrees w w.master → ((client : ℕ) (name : List ℕ) → Reached (slice client name w)) → IsConsistent w) → Becomes w
+-- what its clients hold, what they were replied, and how each sees each name
+pub record IsServed (w : WorldState) : Type 0 where
+  pub holds : (number : ℕ) (seat : Seat) → seat_of w number ≡ Some seat → Holds w.messages seat.client
+  pub answers : (at : ℕ) (reply : Reply) → out_at w.messages at ≡ Some (outs.Reply reply) → IsAnswer w.messages w.rows.secret reply
+  pub reached : (client : ℕ) (name : List ℕ) → Reached (slice client name w)
 
-once_reached : (w : WorldState) → Becomes w → Agrees w w.master → ((client : ℕ) (name : List ℕ) → Reached (slice client name w)) → IsConsistent w
-once_reached w (Becomes.OnceReached consistent) = consistent
+-- a world that agrees with its rows, and serves its clients, is consistent
+pub data Becomes (w : WorldState) : Type 0 where
+  OnceServed : (Agrees w w.master → IsServed w → IsConsistent w) → Becomes w
+
+once_served : (w : WorldState) → Becomes w → Agrees w w.master → IsServed w → IsConsistent w
+once_served w (Becomes.OnceServed consistent) = consistent
 
 module _ (old new : WorldState) (more : List Message) (h : IsConsistent old) (later : Later old new) (fresh : AreFresh old new more) where
   sent_later : (client number : ℕ) (call : CallMessage) → HasSent old client number call → HasSent new client number call
@@ -143,17 +151,19 @@ module _ (old new : WorldState) (more : List Message) (h : IsConsistent old) (la
       ]
 
   all_consistent : ((number : ℕ) (seat : Seat) → seat_of new number ≡ Some seat → IsSeated new.rows.epoch number seat) → Fits new new.master → new.lease ≡ old.lease → IsNoted new.clock new.master → AreFair new new.master → Becomes new
-  all_consistent clients fits lease noted fair = Becomes.OnceReached (λ master reached. record {
+  all_consistent clients fits lease noted fair = Becomes.OnceServed (λ master served. record {
     clients = clients;
+    holds = served.holds;
     named = all_named;
     sent = all_sent;
     started = all_started;
+    answers = served.answers;
     master = master;
     fits = fits;
     lease = subst (λ n. n ≤ longest_lease) (sym lease) h.lease;
     noted = noted;
     fair = fair;
-    reached = reached;
+    reached = served.reached;
   })
 
 -- ---- messages that are no calls
@@ -277,7 +287,7 @@ module _ (w : WorldState) (h : IsConsistent w) (now : ℕ) where
       all_consistent w up [] h up_later (none_fresh w up refl)
       (at_each_seat (λ number. at_up now) w.clients (λ q x. IsSeated (w.rows.epoch + 1) q x) (λ q x is.
       let t = seated_later w.rows.epoch (w.rows.epoch + 1) q x next_epoch (h.clients q x is) in record { own = t.own; past = t.past; unstarted = t.unstarted; noted = t.noted }))
-      (record { queue = tt; kept = λ client kept is. no_kept client kept is; replies = λ client kept reply is of. no_kept client kept is; granted = λ client kept reply is of. no_kept client kept is; turns = λ client. (all_first now w.rows.sessions client).1 }) refl (least now)
+      (record { queue = tt; kept = λ client kept is. no_kept client kept is; replies = λ client kept reply is of. no_kept client kept is; answers = λ client kept reply is of. no_kept client kept is; turns = λ client. (all_first now w.rows.sessions client).1 }) refl (least now)
       (at_each_seat (λ number. at_up now) w.clients (λ q x. IsFairSince now x) (λ q x is. fair_at_once now (at_up now x) refl refl))
 
 -- ---- a client joins
@@ -306,7 +316,7 @@ module _ (w : WorldState) (h : IsConsistent w) (number : ℕ) (principal : List 
   }
 
   -- what holds of the new client and of all others
-  at_joined : (P : ℕ → Seat → Type 0) → P number newcomer → ((q : ℕ) (x : Seat) → seat_of w q ≡ Some x → P q x) → (q : ℕ) (x : Seat) → seat_of joined q ≡ Some x → P q x
+  pub at_joined : (P : ℕ → Seat → Type 0) → P number newcomer → ((q : ℕ) (x : Seat) → seat_of w q ≡ Some x → P q x) → (q : ℕ) (x : Seat) → seat_of joined q ≡ Some x → P q x
   at_joined P own others q =
       at_each (λ n. (x : Seat) → seat_of joined n ≡ Some x → P n x) number
       (λ x is. subst (λ y. P number y) (some_same newcomer x (sym (lookup_put number w.clients newcomer) ∙ is)) own)
@@ -385,7 +395,7 @@ module _ (w : WorldState) (h : IsConsistent w) (number : ℕ) (seat : Seat) (fou
       }
 
 -- the number of the client's next call is new
-unsent : (w : WorldState) → IsConsistent w → (number : ℕ) (seat : Seat) → seat_of w number ≡ Some seat → (call : CallMessage) → IsNextCall seat.client call → (o : Option CallMessage) → call_of w.messages call.client call.number ≡ o → o ≡ None
+pub unsent : (w : WorldState) → IsConsistent w → (number : ℕ) (seat : Seat) → seat_of w number ≡ Some seat → (call : CallMessage) → IsNextCall seat.client call → (o : Option CallMessage) → call_of w.messages call.client call.number ≡ o → o ≡ None
 unsent w h number seat found call m None is = refl
 unsent w h number seat found call m (Some other) is =
     let s = h.sent call.client call.number other is in
@@ -515,7 +525,7 @@ noted_at : (now : ℕ) (o : Option MasterState) (s : MasterState) → o ≡ Some
 noted_at now o s e k = rw e at k
 
 pub noted_fits : (w : WorldState) → IsConsistent w → (s : MasterState) → w.master ≡ Some s → FitsMessages w.messages (noted s w.clock)
-noted_fits w h s up = let f = fits_at w w.master s up h.fits in record { queue = f.queue; kept = f.kept; replies = f.replies; granted = f.granted; turns = f.turns }
+noted_fits w h s up = let f = fits_at w w.master s up h.fits in record { queue = f.queue; kept = f.kept; replies = f.replies; answers = f.answers; turns = f.turns }
 
 repeated_grants : (epoch : ℕ) (reply : Option Reply) → AreGrantsIn epoch (repeated_reply reply).outs
 repeated_grants epoch None = tt
@@ -633,29 +643,45 @@ case_later old step new printed h (Sweeps t) =
     let l : old.rows.epoch ≤ (changed_rows old.rows (swept_edits (noted t.master old.clock) t.case)).epoch = omega (arith, e) in
     subst (Later old) (sym t.is) (same_clients old _ refl l refl)
 
--- to each client, and of each name, the world behind a step is what some schedule leads to
+-- the world behind a step serves its clients
 abbrev pub LeadsOn : Type 0
-LeadsOn = (old : WorldState) (step : Step) (new : WorldState) (printed : List Line) → IsConsistent old → WorldCase old step new printed → (client : ℕ) (name : List ℕ) → Reached (slice client name new)
+LeadsOn = (old : WorldState) (step : Step) (new : WorldState) (printed : List Line) → IsConsistent old → WorldCase old step new printed → IsServed new
 
-pub step_holds : LeadsOn → (old new : WorldView) (step : Step) (edits : List Edit) (r : Result (List Line) Fault) → IsConsistent old.world → Agrees new.world new.world.master → IfOk r (λ printed. world_step old.world step ≡ Ok (new.world, printed)) → OnErr r (IsLeft edits old new) → IsConsistent new.world
-step_holds leads old new step edits (Ok printed) h agrees made left =
-    let c = world_case old.world step new.world printed h.master made in
-    once_reached new.world (case_holds old.world step new.world printed h c) agrees (leads old.world step new.world printed h c)
-step_holds leads old new step edits (Err fault) h agrees made left = subst IsConsistent (sym left.same) h
+step_keeps : LeadsOn → (old : WorldState) (step : Step) (new : WorldState) (printed : List Line) → IsConsistent old → Agrees new new.master → world_step old step ≡ Ok (new, printed) → IsConsistent new
+step_keeps leads old step new printed h agrees made =
+    let c = world_case old step new printed h.master made in
+    once_served new (case_holds old step new printed h c) agrees (leads old step new printed h c)
 
-pub swept_holds : LeadsOn → (old new : WorldView) (edits : List Edit) (r : Result Turn Fault) → IsConsistent old.world → Agrees new.world new.world.master → IfOk r (λ turn. world_sweep old.world old.world.master ≡ Ok (new.world, turn)) → OnErr r (IsLeft edits old new) → IsConsistent new.world
+pub step_holds : LeadsOn → (old new : WorldView) (step : Step) (r : Result (List Line) Fault) → (IsUndoubted old → IsConsistent old.world) → Agrees new.world new.world.master → IfOk r (λ printed. WasMade old step new printed) → IfErr r (λ e. WasRefused old step new (lines.Refused e ∷ [])) → IsUndoubted new → IsConsistent new.world
+step_holds leads old new step (Ok printed) fits agrees made refused none =
+    let rises = made_doubts old step new printed made in
+    let sure : old.doubt ≡ 0 = omega arith in
+    step_keeps leads old.world step new.world printed (fits sure) agrees (made_sure old step new printed made none).is_step
+step_holds leads old new step (Err fault) fits agrees made refused none =
+    let rises = refused_doubts old step new (lines.Refused fault ∷ []) refused in
+    let sure : old.doubt ≡ 0 = omega arith in
+    subst IsConsistent (sym (refused_sure old step new (lines.Refused fault ∷ []) refused none).left.same) (fits sure)
+
+pub swept_holds : LeadsOn → (old new : WorldView) (r : Result Turn Fault) → (IsUndoubted old → IsConsistent old.world) → Agrees new.world new.world.master → IfOk r (λ turn. world_sweep old.world old.world.master ≡ Ok (new.world, turn)) → OnOk r (IsStored (step_edits old.world steps.Sweep) old new) → OnErr r (IsLeft (step_edits old.world steps.Sweep) old new) → IsUndoubted new → IsConsistent new.world
 unfolding world_step
-swept_holds leads old new edits (Ok turn) h agrees made left =
-    step_holds leads old new steps.Sweep edits (Ok turn.lines) h agrees (ap without_quiet made) tt
-swept_holds leads old new edits (Err fault) h agrees made left = subst IsConsistent (sym left.same) h
+swept_holds leads old new (Ok turn) fits agrees made stored left none =
+    let rises = stored.doubted in
+    let sure : old.doubt ≡ 0 = omega arith in
+    step_keeps leads old.world steps.Sweep new.world turn.lines (fits sure) agrees (ap without_quiet made)
+swept_holds leads old new (Err fault) fits agrees made stored left none =
+    let rises = left.doubted in
+    let sure : old.doubt ≡ 0 = omega arith in
+    subst IsConsistent (sym left.same) (fits sure)
 
 -- nothing was sent yet
 pub new_holds : (cell : List ℕ) (rows : Rows) (lease : ℕ) → lease ≤ longest_lease → IsConsistent (new_world cell rows lease)
 new_holds cell rows lease range = record {
   clients = λ number seat is. cc;
+  holds = λ number seat is. cc;
   named = λ at call is. none_sent at (requests.Call call) is;
   sent = λ client number call is. cc;
   started = λ at started is. none_out at (outs.Started started) is;
+  answers = λ at reply is. none_out at (outs.Reply reply) is;
   master = tt;
   fits = tt;
   lease = range;

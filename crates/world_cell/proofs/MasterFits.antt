@@ -31,15 +31,18 @@ use Rattle.cell_core.specs.declared.pending.Work.TheVariants as works
 use Rattle.cell_core.specs.State.{MasterState}
 use Rattle.cell_core.specs.Step.{session_of, kept_of, is_live, reply_of, stamped_reply, answered_by, recorded, queued, names_of, with_call, with_right, asking_for, acknowledgement, parked, replied, granting, waits, with_note}
 use Rattle.cell_core.specs.Cases.{IsBehind, TakeCase, taken_by}
+use Rattle.cell_core.specs.Names.{name_asked}
+use Rattle.cell_core.proofs.Told.{told_is_shown}
 use Rattle.cell_core.specs.Cases.TakeCase.{StartQueued, BeatParked, Recovering, Answered, Granted, Waits}
 use Rattle.over_core.specs.SweepCase.{IsTurn, SweepCase, swept_by, rest, ended, mapped}
 use Rattle.over_core.specs.SweepCase.SweepCase.{Quiet, Recovers, Expires, AnswersBeat, TurnedAway, StartedAgain, Started as StartedFirst, OfEnded, Ended, Applied}
 use Rattle.world_cell.specs.declared.mail.Message.{Message}
 use Rattle.world_cell.specs.declared.mail.Message.TheVariants.{ToClient}
 use Rattle.world_cell.specs.Messages.{call_of}
-use Rattle.world_cell.specs.Consistent.{put_waiting, waiting, IsWaiting, IsLastInTurn, IsInTurn, IsOfMessage, AreOfMessages, WasSent, IsReplyTo, HasGranted, FitsMessages}
+use Rattle.world_cell.specs.Consistent.{put_waiting, waiting, IsWaiting, IsLastInTurn, IsInTurn, IsOfMessage, AreOfMessages, WasSent, IsReplyTo, OpensAs, IsAnswer, FitsMessages}
 use Rattle.world_cell.proofs.MessagesGrow.{call_stays}
-use Rattle.world_cell.proofs.GrantsSent.{none_granted, now_granted, later_granted}
+use Rattle.world_cell.proofs.OpensNamed.{answer_opens}
+use Rattle.world_cell.proofs.AnswersSent.{answer_stays, plain_answer, told_answer, answered_opens, turned_opens}
 use Rattle.world_cell.proofs.OneSession.{at_each, kept_in, each_apart, each_session, each_with_new, each_issued, answered_so}
 use Rattle.world_cell.proofs.SeatsFound.{some_same}
 
@@ -49,36 +52,36 @@ waits_as number touched task = record { number = number; change = record { touch
 
 -- ---- what is kept of a call
 
--- it was sent, and a reply to it, and what that grants was granted
+-- it was sent, and a reply is to it
 record IsKeptAs (sent : List Message) (epoch : ℕ) (secret : List ℕ) (client : ℕ) (kept : Kept Reply) : Type 0 where
   was : WasSent sent epoch client kept.number
   replied : (reply : Reply) → kept.reply ≡ Some reply → IsReplyTo client kept.number reply
-  granted : (reply : Reply) → kept.reply ≡ Some reply → HasGranted sent secret client reply
+  answers : (reply : Reply) → kept.reply ≡ Some reply → IsAnswer sent secret reply
 
 abbrev IsKeptSent : List Message → ℕ → List ℕ → ℕ → Option (Session Reply) → Type 0
 IsKeptSent sent epoch secret client o = (kept : Kept Reply) → kept_in o ≡ Some kept → IsKeptAs sent epoch secret client kept
 
 all_kept : (sent : List Message) (s : MasterState) → FitsMessages sent s → (client : ℕ) → IsKeptSent sent s.epoch s.secret client (session_of s client)
-all_kept sent s h client kept is = record { was = h.kept client kept is; replied = λ reply of. h.replies client kept reply is of; granted = λ reply of. h.granted client kept reply is of }
+all_kept sent s h client kept is = record { was = h.kept client kept is; replied = λ reply of. h.replies client kept reply is of; answers = λ reply of. h.answers client kept reply is of }
 
 fits_by : (sent : List Message) (s : MasterState) → AreOfMessages sent s.epoch s.gate.waiting → ((client : ℕ) → IsKeptSent sent s.epoch s.secret client (session_of s client)) → ((client : ℕ) → IsInTurn (session_of s client) (waiting client s.gate.waiting)) → FitsMessages sent s
 fits_by sent s queue kept turns = record {
   queue = queue;
   kept = λ client now is. (kept client now is).was;
   replies = λ client now reply is. (kept client now is).replied reply;
-  granted = λ client now reply is. (kept client now is).granted reply;
+  answers = λ client now reply is. (kept client now is).answers reply;
   turns = turns;
 }
 
 -- a call that waits, and one that has its reply
 waits_kept : (sent : List Message) (epoch : ℕ) (secret : List ℕ) (client number : ℕ) → WasSent sent epoch client number → IsKeptAs sent epoch secret client (record { number = number; reply = None })
-waits_kept sent epoch secret client number was = record { was = was; replied = λ reply of. cc; granted = λ reply of. cc }
+waits_kept sent epoch secret client number was = record { was = was; replied = λ reply of. cc; answers = λ reply of. cc }
 
-replied_kept : (sent : List Message) (epoch : ℕ) (secret : List ℕ) (client number : ℕ) (reply : Reply) → WasSent sent epoch client number → IsReplyTo client number reply → HasGranted sent secret client reply → IsKeptAs sent epoch secret client (record { number = number; reply = Some reply })
-replied_kept sent epoch secret client number reply was to granted = record {
+replied_kept : (sent : List Message) (epoch : ℕ) (secret : List ℕ) (client number : ℕ) (reply : Reply) → WasSent sent epoch client number → IsReplyTo client number reply → IsAnswer sent secret reply → IsKeptAs sent epoch secret client (record { number = number; reply = Some reply })
+replied_kept sent epoch secret client number reply was to answers = record {
   was = was;
   replied = λ r of. subst (λ x. IsReplyTo client number x) (some_same reply r of) to;
-  granted = λ r of. subst (λ x. HasGranted sent secret client x) (some_same reply r of) granted;
+  answers = λ r of. subst (λ x. IsAnswer sent secret x) (some_same reply r of) answers;
 }
 
 -- ---- more messages
@@ -89,11 +92,7 @@ later_kept xs ys epoch secret client kept h =
     record {
       was = record { call = w.call; found = call_stays xs ys client kept.number w.call w.found; same = w.same };
       replied = h.replied;
-      granted = λ reply of.
-          let to = h.replied reply of in
-          let found : call_of xs reply.client reply.number ≡ Some w.call =
-          subst (λ n. call_of xs reply.client n ≡ Some w.call) (sym to.answered) (subst (λ c. call_of xs c kept.number ≡ Some w.call) (sym to.to) w.found) in
-          later_granted xs ys secret client reply w.call found (h.granted reply of);
+      answers = λ reply of. answer_stays xs ys secret reply (h.answers reply of);
     }
 
 work_stays : (xs ys : List Message) (epoch client number : ℕ) (work : Work) → IsOfMessage xs epoch client number work → IsOfMessage (xs ++ ys) epoch client number work
@@ -111,7 +110,7 @@ fits_stays xs ys s h =
 
 -- other rights
 right_fits : (sent : List Message) (s : MasterState) (rights : List CacheRight) → FitsMessages sent s → FitsMessages sent (record s { rights = rights })
-right_fits sent s rights h = record { queue = h.queue; kept = h.kept; replies = h.replies; granted = h.granted; turns = h.turns }
+right_fits sent s rights h = record { queue = h.queue; kept = h.kept; replies = h.replies; answers = h.answers; turns = h.turns }
 
 -- ---- the queue
 
@@ -239,7 +238,7 @@ live_session s client session live is =
 
 pub fits_note : (sent : List Message) (s : MasterState) (note : Option Note) → FitsMessages sent s → FitsMessages sent (with_note s note)
 fits_note sent s None h = h
-fits_note sent s (Some note) h = record { queue = h.queue; kept = h.kept; replies = h.replies; granted = h.granted; turns = h.turns }
+fits_note sent s (Some note) h = record { queue = h.queue; kept = h.kept; replies = h.replies; answers = h.answers; turns = h.turns }
 
 -- who is asked for a name keeps its calls
 asking_fits : (sent : List Message) (s : MasterState) (touched : Option (List ℕ)) → FitsMessages sent s → FitsMessages sent (asking_for s touched)
@@ -260,22 +259,26 @@ pub epoch_note : (s : MasterState) (note : Option Note) → (with_note s note).e
 epoch_note s None = refl
 epoch_note s (Some note) = refl
 
+pub secret_note : (s : MasterState) (note : Option Note) → (with_note s note).secret ≡ s.secret
+secret_note s None = refl
+secret_note s (Some note) = refl
+
 module _ (sent : List Message) (s : MasterState) (client number : ℕ) (h : FitsMessages sent s) (live : is_live s client ≡ true) (behind : IsBehind (kept_of s client) number) where
   free : waiting client s.gate.waiting ≡ []
   free = none_waits (session_of s client) number (waiting client s.gate.waiting) (h.turns client) behind
 
-  kept_fits : (reply : Reply) → IsReplyTo client number reply → HasGranted sent s.secret client reply → WasSent sent s.epoch client number → FitsMessages sent (recorded s client (record { number = number; reply = Some reply }))
-  kept_fits reply to granted was =
+  kept_fits : (reply : Reply) → IsReplyTo client number reply → IsAnswer sent s.secret reply → WasSent sent s.epoch client number → FitsMessages sent (recorded s client (record { number = number; reply = Some reply }))
+  kept_fits reply to answers was =
       let kept : Kept Reply = record { number = number; reply = Some reply } in
-      fits_by sent (recorded s client kept) h.queue (is_recorded sent s h client kept (replied_kept sent s.epoch s.secret client number reply was to granted))
+      fits_by sent (recorded s client kept) h.queue (is_recorded sent s h client kept (replied_kept sent s.epoch s.secret client number reply was to answers))
       (each_session (λ q o. IsInTurn o (waiting q s.gate.waiting)) s.sessions client h.turns (keeping kept)
       (λ session is. replied_waiting session.live number reply (waiting client s.gate.waiting) free))
 
   -- by what may not be kept in a cache
-  replied_fits : (result : CallResult) → WasSent sent s.epoch client number → FitsMessages sent (replied s client number result).0
-  replied_fits result was =
+  replied_fits : (result : CallResult) (was : WasSent sent s.epoch client number) → OpensAs was.call.call result → FitsMessages sent (replied s client number result).0
+  replied_fits result was opens =
       let reply = reply_of s client number result in
-      kept_fits reply (record { to = refl; answered = refl }) (none_granted sent s.secret client reply refl) was
+      kept_fits reply (record { to = refl; answered = refl }) (plain_answer sent s.secret reply was.call was.found refl opens) was
 
   called_fits : (call : Call) (touched : Option (List ℕ)) → call_of sent client number ≡ Some (record { client = client; epoch = s.epoch; number = number; call = call }) → FitsMessages sent (with_call s client number call touched)
   called_fits call touched found =
@@ -297,12 +300,12 @@ module _ (sent : List Message) (s : MasterState) (client number : ℕ) (h : Fits
   waits_fits call touched found = asking_fits sent (with_call s client number call touched) touched (called_fits call touched found)
 
 -- the reply is sent, with its grant
-granting_fits : (sent : List Message) (s : MasterState) (client number : ℕ) (result : CallResult) (name : List ℕ) → FitsMessages sent s → is_live s client ≡ true → IsBehind (kept_of s client) number → WasSent sent s.epoch client number → FitsMessages (sent ++ map ToClient (granting s client number result name).1.outs) (granting s client number result name).0
-granting_fits sent s client number result name h live behind was =
+granting_fits : (sent : List Message) (s : MasterState) (client number : ℕ) (result : CallResult) (name : List ℕ) → FitsMessages sent s → is_live s client ≡ true → IsBehind (kept_of s client) number → (was : WasSent sent s.epoch client number) → name_asked s.secret was.call.call ≡ Some name → OpensAs was.call.call result → FitsMessages (sent ++ map ToClient (granting s client number result name).1.outs) (granting s client number result name).0
+granting_fits sent s client number result name h live behind was asks opens =
     let reply = stamped_reply s client number result in
     let more : List Message = ToClient (outs.Reply reply) ∷ [] in
     kept_fits (sent ++ more) (with_right s client name) client number (right_fits (sent ++ more) s (granted client name s.rights) (fits_stays sent more s h)) live behind
-    reply (record { to = refl; answered = refl }) (now_granted sent s.secret client reply)
+    reply (record { to = refl; answered = refl }) (told_answer sent s.secret reply was.call name was.found asks opens)
     (record { call = was.call; found = call_stays sent more client number was.call was.found; same = was.same })
 
 start_fits : (sent : List Message) (s : MasterState) (client number : ℕ) (principal : List ℕ) (received : ℕ) → FitsMessages sent s → FitsMessages sent (queued s [] (record { client = client; number = number; work = works.Starts principal received }))
@@ -312,7 +315,7 @@ start_fits sent s client number principal received h =
       queue = queue_push sent s.epoch s.gate.waiting w h.queue tt;
       kept = h.kept;
       replies = h.replies;
-      granted = h.granted;
+      answers = h.answers;
       turns = λ q. subst (λ xs. IsInTurn (session_of s q) xs) (sym (waiting_append q s.gate.waiting (w ∷ []) ∙ append-nil (waiting q s.gate.waiting))) (h.turns q);
     }
 
@@ -335,19 +338,21 @@ take_fits sent s request (Recovering message new recovering) h asked =
     let step = replied s message.client message.number (results.Refused faults.Recovering) in
     fits_stays sent (map ToClient step.1.outs) step.0
     (replied_fits sent s message.client message.number h new.heard.live new.behind (results.Refused faults.Recovering)
-    (record { call = message; found = asked message new.heard.is_call; same = new.heard.epoch }))
+    (record { call = message; found = asked message new.heard.is_call; same = new.heard.epoch }) tt)
 take_fits sent s request (Answered message note answer new serving answered) h asked =
     let t = with_note s note in
     let epoch : message.epoch ≡ t.epoch = new.heard.epoch ∙ sym (epoch_note s note) in
     let step = replied t message.client message.number answer in
     fits_stays sent (map ToClient step.1.outs) step.0
     (replied_fits sent t message.client message.number (fits_note sent s note h) (live_note s note message.client new.heard.live) (behind_note s note message.client message.number new.behind) answer
-    (record { call = message; found = asked message new.heard.is_call; same = epoch }))
+    (record { call = message; found = asked message new.heard.is_call; same = epoch }) (answered_opens s message note answer answered))
 take_fits sent s request (Granted message note answer name new serving may) h asked =
     let t = with_note s note in
     let epoch : message.epoch ≡ t.epoch = new.heard.epoch ∙ sym (epoch_note s note) in
     granting_fits sent t message.client message.number answer name (fits_note sent s note h) (live_note s note message.client new.heard.live) (behind_note s note message.client message.number new.behind)
     (record { call = message; found = asked message new.heard.is_call; same = epoch })
+    (ap (λ secret. name_asked secret message.call) (secret_note s note) ∙ (told_is_shown s message.client message.number message.call name answer may.is_told may.is_answer).0)
+    (answer_opens s message.client message.number message.call answer may.is_answer)
 take_fits sent s request (Waits message note touched new serving admitted) h asked =
     let t = with_note s note in
     let epoch : message.epoch ≡ t.epoch = new.heard.epoch ∙ sym (epoch_note s note) in
@@ -439,7 +444,7 @@ module _ (sent : List Message) (s : MasterState) (front : List (Waiting Task)) (
     queue = at_turn.1;
     kept = h.kept;
     replies = h.replies;
-    granted = h.granted;
+    answers = h.answers;
     turns = λ q. others q (ap (λ x. put_waiting q task.client task.number x (waiting q back)) work);
   }
 
@@ -462,28 +467,28 @@ module _ (sent : List Message) (s : MasterState) (front : List (Waiting Task)) (
     queue = at_turn.1;
     kept = h.kept;
     replies = h.replies;
-    granted = h.granted;
+    answers = h.answers;
     turns = at_each (λ q. IsInTurn (session_of s q) (waiting q (front ++ back))) task.client
         (subst (λ xs. IsInTurn (session_of s task.client) xs) (sym (none_left call work))
         (left_turn (session_of s task.client) task.number (waiting task.client front) (waiting task.client back) gone (call_turn call work)))
         others_left;
   }
 
-  call_left : (call : Call) (answer : CallResult) (note : Option Note) → task.work ≡ works.Calls call → is_live s task.client ≡ true → FitsMessages sent (ended (rest s front back) task note answer)
-  call_left call answer note work live =
+  call_left : (call : Call) (answer : CallResult) (note : Option Note) → task.work ≡ works.Calls call → is_live s task.client ≡ true → OpensAs call answer → FitsMessages sent (ended (rest s front back) task note answer)
+  call_left call answer note work live opens =
       let reply = reply_of s task.client task.number answer in
       let kept : Kept Reply = answered_by reply in
       let was : WasSent sent s.epoch task.client task.number = record { call = record { client = task.client; epoch = s.epoch; number = task.number; call = call }; found = turn_sent call work; same = refl } in
       fits_note sent (recorded (rest s front back) task.client kept) note
       (fits_by sent (recorded (rest s front back) task.client kept) at_turn.1
-      (is_recorded sent s h task.client kept (replied_kept sent s.epoch s.secret task.client task.number reply was (record { to = refl; answered = refl }) (none_granted sent s.secret task.client reply refl)))
+      (is_recorded sent s h task.client kept (replied_kept sent s.epoch s.secret task.client task.number reply was (record { to = refl; answered = refl }) (plain_answer sent s.secret reply was.call was.found refl opens)))
       (each_apart (λ q o. IsInTurn o (waiting q (front ++ back))) s.sessions task.client (keeping kept) others_left
       (λ none. absurd (no_session s task.client live none))
       (λ session is. replied_waiting session.live task.number reply (waiting task.client (front ++ back)) (none_left call work))))
 
 pub sweep_fits : (sent : List Message) (s : MasterState) (c : SweepCase s) → FitsMessages sent s → FitsMessages sent (swept_by s c).0
 sweep_fits sent s (Quiet none) h = h
-sweep_fits sent s (Recovers recovering heard) h = record { queue = h.queue; kept = h.kept; replies = h.replies; granted = h.granted; turns = h.turns }
+sweep_fits sent s (Recovers recovering heard) h = record { queue = h.queue; kept = h.kept; replies = h.replies; answers = h.answers; turns = h.turns }
 sweep_fits sent s (Expires client session due) h =
     right_fits sent (record s { sessions = with_session s.sessions client of_session.ended }) (of_rights.ended client endings.Expiry s.rights) (expired_fits sent s h client)
 sweep_fits sent s (AnswersBeat client session beat due) h = answered_fits sent s h client s.sessions.lease s.clock
@@ -495,7 +500,7 @@ sweep_fits sent s (StartedFirst front back task principal received turn work non
     let t : MasterState = record s { sessions = with_new s.sessions task.client (session_until principal true (s.clock + s.sessions.lease)) } in
     start_left sent t front task back (record { number = turn.number; touched = turn.touched; waited = turn.waited; free = turn.free }) (begun_fits sent s h task.client principal (s.clock + s.sessions.lease) none) principal received work
 sweep_fits sent s (OfEnded front back task call turn work gone) h = ended_left sent s front task back turn h call work gone
-sweep_fits sent s (Ended front back task call note answer turn work live made) h = call_left sent s front task back turn h call answer note work live
+sweep_fits sent s (Ended front back task call note answer turn work live made) h = call_left sent s front task back turn h call answer note work live (turned_opens s task.client task.number call _ made)
 sweep_fits sent s (Applied front back task call note change answer turn work live made) h =
-    let f = call_left sent s front task back turn h call answer None work live in
-    fits_note sent (recorded (mapped (rest s front back) change) task.client (answered_by (reply_of s task.client task.number answer))) note (record { queue = f.queue; kept = f.kept; replies = f.replies; granted = f.granted; turns = f.turns })
+    let f = call_left sent s front task back turn h call answer None work live (turned_opens s task.client task.number call _ made) in
+    fits_note sent (recorded (mapped (rest s front back) change) task.client (answered_by (reply_of s task.client task.number answer))) note (record { queue = f.queue; kept = f.kept; replies = f.replies; answers = f.answers; turns = f.turns })

@@ -1,6 +1,12 @@
 -- What a world comes to where a client is asked, beats or is given a message.
-use Rattle.std.proofs.Common.{◌≡◌, ℕ, ◌+◌, max, List, [], ◌∷◌, ◌++◌, true, false, cond, Ok, Err, Option, Some, None, refl, sym, subst}
+use Rattle.std.proofs.Common.{◌≡◌, ℕ, ◌+◌, max, List, [], ◌∷◌, ◌++◌, Bool, true, false, cond, Ok, Err, Option, Some, None, refl, sym, ap, ◌∙◌, subst}
+use Rattle.std.specs.Prelude.{◌&&◌, ◌==◌}
+use Rattle.std.specs.Option.{option_to_list}
 use Rattle.std.proofs.lemmas.List.{append-nil}
+use Rattle.lease_core.specs.Lease.{is_unexpired}
+use Rattle.cache_core.specs.Standings.{turn_line}
+use Rattle.cache_core.specs.declared.standings.Standing.{Standing}
+use Rattle.cache_core.specs.declared.standings.Standing.TheVariants as standings
 use Rattle.node_core.specs.declared.refusals.Fault.{Fault}
 use Rattle.node_core.specs.declared.refusals.Fault.TheVariants as faults
 use Rattle.node_core.specs.declared.lines.Line.{Line}
@@ -12,29 +18,35 @@ use Rattle.tags_cell.specs.declared.requests.CallMessage.{CallMessage}
 use Rattle.tags_cell.specs.declared.outs.Out.{Out}
 use Rattle.tags_cell.specs.declared.outs.Out.TheVariants as outs
 use Rattle.tags_cell.specs.declared.outs.Started.{Started as StartedMessage}
+use Rattle.tags_cell.specs.declared.beats.Alive.{Alive as AliveMessage}
 use Rattle.tags_cell.specs.declared.outs.CallResult.{CallResult}
 use Rattle.tags_cell.specs.declared.outs.CallResult.TheVariants as results
 use Rattle.tags_cell.specs.Messages.{request_number, out_client}
-use Rattle.client_core.specs.declared.asks.Ask.{Ask}
-use Rattle.client_core.specs.declared.sessions.Session.TheVariants as sessions
-use Rattle.client_core.specs.declared.targets.Target.{Target}
-use Rattle.client_core.specs.declared.targets.Outstanding.{Outstanding}
-use Rattle.client_core.specs.State.{ClientState}
-use Rattle.client_core.specs.Asks.{with_call}
-use Rattle.client_core.specs.Poisons.{is_on, refused_lines, poison_lines, with_poisoned}
+use Rattle.client_parts.specs.declared.asks.Ask.{Ask}
+use Rattle.client_parts.specs.declared.sessions.Session.{Session}
+use Rattle.client_parts.specs.declared.sessions.Session.TheVariants as sessions
+use Rattle.client_parts.specs.declared.targets.Target.{Target}
+use Rattle.client_parts.specs.declared.targets.Outstanding.{Outstanding}
+use Rattle.client_parts.specs.Opens.{kept_handle}
+use Rattle.client_parts.specs.Targets.{is_on}
+use Rattle.client_core.specs.State.{ClientState, at_moment, standing_then, session_behind, note_in, note, note_live, note_lines_in, note_lines}
+use Rattle.client_core.specs.Asks.{with_call, with_shared, without_handle}
+use Rattle.client_core.specs.Poisons.{refused_lines, poison_lines, with_poisoned}
 use Rattle.client_core.specs.Beats.{start_message, beat_message, with_beat}
-use Rattle.client_core.specs.Gives.{offered, begun, with_processed, answer_of, ended}
-use Rattle.client_core.specs.Cases.{noted, AskCase, asked_in, BeatCase, beaten_in, GiveCase, given_in}
-use Rattle.client_core.specs.Cases.AskCase.{AskedTooLate, Refused, OutOfCalls, Sent, Poisoned}
+use Rattle.client_core.specs.Gives.{offered, begun, with_processed, bettered, takes_offer, is_jeopardy, safe_lines, answer_of, ended_plainly, with_lesson, lost}
+use Rattle.client_core.specs.Cases.{noted_moment, IsLive, AskCase, asked_in, BeatCase, beaten_in, GiveCase, given_in}
+use Rattle.client_core.specs.Cases.AskCase.{AskedTooLate, Unsafe, Refused, ReadServed, AbsenceServed, Shared, OutOfHandles, Released, OutOfCalls, Sent, Poisoned}
 use Rattle.client_core.specs.Cases.BeatCase.{BeatTooLate, OutOfBeats, Starts, Beats, Quiet}
-use Rattle.client_core.specs.Cases.GiveCase.{GivenTooLate, OfAnother, Started, StartedUnfit, StartedDropped, LeaseTaken, LeaseStays, AliveUnfit, AliveDropped, Replied, ReplyDropped, NotAwaited, Lost, TurnedAway, RefusalDropped}
+use Rattle.client_core.specs.Cases.GiveCase.{GivenTooLate, OfAnother, Started, StartedUnfit, StartedDropped, LeaseTaken, LeaseStays, AliveUnfit, AliveDropped, OutOfNumbers, Replied, Installed, ReplyDropped, NotAwaited, Lost, TurnedAway, RefusalDropped}
+use Rattle.client_core.proofs.Noting.{unstarted_before, note_number, note_clock, note_epoch, note_session}
+use Rattle.client_core.proofs.Leases.{behind_live}
 use Rattle.world_cell.specs.declared.steps.Step.{Step}
 use Rattle.world_cell.specs.declared.mail.Message.{Message}
 use Rattle.world_cell.specs.declared.mail.Message.TheVariants.{ToMaster}
 use Rattle.world_cell.specs.declared.seats.Seat.{Seat}
 use Rattle.world_cell.specs.Seats.{seated}
 use Rattle.world_cell.specs.Messages.{out_at}
-use Rattle.world_cell.specs.World.{WorldState, Outcome, seat_of, with_client, own_refusal, asked, beaten, gave}
+use Rattle.world_cell.specs.World.{WorldState, Outcome, seat_of, with_client, with_refusal, asked, beaten, gave}
 use Rattle.world_cell.proofs.SilentLines.{IsSilent, IsQuiet, append_quiet, quiet_silent}
 use Rattle.world_cell.proofs.WorldCases.{IsAsk, IsBeat, IsGive}
 
@@ -92,11 +104,68 @@ Comes P (Err fault) = Unit {0}
 pub it_comes : (P : WorldState → List Line → Type 0) (outcome : Outcome) (new : WorldState) (printed : List Line) → outcome ≡ Ok (new, printed) → Comes P outcome → P new printed
 it_comes P outcome new printed is h = let k : Comes P (Ok (new, printed)) = subst (Comes P) is h in k
 
+-- ---- the noting of the time
+
+turn_quiet : (number : ℕ) (before after : Standing) → IsQuiet (option_to_list (turn_line number before after))
+turn_quiet number standings.Safe standings.Safe = tt
+turn_quiet number standings.Safe (standings.Jeopardy since) = (tt, tt, tt)
+turn_quiet number standings.Safe standings.Lost = (tt, tt, tt)
+turn_quiet number (standings.Jeopardy since) standings.Safe = (tt, tt, tt)
+turn_quiet number (standings.Jeopardy since) (standings.Jeopardy later) = tt
+turn_quiet number (standings.Jeopardy since) standings.Lost = (tt, tt, tt)
+turn_quiet number standings.Lost after = tt
+
+noted_in_quiet : (s : ClientState) (session : Session) (moment : ℕ) → IsQuiet (note_lines_in session s moment)
+noted_in_quiet s sessions.Unstarted moment = tt
+noted_in_quiet s sessions.Live moment = turn_quiet s.number s.standing (standing_then s moment)
+noted_in_quiet s sessions.Lost moment = tt
+noted_in_quiet s sessions.TurnedAway moment = tt
+
+-- it tells of nothing but how the client stands
+pub noted_quiet : (s : ClientState) (moment : ℕ) → IsQuiet (note_lines s moment)
+noted_quiet s moment = noted_in_quiet s s.session moment
+
+told_quiet : (s : ClientState) (moment : ℕ) (more : List Line) → IsQuiet more → IsQuiet (note_lines s moment ++ more)
+told_quiet s moment more quiet = append_quiet (note_lines s moment) more (noted_quiet s moment) quiet
+
+refusal_quiet : (told : List Line) (fault : Fault) → IsQuiet told → IsQuiet (with_refusal told fault)
+refusal_quiet told fault quiet = append_quiet told (lines.Refused fault ∷ []) quiet (tt, tt, tt)
+
+pub note_calls : (s : ClientState) (session : Session) (moment : ℕ) → (note_in session s moment).calls ≡ s.calls
+note_calls s sessions.Unstarted moment = refl
+note_calls s sessions.Live moment = refl
+note_calls s sessions.Lost moment = refl
+note_calls s sessions.TurnedAway moment = refl
+
+safe_by : (b : Bool) (number : ℕ) → IsQuiet (cond b (lines.Safe number ∷ []) [])
+safe_by true number = (tt, tt, tt)
+safe_by false number = tt
+
+safe_quiet : (s : ClientState) (moment : ℕ) (message : AliveMessage) → IsQuiet (safe_lines s moment message)
+safe_quiet s moment message = safe_by (takes_offer s message && (is_unexpired s.sent message.span moment && is_jeopardy s.standing)) s.number
+
+-- what the end of a call changes none of
+record EndsSo (s new : ClientState) : Type 0 where
+  number : new.number ≡ s.number
+  clock : new.clock ≡ s.clock
+  calls : new.calls ≡ s.calls
+  epoch : new.epoch ≡ s.epoch
+  session : new.session ≡ s.session
+
+ends_so : (s : ClientState) (target : Target) (result : CallResult) → EndsSo s (ended_plainly s target result)
+ends_so s target (results.Opened handle) = record { number = refl; clock = refl; calls = refl; epoch = refl; session = refl }
+ends_so s target results.Closed = record { number = refl; clock = refl; calls = refl; epoch = refl; session = refl }
+ends_so s target _ = record { number = refl; clock = refl; calls = refl; epoch = refl; session = refl }
+
 -- ---- the cases
 
 module _ (w : WorldState) (number : ℕ) (seat : Seat) (found : seat_of w number ≡ Some seat) where
+  -- the moment that is noted
+  abbrev then : ℕ
+  then = noted_moment seat.client seat.clock
+
   -- nothing is sent, and the epoch stays
-  stays : (client : ClientState) (printed : List Line) → IsQuiet printed → client.number ≡ seat.client.number → client.clock ≡ max seat.client.clock seat.clock → client.calls ≡ seat.client.calls → OfEpoch w.messages seat.client client → IsOwn w (with_client w number seat client) printed
+  stays : (client : ClientState) (printed : List Line) → IsQuiet printed → client.number ≡ seat.client.number → client.clock ≡ then → client.calls ≡ seat.client.calls → OfEpoch w.messages seat.client client → IsOwn w (with_client w number seat client) printed
   stays client printed quiet own notes calls epoch = record {
     number = number;
     seat = seat;
@@ -113,12 +182,14 @@ module _ (w : WorldState) (number : ℕ) (seat : Seat) (found : seat_of w number
   }
 
   -- only the moment is noted
-  notes_only : (printed : List Line) → IsQuiet printed → IsOwn w (with_client w number seat (noted seat.client seat.clock)) printed
-  notes_only printed quiet = stays (noted seat.client seat.clock) printed quiet refl refl refl (SameEpoch refl (λ e. e))
+  notes_only : (printed : List Line) → IsQuiet printed → IsOwn w (with_client w number seat (note seat.client then)) printed
+  notes_only printed quiet =
+      stays (note seat.client then) printed quiet (note_number seat.client seat.client.session then) (note_clock seat.client seat.client.session then) (note_calls seat.client seat.client.session then)
+      (SameEpoch (note_epoch seat.client seat.client.session then) (λ e. unstarted_before seat.client seat.client.session then (sym (note_session seat.client then) ∙ e)))
 
-  refused_comes : (fault : Fault) → Comes (IsOwn w) (own_refusal (with_client w number seat (noted seat.client seat.clock)) fault)
-  refused_comes faults.Exhausted = tt
-  refused_comes fault = notes_only (lines.Refused fault ∷ []) (tt, tt, tt)
+  -- in a session that isn't given up
+  in_session : IsLive seat.client seat.clock → (session_behind (standing_then seat.client then) ≡ sessions.Unstarted → seat.client.session ≡ sessions.Unstarted)
+  in_session live e = sym (behind_live seat.client seat.clock live) ∙ e
 
   refused_quiet : (o : Option Outstanding) (handle : ℕ) → IsQuiet (refused_lines seat.client handle o)
   refused_quiet None handle = tt
@@ -127,7 +198,18 @@ module _ (w : WorldState) (number : ℕ) (seat : Seat) (found : seat_of w number
 
   ask_comes : (ask : Ask) (c : AskCase seat.client seat.clock ask) → Comes (IsOwn w) (asked w number seat (asked_in seat.client seat.clock ask c))
   ask_comes ask (AskedTooLate late) = tt
-  ask_comes ask (Refused fault early is) = refused_comes fault
+  ask_comes ask (Unsafe fault early is) = notes_only (with_refusal (note_lines seat.client then) fault) (refusal_quiet (note_lines seat.client then) fault (noted_quiet seat.client then))
+  ask_comes ask (Refused fault safe is) = stays (at_moment seat.client then) (lines.Refused fault ∷ []) (tt, tt, tt) refl refl refl (SameEpoch refl (λ e. e))
+  ask_comes ask (ReadServed handle mine entry safe is readable) =
+      stays (at_moment seat.client then) (lines.Served seat.client.number mine.name entry ∷ []) (tt, tt, tt) refl refl refl (SameEpoch refl (λ e. e))
+  ask_comes ask (AbsenceServed opening safe is plain cached) =
+      stays (at_moment seat.client then) (lines.Served seat.client.number opening.name None ∷ []) (tt, tt, tt) refl refl refl (SameEpoch refl (λ e. e))
+  ask_comes ask (Shared opening view handle safe is shared room) =
+      stays (with_shared seat.client then (kept_handle handle opening true))
+      (lines.Served seat.client.number opening.name (Some view) ∷ lines.Done seat.client.number 0 (answers.Opened (seat.client.opened + 1)) ∷ []) (tt, tt, (tt, tt, tt)) refl refl refl (SameEpoch refl (λ e. e))
+  ask_comes ask (OutOfHandles opening view handle safe is shared last) = tt
+  ask_comes ask (Released handle mine safe is found shared) =
+      stays (without_handle seat.client then handle) (lines.Done seat.client.number 0 answers.Closed ∷ []) (tt, tt, tt) refl refl refl (SameEpoch refl (λ e. e))
   ask_comes ask (OutOfCalls call target sendable last) = tt
   ask_comes ask (Sent call target sendable room) =
       let message : CallMessage = record { client = seat.client.number; epoch = seat.client.epoch; number = seat.client.calls + 1; call = call } in
@@ -135,7 +217,7 @@ module _ (w : WorldState) (number : ℕ) (seat : Seat) (found : seat_of w number
         number = number;
         seat = seat;
         found = found;
-        client = with_call seat.client (max seat.client.clock seat.clock) call target;
+        client = with_call seat.client then call target;
         sent = Some (requests.Call message);
         is = refl;
         grown = refl;
@@ -145,65 +227,80 @@ module _ (w : WorldState) (number : ℕ) (seat : Seat) (found : seat_of w number
         sends = NextCall message refl (record { client = refl; number = refl; epoch = refl }) refl;
         epoch = SameEpoch refl (λ e. e);
       }
-  ask_comes ask (Poisoned handle state poisonable) =
-      stays (with_poisoned seat.client (max seat.client.clock seat.clock) handle state) (poison_lines seat.client handle)
+  ask_comes ask (Poisoned handle mine safe is usable) =
+      stays (with_poisoned seat.client then handle mine) (poison_lines seat.client handle)
       (append_quiet (refused_lines seat.client handle seat.client.outstanding) (lines.Done seat.client.number 0 answers.Poisoned ∷ []) (refused_quiet seat.client.outstanding handle) (tt, tt, tt))
       refl refl refl (SameEpoch refl (λ e. e))
 
   -- a Start or a Beat is sent
-  sends_beat : (request : Request) → IsNoCall request → IsOwn w (record w { clients = seated w.clients number seat (with_beat seat.client (max seat.client.clock seat.clock)); messages = w.messages ++ ToMaster request ∷ [] }) []
-  sends_beat request none = record {
+  sends_beat : (client : ClientState) (printed : List Line) (request : Request) → IsNoCall request → IsQuiet printed → client.number ≡ seat.client.number → client.clock ≡ then → client.calls ≡ seat.client.calls → OfEpoch w.messages seat.client client → IsOwn w (record w { clients = seated w.clients number seat client; messages = w.messages ++ ToMaster request ∷ [] }) printed
+  sends_beat client printed request none quiet own notes calls epoch = record {
     number = number;
     seat = seat;
     found = found;
-    client = with_beat seat.client (max seat.client.clock seat.clock);
+    client = client;
     sent = Some request;
     is = refl;
     grown = refl;
-    quiet = tt;
-    own = refl;
-    notes = refl;
-    sends = NoCall request refl none refl;
-    epoch = SameEpoch refl (λ e. e);
+    quiet = quiet;
+    own = own;
+    notes = notes;
+    sends = NoCall request refl none calls;
+    epoch = epoch;
   }
 
   beat_comes : (c : BeatCase seat.client seat.clock) → Comes (IsOwn w) (beaten w number seat (beaten_in seat.client seat.clock c))
   beat_comes (BeatTooLate late) = tt
-  beat_comes (OutOfBeats early standing last) = tt
-  beat_comes (Starts early unstarted room) = sends_beat (start_message seat.client) tt
-  beat_comes (Beats early live room) = sends_beat (beat_message seat.client) tt
-  beat_comes (Quiet early standing started) = notes_only [] tt
+  beat_comes (OutOfBeats early last) = tt
+  beat_comes (Starts early unstarted room) = sends_beat (with_beat seat.client then) [] (start_message seat.client) tt tt refl refl refl (SameEpoch refl (λ e. e))
+  beat_comes (Beats early live safe room) =
+      sends_beat (with_beat (note_live seat.client then) then) (note_lines seat.client then) (beat_message seat.client) tt (noted_quiet seat.client then) refl refl refl
+      (SameEpoch refl (in_session (record { live = live; then = safe })))
+  beat_comes (Quiet early started live) = notes_only (note_lines seat.client then) (noted_quiet seat.client then)
+
+  -- the time is noted, and perhaps the message refused
+  passed_comes : IsOwn w (with_client w number seat (note seat.client then)) (note_lines seat.client then ++ [])
+  passed_comes = notes_only (note_lines seat.client then ++ []) (told_quiet seat.client then [] tt)
+
+  rejected_comes : (fault : Fault) → IsOwn w (with_client w number seat (note seat.client then)) (with_refusal (note_lines seat.client then ++ []) fault)
+  rejected_comes fault = notes_only (with_refusal (note_lines seat.client then ++ []) fault) (refusal_quiet (note_lines seat.client then ++ []) fault (told_quiet seat.client then [] tt))
 
   -- a call ends
-  ended_comes : (target : Target) (result : CallResult) (printed : List Line) → IsQuiet printed → IsOwn w (with_client w number seat (ended (noted seat.client seat.clock) target result)) printed
-  ended_comes target (results.Opened handle) printed quiet = stays (ended (noted seat.client seat.clock) target (results.Opened handle)) printed quiet refl refl refl (SameEpoch refl (λ e. e))
-  ended_comes target results.Closed printed quiet = stays (ended (noted seat.client seat.clock) target results.Closed) printed quiet refl refl refl (SameEpoch refl (λ e. e))
-  ended_comes target result printed quiet = stays (ended (noted seat.client seat.clock) target result) printed quiet refl refl refl (SameEpoch refl (λ e. e))
+  ended_comes : IsLive seat.client seat.clock → (client : ClientState) → EndsSo (note_live seat.client then) client → (printed : List Line) → IsQuiet printed → IsOwn w (with_client w number seat client) printed
+  ended_comes live client so printed quiet =
+      stays client printed quiet so.number so.clock so.calls (SameEpoch so.epoch (λ e. in_session live (sym so.session ∙ e)))
 
   give_comes : (at : ℕ) (out : Out) → out_at w.messages at ≡ Some out → (c : GiveCase seat.client seat.clock out) → Comes (IsOwn w) (gave w number seat (given_in seat.client seat.clock out c))
   give_comes at out sent (GivenTooLate late) = tt
-  give_comes at out sent (OfAnother early other) = notes_only [] tt
+  give_comes at out sent (OfAnother early other) = passed_comes
   give_comes at out sent (Started message heard is standing fits) =
-      stays (begun (noted seat.client seat.clock) message) [] tt refl refl refl
+      stays (begun seat.client then message) (note_lines seat.client then ++ []) (told_quiet seat.client then [] tt) refl refl refl
       (GrantedEpoch at message (subst (λ o. out_at w.messages at ≡ Some o) is sent) refl refl)
-  give_comes at out sent (StartedUnfit message heard is standing long) = notes_only (lines.Refused faults.ProtocolFault ∷ []) (tt, tt, tt)
-  give_comes at out sent (StartedDropped message heard is old) = notes_only [] tt
-  give_comes at out sent (LeaseTaken message heard is taken) =
-      stays (record (with_processed (noted seat.client seat.clock) message) { lease = offered seat.client message.span }) [] tt refl refl refl (SameEpoch refl (λ e. e))
-  give_comes at out sent (LeaseStays message heard is passed) =
-      stays (with_processed (noted seat.client seat.clock) message) [] tt refl refl refl (SameEpoch refl (λ e. e))
-  give_comes at out sent (AliveUnfit message heard is alive unfit) = notes_only (lines.Refused faults.ProtocolFault ∷ []) (tt, tt, tt)
-  give_comes at out sent (AliveDropped message heard is strange) = notes_only [] tt
-  give_comes at out sent (Replied message call heard is for kept) =
-      ended_comes call.target message.result (lines.Done seat.client.number message.number (answer_of seat.client message.result) ∷ []) (tt, tt, tt)
+  give_comes at out sent (StartedUnfit message heard is standing long) = rejected_comes faults.ProtocolFault
+  give_comes at out sent (StartedDropped message heard is old) = passed_comes
+  give_comes at out sent (LeaseTaken message heard is fit taken) =
+      let behind = with_processed (note_live seat.client then) message in
+      stays (bettered behind then (offered seat.client message.span)) (note_lines seat.client then ++ safe_lines behind then message)
+      (told_quiet seat.client then (safe_lines behind then message) (safe_quiet behind then message)) refl refl refl (SameEpoch refl (in_session fit.alive.live))
+  give_comes at out sent (LeaseStays message heard is fit worse) =
+      stays (with_processed (note_live seat.client then) message) (note_lines seat.client then ++ []) (told_quiet seat.client then [] tt) refl refl refl (SameEpoch refl (in_session fit.alive.live))
+  give_comes at out sent (AliveUnfit message heard is alive unfit) = rejected_comes faults.ProtocolFault
+  give_comes at out sent (AliveDropped message heard is strange) = passed_comes
+  give_comes at out sent (OutOfNumbers message call heard is for last) = tt
+  give_comes at out sent (Replied message call heard is for room kept plain) =
+      ended_comes for.live (ended_plainly (note_live seat.client then) call.target message.result) (ends_so (note_live seat.client then) call.target message.result)
+      (note_lines seat.client then ++ lines.Done seat.client.number message.number (answer_of seat.client message.result) ∷ []) (told_quiet seat.client then _ (tt, tt, tt))
+  give_comes at out sent (Installed message call taught stamp heard is for learned) =
+      stays (with_lesson seat.client then taught) (note_lines seat.client then ++ lines.Done seat.client.number message.number (answer_of seat.client message.result) ∷ [])
+      (told_quiet seat.client then _ (tt, tt, tt)) refl refl refl (SameEpoch refl (λ e. e))
   give_comes at out sent (ReplyDropped message call heard is for dropped) =
-      stays (record (noted seat.client seat.clock) { outstanding = None }) [] tt refl refl refl (SameEpoch refl (λ e. e))
-  give_comes at out sent (NotAwaited message heard is none) = notes_only [] tt
+      ended_comes for.live (record (note_live seat.client then) { outstanding = None }) (record { number = refl; clock = refl; calls = refl; epoch = refl; session = refl }) (note_lines seat.client then ++ []) (told_quiet seat.client then [] tt)
+  give_comes at out sent (NotAwaited message heard is none) = passed_comes
   give_comes at out sent (Lost message heard is loss) =
-      stays (record (noted seat.client seat.clock) { session = sessions.Lost }) (lines.Lost seat.client.number ∷ []) (tt, tt, tt) refl refl refl (SameEpoch refl (λ e. cc))
+      stays (lost (note_live seat.client then) sessions.Lost) (note_lines seat.client then ++ lines.Lost seat.client.number ∷ []) (told_quiet seat.client then _ (tt, tt, tt)) refl refl refl (SameEpoch refl (λ e. cc))
   give_comes at out sent (TurnedAway message heard is fault unstarted) =
-      stays (record (noted seat.client seat.clock) { session = sessions.TurnedAway }) (lines.Lost seat.client.number ∷ []) (tt, tt, tt) refl refl refl (SameEpoch refl (λ e. cc))
-  give_comes at out sent (RefusalDropped message heard is stays_so) = notes_only [] tt
+      stays (lost (at_moment seat.client then) sessions.TurnedAway) (note_lines seat.client then ++ lines.Lost seat.client.number ∷ []) (told_quiet seat.client then _ (tt, tt, tt)) refl refl refl (SameEpoch refl (λ e. cc))
+  give_comes at out sent (RefusalDropped message heard is stays_so) = passed_comes
 
 -- ---- the rows
 

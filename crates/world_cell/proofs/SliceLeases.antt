@@ -35,7 +35,7 @@ in_time w number name master session before up found =
 pub leases_keep_sessions : (w : WorldState) → IsConsistent w → LeasesKeepSessions w
 leases_keep_sessions w fits number seat found unexpired =
     let joint = reached_is_joint (slice number [] w) (fits.reached number []) in
-    let lives = joint.session_outlives_lease (subst (λ (o : Option Seat). IsUnexpired (client_of o).lease_sent (client_of o).lease_span (client_of o).now) (sym found) unexpired) in
+    let lives = joint.session_outlives_lease (subst (λ (o : Option Seat). IsUnexpired (client_of [] o).lease_sent (client_of [] o).lease_span (client_of [] o).now) (sym found) unexpired) in
     record {
       live = live_row (lookup (is_at (nat_cmp number)) w.rows.sessions) lives.live;
       in_time = λ master session up there. in_time w number [] master session lives.before_timeout up there;

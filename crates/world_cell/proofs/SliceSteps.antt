@@ -5,7 +5,7 @@ use Rattle.node_core.specs.declared.lines.Line.{Line}
 use Rattle.tags_cell.specs.declared.requests.Request.{Request}
 use Rattle.tags_cell.specs.declared.outs.Out.{Out}
 use Rattle.tags_cell.specs.Messages.{out_client}
-use Rattle.client_core.specs.declared.asks.Ask.{Ask}
+use Rattle.client_parts.specs.declared.asks.Ask.{Ask}
 use Rattle.client_core.specs.Cases.{AskCase, asked_in, BeatCase, beaten_in, GiveCase, given_in}
 use Rattle.cell_core.specs.State.{MasterState}
 use Rattle.cell_core.specs.Step.{noted, is_spent}
@@ -33,13 +33,13 @@ module _ (w : WorldState) (fits : IsConsistent w) (c : ℕ) (x : List ℕ) where
   reached_behind_join number principal free = reached_stays_at_join x w number principal c free (fits.reached c x)
 
   pub reached_behind_ask : (new : WorldState) (number : ℕ) (seat : Seat) (printed : List Line) (ask : Ask) (case : AskCase seat.client seat.clock ask) → seat_of w number ≡ Some seat → asked w number seat (asked_in seat.client seat.clock ask case) ≡ Ok (new, printed) → Reached (slice c x new)
-  reached_behind_ask new number seat printed ask case found made = reached_stays_at_ask c x w new number seat printed ask case found made (fits.reached c x)
+  reached_behind_ask new number seat printed ask case found made = reached_stays_at_ask c x w new fits seat printed number ask case found made
 
   pub reached_behind_beat : (new : WorldState) (number : ℕ) (seat : Seat) (printed : List Line) (case : BeatCase seat.client seat.clock) → seat_of w number ≡ Some seat → beaten w number seat (beaten_in seat.client seat.clock case) ≡ Ok (new, printed) → Reached (slice c x new)
-  reached_behind_beat new number seat printed case found made = reached_stays_at_beat c x w new number seat printed case found (fits.clients number seat found) made (fits.reached c x)
+  reached_behind_beat new number seat printed case found made = reached_stays_at_beat c x w new fits seat printed number case found made
 
   pub reached_behind_give : (new : WorldState) (seat : Seat) (at : ℕ) (out : Out) (printed : List Line) (case : GiveCase seat.client seat.clock out) → out_at w.messages at ≡ Some out → seat_of w (out_client out) ≡ Some seat → gave w (out_client out) seat (given_in seat.client seat.clock out case) ≡ Ok (new, printed) → Reached (slice c x new)
-  reached_behind_give new seat at out printed case sent found made = reached_stays_at_give c x w new seat at out printed case sent found (fits.clients (out_client out) seat found) made (fits.reached c x)
+  reached_behind_give new seat at out printed case sent found made = reached_stays_at_give c x w new fits seat printed at out case sent found made
 
   pub reached_behind_take : (s : MasterState) (at : ℕ) (request : Request) (case : TakeCase (noted s w.clock) request) → w.master ≡ Some s → request_at w.messages at ≡ Some request → is_spent s ≡ false → Reached (slice c x (behind_take w s request case))
   reached_behind_take s at request case up sent room =

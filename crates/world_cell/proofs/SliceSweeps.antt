@@ -47,7 +47,7 @@ use Rattle.cell_core.specs.State.{MasterState, row_of, locks_of}
 use Rattle.cell_core.specs.Step.{session_of, noted, reply_of, answered_by, turned_away, names_of}
 use Rattle.cell_core.specs.Names.{name_changed}
 use Rattle.cell_core.specs.Deeds.{edit_of}
-use Rattle.client_core.specs.Gives.{last_number}
+use Rattle.client_parts.specs.Invalidations.{last_number}
 use Rattle.over_core.specs.Effect.{effect}
 use Rattle.over_core.specs.Sweep.{started_out, alive_out, invalidations_for}
 use Rattle.over_core.specs.SweepCase.{IsTurn, IsDueToEnd, IsDue, SweepCase, rest, ended, mapped, swept_by, swept_edits}

@@ -292,7 +292,7 @@ module _ (c : ℕ) (x : List ℕ) (w : WorldState) (s : MasterState) (knows : Is
   repeats : (client : ℕ) (kept : Kept Reply) (o : Option Reply) → kept_of s client ≡ Some kept → kept.reply ≡ o → Comes c x w s s (repeated_reply o).outs
   repeats client kept None is replied_so = comes_unseen c x w s s [] refl refl refl refl refl refl refl refl
   repeats client kept (Some reply) is replied_so =
-      reply_again c x w s client kept.number reply (heard_of.fits.replies client kept reply is replied_so) (subst (λ (z : List ℕ). HasGranted w.messages z client reply) knows.secret (heard_of.fits.granted client kept reply is replied_so))
+      reply_again c x w s client kept.number reply (heard_of.fits.replies client kept reply is replied_so) (subst (λ (z : List ℕ). HasGranted w.messages z client reply) knows.secret (subst (λ (q : ℕ). HasGranted w.messages s.secret q reply) (heard_of.fits.replies client kept reply is replied_so).to (heard_of.fits.answers client kept reply is replied_so).granted))
 
   take_by : (at : ℕ) (request : Request) (case : TakeCase s request) → request_at w.messages at ≡ Some request → Comes c x w s (taken_by s request case).0 (taken_by s request case).1.outs
   take_by at request (StartQueued start is may serving room) sent =
@@ -312,7 +312,7 @@ behind_take w s request case = record w { master = Some (taken_by (noted s w.clo
 
 heard_then : (w : WorldState) (s : MasterState) → IsHeardOf w s → IsHeardOf w (noted s w.clock)
 heard_then w s heard_of = record {
-  fits = record { queue = heard_of.fits.queue; kept = heard_of.fits.kept; replies = heard_of.fits.replies; granted = heard_of.fits.granted; turns = heard_of.fits.turns };
+  fits = record { queue = heard_of.fits.queue; kept = heard_of.fits.kept; replies = heard_of.fits.replies; answers = heard_of.fits.answers; turns = heard_of.fits.turns };
   named = heard_of.named;
   room = heard_of.room;
 }

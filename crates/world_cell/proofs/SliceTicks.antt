@@ -48,7 +48,7 @@ module _ (c : ℕ) (x : List ℕ) (w : WorldState) (ticks : Ticks) where
     session = standing_in w.rows c;
     epoch = w.rows.epoch;
     master = master_of c x now seat m;
-    client = client_of seat;
+    client = client_of x seat;
     beats = beats_of c w.messages;
     offers = offers_of c x w.messages;
     grants = grants_of c x w.rows.secret w.messages;
@@ -132,7 +132,7 @@ module _ (c : ℕ) (x : List ℕ) (w : WorldState) (now : ℕ) where
     session = standing_of row;
     epoch = w.rows.epoch;
     master = nobody;
-    client = client_of seat;
+    client = client_of x seat;
     beats = beats_of c w.messages;
     offers = offers_of c x w.messages;
     grants = grants_of c x w.rows.secret w.messages;
@@ -140,7 +140,7 @@ module _ (c : ℕ) (x : List ℕ) (w : WorldState) (now : ℕ) where
 
   -- with the session that the master found, and the seat at its coming up
   abbrev up_slice : Option of_rows.Session → Bool → Option (Session Reply) → Option Seat → Bool → Slice Shown
-  up_slice row recovering found seat heard = seen_up now (clocks_of now seat) (client_of seat) (record {
+  up_slice row recovering found seat heard = seen_up now (clocks_of now seat) (client_of x seat) (record {
     present = get_node (map_of w.rows) x;
     session = standing_of row;
     epoch = w.rows.epoch + 1;
@@ -217,7 +217,7 @@ module _ (x : List ℕ) (w : WorldState) (number : ℕ) (principal : List ℕ) w
     session = standing_in w.rows number;
     epoch = w.rows.epoch;
     master = master_of number x w.clock seat m;
-    client = client_of seat;
+    client = client_of x seat;
     beats = beats_of number w.messages;
     offers = offers_of number x w.messages;
     grants = grants_of number x w.rows.secret w.messages;

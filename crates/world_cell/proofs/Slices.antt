@@ -30,7 +30,7 @@ use Rattle.gate_core.specs.Laws.{touching}
 use Rattle.cell_core.specs.declared.pending.Task.{Task}
 use Rattle.cell_core.specs.State.{MasterState, row_of, session_rows}
 use Rattle.cell_core.specs.Step.{session_of, noted}
-use Rattle.client_core.specs.Gives.{last_number}
+use Rattle.client_parts.specs.Invalidations.{last_number}
 use Rattle.over_core.specs.Kept.{AreByBeats, AreIssued, AreOwned, AreTouching, IsKept}
 use Rattle.world_cell.specs.declared.mail.Message.{Message}
 use Rattle.world_cell.specs.declared.mail.Message.TheVariants.{ToMaster, ToClient}
@@ -333,7 +333,7 @@ module _ (c : ℕ) (x : List ℕ) (w : WorldState) where
   there rows t sent = parts_of rows t (w.messages ++ map ToClient sent)
 
   abbrev pub shown : UpParts → Slice Shown
-  shown parts = seen_up w.clock (clocks_of w.clock (seat_of w c)) (client_of (seat_of w c)) parts
+  shown parts = seen_up w.clock (clocks_of w.clock (seat_of w c)) (client_of x (seat_of w c)) parts
 
   -- from the master as it is these events lead to one with these rows, that has sent these
   abbrev pub Goes : MasterState → Rows → MasterState → List Out → Type 0
@@ -387,7 +387,7 @@ module _ (c : ℕ) (x : List ℕ) (w : WorldState) where
     session = standing_in w.rows c;
     epoch = w.rows.epoch;
     master = master_of c x w.clock seat w.master;
-    client = client_of seat;
+    client = client_of x seat;
     beats = beats;
     offers = offers;
     grants = grants;

@@ -29,7 +29,7 @@ use Rattle.cell_core.proofs.TakeCases.{taken_case, taken_unspent}
 use Rattle.over_core.proofs.SweepCases.{swept_case}
 use Rattle.over_core.specs.Kept.{IsKept}
 use Rattle.over_core.specs.Up.{up_edits, master_by}
-use Rattle.client_core.specs.declared.asks.Ask.{Ask}
+use Rattle.client_parts.specs.declared.asks.Ask.{Ask}
 use Rattle.client_core.specs.Asks.{ask_step}
 use Rattle.client_core.specs.Beats.{beat_step}
 use Rattle.client_core.specs.Gives.{give_step}

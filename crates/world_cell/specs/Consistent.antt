@@ -1,8 +1,19 @@
 -- What holds of every world: how its clients, its messages and its master fit one another.
 use Rattle.std.specs.Prelude.{◌≡◌, ◌⊎◌, ℕ, ◌+◌, ◌*◌, Bool, true, false, ◌≤◌, ◌==◌, List, [], ◌∷◌, Option, Some, None, if◌then◌else◌}
+use Rattle.std.specs.List.{AllByRecursion}
+use Rattle.std.specs.List.Sorted.{IsStrictlySortedBy}
+use Rattle.std.specs.Map.{keys_of}
+use Rattle.std.specs.Ordering.{nat_cmp}
+use Rattle.tags_cell.specs.Handles.{name_in}
+use Rattle.tags_cell.specs.declared.calls.Call.{Call}
+use Rattle.tags_cell.specs.declared.calls.Call.TheVariants as calls
+use Rattle.tags_cell.specs.declared.calls.Open.{Open}
 use Rattle.tags_cell.specs.declared.requests.Request.TheVariants as requests
 use Rattle.tags_cell.specs.declared.requests.CallMessage.{CallMessage}
 use Rattle.tags_cell.specs.declared.outs.Out.TheVariants as outs
+use Rattle.tags_cell.specs.declared.outs.CallResult.{CallResult}
+use Rattle.tags_cell.specs.declared.outs.CallResult.TheVariants as results
+use Rattle.tags_cell.specs.declared.outs.NewHandle.{NewHandle}
 use Rattle.tags_cell.specs.declared.outs.Started.{Started}
 use Rattle.session_core.specs.declared.records.Kept.{Kept}
 use Rattle.session_core.specs.declared.records.Session.{Session}
@@ -10,12 +21,22 @@ use Rattle.tags_cell.specs.declared.outs.Reply.{Reply}
 use Rattle.lease_core.specs.Lease.{longest_lease}
 use Rattle.coherence.specs.Slice as one
 use Rattle.coherence.specs.Slice.{Reached}
-use Rattle.client_core.specs.declared.sessions.Session.TheVariants as sessions
+use Rattle.cache_core.specs.Caches.{AreCacheEntries, entry_of}
+use Rattle.cache_core.specs.declared.kept.Kept as shared
+use Rattle.client_parts.specs.declared.asks.NodeCall.{NodeCall}
+use Rattle.client_parts.specs.declared.handles.ClientHandle.{ClientHandle}
+use Rattle.client_parts.specs.declared.sessions.Session.TheVariants as sessions
+use Rattle.client_parts.specs.declared.targets.Outstanding.{Outstanding}
+use Rattle.client_parts.specs.declared.targets.Target.TheVariants as targets
+use Rattle.client_parts.specs.Calls.{call_on}
+use Rattle.client_core.specs.Handles.{handle_of}
+use Rattle.client_core.specs.State.{ClientState}
 use Rattle.gate_core.specs.declared.pending.Waiting.{Waiting}
 use Rattle.cell_core.specs.declared.pending.Task.{Task}
 use Rattle.cell_core.specs.declared.pending.Work.{Work}
 use Rattle.cell_core.specs.declared.pending.Work.TheVariants as works
 use Rattle.cell_core.specs.State.{MasterState}
+use Rattle.cell_core.specs.Names.{name_asked}
 use Rattle.cell_core.specs.Step.{session_of, kept_of}
 use Rattle.over_core.specs.Kept.{IsKept}
 use Rattle.world_cell.specs.declared.mail.Message.{Message}
@@ -34,6 +55,34 @@ pub record IsSeated (epoch number : ℕ) (seat : Seat) : Type 0 where
   pub unstarted : seat.client.session ≡ sessions.Unstarted → seat.client.epoch ≡ 0
   -- it knows no moment to come
   pub noted : seat.client.clock ≤ seat.clock
+
+-- ---- what a client holds
+
+-- open handles by the client's numbers for them, none above the newest; each is known by the name that stands in its bytes
+pub record AreHandles (opened : ℕ) (handles : List (ℕ × ClientHandle)) : Type 0 where
+  pub in_order : IsStrictlySortedBy nat_cmp (keys_of handles)
+  pub counted : (number : ℕ) (handle : ClientHandle) → handle_of handles number ≡ Some handle → number ≤ opened
+  pub named : (number : ℕ) (handle : ClientHandle) → handle_of handles number ≡ Some handle → name_in handle.bytes ≡ handle.name
+
+-- so is one that is kept to be shared
+abbrev pub IsSharedByName : shared.Kept NewHandle → Type 0
+IsSharedByName kept = name_in kept.handle.bytes ≡ kept.name
+
+-- the call that has no reply yet was sent; one on the node of an open handle was made with the handle's bytes
+pub record HasAsked (sent : List Message) (s : ClientState) (call : Outstanding) : Type 0 where
+  pub message : CallMessage
+  pub is_call : call.request ≡ requests.Call message
+  pub found : call_of sent s.number message.number ≡ Some message
+  pub counted : (number : ℕ) → call.target ≡ targets.Handle number → number ≤ s.opened
+  pub made : (number : ℕ) (handle : ClientHandle) → call.target ≡ targets.Handle number → handle_of s.handles number ≡ Some handle → (node : NodeCall) × (message.call ≡ call_on handle.bytes node)
+
+-- a client's cache, its handles and its call
+pub record Holds (sent : List Message) (s : ClientState) : Type 0 where
+  pub entries : AreCacheEntries s.cache.entries
+  pub none_before : s.session ≡ sessions.Unstarted → (name : List ℕ) → entry_of s.cache.entries name ≡ None
+  pub handles : AreHandles s.opened s.handles
+  pub kept : AllByRecursion IsSharedByName s.kept
+  pub asked : (call : Outstanding) → s.outstanding ≡ Some call → HasAsked sent s call
 
 -- ---- messages
 
@@ -90,17 +139,30 @@ pub record IsReplyTo (client number : ℕ) (reply : Reply) : Type 0 where
   pub to : reply.client ≡ client
   pub answered : reply.number ≡ number
 
--- a reply that is kept was sent: what it grants was granted
+-- what a reply grants was granted
 abbrev pub HasGranted : List Message → List ℕ → ℕ → Reply → Type 0
 HasGranted sent secret client reply =
     (name : List ℕ) (grant : one.Grant Shown) → one.IsIn grant (grant_of client name secret sent (outs.Reply reply) []) → one.IsIn grant (grants_of client name secret sent)
+
+-- a handle that a call is answered is of an Open of the name that stands in its bytes
+abbrev pub OpensAs : Call → CallResult → Type 0
+OpensAs call (results.Opened handle) = (opening : Open) × (call ≡ calls.Open opening) × (name_in handle.bytes ≡ opening.name)
+OpensAs call _ = Unit {0}
+
+-- a reply is to a call that was sent before; where it may be kept in a cache, the call asks what a name shows, and that was granted
+pub record IsAnswer (sent : List Message) (secret : List ℕ) (reply : Reply) : Type 0 where
+  pub call : CallMessage
+  pub found : call_of sent reply.client reply.number ≡ Some call
+  pub tells : (stamp : ℕ) → reply.stamp ≡ Some stamp → (name : List ℕ) × (name_asked secret call.call ≡ Some name)
+  pub granted : HasGranted sent secret reply.client reply
+  pub opens : OpensAs call.call reply.result
 
 -- what waits and what is kept fits the messages
 pub record FitsMessages (sent : List Message) (s : MasterState) : Type 0 where
   pub queue : AreOfMessages sent s.epoch s.gate.waiting
   pub kept : (client : ℕ) (kept : Kept Reply) → kept_of s client ≡ Some kept → WasSent sent s.epoch client kept.number
   pub replies : (client : ℕ) (kept : Kept Reply) (reply : Reply) → kept_of s client ≡ Some kept → kept.reply ≡ Some reply → IsReplyTo client kept.number reply
-  pub granted : (client : ℕ) (kept : Kept Reply) (reply : Reply) → kept_of s client ≡ Some kept → kept.reply ≡ Some reply → HasGranted sent s.secret client reply
+  pub answers : (client : ℕ) (kept : Kept Reply) (reply : Reply) → kept_of s client ≡ Some kept → kept.reply ≡ Some reply → IsAnswer sent s.secret reply
   pub turns : (client : ℕ) → IsInTurn (session_of s client) (waiting client s.gate.waiting)
 
 -- what it knows of the rows is what they hold
@@ -134,12 +196,15 @@ AreFair w (Some s) = (number : ℕ) (seat : Seat) → seat_of w number ≡ Some 
 pub record IsConsistent (w : WorldState) : Type 0 where
   -- each client is the one of its number
   pub clients : (number : ℕ) (seat : Seat) → seat_of w number ≡ Some seat → IsSeated w.rows.epoch number seat
+  pub holds : (number : ℕ) (seat : Seat) → seat_of w number ≡ Some seat → Holds w.messages seat.client
   -- client and number name one call
   pub named : (at : ℕ) (call : CallMessage) → request_at w.messages at ≡ Some (requests.Call call) → call_of w.messages call.client call.number ≡ Some call
   -- each call is of a client that joined
   pub sent : (client number : ℕ) (call : CallMessage) → call_of w.messages client number ≡ Some call → HasSent w client number call
   -- no session was granted in an epoch to come
   pub started : (at : ℕ) (started : Started) → out_at w.messages at ≡ Some (outs.Started started) → started.epoch ≤ w.rows.epoch
+  -- each reply is to a call
+  pub answers : (at : ℕ) (reply : Reply) → out_at w.messages at ≡ Some (outs.Reply reply) → IsAnswer w.messages w.rows.secret reply
   -- the master, where one is up, agrees with the rows
   pub master : Agrees w w.master
   -- and with the messages

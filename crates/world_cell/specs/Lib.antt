@@ -26,3 +26,4 @@ pub mod World
 pub mod Slices
 pub mod Consistent
 pub mod Runs
+pub mod Served

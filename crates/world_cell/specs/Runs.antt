@@ -29,8 +29,9 @@ use Rattle.rows_cell.specs.Sound.{is_live_in}
 use Rattle.tags_cell.specs.declared.outs.Reply.{Reply}
 use Rattle.session_core.specs.declared.records.Session.{Session}
 use Rattle.cell_core.specs.Step.{session_of}
+use Rattle.client_core.specs.State.{lease_of}
 use Rattle.world_cell.specs.declared.seats.Seat.{Seat}
-use Rattle.world_cell.specs.World.{WorldState, WorldView, seat_of, world_step, step_edits, IsStored, IsLeft, MayRefuseStep}
+use Rattle.world_cell.specs.World.{WorldState, WorldView, IsUndoubted, seat_of, world_step, step_edits, IsAt, IsStored, IsLeft, MayRefuseStep}
 use Rattle.world_cell.specs.Consistent.{IsConsistent}
 
 -- ---- runs
@@ -50,7 +51,23 @@ pub record IsRefused (old : WorldView) (step : Step) (new : WorldView) (printed 
 abbrev pub Does : WorldView → Step → WorldView → List Line → Type 0
 Does old step new printed = IsMade old step new printed ⊎ IsRefused old step new printed
 
--- one step behind the other, through consistent worlds, and their lines in order
+-- by the world as it was read where a master comes up
+abbrev pub WasMade : WorldView → Step → WorldView → List Line → Type 0
+WasMade old step new printed = (at : WorldView) × IsAt step old at × IsMade at step new printed
+
+abbrev pub WasRefused : WorldView → Step → WorldView → List Line → Type 0
+WasRefused old step new printed = (at : WorldView) × IsAt step old at × IsRefused at step new printed
+
+abbrev pub AnyStep : WorldView → Step → WorldView → List Line → Type 0
+AnyStep old step new printed = WasMade old step new printed ⊎ WasRefused old step new printed
+
+-- one step behind the other, and their lines in order; each world in which nothing is in doubt is consistent
+abbrev pub AnyRun : WorldView → List Step → List Line → WorldView → Type 0
+AnyRun old [] printed new = (printed ≡ []) × (new ≡ old)
+AnyRun old (step ∷ steps) printed new =
+    (mid : WorldView) × (here : List Line) × (rest : List Line) × AnyStep old step mid here × (IsUndoubted mid → IsConsistent mid.world) × AnyRun mid steps rest new × (printed ≡ here ++ rest)
+
+-- one in which nothing is in doubt: each step is by the world of before
 abbrev pub Run : WorldView → List Step → List Line → WorldView → Type 0
 Run old [] printed new = (printed ≡ []) × (new ≡ old)
 Run old (step ∷ steps) printed new =
@@ -95,7 +112,7 @@ pub record HasSession (w : WorldState) (number : ℕ) : Type 0 where
 
 -- a client whose lease runs by its own clock has its session
 abbrev pub LeasesKeepSessions : WorldState → Type 0
-LeasesKeepSessions w = (number : ℕ) (seat : Seat) → seat_of w number ≡ Some seat → IsUnexpired seat.client.lease.sent seat.client.lease.span seat.clock → HasSession w number
+LeasesKeepSessions w = (number : ℕ) (seat : Seat) → seat_of w number ≡ Some seat → IsUnexpired (lease_of seat.client.cache.lease).sent (lease_of seat.client.cache.lease).span seat.clock → HasSession w number
 
 -- ---- clocks
 

@@ -48,15 +48,8 @@ moved_alone clock seat = record seat { clock = clock }
 abbrev pub seated : Clients → ℕ → Seat → ClientState → Clients
 seated clients number seat client = set_value (is_at (nat_cmp number)) clients (record seat { client = client })
 
--- a client's step: its new state and its answer; want of memory, and a number at its end, leave all clients
+-- a client's step: its new state and its answer; want of memory, and a moment or a number at its end, leave all clients
 abbrev pub Answers : {X : Type 0} → Clients → Clients → ℕ → Seat → Result X Fault → ClientState × Result X Fault → Type 0
 Answers old new number seat (Ok x) step = (step.1 ≡ Ok x) × (new ≡ seated old number seat step.0)
 Answers old new number seat (Err faults.NoMemory) step = new ≡ old
-Answers old new number seat (Err faults.Exhausted) step = (step.1 ≡ Err faults.Exhausted) × (new ≡ old)
-Answers old new number seat (Err fault) step = (step.1 ≡ Err fault) × (new ≡ seated old number seat step.0)
-
--- the same, where every refusal leaves all clients
-abbrev pub AnswersOrLeaves : {X : Type 0} → Clients → Clients → ℕ → Seat → Result X Fault → ClientState × Result X Fault → Type 0
-AnswersOrLeaves old new number seat (Ok x) step = (step.1 ≡ Ok x) × (new ≡ seated old number seat step.0)
-AnswersOrLeaves old new number seat (Err faults.NoMemory) step = new ≡ old
-AnswersOrLeaves old new number seat (Err fault) step = (step.1 ≡ Err fault) × (new ≡ old)
+Answers old new number seat (Err fault) step = (step.1 ≡ Err fault) × (new ≡ old)

@@ -1,4 +1,4 @@
--- What a world shows of one client and one name: their slice. Clients keep no entry yet.
+-- What a world shows of one client and one name: their slice.
 use Rattle.std.specs.Prelude.{ℕ, Bool, true, false, not, ◌&&◌, ◌||◌, ◌==◌, nat_le, List, [], ◌∷◌, ◌++◌, fold, Option, Some, None, if◌then◌else◌}
 use Rattle.std.specs.Option.{option_map_or}
 use Rattle.std.specs.Str.{bytes_eq}
@@ -32,7 +32,9 @@ use Rattle.cell_core.specs.declared.pending.Work.TheVariants as works
 use Rattle.cell_core.specs.State.{MasterState}
 use Rattle.cell_core.specs.Step.{session_of}
 use Rattle.cell_core.specs.Names.{name_asked, shown_by}
-use Rattle.client_core.specs.Gives.{last_number}
+use Rattle.client_parts.specs.Invalidations.{last_number}
+use Rattle.cache_core.specs.Caches.{entry_of}
+use Rattle.client_core.specs.State.{lease_of}
 use Rattle.world_cell.specs.Messages.{call_of}
 use Rattle.world_cell.specs.declared.mail.Message.{Message}
 use Rattle.world_cell.specs.declared.mail.Message.TheVariants as messages
@@ -240,18 +242,18 @@ abbrev pub master_of : ℕ → List ℕ → ℕ → Option Seat → Option Maste
 master_of client name now seat None = nobody
 master_of client name now seat (Some s) = master_part client name now s (seen_of (session_of s client)) (right_of client name s.rights) (clocks_of now seat)
 
--- without an entry
-abbrev pub client_of : Option Seat → one.Client Shown
-client_of None = record { now = 0; newest = 0; newest_sent = 0; epoch = 0; processed = 0; lease_sent = 0; lease_span = 0; entry = None }
-client_of (Some seat) = record {
+-- with its cache's entry of the name
+abbrev pub client_of : List ℕ → Option Seat → one.Client Shown
+client_of name None = record { now = 0; newest = 0; newest_sent = 0; epoch = 0; processed = 0; lease_sent = 0; lease_span = 0; entry = None }
+client_of name (Some seat) = record {
   now = seat.clock;
   newest = seat.client.beats;
   newest_sent = seat.client.sent;
   epoch = seat.client.epoch;
   processed = seat.client.processed;
-  lease_sent = seat.client.lease.sent;
-  lease_span = seat.client.lease.span;
-  entry = None;
+  lease_sent = (lease_of seat.client.cache.lease).sent;
+  lease_span = (lease_of seat.client.cache.lease).span;
+  entry = entry_of seat.client.cache.entries name;
 }
 
 abbrev pub slice : ℕ → List ℕ → WorldState → Slice Shown
@@ -260,7 +262,7 @@ slice client name w = record {
   session = standing_in w.rows client;
   epoch = w.rows.epoch;
   master = master_of client name w.clock (seat_of w client) w.master;
-  client = client_of (seat_of w client);
+  client = client_of name (seat_of w client);
   beats = beats_of client w.messages;
   offers = offers_of client name w.messages;
   grants = grants_of client name w.rows.secret w.messages;

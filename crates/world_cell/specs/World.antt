@@ -1,5 +1,5 @@
 -- A world: the rows, the master while one is up, the clients, and all messages; and what each step does.
-use Rattle.std.specs.Prelude.{◌≡◌, ◌⊎◌, ℕ, ◌+◌, Bool, true, false, not, ◌||◌, nat_lt, nat_le, List, [], ◌∷◌, ◌++◌, map, Option, Some, None, Result, Ok, Err, if◌then◌else◌, is_some}
+use Rattle.std.specs.Prelude.{◌≡◌, ◌⊎◌, ℕ, ◌+◌, ◌≤◌, Bool, true, false, not, ◌||◌, nat_lt, nat_le, List, [], ◌∷◌, ◌++◌, map, Option, Some, None, Result, Ok, Err, if◌then◌else◌, is_some}
 use Rattle.std.specs.Option.{option_map_or}
 use Rattle.std.specs.List.{list_all, list_any}
 use Rattle.lease_core.specs.Lease.{moment_limit}
@@ -13,19 +13,22 @@ use Rattle.node_core.specs.declared.lines.Line.TheVariants as lines
 use Rattle.rows_cell.specs.declared.tables.Rows.{Rows}
 use Rattle.rows_cell.specs.declared.tables.Edit.{Edit}
 use Rattle.rows_cell.specs.Rows.{changed_rows}
-use Rattle.rows_cell.specs.Stores.{Store, left_by, IsWant, MayLeave, MayRefuse}
+use Rattle.rows_cell.specs.Stores.{Store, left_by, IsWant, MayLeave, MayRefuse, IsRead, IsUnread}
 use Rattle.tags_cell.specs.declared.requests.Request.{Request}
 use Rattle.tags_cell.specs.declared.outs.Out.{Out}
 use Rattle.tags_cell.specs.Messages.{out_client}
 use Rattle.cell_core.specs.declared.pending.Taken.{Taken}
 use Rattle.cell_core.specs.State.{MasterState}
-use Rattle.cell_core.specs.Step.{take_step}
+use Rattle.cell_core.specs.Step.{take_step, is_past_end}
 use Rattle.over_core.specs.declared.sweeps.Swept.{Swept}
 use Rattle.over_core.specs.Sweep.{sweep_step, sweep_edits}
-use Rattle.over_core.specs.Up.{up_step, up_edits, up_commit, MayRefuseUp}
-use Rattle.client_core.specs.declared.asks.Ask.{Ask}
-use Rattle.client_core.specs.declared.asks.Asked.{Asked}
-use Rattle.client_core.specs.declared.asks.Asked.TheVariants.{Sent, Answered}
+use Rattle.over_core.specs.Up.{up_step, up_edits, up_commit}
+use Rattle.client_parts.specs.declared.asks.Ask.{Ask}
+use Rattle.client_parts.specs.declared.asks.Asked.{Asked}
+use Rattle.client_parts.specs.declared.asks.Outcome.{Outcome as AskOutcome}
+use Rattle.client_parts.specs.declared.asks.Outcome.TheVariants.{Sent, Served, Answered, Refused}
+use Rattle.client_parts.specs.declared.steps.Beaten.{Beaten}
+use Rattle.client_parts.specs.declared.steps.Given.{Given}
 use Rattle.client_core.specs.State.{ClientState}
 use Rattle.client_core.specs.Asks.{ask_step}
 use Rattle.client_core.specs.Beats.{beat_step}
@@ -51,11 +54,16 @@ pub record WorldState : Type 0 where
   pub messages : List Message
   pub lease : ℕ
 
--- a world, and of its store the rows that a crash may leave, and how often it refused
+-- a world, and of its store the rows that a crash may leave, how often it refused, and how often what is read was in doubt
 pub record WorldView : Type 0 where
   pub world : WorldState
   pub may_leave : List Rows
   pub refusals : ℕ
+  pub doubt : ℕ
+
+-- the store gave back what was written, and nobody else wrote it
+abbrev pub IsUndoubted : WorldView → Type 0
+IsUndoubted w = w.doubt ≡ 0
 
 -- no master is up, no client has joined, nothing was sent
 abbrev pub new_world : List ℕ → Rows → ℕ → WorldState
@@ -63,14 +71,14 @@ new_world cell rows lease = record { cell = cell; rows = rows; master = None; cl
 
 -- a new world over a store
 abbrev pub opened : Store → ℕ → WorldView
-opened store lease = record { world = new_world store.cell store.rows lease; may_leave = store.may_leave; refusals = store.refusals }
+opened store lease = record { world = new_world store.cell store.rows lease; may_leave = store.may_leave; refusals = store.refusals; doubt = store.doubt }
 
 -- the store of a world
 abbrev pub store_in : WorldView → Store
-store_in w = record { cell = w.world.cell; rows = w.world.rows; may_leave = w.may_leave; refusals = w.refusals }
+store_in w = record { cell = w.world.cell; rows = w.world.rows; may_leave = w.may_leave; refusals = w.refusals; doubt = w.doubt }
 
 abbrev pub no_store : Store
-no_store = record { cell = []; rows = record { cell = []; secret = []; epoch = 0; next_instance = 0; nodes = []; sessions = []; locks = [] }; may_leave = []; refusals = 0 }
+no_store = record { cell = []; rows = record { cell = []; secret = []; epoch = 0; next_instance = 0; nodes = []; sessions = []; locks = [] }; may_leave = []; refusals = 0; doubt = 0 }
 
 -- the store is with a master while one is up, and else with the records by themselves
 abbrev pub held : Option Store → Option Store → Store
@@ -83,6 +91,7 @@ view_of store master clock clients messages lease = record {
   world = record { cell = store.cell; rows = store.rows; master = master; clock = clock; clients = clients; messages = messages; lease = lease };
   may_leave = store.may_leave;
   refusals = store.refusals;
+  doubt = store.doubt;
 }
 
 -- a step's new state and lines, or why it is refused
@@ -118,15 +127,20 @@ with_client w number seat client = record w { clients = seated w.clients number 
 abbrev pub sends : WorldState → Request → WorldState
 sends w request = record w { messages = w.messages ++ ToMaster request ∷ [] }
 
--- a number at its end refuses the step; any other refusal is the client's own, and a line
-abbrev pub own_refusal : WorldState → Fault → Outcome
-own_refusal w faults.Exhausted = Err faults.Exhausted
-own_refusal w fault = Ok (w, lines.Refused fault ∷ [])
+-- what a client refuses by itself is no refusal of the step, but its last line
+abbrev pub with_refusal : List Line → Fault → List Line
+with_refusal told fault = told ++ lines.Refused fault ∷ []
 
+abbrev pub ends_ask : WorldState → List Line → AskOutcome → WorldState × List Line
+ends_ask w told (Sent request) = (sends w request, told)
+ends_ask w told (Served answer) = (w, told)
+ends_ask w told Answered = (w, told)
+ends_ask w told (Refused fault) = (w, with_refusal told fault)
+
+-- a moment or a number at its end refuses the step
 abbrev pub asked_by : WorldState → Result Asked Fault → Outcome
-asked_by w (Ok (Sent request)) = Ok (sends w request, [])
-asked_by w (Ok (Answered told)) = Ok (w, told)
-asked_by w (Err fault) = own_refusal w fault
+asked_by w (Ok asked) = Ok (ends_ask w asked.lines asked.outcome)
+asked_by w (Err fault) = Err fault
 
 abbrev pub asked : WorldState → ℕ → Seat → ClientState × Result Asked Fault → Outcome
 asked w number seat step = asked_by (with_client w number seat step.0) step.1
@@ -135,12 +149,16 @@ asked w number seat step = asked_by (with_client w number seat step.0) step.1
 abbrev pub world_ask : WorldState → ℕ → Ask → Outcome
 world_ask w number ask = option_map_or (λ seat. asked w number seat (ask_step seat.client seat.clock ask)) (seat_of w number) (Err faults.NoSession)
 
-abbrev pub beaten_by : WorldState → Result (Option Request) Fault → Outcome
-beaten_by w (Ok (Some request)) = Ok (sends w request, [])
-beaten_by w (Ok None) = Ok (w, [])
+-- a client without a session sends nothing
+abbrev pub ends_beat : WorldState → List Line → Option Request → WorldState × List Line
+ends_beat w told (Some request) = (sends w request, told)
+ends_beat w told None = (w, told)
+
+abbrev pub beaten_by : WorldState → Result Beaten Fault → Outcome
+beaten_by w (Ok beaten) = Ok (ends_beat w beaten.lines beaten.request)
 beaten_by w (Err fault) = Err fault
 
-abbrev pub beaten : WorldState → ℕ → Seat → ClientState × Result (Option Request) Fault → Outcome
+abbrev pub beaten : WorldState → ℕ → Seat → ClientState × Result Beaten Fault → Outcome
 beaten w number seat step = beaten_by (with_client w number seat step.0) step.1
 
 abbrev pub world_beat : WorldState → ℕ → Outcome
@@ -204,11 +222,15 @@ abbrev pub world_take : WorldState → ℕ → Option MasterState → Outcome
 world_take w number None = Err faults.MasterDown
 world_take w number (Some master) = option_map_or (λ request. took w (take_step master w.clock request)) (request_at w.messages number) (Err faults.NoSuchMessage)
 
-abbrev pub gave_by : WorldState → Result (List Line) Fault → Outcome
-gave_by w (Ok printed) = Ok (w, printed)
-gave_by w (Err fault) = own_refusal w fault
+abbrev pub given_lines : List Line → Option Fault → List Line
+given_lines told None = told
+given_lines told (Some fault) = with_refusal told fault
 
-abbrev pub gave : WorldState → ℕ → Seat → ClientState × Result (List Line) Fault → Outcome
+abbrev pub gave_by : WorldState → Result Given Fault → Outcome
+gave_by w (Ok given) = Ok (w, given_lines given.lines given.refused)
+gave_by w (Err fault) = Err fault
+
+abbrev pub gave : WorldState → ℕ → Seat → ClientState × Result Given Fault → Outcome
 gave w number seat step = gave_by (with_client w number seat step.0) step.1
 
 abbrev pub given_to : WorldState → Out → Outcome
@@ -252,6 +274,19 @@ world_step w steps.Sweep = without_quiet (world_sweep w w.master)
 
 -- ---- the store
 
+-- a world whose store was read
+abbrev pub as_read : WorldView → Store → WorldView
+as_read w read = view_of read w.world.master w.world.clock w.world.clients w.world.messages w.world.lease
+
+abbrev pub IsAtUp : Option MasterState → WorldView → WorldView → Type 0
+IsAtUp None old at = (read : Store) × IsRead (store_in old) read × (at ≡ as_read old read)
+IsAtUp (Some master) old at = at ≡ old
+
+-- the world by which a step is made: that of before; where a master comes up, with the store as it was read
+abbrev pub IsAt : Step → WorldView → WorldView → Type 0
+IsAt (steps.Up now) old at = IsAtUp old.world.master old at
+IsAt _ old at = at ≡ old
+
 -- what a master that comes up commits; one at a time
 abbrev pub came_up_edits : WorldState → ℕ → Option MasterState → List Edit
 came_up_edits w now (Some master) = []
@@ -267,15 +302,19 @@ step_edits w _ = []
 pub record IsStored (edits : List Edit) (old new : WorldView) : Type 0 where
   pub leave : new.may_leave ≡ left_by edits old.may_leave new.world.rows
   pub counted : new.refusals ≡ old.refusals
+  pub doubted : old.doubt ≤ new.doubt
 
 -- behind a refused one: nothing changed, but a crash may perhaps leave the rows of the refused commit too
 pub record IsLeft (edits : List Edit) (old new : WorldView) : Type 0 where
   pub same : new.world ≡ old.world
   pub leave : MayLeave edits old.world.rows old.may_leave new.may_leave
+  pub doubted : old.doubt ≤ new.doubt
 
--- what the table doesn't decide where a master comes up: the store isn't asked while another is up
+-- what the table doesn't decide where a master comes up: the store isn't read, or refuses the commit; it isn't asked while another is up, nor for a moment past the end
 abbrev pub IsOutsideUp : Option MasterState → ℕ → Fault → WorldView → WorldView → Type 0
-IsOutsideUp None now fault old new = IsWant fault old.refusals new.refusals ⊎ MayRefuseUp now fault old.refusals new.refusals
+IsOutsideUp None now fault old new =
+    IsWant fault old.refusals new.refusals
+    ⊎ ((is_past_end now ≡ false) × (IsUnread fault (store_in old) (store_in new) ⊎ MayRefuse (came_up_edits old.world now None) fault old.refusals new.refusals))
 IsOutsideUp (Some master) now fault old new = IsWant fault old.refusals new.refusals
 
 -- what the table doesn't decide: the store may refuse a master that comes up, and the commit of a sweep; any other step is refused for want of memory alone

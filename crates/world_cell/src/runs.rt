@@ -5,7 +5,9 @@ ghost use Rattle.node_core.specs.declared.lines.Line.{Line as PrintedLine};
 ghost use Rattle.node_core.specs.declared.views.Mod.{Mod};
 ghost use Rattle.world_cell.specs.Consistent.{IsConsistent};
 ghost use Rattle.rows_cell.specs.Sound.{is_live_in};
-ghost use Rattle.world_cell.specs.Runs.{Does, Run, map_at, epoch_at, live_at, LeasesKeepSessions, KeepsClocksFair, AreRecordedOnce, applied, Rises, IsOfCall};
+ghost use Rattle.world_cell.specs.World.{IsUndoubted};
+ghost use Rattle.world_cell.specs.Runs.{WasRefused, AnyStep, AnyRun, map_at, epoch_at, live_at, LeasesKeepSessions, KeepsClocksFair, AreRecordedOnce, applied, Rises, IsOfCall};
+ghost use Rattle.world_cell.specs.Served.{ServesPresentByThen};
 
 use crate::steps::Step;
 use crate::worlds::World;
@@ -16,30 +18,33 @@ use std::alloc::{AllocError, Global};
 
 impl<R: Records + Drop> World<R> {
     /// Steps, one behind the other; a refused step is the one line that says so. Where memory ends, the steps made so
-    /// far stand, the last one too, and the lines of all of them are lost.
+    /// far stand, the last one too, and the lines of all of them are lost. The laws hold where nothing is in doubt.
     pub fn run(&mut self, steps: &[Step]) -> Result<Items<Line>, AllocError>
-        ensures run { IfOk result (λ lines. Run self.old steps.now lines self.new) }
-        ensures part { OnErr result ((count : ℕ) × (lines : List PrintedLine) × Run self.old (take count steps.now) lines self.new) }
+        ensures run { IfOk result (λ lines. AnyRun self.old steps.now lines self.new) }
+        ensures part { OnErr result ((count : ℕ) × (lines : List PrintedLine) × AnyRun self.old (take count steps.now) lines self.new) }
         // The rows hold the map that the printed changes make of the former one.
-        ensures map { IfOk result (λ lines. map_of self.new.world.rows ≡ map_at (map_of self.old.world.rows) lines) }
+        ensures map { IfOk result (λ lines. IsUndoubted self.new → map_of self.new.world.rows ≡ map_at (map_of self.old.world.rows) lines) }
         // The epoch is that of the last master that came up.
-        ensures epoch { IfOk result (λ lines. self.new.world.rows.epoch ≡ epoch_at self.old.world.rows.epoch lines) }
+        ensures epoch { IfOk result (λ lines. IsUndoubted self.new → self.new.world.rows.epoch ≡ epoch_at self.old.world.rows.epoch lines) }
         // Each call is applied at most once: the numbers of a client's applied calls rise.
-        ensures once { IfOk result (λ lines. (client : ℕ) → Rises (applied client lines)) }
+        ensures once { IfOk result (λ lines. IsUndoubted self.new → (client : ℕ) → Rises (applied client lines)) }
         // Each applied change is what a call does to the map just before it; its client sent the call in that epoch, and the
         // master took it before.
-        ensures calls { IfOk result (λ lines. (before rest : List PrintedLine) (client number : ℕ) (change : Mod) →
+        ensures calls { IfOk result (λ lines. IsUndoubted self.new → (before rest : List PrintedLine) (client number : ℕ) (change : Mod) →
             lines ≡ before ++ Line.Applied client number change ∷ rest → IsOfCall self.old steps.now before client number change rest self.new) }
         // A client's session is live in the rows where the lines of its start and its end make it so.
-        ensures sessions { IfOk result (λ lines. (client : ℕ) → is_live_in self.new.world.rows client ≡ live_at client (is_live_in self.old.world.rows client) lines) }
+        ensures sessions { IfOk result (λ lines. IsUndoubted self.new → (client : ℕ) → is_live_in self.new.world.rows client ≡ live_at client (is_live_in self.old.world.rows client) lines) }
         // Of one master's life each right to cache a name is recorded once: numbered from 1 in order, ended at most once and
         // later than it was granted; and what the master counts are those of the lines.
-        ensures rights { IfOk result (λ lines. AreRecordedOnce self.old.world lines self.new.world) }
+        ensures rights { IfOk result (λ lines. IsUndoubted self.new → AreRecordedOnce self.old.world lines self.new.world) }
+        // Whatever a client serves from its cache is what the map holds of that name by then: the opening rows' map with
+        // the changes that the lines before show.
+        ensures served { IfOk result (λ lines. IsUndoubted self.new → ServesPresentByThen (map_of self.old.world.rows) lines) }
         // Whatever the schedule, a client whose lease runs by its own clock has its session.
-        ensures leases { LeasesKeepSessions self.new.world }
+        ensures leases { IsUndoubted self.new → LeasesKeepSessions self.new.world }
         // From each point of the run to its end, where one master was up from first to last, its clock moved by a
         // sixteenth more than a client's at most, and a millisecond.
-        ensures clocks { KeepsClocksFair self.old steps.now self.new }
+        ensures clocks { IsUndoubted self.new → KeepsClocksFair self.old steps.now self.new }
     {
         self.consistent();
         let mut lines = Items::new(self.alloc());
@@ -52,9 +57,9 @@ impl<R: Records + Drop> World<R> {
 
     // One step; a refused one is one line.
     fn line_step(&mut self, step: &Step) -> Result<Items<Line>, AllocError>
-        ensures ok { IfOk result (λ lines. Does self.old step.now self.new lines) }
-        ensures err { OnErr result ((lines : List PrintedLine) × Does self.old step.now self.new lines) }
-        ensures consistent { IsConsistent self.new.world }
+        ensures ok { IfOk result (λ lines. AnyStep self.old step.now self.new lines) }
+        ensures err { OnErr result ((lines : List PrintedLine) × WasRefused self.old step.now self.new lines) }
+        ensures consistent { IsUndoubted self.new → IsConsistent self.new.world }
     {
         let told = self.step(step);
         self.consistent();
@@ -64,9 +69,9 @@ impl<R: Records + Drop> World<R> {
         }
     }
 
-    // What holds of every world.
+    // What holds of every world in which nothing is in doubt.
     fn consistent(&self)
-        ensures { IsConsistent self.now.world }
+        ensures { IsUndoubted self.now → IsConsistent self.now.world }
     {
         let _stage = &self.stage;
     }

@@ -9,19 +9,18 @@ ghost use Rattle.client_core.specs.Beats.{beat_step};
 ghost use Rattle.client_core.specs.Gives.{give_step};
 ghost use Rattle.world_cell.specs.declared.seats.Seat.{Seat as SeatState};
 ghost use Rattle.lease_core.specs.Lease.{moment_limit};
-ghost use Rattle.world_cell.specs.Seats.{new_seat, each_seat, at_up, is_least, is_fair, moved_beside, moved_alone, Answers, AnswersOrLeaves};
+ghost use Rattle.world_cell.specs.Seats.{new_seat, each_seat, at_up, is_least, is_fair, moved_beside, moved_alone, Answers};
 ghost use Rattle.world_cell.specs.World.{own_step, clock_then};
 
 use crate::steps::Ticks;
-use client_core::{Ask, Asked, Client};
+use client_core::{Ask, Asked, Beaten, Client, Given};
 use lease_core::MOMENT_LIMIT;
 use names_cell::Principal;
-use node_core::{Fault, Line};
-use plain::Items;
+use node_core::Fault;
 use std::alloc::{AllocError, Global};
 use std::collections::BTreeMap;
 use std::marker::Model;
-use tags_cell::{ClientNumber, Out, Request};
+use tags_cell::{ClientNumber, Out};
 
 /// A client with its own clock.
 #[derive(Drop)]
@@ -184,10 +183,10 @@ impl Seats {
         Some(seat.client.ask(seat.clock, ask))
     }
 
-    pub(crate) fn beat(&mut self, number: u64) -> Option<Result<Option<Request>, Fault>>
+    pub(crate) fn beat(&mut self, number: u64) -> Option<Result<Beaten, Fault>>
         ensures none { IsNone result → lookup (is_at (nat_cmp number)) self.old ≡ None }
         ensures stay { IsNone result → self.new ≡ self.old }
-        ensures some { IfSome result (λ r. (seat : SeatState) × (lookup (is_at (nat_cmp number)) self.old ≡ Some seat) × AnswersOrLeaves self.old self.new number seat r (beat_step seat.client seat.clock)) }
+        ensures some { IfSome result (λ r. (seat : SeatState) × (lookup (is_at (nat_cmp number)) self.old ≡ Some seat) × Answers self.old self.new number seat r (beat_step seat.client seat.clock)) }
     {
         let Some(seat) = self.clients.get_mut(&number) else {
             return None;
@@ -195,11 +194,7 @@ impl Seats {
         Some(seat.client.beat(seat.clock))
     }
 
-    pub(crate) fn give(
-        &mut self,
-        number: ClientNumber,
-        out: &Out,
-    ) -> Option<Result<Items<Line>, Fault>>
+    pub(crate) fn give(&mut self, number: ClientNumber, out: &Out) -> Option<Result<Given, Fault>>
         ensures none { IsNone result → lookup (is_at (nat_cmp number)) self.old ≡ None }
         ensures stay { IsNone result → self.new ≡ self.old }
         ensures some { IfSome result (λ r. (seat : SeatState) × (lookup (is_at (nat_cmp number)) self.old ≡ Some seat) × Answers self.old self.new number seat r (give_step seat.client seat.clock out.now)) }

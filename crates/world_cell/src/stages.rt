@@ -1,14 +1,16 @@
 //! The parts of a world, and what each step does to them.
 ghost use Rattle.lease_core.specs.Lease.{longest_lease};
-ghost use Rattle.std.specs.Prelude.{◌≡◌, ◌≤◌, [], ◌∷◌, false, Some, None, Ok, Err, IfOk, IfErr, OnOk, OnErr, is_some};
-ghost use Rattle.world_cell.specs.World.{opened, store_in, world_step, world_up, world_join, world_ask, world_beat, world_tick, world_take, world_give, world_sweep, moves_nobody, are_fair, goes_past_end, ticked, step_edits, IsStored, IsLeft, MayRefuseStep};
+ghost use Rattle.std.specs.Prelude.{◌≡◌, ◌≤◌, ◌<◌, ◌+◌, ◌∷◌, [], length, false, Some, None, Ok, Err, IfOk, IfErr, OnOk, OnErr, is_some};
+ghost use Rattle.std.specs.Vec.{vec_len, vec_capacity};
+ghost use Rattle.world_cell.specs.World.{opened, store_in, with_refusal, world_join, world_ask, world_beat, world_tick, world_take, world_give, world_sweep, moves_nobody, are_fair, goes_past_end, ticked, step_edits, IsStored, IsLeft, MayRefuseStep};
+ghost use Rattle.world_cell.specs.Runs.{WasMade, WasRefused};
 ghost use Rattle.world_cell.specs.Consistent.{Agrees};
 
 use crate::mail::{self, Message};
 use crate::seats::Seats;
 use crate::steps::{Step, Ticks};
 use crate::worlds::Turn;
-use client_core::{Ask, Asked};
+use client_core::{Ask, Asked, Beaten, Given, Outcome};
 use lease_core::MOMENT_LIMIT;
 use names_cell::Principal;
 use node_core::{Fault, Line};
@@ -21,6 +23,9 @@ use tags_cell::ClientNumber;
 
 /// The most messages that one step of a master sends.
 const MESSAGES_A_STEP: usize = 1;
+
+/// The most lines that a client prints beside its refusal of a call or a message: that of its noting the time.
+const LINES_BESIDE_A_REFUSAL: usize = 1;
 
 /// The parts of a world: records, at most one master, clients, and every message that was sent.
 #[derive(Drop)]
@@ -62,12 +67,10 @@ impl<R: Records + Drop> Stage<R> {
         }
     }
 
-    #[tactic(auto, unfolding(crate::specs::World::world_step))]
+    #[tactic(auto, using(crate::proofs::AsRead::made_now, crate::proofs::AsRead::refused_now), unfolding(crate::specs::World::world_step))]
     pub(crate) fn step(&mut self, step: &Step) -> Result<Items<Line>, Fault>
-        ensures ok { IfOk result (λ lines. world_step self.old.world step.now ≡ Ok (self.new.world, lines)) }
-        ensures stored { OnOk result (IsStored (step_edits self.old.world step.now) self.old self.new) }
-        ensures fault { IfErr result (λ e. MayRefuseStep (world_step self.old.world step.now) step.now e self.old self.new) }
-        ensures left { OnErr result (IsLeft (step_edits self.old.world step.now) self.old self.new) }
+        ensures made { IfOk result (λ lines. WasMade self.old step.now self.new lines) }
+        ensures refused { IfErr result (λ e. WasRefused self.old step.now self.new (Line.Refused e ∷ [])) }
     {
         match step {
             Step::Up(now) => self.up(*now),
@@ -143,11 +146,10 @@ impl<R: Records + Drop> Stage<R> {
         }
     }
 
+    #[tactic(auto, using(crate::proofs::AsRead::made_now, crate::proofs::AsRead::refused_now), unfolding(crate::specs::World::world_step))]
     fn up(&mut self, now: u64) -> Result<Items<Line>, Fault>
-        ensures ok { IfOk result (λ lines. world_up self.old.world now self.old.world.master ≡ Ok (self.new.world, lines)) }
-        ensures stored { OnOk result (IsStored (step_edits self.old.world (Step.Up now)) self.old self.new) }
-        ensures fault { IfErr result (λ e. MayRefuseStep (world_up self.old.world now self.old.world.master) (Step.Up now) e self.old self.new) }
-        ensures left { OnErr result (IsLeft (step_edits self.old.world (Step.Up now)) self.old self.new) }
+        ensures made { IfOk result (λ lines. WasMade self.old (Step.Up now) self.new lines) }
+        ensures refused { IfErr result (λ e. WasRefused self.old (Step.Up now) self.new (Line.Refused e ∷ [])) }
     {
         let mut lines = Items::new(self.alloc);
         lines.push(Line::Down)?;
@@ -182,27 +184,30 @@ impl<R: Records + Drop> Stage<R> {
         Ok(Items::new(self.alloc))
     }
 
+    #[tactic(auto, using(crate::proofs::SeatAnswers::ask_few))]
     fn ask(&mut self, number: u64, ask: &Ask) -> Result<Items<Line>, Fault>
         ensures ok { IfOk result (λ lines. world_ask self.old.world number ask.now ≡ Ok (self.new.world, lines)) }
         ensures stored { OnOk result (IsStored [] self.old self.new) }
         ensures fault { IfErr result (λ e. MayRefuseStep (world_ask self.old.world number ask.now) (Step.Ask number ask.now) e self.old self.new) }
         ensures left { OnErr result (IsLeft [] self.old self.new) }
     {
-        let mut lines = room(self.alloc)?;
+        let room = room(self.alloc)?;
         self.messages.reserve(1)?;
         match self.clients.ask(number, ask) {
             None => Err(Fault::NoSession),
-            Some(Ok(Asked::Sent(request))) => {
-                mail::send(&mut self.messages, request);
-                Ok(Items::new(self.alloc))
-            }
-            Some(Ok(Asked::Answered(told))) => Ok(told),
-            Some(Err(Fault::NoMemory)) => Err(Fault::NoMemory),
-            Some(Err(Fault::Exhausted)) => Err(Fault::Exhausted),
-            Some(Err(fault)) => {
-                lines.set(0, Line::Refused(fault));
-                Ok(lines)
-            }
+            Some(Err(fault)) => Err(fault),
+            Some(Ok(Asked { lines, outcome })) => match outcome {
+                Outcome::Sent(request) => {
+                    mail::send(&mut self.messages, request);
+                    Ok(lines)
+                }
+                Outcome::Served(answer) => {
+                    drop(answer);
+                    Ok(lines)
+                }
+                Outcome::Answered => Ok(lines),
+                Outcome::Refused(fault) => Ok(refused_behind(lines, fault, room)),
+            },
         }
     }
 
@@ -215,13 +220,13 @@ impl<R: Records + Drop> Stage<R> {
         self.messages.reserve(1)?;
         match self.clients.beat(number) {
             None => Err(Fault::NoSession),
-            Some(Ok(request)) => {
+            Some(Err(fault)) => Err(fault),
+            Some(Ok(Beaten { lines, request })) => {
                 if let Some(request) = request {
                     mail::send(&mut self.messages, request);
                 }
-                Ok(Items::new(self.alloc))
+                Ok(lines)
             }
-            Some(Err(fault)) => Err(fault),
         }
     }
 
@@ -309,34 +314,48 @@ impl<R: Records + Drop> Stage<R> {
         }
     }
 
+    #[tactic(auto, using(crate::proofs::SeatAnswers::give_few))]
     fn give(&mut self, number: u64) -> Result<Items<Line>, Fault>
         ensures ok { IfOk result (λ lines. world_give self.old.world number ≡ Ok (self.new.world, lines)) }
         ensures stored { OnOk result (IsStored [] self.old self.new) }
         ensures fault { IfErr result (λ e. MayRefuseStep (world_give self.old.world number) (Step.Give number) e self.old self.new) }
         ensures left { OnErr result (IsLeft [] self.old self.new) }
     {
-        let mut lines = room(self.alloc)?;
+        let room = room(self.alloc)?;
         let Some(out) = mail::out_at(self.messages.as_slice(), number) else {
             return Err(Fault::NoSuchMessage);
         };
         match self.clients.give(out.client(), out) {
             None => Err(Fault::NoSession),
-            Some(Ok(told)) => Ok(told),
-            Some(Err(Fault::NoMemory)) => Err(Fault::NoMemory),
-            Some(Err(Fault::Exhausted)) => Err(Fault::Exhausted),
-            Some(Err(fault)) => {
-                lines.set(0, Line::Refused(fault));
-                Ok(lines)
-            }
+            Some(Err(fault)) => Err(fault),
+            Some(Ok(Given { lines, refused })) => match refused {
+                Some(fault) => Ok(refused_behind(lines, fault, room)),
+                None => Ok(lines),
+            },
         }
     }
 }
 
-// One line, whose place is kept.
-fn room(alloc: Global) -> Result<Items<Line>, AllocError>
-    ensures { IfOk result (λ lines. lines ≡ Line.Down ∷ []) }
+// Room for a client's lines and its refusal behind them.
+fn room(alloc: Global) -> Result<Vec<Line>, AllocError>
+    ensures empty { IfOk result (λ room. room.items ≡ []) }
+    ensures room { IfOk result (λ room. vec_len room + 1 < vec_capacity room) }
 {
-    let mut lines = Items::new(alloc);
-    lines.push(Line::Down)?;
-    Ok(lines)
+    let mut room = Vec::new(alloc);
+    room.reserve(LINES_BESIDE_A_REFUSAL + 1)?;
+    Ok(room)
+}
+
+// A client's lines, and its refusal behind them; takes no memory.
+fn refused_behind(lines: Items<Line>, fault: Fault, room: Vec<Line>) -> Items<Line>
+    requires empty { room.items ≡ [] }
+    requires room { vec_len room + length lines < vec_capacity room }
+    ensures { result ≡ with_refusal lines fault }
+{
+    let mut told = room;
+    for line in lines.into_vec() {
+        told.push_reserved(line);
+    }
+    told.push_reserved(Line::Refused(fault));
+    Items::from_vec(told)
 }

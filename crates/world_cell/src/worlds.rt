@@ -1,6 +1,9 @@
 //! A world.
-ghost use Rattle.std.specs.Prelude.{◌≡◌, Ok, IfOk, IfErr, OnOk, OnErr, is_some};
-ghost use Rattle.world_cell.specs.World.{opened, store_in, world_step, world_sweep, step_edits, IsStored, IsLeft, MayRefuseStep};
+ghost use Rattle.std.specs.Prelude.{◌≡◌, ◌∷◌, [], Ok, IfOk, IfErr, OnOk, OnErr, is_some};
+ghost use Rattle.rows_cell.specs.Rows.{map_of};
+ghost use Rattle.world_cell.specs.World.{opened, store_in, world_sweep, step_edits, IsUndoubted, IsStored, IsLeft, MayRefuseStep};
+ghost use Rattle.world_cell.specs.Runs.{WasMade, WasRefused};
+ghost use Rattle.world_cell.specs.Served.{ServesPresent};
 
 use crate::mail::Message;
 use crate::stages::Stage;
@@ -19,21 +22,22 @@ pub struct Turn {
 }
 
 /// A cell with all that happens around it: records, at most one master, clients, and every message that was sent. To a
-/// contract, plain lists of these. They fit one another always (`IsConsistent`).
+/// contract, plain lists of these. Where nothing that was read from the records is in doubt, they fit one another always
+/// (`IsConsistent`).
 #[derive(Drop)]
 pub struct World<R: Records> {
     pub(crate) stage: Stage<R>,
 }
 
 impl<R: Records> Model for World<R> {
-    ghost use Rattle.world_cell.specs.World.{WorldView};
+    ghost use Rattle.world_cell.specs.World.{WorldView, IsUndoubted};
     ghost use Rattle.world_cell.specs.Consistent.{IsConsistent};
 
     ghost Value = { WorldView };
 
     ghost view = { λ w. w.stage };
 
-    ghost invariant = { λ w. IsConsistent w.stage.world };
+    ghost invariant = { λ w. IsUndoubted w.stage → IsConsistent w.stage.world };
 }
 
 impl<R: Records + Drop> World<R> {
@@ -46,17 +50,18 @@ impl<R: Records + Drop> World<R> {
         }
     }
 
-    /// One step. What a client refuses by itself is no refusal of the step: it is a line, and the last one.
+    /// One step. What a client refuses by itself is no refusal of the step: it is a line, and the last one. A master comes
+    /// up by the rows that are read, which are those that stood where nothing is in doubt.
     ///
-    /// Refused, and nothing changed but perhaps the store's count of its refusals: a master that would come up while
+    /// Refused, and nothing changed but perhaps the store's count of its refusals, or what was read: a master that would come up while
     /// one is up; a message for a master while none is up; a number that a client joined with before; a client that
     /// hasn't joined; a message that was never sent, or of the other direction; a moment or a number at its end; where
     /// the store refuses or its rows aren't sound; and for want of memory.
     pub fn step(&mut self, step: &Step) -> Result<Items<Line>, Fault>
-        ensures ok { IfOk result (λ lines. world_step self.old.world step.now ≡ Ok (self.new.world, lines)) }
-        ensures stored { OnOk result (IsStored (step_edits self.old.world step.now) self.old self.new) }
-        ensures fault { IfErr result (λ e. MayRefuseStep (world_step self.old.world step.now) step.now e self.old self.new) }
-        ensures left { OnErr result (IsLeft (step_edits self.old.world step.now) self.old self.new) }
+        ensures made { IfOk result (λ lines. WasMade self.old step.now self.new lines) }
+        ensures refused { IfErr result (λ e. WasRefused self.old step.now self.new (Line.Refused e ∷ [])) }
+        // Whatever a client serves from its cache is what the rows hold of that name.
+        ensures served { IfOk result (λ lines. IsUndoubted self.new → ServesPresent (map_of self.new.world.rows) lines) }
     {
         let told = self.stage.step(step);
         self.stage.kept();

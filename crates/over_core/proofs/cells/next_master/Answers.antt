@@ -8,18 +8,6 @@ returns-then-now-ge-MOMENT_LIMIT-clause-fault g c = search rules
 pub commit_epoch-requires : goal.commit_epoch-requires
 commit_epoch-requires g c = search rules
 
-pub returns-in-Ok-clause-ok : goal.returns-in-Ok-clause-ok
-returns-in-Ok-clause-ok g c = search rules
-
 pub returns-in-Ok-clause-kept : goal.returns-in-Ok-clause-kept
 returns-in-Ok-clause-kept g c =
-    up_stands (g.R.Records.store c.args.records.now) (g.R.Records.store c.next_rows.new.records) (g.R.Records.store c.commit_epoch.new.records) c.in_ok-rows.rows c.in_ok-master.master c.args.lease c.args.now c.in_ok-rows.ensures.sound c.in_ok-rows.ensures.next c.in_ok-rows.ensures.sessions c.in_ok-rows.ensures.locks c.in_ok-rows.ensures.ok_stays c.in_ok-master.ensures c.in-Ok.ensures
-
-pub returns-in-Ok-clause-committed : goal.returns-in-Ok-clause-committed
-returns-in-Ok-clause-committed g c = search rules
-
-pub returns-in-Err-clause-fault : goal.returns-in-Err-clause-fault
-returns-in-Err-clause-fault g c = search rules
-
-pub returns-in-Err-clause-left : goal.returns-in-Err-clause-left
-returns-in-Err-clause-left g c = search rules
+    up_stands (g.R.Records.store c.next_rows.new.records) (g.R.Records.store c.commit_epoch.new.records) c.in_ok-rows.rows c.in_ok-master.master c.args.lease c.args.now c.in_ok-rows.ensures.sound c.in_ok-rows.ensures.next c.in_ok-rows.ensures.sessions c.in_ok-rows.ensures.locks c.in_ok-master.ensures c.in-Ok.ensures

@@ -4,8 +4,8 @@ use Rattle.script_cell.proofs.deliveries.Deliveries.play.Goals as goal
 
 pub returns-in_default-clause-made : goal.returns-in_default-clause-made
 returns-in_default-clause-made g c =
-    plays_other c.args.world.now _ c.args.step.now c.args.self.now c.step.result (search rules) c.step.ensures.ok c.step.ensures.stored
+    plays_other c.args.world.now _ c.args.step.now c.args.self.now c.step.result (search rules) c.step.ensures.made
 
 pub returns-then-place-messages-clause-made : goal.returns-then-place-messages-clause-made
 returns-then-place-messages-clause-made g c =
-    plays_unsent c.args.world.now _ c.args.step.now c.in-Some.place c.args.self.now c.step-then-place-messages.result (search rules) (search rules) c.step-then-place-messages.ensures.ok
+    plays_unsent c.args.world.now _ c.args.step.now c.in-Some.place c.args.self.now c.step-then-place-messages.result (search rules) (search rules) c.step-then-place-messages.ensures.made

@@ -1,10 +1,8 @@
-use Rattle.std.proofs.Common.{rules}
-use Rattle.world_cell.proofs.PartsOfRuns.{refused_does}
+use Rattle.world_cell.proofs.PartsOfRuns.{line_refused, line_lost}
 use Rattle.world_cell.proofs.worlds.World.line_step.Goals as goal
 
 pub returns-in-Err-clause-err : goal.returns-in-Err-clause-err
-returns-in-Err-clause-err g c =
-    refused_does c.refused.result c.args.self.now c.step-told.new.self c.args.step.now c.in-Err.fault c.in-Err.ensures.fault c.in-Err.ensures.left
+returns-in-Err-clause-err g c = line_lost c.refused.result c.args.self.now c.step-told.new.self c.args.step.now c.in-Err.fault c.in-Err.ensures.refused
 
 pub returns-in-Err-clause-ok : goal.returns-in-Err-clause-ok
-returns-in-Err-clause-ok g c = search rules
+returns-in-Err-clause-ok g c = line_refused c.refused.result c.args.self.now c.step-told.new.self c.args.step.now c.in-Err.fault c.refused.ensures c.in-Err.ensures.refused

@@ -1,0 +1,78 @@
+//! What a reply teaches a client of a name (Burrows 2006, section 2.7).
+ghost use Rattle.std.specs.Prelude.{◌≡◌, Some, IfOk};
+ghost use Rattle.client_core.specs.Handles.{handle_of};
+ghost use Rattle.client_core.specs.Lessons.{is_fresh, may_install, viewed, view_taught, absent, absence_taught, taught, lesson, opening_of};
+
+use crate::client::Client;
+use cache_core::Standing;
+use client_parts::{Target, is_plain};
+use names_cell::Name;
+use node_core::{Fault, View};
+use std::alloc::AllocError;
+use tags_cell::{CallResult, Reply};
+
+impl Client {
+    // The answer of a read or of a plain Open, where the cache takes it.
+    pub(crate) fn lesson(
+        &self,
+        moment: u64,
+        reply: &Reply,
+        target: Target,
+    ) -> Result<Option<(Name, Option<View>)>, AllocError>
+        ensures { IfOk result (λ taught. taught ≡ lesson self.now moment reply.now target) }
+    {
+        if !self.may_install(moment, reply.stamp) {
+            return Ok(None);
+        }
+        match &reply.result {
+            CallResult::Viewed(view) => self.view_taught(view, target),
+            CallResult::Refused(Fault::NotFound) => self.absence_taught(),
+            _ => Ok(None),
+        }
+    }
+
+    // Whether the master lets it be cached, the cache is enabled, its lease runs, and no invalidation was processed since
+    // that may be of the name.
+    fn may_install(&self, moment: u64, stamp: Option<u64>) -> bool
+        ensures { result ≡ may_install self.now moment stamp }
+    {
+        if !self.cache.is_enabled() || self.standing_then(moment) != Standing::Safe {
+            return false;
+        }
+        match stamp {
+            Some(stamp) => self.processed <= stamp,
+            None => false,
+        }
+    }
+
+    // What a read on a handle found.
+    fn view_taught(
+        &self,
+        view: &View,
+        target: Target,
+    ) -> Result<Option<(Name, Option<View>)>, AllocError>
+        ensures { IfOk result (λ taught. taught ≡ view_taught self.now view.now target) }
+    {
+        let Target::Handle(number) = target else {
+            return Ok(None);
+        };
+        let Some(handle) = self.handles.get(&number) else {
+            return Ok(None);
+        };
+        let name = handle.name.clone()?;
+        Ok(Some((name, Some(view.clone()?))))
+    }
+
+    // That a plain Open found no node.
+    fn absence_taught(&self) -> Result<Option<(Name, Option<View>)>, AllocError>
+        ensures { IfOk result (λ taught. taught ≡ absent (opening_of self.now.outstanding)) }
+    {
+        let Some(call) = &self.outstanding else {
+            return Ok(None);
+        };
+        match call.opening() {
+            Some(opening) if is_plain(opening) => Ok(Some((opening.name.clone()?, None))),
+            Some(_) | None => Ok(None),
+        }
+    }
+}

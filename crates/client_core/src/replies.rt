@@ -1,0 +1,250 @@
+//! A client is given the reply to its outstanding call, or a refusal.
+ghost use Rattle.std.specs.Prelude.{◌≡◌, ◌++◌, ◌∷◌, [], true, OnOk, OnErr, IfOk, Ok};
+ghost use Rattle.std.specs.BTreeMap.{insert_entry};
+ghost use Rattle.std.specs.Ordering.{nat_cmp};
+ghost use Rattle.cache_core.specs.Kept.{with_kept};
+ghost use Rattle.lease_core.specs.Lease.{IsMoment};
+ghost use Rattle.client_core.specs.State.{note, note_lines, Does};
+ghost use Rattle.client_core.specs.Lessons.{opening_of, lesson};
+ghost use Rattle.client_core.specs.Gives.{awaited, answer_of, has_number, handles_behind, kept_behind, ended_plainly, ended, finish_step, reply_for, reply_step, lost, refused_step};
+
+use crate::client::Client;
+use cache_core::{Kept, Standing};
+use client_parts::{ClientHandle, Given, Session, Target, is_shareable, pushed, share_of};
+use node_core::{Answer, Fault, Line, NUMBER_LIMIT};
+use plain::Items;
+use std::alloc::AllocError;
+use tags_cell::{CallResult, NewHandle, Open, Refused, Reply};
+
+impl Client {
+    pub(crate) fn take_reply(&mut self, moment: u64, reply: &Reply) -> Result<Given, Fault>
+        requires { IsMoment moment }
+        ensures { Does self.old self.new result (reply_step self.old moment reply.now) }
+    {
+        let target = self.awaited(moment, reply);
+        self.reply_for(moment, reply, target)
+    }
+
+    // Ends the call that the reply is for, if it is for one.
+    fn reply_for(
+        &mut self,
+        moment: u64,
+        reply: &Reply,
+        target: Option<Target>,
+    ) -> Result<Given, Fault>
+        requires { IsMoment moment }
+        ensures { Does self.old self.new result (reply_for self.old moment reply.now target) }
+    {
+        match target {
+            None => Ok(self.pass_over(moment, None)?),
+            Some(Target::Dropped) => {
+                let given = self.pass_over(moment, None)?;
+                self.end();
+                Ok(given)
+            }
+            Some(target) => self.finish(moment, reply, target),
+        }
+    }
+
+    // Tells how the call ended, and ends it.
+    fn finish(&mut self, moment: u64, reply: &Reply, target: Target) -> Result<Given, Fault>
+        requires { IsMoment moment }
+        ensures { Does self.old self.new result (finish_step self.old moment reply.now target) }
+    {
+        if !self.has_number(&reply.result) {
+            return Err(Fault::Exhausted);
+        }
+        let lines = self.reply_lines(moment, reply)?;
+        self.end_call(moment, reply, target)?;
+        Ok(Given {
+            lines,
+            refused: None,
+        })
+    }
+
+    // Whether there is a number for what it gives.
+    fn has_number(&self, outcome: &CallResult) -> bool
+        ensures { result ≡ has_number self.now outcome.now }
+    {
+        match outcome {
+            CallResult::Opened(_) => self.opened < NUMBER_LIMIT,
+            _ => true,
+        }
+    }
+
+    // What the noting of the time prints, and how the call ended.
+    fn reply_lines(&self, moment: u64, reply: &Reply) -> Result<Items<Line>, AllocError>
+        requires { has_number self.now reply.now.result ≡ true }
+        ensures { IfOk result (λ lines. lines ≡ note_lines self.now moment ++ Line.Done self.now.number reply.now.number (answer_of self.now reply.now.result) ∷ []) }
+    {
+        let answer = self.answer_of(&reply.result)?;
+        let line = Line::Done(self.number.get(), reply.number.get(), answer);
+        match self.note_lines(moment) {
+            Ok(lines) => pushed(lines, line),
+            Err(_) => {
+                drop(line);
+                Err(AllocError)
+            }
+        }
+    }
+
+    // What it is for, where it is of the client's epoch and for the outstanding call.
+    fn awaited(&self, moment: u64, reply: &Reply) -> Option<Target>
+        ensures { result ≡ awaited self.now moment reply.now }
+    {
+        if self.session_then(moment) != Session::Live || reply.epoch != self.epoch {
+            return None;
+        }
+        match &self.outstanding {
+            Some(call) if reply.number == call.request.number() => Some(call.target),
+            Some(_) | None => None,
+        }
+    }
+
+    // How a call ended, as it is told.
+    fn answer_of(&self, outcome: &CallResult) -> Result<Answer, AllocError>
+        requires { has_number self.now outcome.now ≡ true }
+        ensures { IfOk result (λ answer. answer ≡ answer_of self.now outcome.now) }
+    {
+        Ok(match outcome {
+            CallResult::Opened(_) => Answer::Opened(self.opened + 1),
+            CallResult::Closed => Answer::Closed,
+            CallResult::Viewed(view) => Answer::Viewed(view.clone()?),
+            CallResult::Stated(stat) => Answer::Stated(stat.clone()?),
+            CallResult::Names(names) => Answer::Names(names.clone()?),
+            CallResult::Done => Answer::Okay,
+            CallResult::Refused(fault) => Answer::Refused(*fault),
+        })
+    }
+
+    // Ends the outstanding call, and holds what the reply teaches of a name, where the cache takes it.
+    fn end_call(&mut self, moment: u64, reply: &Reply, target: Target) -> Result<(), AllocError>
+        requires moment { IsMoment moment }
+        requires number { has_number self.old reply.now.result ≡ true }
+        ensures ok { OnOk result (self.new ≡ ended self.old moment target reply.now.result (lesson self.old moment reply.now target)) }
+        ensures err { OnErr result (self.new ≡ self.old) }
+    {
+        let Some((name, entry)) = self.lesson(moment, reply, target)? else {
+            return self.end_plainly(moment, target, &reply.result);
+        };
+        self.cache.install(name, entry)?;
+        self.clock = moment;
+        self.end();
+        Ok(())
+    }
+
+    // Ends it, keeps a new handle, and lets a closed one go.
+    fn end_plainly(
+        &mut self,
+        moment: u64,
+        target: Target,
+        outcome: &CallResult,
+    ) -> Result<(), AllocError>
+        requires moment { IsMoment moment }
+        requires number { has_number self.old outcome.now ≡ true }
+        ensures ok { OnOk result (self.new ≡ ended_plainly (note self.old moment) target outcome.now) }
+        ensures err { OnErr result (self.new ≡ self.old) }
+    {
+        if let CallResult::Opened(handle) = outcome {
+            self.keep_handle(self.opened + 1, handle)?;
+        }
+        self.note(moment);
+        match (outcome, target) {
+            (CallResult::Opened(_), _) => self.opened += 1,
+            (CallResult::Closed, Target::Closing(number)) => drop(self.handles.remove(&number)),
+            _ => {}
+        }
+        self.end();
+        Ok(())
+    }
+
+    // Keeps the new handle under a number, and where it may be shared beside, if the outstanding call is an Open.
+    fn keep_handle(&mut self, number: u64, handle: &NewHandle) -> Result<(), AllocError>
+        ensures ok { OnOk result (self.new ≡ record self.old { handles = handles_behind self.old.handles number handle.now (opening_of self.old.outstanding); kept = kept_behind self.old.kept handle.now (opening_of self.old.outstanding) }) }
+        ensures err { OnErr result (self.new ≡ self.old) }
+    {
+        let Some(call) = &self.outstanding else {
+            return Ok(());
+        };
+        let Some(opening) = call.opening() else {
+            return Ok(());
+        };
+        let shared = is_shareable(handle, opening);
+        let kept = ClientHandle::of(handle, opening, shared)?;
+        if !shared {
+            drop(self.handles.put(number, kept)?);
+            return Ok(());
+        }
+        let share = share_of(handle, opening)?;
+        self.put_shared(number, kept, share)
+    }
+
+    // Puts the handle under its number, and keeps it to be shared. Where memory runs out both stay as they were.
+    fn put_shared(
+        &mut self,
+        number: u64,
+        handle: ClientHandle,
+        share: Kept<NewHandle>,
+    ) -> Result<(), AllocError>
+        ensures ok { OnOk result (self.new ≡ record self.old { handles = insert_entry nat_cmp self.old.handles number handle; kept = with_kept self.old.kept share }) }
+        ensures err { OnErr result (self.new ≡ self.old) }
+    {
+        let former = match self.handles.put(number, handle) {
+            Ok(former) => former,
+            Err(_) => {
+                drop(share);
+                return Err(AllocError);
+            }
+        };
+        match self.kept.keep(share) {
+            Ok(()) => {
+                drop(former);
+                Ok(())
+            }
+            Err(_) => {
+                self.handles.restore(&number, former);
+                Err(AllocError)
+            }
+        }
+    }
+
+    // No call is outstanding from here on.
+    fn end(&mut self)
+        ensures { self.new ≡ record self.old { outstanding = None } }
+    {
+        drop(self.outstanding.take());
+    }
+
+    // Ends the session, where the master of a refusal knows none.
+    pub(crate) fn take_refused(
+        &mut self,
+        moment: u64,
+        refused: &Refused,
+    ) -> Result<Given, AllocError>
+        requires { IsMoment moment }
+        ensures ok { IfOk result (λ given. refused_step self.old moment refused.now ≡ (self.new, Ok given)) }
+        ensures err { OnErr result (self.new ≡ self.old) }
+    {
+        let session = self.session_then(moment);
+        let Some(session) = session.after(self.epoch, refused.epoch, refused.fault) else {
+            return self.pass_over(moment, None);
+        };
+        let lines = pushed(self.note_lines(moment)?, Line::Lost(self.number.get()))?;
+        self.note(moment);
+        self.lose(session);
+        Ok(Given {
+            lines,
+            refused: None,
+        })
+    }
+
+    // A client without a session holds nothing.
+    fn lose(&mut self, session: Session)
+        ensures { self.new ≡ lost self.old session }
+    {
+        self.session = session;
+        self.cache.clear();
+        self.cache.disable();
+        self.standing = Standing::Lost;
+    }
+}

@@ -1,0 +1,15 @@
+-- The calls of a client, as they are sent.
+use Rattle.std.specs.Prelude.{ℕ, List}
+use Rattle.tags_cell.specs.declared.calls.Call.{Call}
+use Rattle.tags_cell.specs.declared.calls.Call.TheVariants as calls
+use Rattle.client_parts.specs.declared.asks.NodeCall.{NodeCall}
+use Rattle.client_parts.specs.declared.asks.NodeCall.TheVariants as node_calls
+
+-- the call on a handle's node, with the bytes that the master gave for the handle
+abbrev pub call_on : List ℕ → NodeCall → Call
+call_on bytes node_calls.Read = calls.Read bytes
+call_on bytes node_calls.Stat = calls.Stat bytes
+call_on bytes node_calls.List = calls.List bytes
+call_on bytes (node_calls.Set content generation) = calls.Set bytes content generation
+call_on bytes (node_calls.SetAcl acls generation) = calls.SetAcl bytes acls generation
+call_on bytes node_calls.Delete = calls.Delete bytes

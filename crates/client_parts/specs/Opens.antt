@@ -1,0 +1,45 @@
+-- Opens, and what a client keeps of the handles that they give.
+use Rattle.std.specs.Prelude.{◌==◌, ◌&&◌, Bool, true, false, not, is_none, Option, Some, None, if◌then◌else◌}
+use Rattle.node_core.specs.declared.kinds.Life.{Life}
+use Rattle.node_core.specs.declared.kinds.Life.TheVariants as lives
+use Rattle.node_core.specs.declared.refusals.Fault.TheVariants as faults
+use Rattle.node_core.specs.declared.answers.Answer.{Answer}
+use Rattle.node_core.specs.declared.answers.Answer.TheVariants as answers
+use Rattle.node_core.specs.declared.views.View.{View}
+use Rattle.tags_cell.specs.Modes.{Rights}
+use Rattle.tags_cell.specs.declared.calls.Open.{Open}
+use Rattle.tags_cell.specs.declared.outs.NewHandle.{NewHandle}
+use Rattle.client_parts.specs.declared.handles.ClientHandle.{ClientHandle}
+
+-- it makes nothing
+abbrev pub is_plain : Open → Bool
+is_plain opening = is_none opening.create
+
+-- to read, and for nothing else
+abbrev pub is_read_only : Rights → Bool
+is_read_only mode = mode.read && (not mode.write && not mode.change)
+
+abbrev pub is_permanent : Life → Bool
+is_permanent lives.Permanent = true
+is_permanent lives.Ephemeral = false
+
+-- such handles are kept and shared: of a plain Open to read, on a permanent node
+abbrev pub is_shareable : NewHandle → Open → Bool
+is_shareable handle opening = is_plain opening && (is_read_only opening.mode && is_permanent handle.life)
+
+-- what is kept of a handle: name and mode are those that were asked for
+abbrev pub kept_handle : NewHandle → Open → Bool → ClientHandle
+kept_handle handle opening shared = record {
+  bytes = handle.bytes;
+  name = opening.name;
+  instance = handle.instance;
+  mode = opening.mode;
+  life = handle.life;
+  poisoned = false;
+  shared = shared;
+}
+
+-- the node that the handle is on, if it is the one that is cached
+abbrev pub read_answer : ClientHandle → Option View → Answer
+read_answer handle None = answers.Refused faults.StaleInstance
+read_answer handle (Some view) = if view.instance == handle.instance then answers.Viewed view else answers.Refused faults.StaleInstance

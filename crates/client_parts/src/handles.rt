@@ -1,0 +1,101 @@
+//! What a client keeps of a handle.
+ghost use Rattle.std.specs.Prelude.{◌≡◌, IfOk};
+ghost use Rattle.client_parts.specs.Opens.{is_plain, is_read_only, is_shareable, kept_handle, read_answer};
+
+use cache_core::Kept;
+use names_cell::Name;
+use node_core::{Answer, Fault, Life, Right, View};
+use std::alloc::AllocError;
+use tags_cell::{HandleBytes, Mode, NewHandle, Open, Ordinal};
+
+/// A handle of a client's: the bytes as its master sent them, which a client doesn't read; its name and mode, as they
+/// were asked for; the instance and the life of the node, as the master told them; and whether it was poisoned.
+#[derive(Debug, Drop)]
+pub struct ClientHandle {
+    pub bytes: HandleBytes,
+    pub name: Name,
+    /// The handle is of no use for a later node of the same name.
+    pub instance: Ordinal,
+    pub mode: Mode,
+    pub life: Life,
+    /// From then on every call on it but a Close is refused by the client itself (Burrows 2006, section 2.6).
+    pub poisoned: bool,
+    /// The master's handle may be behind several of the client's numbers, and stays open when one of them is closed
+    /// (Burrows 2006, section 2.7).
+    pub shared: bool,
+}
+
+impl Clone for ClientHandle {
+    ghost is_clone = { λ s t. t ≡ s };
+
+    fn clone(&self) -> Result<ClientHandle, AllocError> {
+        Ok(ClientHandle {
+            bytes: self.bytes.clone()?,
+            name: self.name.clone()?,
+            instance: self.instance,
+            mode: self.mode,
+            life: self.life,
+            poisoned: self.poisoned,
+            shared: self.shared,
+        })
+    }
+}
+
+impl ClientHandle {
+    /// What is kept of the handle that an Open gave.
+    pub fn of(handle: &NewHandle, opening: &Open, shared: bool) -> Result<ClientHandle, AllocError>
+        ensures { IfOk result (λ kept. kept ≡ kept_handle handle.now opening.now shared) }
+    {
+        Ok(ClientHandle {
+            bytes: handle.bytes.clone()?,
+            name: opening.name.clone()?,
+            instance: handle.instance,
+            mode: opening.mode,
+            life: handle.life,
+            poisoned: false,
+            shared,
+        })
+    }
+
+    /// How a read of it ends where this is cached under its name: only a view of its own instance is of use.
+    pub fn read_answer(&self, entry: &Option<View>) -> Result<Answer, AllocError>
+        ensures { IfOk result (λ answer. answer ≡ read_answer self.now entry.now) }
+    {
+        match entry {
+            Some(view) if view.instance == self.instance.get() => Ok(Answer::Viewed(view.clone()?)),
+            Some(_) | None => Ok(Answer::Refused(Fault::StaleInstance)),
+        }
+    }
+}
+
+/// Whether an Open makes nothing.
+pub fn is_plain(opening: &Open) -> bool
+    ensures { result ≡ is_plain opening.now }
+{
+    opening.create.is_none()
+}
+
+/// Whether it is to read, and for nothing else.
+pub fn is_read_only(mode: Mode) -> bool
+    ensures { result ≡ is_read_only mode }
+{
+    mode.has(Right::Read) && !mode.has(Right::Write) && !mode.has(Right::Change)
+}
+
+/// Whether the handle that an Open gave is kept, to be shared: of a plain Open to read, on a permanent node.
+pub fn is_shareable(handle: &NewHandle, opening: &Open) -> bool
+    ensures { result ≡ is_shareable handle.now opening.now }
+{
+    is_plain(opening) && is_read_only(opening.mode) && handle.life == Life::Permanent
+}
+
+/// A handle that is kept to be shared.
+pub fn share_of(handle: &NewHandle, opening: &Open) -> Result<Kept<NewHandle>, AllocError>
+    ensures { IfOk result (λ kept. kept ≡ record { name = opening.now.name; instance = handle.now.instance; handle = handle.now }) }
+{
+    Ok(Kept {
+        name: opening.name.clone()?,
+        instance: handle.instance.get(),
+        handle: handle.clone()?,
+    })
+}

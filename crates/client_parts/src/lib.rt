@@ -1,0 +1,19 @@
+//! What a client is made of: its handles, its outstanding call, how it stands with its master; what it is asked for, and what comes
+//! of that; and what the invalidations that it is sent do to its cache.
+#![tactic(auto)]
+
+mod asks;
+mod handles;
+mod invalidations;
+mod lines;
+mod sessions;
+mod steps;
+mod targets;
+
+pub use asks::{Ask, Asked, NodeCall, Outcome};
+pub use handles::{ClientHandle, is_plain, is_read_only, is_shareable, share_of};
+pub use invalidations::{flush_all, is_in_order, last_number};
+pub use lines::{one_line, pushed};
+pub use sessions::Session;
+pub use steps::{Beaten, Given};
+pub use targets::{Outstanding, Target};

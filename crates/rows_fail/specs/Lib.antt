@@ -1,0 +1,3 @@
+pub use Rattle.rows_cell.specs.Rows
+pub use Rattle.rows_cell.specs.Sound
+pub use Rattle.rows_cell.specs.Stores

@@ -1,0 +1,6 @@
+//! Records that refuse one commit, for tests.
+#![tactic(auto)]
+
+mod failing;
+
+pub use failing::FailAt;

@@ -1,0 +1,172 @@
+-- What becomes of a database that is taken over.
+use Rattle.std.proofs.Common.{◌≡◌, ◌≤◌, Bool, true, false, List, [], ◌∷◌, inl, inr, refl, sym, ap, ◌∙◌, subst, arith, true≢false, Result, Ok, Err, ℕ, ◌++◌, append_assoc}
+use Rattle.std.specs.Prelude.{IsTrue, IfOk, IfErr}
+use Rattle.sqlite_trees.specs.declared.store.Store.{Ghosts}
+use Rattle.sqlite_trees.specs.Objects.{catalog_tree, IsListed}
+use Rattle.sqlite_trees.specs.View.{IsClean, IsOrdered, IsQuiet, IsRolledBack, doubt}
+use Rattle.sqlite.specs.Tree.{Trees}
+use Rattle.sqlite.specs.Effect.{Database}
+use Rattle.sqlite.specs.State.{HasCleanDisk, Survives, Opens, IsLive}
+use Rattle.sqlite.specs.Held.{Held, state, IsNew}
+use Rattle.sqlite.specs.Steps.{IsFresh}
+use Rattle.node_core.specs.declared.views.View.{View as Shown}
+use Rattle.rows_cell.specs.declared.tables.Node.{Node}
+use Rattle.rows_cell.specs.declared.tables.Rows.{Rows}
+use Rattle.rows_cell.specs.declared.tables.Edit.{Edit}
+use Rattle.rows_cell.specs.declared.tables.Edit.TheVariants.{PutNode}
+use Rattle.rows_cell.specs.Rows.{StoredNodes}
+use Rattle.rows_cell.specs.Opening.{Settled, opening}
+use Rattle.rows_schema.specs.OurSchema.{the_schema}
+use Rattle.rows_read.specs.Held.{Says}
+use Rattle.rows_read.specs.Ready.{tables_of, IsReady, IsStill, Quiet}
+use Rattle.rows_edits.specs.Ongoing.{IsStore}
+use Rattle.rows_edits.specs.Creation.{no_schema, puts_of, IsMade, MayOpen}
+use Rattle.rows_sql.specs.Keeping.{Keeps}
+use Rattle.rows_sql.specs.Adopting.{IsAnew, IsTaken, IsLeftAlone, IsReopened, ComesBack}
+use Rattle.rows_sql.proofs.Opened.{opened}
+
+-- ---- opened anew
+
+pub anew : {S E : Type 0} (g : Ghosts S) (store : S) (r : Result (Held S) E) → ((s : S) → (g.view s).is_broken ≡ false → IsOrdered (g.view s).shape (g.view s).trees)
+    → ((s : S) → (g.view s).is_broken ≡ false → IsListed ((g.view s).trees catalog_tree) (g.view s).shape (g.view s).reals) → (IsClean (g.view store) → IsFresh (g.view store))
+    → IfOk r (λ c. HasCleanDisk (state g c) → Opens (state g c) × IsLive (state g c)) → IfOk r (λ c. doubt (g.view store).is_clean ≤ doubt (state g c).is_clean) → IfOk r (λ c. HasCleanDisk (state g c) → (state g c).now.trees ≡ (g.view store).trees)
+    → IfOk r IsNew → IfOk r (λ c. IsAnew (state g c))
+anew g store (Err e) ordered listed fresh opens cleaner trees new = tt
+anew {S = S} g store (Ok c) ordered listed fresh opens cleaner trees new = record {
+  idle = new.autocommit;
+  is_open = λ clean. (opens clean).0.is_open;
+  settled = λ clean. sym (opens clean).0.clean;
+  store = opened {E = S} g store (Ok c) ordered listed fresh opens cleaner trees;
+}
+
+-- ---- what an unbroken store is that was rolled back
+
+is_true : (b : Bool) → (b ≡ false → ⊥) → IsTrue b
+is_true true h = refl
+is_true false h = absurd (h refl)
+
+module _ {S : Type 0} (g : Ghosts S) (broken_if_shut : (s : S) → (g.view s).is_open ≡ false → IsTrue (g.view s).is_broken) (old mid : S) (undone : IsRolledBack (g.view old) (g.view mid)) (broken : Bool) (tells : IsClean (g.view mid) → broken ≡ (g.view mid).is_broken) (whole : broken ≡ false) where
+  unbroken : IsClean (g.view mid) → (g.view mid).is_broken ≡ false
+  unbroken clean = sym (tells clean) ∙ whole
+
+  pub open_mid : IsClean (g.view mid) → IsTrue (g.view mid).is_open
+  open_mid clean = is_true _ (λ shut. true≢false (sym (broken_if_shut mid shut) ∙ unbroken clean))
+
+  pub trees_mid : IsClean (g.view mid) → (g.view mid).trees ≡ (g.view old).committed
+  trees_mid clean = (undone.undone (open_mid clean)).0
+
+  pub committed_mid : IsClean (g.view mid) → (g.view mid).committed ≡ (g.view old).committed
+  committed_mid clean = (undone.kept clean).committed (open_mid clean)
+
+  pub fresh : (IsClean (g.view mid) → IsTrue (g.view mid).is_numbered) → IsClean (g.view mid) → IsFresh (g.view mid)
+  fresh numbered clean = record {
+    sound = unbroken clean;
+    numbered = numbered clean;
+    clean = trees_mid clean ∙ sym (committed_mid clean);
+    unmarked = (undone.kept clean).marks (open_mid clean);
+  }
+
+  pub reopened : (settled : (s : S) (db : Trees) → IsTrue (g.view s).is_open → g.recovers s db → db ≡ (g.view s).committed) → (stays : (s : S) → IsTrue (g.view s).is_open → g.recovers s (g.view s).committed) → (conn new : Held S) → conn.store ≡ old
+      → IsQuiet g.view g.faults g.recovers g.is_shielded old mid → IsAnew (state g new) → doubt (g.view mid).is_clean ≤ doubt (state g new).is_clean → (HasCleanDisk (state g new) → (state g new).now.trees ≡ (g.view mid).trees) → IsReopened g conn new
+  reopened settled stays conn new is quiet at cleaner trees =
+      let was : HasCleanDisk (state g new) → IsClean (g.view mid) = λ clean. omega (arith, cleaner, clean) in
+      let same : HasCleanDisk (state g new) → (state g new).now.trees ≡ (g.view old).committed = λ clean. trees clean ∙ trees_mid (was clean) in
+      let before : doubt (g.view old).is_clean ≤ doubt (state g new).is_clean = omega (arith, quiet.clean, cleaner) in
+      record {
+        anew = at;
+        clean = subst (λ (s : S). doubt (g.view s).is_clean ≤ doubt (state g new).is_clean) (sym is) before;
+        same = λ clean. same clean ∙ ap (λ (s : S). (g.view s).committed) (sym is);
+        crash = λ clean db may.
+            let one : db ≡ (g.view new.store).committed = settled new.store db (at.is_open clean) may in
+            let two : (g.view new.store).committed ≡ (g.view old).committed = ap (λ (d : Database). d.trees) (at.settled clean) ∙ same clean in
+            let three : g.recovers mid db = subst (g.recovers mid) (committed_mid (was clean) ∙ sym two ∙ sym one) (stays mid (open_mid (was clean))) in
+            subst (λ (s : S). g.recovers s db) (sym is) (quiet.outcomes db three);
+      }
+
+-- ---- taken over
+
+module _ {S : Type 0} (g : Ghosts S) (settings : Settled) (old new : Held S) (at : IsAnew (state g old)) where
+  pub left_as_it_is : IsLeftAlone g settings old old
+  left_as_it_is = record { clean = omega arith; crash = λ _ db may. inl may }
+
+  module _ (q : Quiet g old new) (ours : (state g old).now.schema ≡ the_schema) where
+    was : HasCleanDisk (state g new) → HasCleanDisk (state g old)
+    was clean = omega (arith, q.clean, clean)
+
+    pub ready : HasCleanDisk (state g new) → IsReady (state g old)
+    ready clean = record { ours = ours; settled = λ _. at.settled (was clean) }
+
+    pub taken_store : (rows : Rows) → (HasCleanDisk (state g new) → IsReady (state g old) → Says (tables_of (state g old).now.trees) rows) → (HasCleanDisk (state g new) → IsReady (state g old) → IsStill (state g old) (state g new)) → IsTaken g settings old new rows
+    taken_store rows said still = record {
+      idle = q.idle at.idle;
+      clean = q.clean;
+      is_open = λ clean. (still clean (ready clean)).is_open;
+      store = λ clean. subst IsStore (sym (still clean (ready clean)).now_is) (at.store (was clean) ours);
+      committed = λ clean. let s = still clean (ready clean) in s.ready.settled s.is_open;
+      said = λ clean. subst (λ (d : Database). Says (tables_of d.trees) rows) (sym (still clean (ready clean)).now_is) (said clean (ready clean));
+      takes = λ clean. inl (ours, said clean (ready clean));
+    }
+
+    pub left_store : IsLeftAlone g settings old new
+    left_store = record { clean = q.clean; crash = λ clean db may. inl (q.crash clean (ready clean) db may) }
+
+  module _ (nothing : (state g old).now.schema ≡ no_schema) (survives : Survives (state g old) (state g new) (MayOpen settings (state g old))) where
+    pub taken_new : (rows : Rows) → rows ≡ opening settings → (state g new).in_transaction ≡ false → (HasCleanDisk (state g new) → IsMade settings (state g old) (state g new)) → IsTaken g settings old new rows
+    taken_new rows is idle made = record {
+      idle = idle;
+      clean = survives.clean;
+      is_open = λ clean. (made clean).is_open;
+      store = λ clean. ((made clean).opened nothing).store;
+      committed = λ clean. (made clean).committed;
+      said = λ clean. subst (Says (tables_of (state g new).now.trees)) (sym is) ((made clean).opened nothing).said;
+      takes = λ clean. inr (nothing, is);
+    }
+
+    pub left_new : IsLeftAlone g settings old new
+    left_new = record {
+      clean = survives.clean;
+      crash = λ clean db may. elim (survives.crash clean db may) [
+        | inl b ↦ inl b
+        | inr m ↦ inr (m nothing)
+      ];
+    }
+
+-- ---- the ends
+
+pub keeps_taken : {S : Type 0} (g : Ghosts S) (settings : Settled) (old new : Held S) (rows : Rows) → IsTaken g settings old new rows → ((db : Trees) → IsTrue (state g new).is_open → (state g new).may_leave db → db ≡ (state g new).committed.trees) → Keeps (state g new) false rows (rows ∷ [])
+keeps_taken g settings old new rows taken settled = record {
+  idle = taken.idle;
+  is_open = λ clean o. taken.is_open clean;
+  store = λ clean o. (taken.store clean, taken.committed clean, taken.said clean);
+  crash = λ clean db may.
+      let is : db ≡ (state g new).now.trees = settled db (taken.is_open clean) may ∙ ap (λ (d : Database). d.trees) (taken.committed clean) in
+      (rows, inl refl, subst (λ (t : Trees). Says (tables_of t) rows) (sym is) (taken.said clean));
+}
+
+pub came_back : {S : Type 0} (g : Ghosts S) (settings : Settled) (old mid new : Held S) (store : S) → IsReopened g old mid → IsLeftAlone g settings mid new → IsQuiet g.view g.faults g.recovers g.is_shielded new.store store → ComesBack g settings old store
+came_back g settings old mid new store opened left quiet = record {
+  clean = omega (arith, opened.clean, left.clean, quiet.clean);
+  crash = λ clean db may.
+      let at : HasCleanDisk (state g new) = omega (arith, quiet.clean, clean) in
+      let mid_clean : HasCleanDisk (state g mid) = omega (arith, left.clean, at) in
+      elim (left.crash at db (quiet.outcomes db may)) [
+        | inl b ↦ inl (opened.crash mid_clean db b)
+        | inr m ↦ inr m
+      ];
+}
+
+-- a call that refused and left a store alone
+pub left_quiet : {S T E : Type 0} (g : Ghosts S) (store : S) (r : Result T (E × S)) → IfErr r (λ e. IsQuiet g.view g.faults g.recovers g.is_shielded store e.1) → IfErr r (λ e. (doubt (g.view store).is_clean ≤ doubt (g.view e.1).is_clean) × ((db : Trees) → g.recovers e.1 db → g.recovers store db))
+left_quiet g store (Ok x) h = tt
+left_quiet g store (Err e) h = (h.clean, h.outcomes)
+
+-- ---- the edits of a new store
+
+-- some edits are pushed, and these nodes are left
+pub pushed_more : (front new : List Edit) (all left rest : StoredNodes) (name : List ℕ) (node : Node) (put : List ℕ) (view : Shown) → front ++ puts_of left ≡ puts_of all → left ≡ (name, node) ∷ rest → put ≡ name → view ≡ node.view → new ≡ front ++ PutNode put view ∷ [] → new ++ puts_of rest ≡ puts_of all
+pushed_more front new all left rest name node put view before steps same shown pushed =
+    ap (λ (es : List Edit). es ++ puts_of rest) pushed
+    ∙ append_assoc front (PutNode put view ∷ []) (puts_of rest)
+    ∙ ap (λ (e : Edit). front ++ e ∷ puts_of rest) (λ i. PutNode (same i) (shown i))
+    ∙ ap (λ (es : StoredNodes). front ++ puts_of es) (sym steps)
+    ∙ before

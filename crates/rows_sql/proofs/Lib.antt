@@ -1,0 +1,5 @@
+pub mod Keepings
+pub mod Shaped
+pub mod Opened
+pub mod Adoptions
+pub mod StoreCases

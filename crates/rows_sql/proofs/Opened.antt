@@ -1,0 +1,22 @@
+-- A store over trees that some program made.
+use Rattle.std.proofs.Common.{◌≡◌, ◌≤◌, false, arith, Result, Ok, Err, IfOk}
+use Rattle.sqlite_trees.specs.declared.store.Store.{Ghosts}
+use Rattle.sqlite_trees.specs.Objects.{catalog_tree, IsListed}
+use Rattle.sqlite_trees.specs.View.{IsClean, IsOrdered, doubt}
+use Rattle.sqlite.specs.State.{HasCleanDisk, Opens, IsLive}
+use Rattle.sqlite.specs.Held.{Held, state}
+use Rattle.sqlite.specs.Steps.{IsFresh}
+use Rattle.rows_schema.specs.OurSchema.{the_schema}
+use Rattle.rows_edits.specs.Ongoing.{IsStore}
+use Rattle.rows_sql.proofs.Shaped.{is_store}
+
+pub opened : {S E : Type 0} (g : Ghosts S) (store : S) (r : Result (Held S) E) → ((s : S) → (g.view s).is_broken ≡ false → IsOrdered (g.view s).shape (g.view s).trees)
+    → ((s : S) → (g.view s).is_broken ≡ false → IsListed ((g.view s).trees catalog_tree) (g.view s).shape (g.view s).reals) → (IsClean (g.view store) → IsFresh (g.view store))
+    → IfOk r (λ c. HasCleanDisk (state g c) → Opens (state g c) × IsLive (state g c)) → IfOk r (λ c. doubt (g.view store).is_clean ≤ doubt (state g c).is_clean) → IfOk r (λ c. HasCleanDisk (state g c) → (state g c).now.trees ≡ (g.view store).trees)
+    → IfOk r (λ c. HasCleanDisk (state g c) → (state g c).now.schema ≡ the_schema → IsStore (state g c).now)
+opened g store (Err e) ordered listed fresh opens cleaner trees = tt
+opened g store (Ok c) ordered listed fresh opens cleaner trees = λ clean ours.
+    let was : IsClean (g.view store) = omega (arith, clean, cleaner) in
+    let unbroken = (fresh was).sound in
+    let at = opens clean in
+    is_store (g.view store) (state g c).now (trees clean) ours (at.1 at.0.is_open).0 (listed store unbroken) (ordered store unbroken)

@@ -1,0 +1,34 @@
+use Rattle.std.proofs.Common.{◌≡◌, false, Err, sym, ap, ◌∙◌, subst, arith}
+use Rattle.sqlite.specs.State.{HasCleanDisk}
+use Rattle.sqlite.specs.Held.{state}
+use Rattle.rows_cell.specs.declared.tables.Rows.{Rows}
+use Rattle.rows_cell.specs.declared.records.StoreFault.{StoreFault}
+use Rattle.rows_sql.specs.Keeping.{Stood, stood, Keeps}
+use Rattle.rows_sql.specs.Adopting.{Takes}
+use Rattle.rows_sql.proofs.Adoptions.{keeps_taken}
+use Rattle.rows_sql.proofs.records.SqlRecords.adopt.Goals as goal
+
+pub invariant_of-result : goal.invariant_of-result
+invariant_of-result g c =
+    let new = c.take_over.new.conn in
+    let kept = keeps_taken g.S.Store c.args.settings.now c.in-Ok-reopen.conn new c.in-Ok-take_over.rows c.in-Ok-take_over.ensures.ok (λ db o m. g.met.S.Store.settled new.store db o m) in
+    (subst (λ (t : Stood). Keeps (state g.S.Store new) false t.rows t.left) (sym c.noted-past.ensures) kept, omega arith)
+
+pub returns-in-Ok-take_over-clause-rows : goal.returns-in-Ok-take_over-clause-rows
+returns-in-Ok-take_over-clause-rows g c clean =
+    let mid = state g.S.Store c.in-Ok-reopen.conn in
+    let taken = c.in-Ok-take_over.ensures.ok in
+    let opened = c.in-Ok-reopen.ensures.ok in
+    let was : HasCleanDisk mid = omega (arith, taken.clean, clean) in
+    let is : (stood c.noted-past.result.items).rows ≡ c.in-Ok-take_over.rows = ap (λ (t : Stood). t.rows) c.noted-past.ensures in
+    (mid.now, opened.same was, subst (λ (r : Rows). Takes c.args.settings.now mid.now r) (sym is) (taken.takes clean))
+
+pub returns-in-Err-take_over-clause-damaged : goal.returns-in-Err-take_over-clause-damaged
+returns-in-Err-take_over-clause-damaged g c clean is =
+    let mid = state g.S.Store c.in-Ok-reopen.conn in
+    let left = c.in-Err-take_over.ensures.err in
+    let quiet = c.into_store-in-Err-take_over.ensures.quiet in
+    let opened = c.in-Ok-reopen.ensures.ok in
+    let then : HasCleanDisk (state g.S.Store c.take_over.new.conn) = omega (arith, quiet.clean, clean) in
+    let was : HasCleanDisk mid = omega (arith, left.clean, then) in
+    (mid.now, opened.same was, c.take_over.ensures.why then (c.in-Err-take_over.is ∙ ap (λ (f : StoreFault). Err f) is))

@@ -1,0 +1,139 @@
+//! Taking a database over.
+ghost use Rattle.std.specs.Prelude.{◌≡◌, ◌↔◌, ◌≤◌, Err, IfOk, IfErr, IsTrue};
+ghost use Rattle.sqlite_trees.specs.View.{doubt, IsClean};
+ghost use Rattle.sqlite.specs.Steps.{IsFresh};
+ghost use Rattle.sqlite.specs.State.{HasCleanDisk};
+ghost use Rattle.sqlite.specs.Held.{state};
+ghost use Rattle.rows_cell.specs.Opening.{opening};
+ghost use Rattle.rows_cell.specs.declared.tables.Rows.{Rows as Held};
+ghost use Rattle.rows_schema.specs.OurSchema.{the_schema};
+ghost use Rattle.rows_edits.specs.Creation.{no_schema, puts_of};
+ghost use Rattle.rows_read.specs.Held.{Says};
+ghost use Rattle.rows_read.specs.Ready.{tables_of};
+ghost use Rattle.rows_sql.specs.Adopting.{IsAnew, IsForeign, IsTaken, IsLeftAlone, IsReopened};
+
+use plain::Items;
+use rows_cell::{Edit, ListRecords, Records, Rows, Settings, StoreFault};
+use rows_edits::make_store;
+use rows_read::load_said;
+use rows_schema::is_ours;
+use sqlite::{Alter, Connection, Error};
+use sqlite_schema::schema::Schema;
+use std::alloc::{AllocError, Global};
+
+// Opens a store anew. Where it is that of a cell, the rowids of its tables rise.
+fn open_store<S: Alter + Drop>(alloc: Global, store: S) -> Result<Connection<S>, (Error, S)>
+    requires { IsClean (S.Store.view store) → IsFresh (S.Store.view store) }
+    ensures ok { IfOk result (λ conn. IsAnew (state S.Store conn)) }
+    ensures clean { IfOk result (λ conn. doubt (S.Store.view store).is_clean ≤ doubt (state S.Store conn).is_clean) }
+    ensures trees { IfOk result (λ conn. HasCleanDisk (state S.Store conn) → (state S.Store conn).now.trees ≡ (S.Store.view store).trees) }
+    ensures err { IfErr result (λ e. (doubt (S.Store.view store).is_clean ≤ doubt (S.Store.view e.1).is_clean) × ((db : _) → S.Store.recovers e.1 db → S.Store.recovers store db)) }
+{
+    Connection::over(alloc, store)
+}
+
+/// Opens a database anew, with what was last committed.
+pub(crate) fn reopen<S: Alter + Drop>(
+    alloc: Global,
+    conn: Connection<S>,
+) -> Result<Connection<S>, S>
+    ensures ok { IfOk result (λ new. IsReopened S.Store conn new) }
+    ensures err { IfErr result (λ store. (doubt (state S.Store conn).is_clean ≤ doubt (S.Store.view store).is_clean) × ((db : _) → S.Store.recovers store db → (state S.Store conn).may_leave db)) }
+{
+    let store = conn.into_store();
+    if store.is_broken() {
+        return Err(store);
+    }
+    match open_store(alloc, store) {
+        Ok(conn) => Ok(conn),
+        Err((_error, store)) => Err(store),
+    }
+}
+
+// Whether there is no table, no index and no view.
+fn is_nothing(schema: &Schema) -> bool
+    ensures { IsTrue result ↔ (schema.now ≡ no_schema) }
+{
+    if schema.tables.len() != 0 {
+        return false;
+    }
+    if schema.indexes.len() != 0 {
+        return false;
+    }
+    schema.views.len() == 0
+}
+
+// The rows of a new store.
+fn opening_rows(alloc: Global, settings: &Settings) -> Result<Rows, StoreFault>
+    ensures ok { IfOk result (λ rows. rows ≡ opening settings.now) }
+    ensures err { IfErr result (λ e. e ≡ StoreFault.NoMemory) }
+{
+    let mut records = ListRecords::new(alloc, settings)?;
+    records.load()
+}
+
+// The edits that put the nodes of rows.
+fn edits_of(alloc: Global, rows: &Rows) -> Result<Items<Edit>, AllocError>
+    ensures { IfOk result (λ edits. edits ≡ puts_of rows.now.nodes) }
+{
+    let mut edits = Items::new(alloc);
+    for (name, node) in rows.nodes.as_map() {
+        edits.push(Edit::PutNode(name.clone()?, node.view.clone()?))?;
+    }
+    Ok(edits)
+}
+
+// Makes a new store of a database without tables.
+fn take_new<S: Alter>(
+    alloc: Global,
+    conn: &mut Connection<S>,
+    settings: &Settings,
+) -> Result<Rows, StoreFault>
+    requires anew { IsAnew (state S.Store conn.old) }
+    requires nothing { (state S.Store conn.old).now.schema ≡ no_schema }
+    ensures ok { IfOk result (λ rows. IsTaken S.Store settings.now conn.old conn.new rows) }
+    ensures err { IfErr result (λ e. IsLeftAlone S.Store settings.now conn.old conn.new) }
+    ensures why { result ≡ Err StoreFault.Damaged → ⊥ }
+{
+    let rows = opening_rows(alloc, settings)?;
+    let edits = edits_of(alloc, &rows)?;
+    match make_store(conn, settings, edits.as_slice()) {
+        Ok(()) => Ok(rows),
+        Err(_) => Err(StoreFault::Refused),
+    }
+}
+
+// Reads the rows of a store.
+fn take_store<S: Alter>(
+    alloc: Global,
+    conn: &mut Connection<S>,
+    settings: &Settings,
+) -> Result<Rows, StoreFault>
+    requires anew { IsAnew (state S.Store conn.old) }
+    requires ours { (state S.Store conn.old).now.schema ≡ the_schema }
+    ensures ok { IfOk result (λ rows. IsTaken S.Store settings.now conn.old conn.new rows) }
+    ensures err { IfErr result (λ e. IsLeftAlone S.Store settings.now conn.old conn.new) }
+    ensures why { HasCleanDisk (state S.Store conn.new) → result ≡ Err StoreFault.Damaged → (rows : Held) → ¬ Says (tables_of (state S.Store conn.old).now.trees) rows }
+{
+    load_said(alloc, conn)
+}
+
+/// Takes the rows of a database over: those of a store as they are; and where there is no table, a new store is made.
+pub(crate) fn take_over<S: Alter>(
+    alloc: Global,
+    conn: &mut Connection<S>,
+    settings: &Settings,
+) -> Result<Rows, StoreFault>
+    requires { IsAnew (state S.Store conn.old) }
+    ensures ok { IfOk result (λ rows. IsTaken S.Store settings.now conn.old conn.new rows) }
+    ensures err { IfErr result (λ e. IsLeftAlone S.Store settings.now conn.old conn.new) }
+    ensures why { HasCleanDisk (state S.Store conn.new) → result ≡ Err StoreFault.Damaged → IsForeign (state S.Store conn.old).now }
+{
+    if is_ours(alloc, conn.schema())? {
+        return take_store(alloc, conn, settings);
+    }
+    if !is_nothing(conn.schema()) {
+        return Err(StoreFault::Damaged);
+    }
+    take_new(alloc, conn, settings)
+}

@@ -1,0 +1,8 @@
+//! The rows of a cell, kept in a SQL database.
+#![tactic(auto)]
+
+mod adoption;
+mod records;
+mod steps;
+
+pub use records::SqlRecords;

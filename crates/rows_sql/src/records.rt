@@ -1,0 +1,214 @@
+//! The rows of a cell in a SQL database.
+ghost use Rattle.std.specs.Prelude.{◌≡◌, ◌≤◌, ◌∷◌, [], Ok, IfOk, IfErr, IsTrue};
+ghost use Rattle.sqlite_trees.specs.View.{IsClean};
+ghost use Rattle.sqlite.specs.State.{HasCleanDisk};
+ghost use Rattle.sqlite.specs.Held.{state};
+ghost use Rattle.rows_cell.specs.declared.tables.Rows.{Rows as Held};
+ghost use Rattle.rows_read.specs.Held.{Says};
+ghost use Rattle.rows_read.specs.Ready.{tables_of};
+ghost use Rattle.rows_sql.specs.Keeping.{noted, stood, IsLeft};
+ghost use Rattle.rows_sql.specs.Adopting.{Adopts, ComesBack, IsOther};
+
+use crate::adoption::{reopen, take_over};
+use crate::steps::{goes_on, is_committed, load_sound};
+use names_cell::Component;
+use node_core::NUMBER_LIMIT;
+use past::Past;
+use plain::Items;
+use rows_cell::{Edit, Records, Rows, Settings, StoreFault};
+use sqlite::{Alter, Connection};
+use std::alloc::Global;
+use std::marker::Model;
+
+/// What was done to the rows: they were taken over, or read again, or a change was committed, or refused.
+#[derive(Drop)]
+pub enum Note {
+    Adopted(Rows),
+    Read(Rows),
+    Done,
+    Tried,
+}
+
+/// The rows of a cell in the four tables of a database, over any store of the kit's `sqlite`: a file that sqlite3 reads,
+/// or memory. Each change is one transaction.
+pub struct SqlRecords<S: Alter> {
+    alloc: Global,
+    conn: Connection<S>,
+    cell: Component,
+    refusals: u64,
+    is_shut: bool,
+    past: Past<Note, Items<Edit>>,
+}
+
+impl<S: Alter> Model for SqlRecords<S> {
+    ghost use Rattle.std.specs.Prelude.{◌≤◌};
+    ghost use Rattle.sqlite_trees.specs.View.{doubt};
+    ghost use Rattle.sqlite.specs.Held.{state};
+    ghost use Rattle.node_core.specs.Limits.{number_limit};
+    ghost use Rattle.rows_cell.specs.Stores.{Store};
+    ghost use Rattle.rows_sql.specs.Keeping.{stood, Keeps};
+
+    ghost Value = { Store };
+
+    ghost view = { λ s. record {
+      cell = s.cell;
+      rows = (stood s.past.items).rows;
+      may_leave = (stood s.past.items).left;
+      refusals = s.refusals;
+      doubt = doubt (state S.Store s.conn).is_clean;
+    } };
+
+    ghost invariant = { λ s. Keeps (state S.Store s.conn) s.is_shut (stood s.past.items).rows (stood s.past.items).left × (s.refusals ≤ number_limit) };
+}
+
+impl<S: Alter + Drop> Drop for SqlRecords<S> {
+    fn drop(self) {
+        let SqlRecords {
+            alloc: _,
+            conn: _,
+            cell: _,
+            refusals: _,
+            is_shut: _,
+            past: _,
+        } = self;
+    }
+}
+
+fn noted(
+    past: &Past<Note, Items<Edit>>,
+    note: &Note,
+    change: &Items<Edit>,
+) -> Past<Note, Items<Edit>>
+    ensures { stood result.items ≡ noted note.now change.now (stood past.now.items) }
+{
+    past.and(note, change)
+}
+
+// The rows that were read.
+fn rows_in(note: Note) -> Result<Rows, StoreFault>
+    ensures { (rows : Held) → note ≡ Note.Read rows → result ≡ Ok rows }
+{
+    match note {
+        Note::Read(rows) => Ok(rows),
+        Note::Adopted(_rows) => Err(StoreFault::NoMemory),
+        Note::Done => Err(StoreFault::NoMemory),
+        Note::Tried => Err(StoreFault::NoMemory),
+    }
+}
+
+impl<S: Alter> Records for SqlRecords<S> {
+    ghost use Rattle.std.specs.Prelude.{◌≡◌};
+
+    ghost store = { λ s. s };
+
+    fn load(&mut self) -> Result<Rows, StoreFault> {
+        if self.refusals == NUMBER_LIMIT {
+            return Err(StoreFault::Exhausted);
+        }
+        if self.is_shut {
+            self.refusals += 1;
+            return Err(StoreFault::Refused);
+        }
+        match load_sound(self.alloc, &mut self.conn, &self.cell) {
+            Ok(rows) => {
+                let none = Items::new(self.alloc);
+                let note = Note::Read(rows);
+                self.past = noted(&self.past, &note, &none);
+                drop(none);
+                rows_in(note)
+            }
+            Err(StoreFault::Refused) => {
+                self.is_shut = !goes_on(self.alloc, &mut self.conn);
+                self.refusals += 1;
+                Err(StoreFault::Refused)
+            }
+            Err(fault) => Err(fault),
+        }
+    }
+
+    fn commit(&mut self, change: &Items<Edit>) -> Result<(), StoreFault> {
+        if change.is_empty() {
+            return Ok(());
+        }
+        if self.refusals == NUMBER_LIMIT {
+            return Err(StoreFault::Exhausted);
+        }
+        if self.is_shut {
+            self.refusals += 1;
+            return Err(StoreFault::Refused);
+        }
+        if !is_committed(&mut self.conn, change) {
+            self.past = noted(&self.past, &Note::Tried, change);
+            self.is_shut = !goes_on(self.alloc, &mut self.conn);
+            self.refusals += 1;
+            return Err(StoreFault::Refused);
+        }
+        self.past = noted(&self.past, &Note::Done, change);
+        Ok(())
+    }
+}
+
+impl<S: Alter + Drop> SqlRecords<S> {
+    /// Takes a database over. What isn't committed there is undone. The rows of a store are taken as they are, whether a
+    /// cell may have them or not; where there is no table, the four tables are made and the opening rows put, in one
+    /// transaction.
+    ///
+    /// Refused as `Damaged` where other tables are there, or where the tables say no rows; as `Refused` where the database
+    /// can't be read or written. The store then comes back, over which a connection can be opened.
+    pub fn adopt(
+        alloc: Global,
+        conn: Connection<S>,
+        settings: &Settings,
+    ) -> Result<SqlRecords<S>, (StoreFault, S)>
+        ensures cell { IfOk result (λ records. records.cell ≡ settings.now.cell) }
+        ensures counted { IfOk result (λ records. records.refusals ≡ 0) }
+        ensures left { IfOk result (λ records. records.may_leave ≡ records.rows ∷ []) }
+        ensures rows { IfOk result (λ records. records.doubt ≡ 0 → Adopts settings.now (state S.Store conn).committed.trees records.rows) }
+        ensures back { IfErr result (λ e. ComesBack S.Store settings.now conn e.1) }
+        ensures damaged { IfErr result (λ e. IsClean (S.Store.view e.1) → e.0 ≡ StoreFault.Damaged → IsOther (state S.Store conn).committed.trees) }
+    {
+        let cell = match settings.cell().clone() {
+            Ok(cell) => cell,
+            Err(_) => return Err((StoreFault::NoMemory, conn.into_store())),
+        };
+        let mut conn = match reopen(alloc, conn) {
+            Ok(conn) => conn,
+            Err(store) => return Err((StoreFault::Refused, store)),
+        };
+        match take_over(alloc, &mut conn, settings) {
+            Ok(rows) => {
+                let none = Items::new(alloc);
+                let note = Note::Adopted(rows);
+                let past = noted(&Past::new(), &note, &none);
+                Ok(SqlRecords {
+                    alloc,
+                    conn,
+                    cell,
+                    refusals: 0,
+                    is_shut: false,
+                    past,
+                })
+            }
+            Err(fault) => Err((fault, conn.into_store())),
+        }
+    }
+}
+
+impl<S: Alter> SqlRecords<S> {
+    /// Gives the connection back. Where it is still open its tables say the rows; and a crash leaves one of the rows that
+    /// it may leave.
+    pub fn release(self) -> Connection<S>
+        ensures says { HasCleanDisk (state S.Store result) → IsTrue (state S.Store result).is_open → Says (tables_of (state S.Store result).now.trees) self.rows }
+        ensures left { HasCleanDisk (state S.Store result) → (db : _) → (state S.Store result).may_leave db → IsLeft self.may_leave db }
+    {
+        let SqlRecords {
+            alloc: _,
+            conn,
+            cell: _,
+            refusals: _,
+            is_shut: _,
+            past: _,
+        } = self;
+        conn
+    }
+}

@@ -1,0 +1,272 @@
+//! Changes of the rows, done in SQL and in memory.
+use names_cell::{Component, Name, Principal};
+use node_core::{Kind, Life, View};
+use plain::{Bytes, Items};
+use rows_cell::{Edit, LockKey, LockRow, LockState, Rows, Session, Settings};
+use rows_edits::commit_all;
+use rows_read::load_said;
+use rows_sql::SqlRecords;
+use sqlite::{Alter, Connection, Error, MemStore};
+use std::alloc::Global;
+use std::test::Fail;
+
+/// An edit of a row's change.
+#[derive(Clone, Copy)]
+pub(crate) enum Do {
+    Epoch(u64),
+    Next(u64),
+    // A file with this instance and one byte.
+    Put(&'static str, u64, u8),
+    Generation(&'static str, u64),
+    Remove(&'static str),
+    Session(u64, &'static str, bool),
+    // Instance, client, handle, how it stands, delay.
+    Lock(u64, u64, u64, LockState, u64),
+    Unlock(u64, u64, u64),
+}
+
+fn file(alloc: Global, instance: u64, byte: u8) -> Result<View, Fail> {
+    Ok(View {
+        kind: Kind::File,
+        instance,
+        content_generation: 1,
+        acl_generation: 1,
+        read: Component::parse(alloc, "base")?,
+        write: Component::parse(alloc, "base")?,
+        change: Component::parse(alloc, "base")?,
+        life: Life::Permanent,
+        content: Bytes::copy_of(alloc, &[byte])?,
+    })
+}
+
+fn node_edit(alloc: Global, edit: Do) -> Result<Option<Edit>, Fail> {
+    Ok(match edit {
+        Do::Put(name, instance, byte) => Some(Edit::PutNode(
+            Name::parse(alloc, name)?,
+            file(alloc, instance, byte)?,
+        )),
+        Do::Generation(name, generation) => Some(Edit::LockGeneration(
+            Name::parse(alloc, name)?,
+            generation,
+        )),
+        Do::Remove(name) => Some(Edit::RemoveNode(Name::parse(alloc, name)?)),
+        _ => None,
+    })
+}
+
+fn other_edit(alloc: Global, edit: Do) -> Result<Edit, Fail> {
+    Ok(match edit {
+        Do::Epoch(epoch) => Edit::Epoch(epoch),
+        Do::Session(client, principal, live) => Edit::PutSession(
+            client,
+            Session {
+                principal: Principal::parse(alloc, principal)?,
+                live,
+            },
+        ),
+        Do::Lock(instance, client, handle, state, delay) => Edit::PutLock(
+            LockKey {
+                instance,
+                client,
+                handle,
+            },
+            LockRow { state, delay },
+        ),
+        Do::Unlock(instance, client, handle) => Edit::RemoveLock(LockKey {
+            instance,
+            client,
+            handle,
+        }),
+        Do::Next(next) => Edit::NextInstance(next),
+        _ => return Err(Fail::from("no edit")),
+    })
+}
+
+/// The edits of a change.
+pub(crate) fn edits(alloc: Global, change: &[Do]) -> Result<Items<Edit>, Fail> {
+    let mut edits = Items::new(alloc);
+    for edit in change {
+        match node_edit(alloc, *edit)? {
+            Some(edit) => edits.push(edit)?,
+            None => edits.push(other_edit(alloc, *edit)?)?,
+        }
+    }
+    Ok(edits)
+}
+
+fn nodes_of(alloc: Global, rows: &Rows) -> Result<String, Fail> {
+    let mut shown = format!(in alloc; "epoch {} next {}", rows.epoch, rows.next_instance)?;
+    for (name, node) in rows.nodes.as_map() {
+        let view = &node.view;
+        let generation = node.lock_generation;
+        shown.push_str(format!(in alloc; "; {name} {view} {generation}")?.as_str())?;
+    }
+    Ok(shown)
+}
+
+fn sessions_of(alloc: Global, rows: &Rows, shown: &mut String) -> Result<(), Fail> {
+    for (client, session) in rows.sessions.as_map() {
+        let principal = &session.principal;
+        let live = session.live;
+        shown.push_str(format!(in alloc; "; {client} {principal} {live}")?.as_str())?;
+    }
+    Ok(())
+}
+
+fn locks_of(alloc: Global, rows: &Rows, shown: &mut String) -> Result<(), Fail> {
+    for (key, row) in rows.locks.as_map() {
+        let LockKey {
+            instance,
+            client,
+            handle,
+        } = *key;
+        let state = row.state;
+        let delay = row.delay;
+        shown.push_str(format!(in alloc;
+            "; {instance} {client} {handle} {state:?} {delay}"
+        )?.as_str())?;
+    }
+    Ok(())
+}
+
+/// All that rows hold, as a text.
+pub(crate) fn shown(alloc: Global, rows: &Rows) -> Result<String, Fail> {
+    let mut shown = nodes_of(alloc, rows)?;
+    sessions_of(alloc, rows, &mut shown)?;
+    locks_of(alloc, rows, &mut shown)?;
+    Ok(shown)
+}
+
+const NEW: &str =
+    "epoch 0 next 4; /ls/c dir 1 0 1 base base base permanent 0; /ls/c/acl dir 2 0 1 base base base permanent 0; /ls/c/acl/base file 3 1 1 base base base permanent 8 616e6e0a626f620a 0";
+
+// What stands in a change's rows behind those of a new store.
+type Row = (&'static str, &'static [&'static [Do]], &'static str);
+
+const CHANGES: &[Row] = &[
+    ("nothing", &[&[]], ""),
+    (
+        "a file with a session and a lock",
+        &[&[
+            Do::Put("/ls/c/f", 4, b'a'),
+            Do::Generation("/ls/c/f", 1),
+            Do::Session(7, "ann", true),
+            Do::Lock(4, 7, 1, LockState::Exclusive, 60_000),
+        ]],
+        "; /ls/c/f file 4 1 1 base base base permanent 1 61 1; 7 ann true; 4 7 1 Exclusive 60000",
+    ),
+    (
+        "a file that is put again keeps the generation of its lock",
+        &[
+            &[
+                Do::Put("/ls/c/f", 4, b'a'),
+                Do::Generation("/ls/c/f", 3),
+                Do::Lock(4, 7, 1, LockState::Shared, 0),
+            ],
+            &[Do::Put("/ls/c/f", 4, b'b')],
+        ],
+        "; /ls/c/f file 4 1 1 base base base permanent 1 62 3; 4 7 1 Shared 0",
+    ),
+    (
+        "a file that is removed takes its locks along, and no others",
+        &[
+            &[
+                Do::Put("/ls/c/f", 4, b'a'),
+                Do::Put("/ls/c/g", 5, b'a'),
+                Do::Lock(4, 7, 1, LockState::Shared, 0),
+                Do::Lock(4, 8, 1, LockState::Shared, 0),
+                Do::Lock(5, 7, 2, LockState::Lapsed, 1),
+            ],
+            &[Do::Remove("/ls/c/f")],
+        ],
+        "; /ls/c/g file 5 1 1 base base base permanent 1 61 0; 5 7 2 Lapsed 1",
+    ),
+    (
+        "a file that is removed and put in one change",
+        &[&[
+            Do::Put("/ls/c/f", 4, b'a'),
+            Do::Generation("/ls/c/f", 3),
+            Do::Remove("/ls/c/f"),
+            Do::Put("/ls/c/f", 5, b'b'),
+        ]],
+        "; /ls/c/f file 5 1 1 base base base permanent 1 62 0",
+    ),
+    (
+        "what isn't there is neither removed nor given a generation",
+        &[&[
+            Do::Generation("/ls/c/f", 3),
+            Do::Remove("/ls/c/f"),
+            Do::Unlock(4, 7, 1),
+        ]],
+        "",
+    ),
+    (
+        "a session that ends, beside another",
+        &[
+            &[Do::Session(7, "ann", true), Do::Session(6, "bob", true)],
+            &[Do::Session(7, "ann", false)],
+        ],
+        "; 6 bob true; 7 ann false",
+    ),
+    (
+        "a lock that is put again, and one that is removed",
+        &[
+            &[
+                Do::Put("/ls/c/f", 4, b'a'),
+                Do::Lock(4, 7, 1, LockState::Shared, 0),
+                Do::Lock(4, 7, 2, LockState::Shared, 0),
+                Do::Lock(4, 8, 1, LockState::Shared, 0),
+            ],
+            &[Do::Lock(4, 7, 1, LockState::Lapsed, 9), Do::Unlock(4, 7, 2)],
+        ],
+        "; /ls/c/f file 4 1 1 base base base permanent 1 61 0; 4 7 1 Lapsed 9; 4 8 1 Shared 0",
+    ),
+];
+
+fn new_store(alloc: Global) -> Result<Connection<MemStore>, Fail> {
+    let settings = Settings::standard(alloc)?;
+    let conn = Connection::open_in_memory(alloc)?;
+    let records = SqlRecords::adopt(alloc, conn, &settings)
+        .ok()
+        .ok_or("adopted")?;
+    Ok(records.release())
+}
+
+/// Commits a change.
+pub(crate) fn commit<S: Alter>(conn: &mut Connection<S>, edits: &Items<Edit>) -> Result<(), Error> {
+    if !conn.is_autocommit() {
+        return Err(Error::InvalidQuery);
+    }
+    commit_all(conn, edits.as_slice())
+}
+
+fn done(alloc: Global, conn: &mut Connection<MemStore>, changes: &[&[Do]]) -> Result<Rows, Fail> {
+    for change in changes {
+        let edits = edits(alloc, change)?;
+        commit(conn, &edits)?;
+    }
+    Ok(load_said(alloc, conn)?)
+}
+
+fn answer(alloc: Global, changes: &[&[Do]]) -> Result<String, Fail> {
+    let mut conn = new_store(alloc)?;
+    let rows = done(alloc, &mut conn, changes)?;
+    shown(alloc, &rows)
+}
+
+#[test]
+fn changes_in_sql(rt: HostRuntime) -> Result<(), Fail> {
+    for (name, changes, more) in CHANGES {
+        let answer = answer(rt.alloc(), changes)?;
+        let want = format!(in rt.alloc(); "{NEW}{more}")?;
+        assert!(rt; answer.as_str() == want.as_str(), "at {name}: {answer}");
+    }
+    Ok(())
+}
+
+#[test]
+fn numbers_in_sql(rt: HostRuntime) -> Result<(), Fail> {
+    let answer = answer(rt.alloc(), &[&[Do::Epoch(7)], &[Do::Next(9), Do::Epoch(8)]])?;
+    assert!(rt; answer.as_str().starts_with("epoch 8 next 9; /ls/c dir 1"));
+    Ok(())
+}

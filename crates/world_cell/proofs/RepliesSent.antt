@@ -1,0 +1,148 @@
+-- Of a consistent world, behind each step, each reply that was sent is to a call that was sent before.
+use Rattle.std.proofs.Common.{◌≡◌, ℕ, false, List, [], ◌∷◌, ◌++◌, Option, Some, None, Ok, refl, sym, ap, ◌∙◌, inl, inr, subst, map}
+use Rattle.node_core.specs.declared.refusals.Fault.TheVariants as faults
+use Rattle.node_core.specs.declared.lines.Line.{Line}
+use Rattle.node_core.specs.declared.views.Mod.{Mod}
+use Rattle.node_core.specs.declared.views.Mod.TheVariants.{Put, Gone}
+use Rattle.rows_cell.specs.declared.tables.Rows.{Rows}
+use Rattle.rows_cell.specs.declared.tables.Edit.TheVariants.{NextInstance}
+use Rattle.rows_cell.specs.Rows.{changed_rows}
+use Rattle.tags_cell.specs.declared.requests.Request.{Request}
+use Rattle.tags_cell.specs.declared.requests.Request.TheVariants as requests
+use Rattle.tags_cell.specs.declared.requests.CallMessage.{CallMessage}
+use Rattle.tags_cell.specs.declared.outs.CallResult.{CallResult}
+use Rattle.tags_cell.specs.declared.outs.CallResult.TheVariants as results
+use Rattle.tags_cell.specs.declared.outs.Out.{Out}
+use Rattle.tags_cell.specs.declared.outs.Out.TheVariants as outs
+use Rattle.tags_cell.specs.declared.outs.Reply.{Reply}
+use Rattle.session_core.specs.declared.records.Kept.{Kept}
+use Rattle.cell_core.proofs.Told.{told_is_shown}
+use Rattle.cell_core.specs.State.{MasterState, locks_of}
+use Rattle.cell_core.specs.Deeds.{edit_of}
+use Rattle.cell_core.specs.Step.{kept_of, reply_of, stamped_reply, repeated_reply, with_note, noted}
+use Rattle.cell_core.specs.Cases.{TakeCase, taken_by}
+use Rattle.cell_core.specs.Cases.TakeCase.{StartQueued, BeatParked, Repeated, Recovering, Answered, Granted, Waits}
+use Rattle.over_core.specs.SweepCase.{SweepCase, swept_by, swept_edits}
+use Rattle.over_core.specs.SweepCase.SweepCase.{Quiet, Recovers, Expires, OfEnded, Ended, Applied}
+use Rattle.world_cell.specs.declared.mail.Message.{Message}
+use Rattle.world_cell.specs.declared.mail.Message.TheVariants.{ToMaster, ToClient}
+use Rattle.world_cell.specs.declared.steps.Step.{Step}
+use Rattle.world_cell.specs.Messages.{out_at, call_of}
+use Rattle.world_cell.specs.World.{WorldState}
+use Rattle.world_cell.specs.Consistent.{OpensAs, IsAnswer, FitsMessages, IsConsistent}
+use Rattle.world_cell.proofs.MessagesGrow.{out_more, out_among, one_no_out}
+use Rattle.world_cell.proofs.MasterFits.{WasAsked, secret_note, turn_sent}
+use Rattle.world_cell.proofs.AnswersSent.{answer_stays, plain_answer, told_answer, answered_opens, turned_opens, AreAnswers, answer_at}
+use Rattle.world_cell.proofs.OpensNamed.{answer_opens}
+use Rattle.world_cell.proofs.ConsistentSteps.{noted_fits, agrees_at, expired_rows}
+use Rattle.world_cell.proofs.OwnSteps.{IsOwn, sending, asks_own, beats_own, gives_own}
+use Rattle.world_cell.proofs.WorldCases.{WorldCase}
+use Rattle.world_cell.proofs.WorldCases.WorldCase.{ComesUp, Joins, Asks, Beats, Gives, Ticks, Takes, Sweeps}
+
+-- ---- what a master sends
+
+abbrev Sends : List Message → List ℕ → List Out → Type 0
+Sends sent secret out = AreAnswers (sent ++ map ToClient out) secret out
+
+-- what may not be kept in a cache
+sends_plain : (sent : List Message) (s : MasterState) (client number : ℕ) (result : CallResult) (call : CallMessage) → call_of sent client number ≡ Some call → OpensAs call.call result → Sends sent s.secret (outs.Reply (reply_of s client number result) ∷ [])
+sends_plain sent s client number result call found opens =
+    let reply = reply_of s client number result in
+    (answer_stays sent (ToClient (outs.Reply reply) ∷ []) s.secret reply (plain_answer sent s.secret reply call found refl opens), tt)
+
+sends_again : (sent : List Message) (s : MasterState) (client : ℕ) (kept : Kept Reply) (o : Option Reply) → FitsMessages sent s → kept_of s client ≡ Some kept → kept.reply ≡ o → Sends sent s.secret (repeated_reply o).outs
+sends_again sent s client kept None h is replied = tt
+sends_again sent s client kept (Some reply) h is replied = (answer_stays sent (ToClient (outs.Reply reply) ∷ []) s.secret reply (h.answers client kept reply is replied), tt)
+
+pub taken_answers : (sent : List Message) (s : MasterState) (request : Request) (c : TakeCase s request) → FitsMessages sent s → WasAsked sent request → Sends sent s.secret (taken_by s request c).1.outs
+taken_answers sent s request (StartQueued start is may serving room) h asked = tt
+taken_answers sent s request (BeatParked beat is epoch taken) h asked = tt
+taken_answers sent s request (Repeated message kept heard is same) h asked = sends_again sent s message.client kept kept.reply h is refl
+taken_answers sent s request (Recovering message new recovering) h asked = sends_plain sent s message.client message.number (results.Refused faults.Recovering) message (asked message new.heard.is_call) tt
+taken_answers sent s request (Answered message note answer new serving answered) h asked =
+    subst (λ secret. Sends sent secret (outs.Reply (reply_of (with_note s note) message.client message.number answer) ∷ [])) (secret_note s note)
+    (sends_plain sent (with_note s note) message.client message.number answer message (asked message new.heard.is_call) (answered_opens s message note answer answered))
+taken_answers sent s request (Granted message note answer name new serving may) h asked = (
+  told_answer sent s.secret (stamped_reply (with_note s note) message.client message.number answer) message name (asked message new.heard.is_call)
+      (told_is_shown s message.client message.number message.call name answer may.is_told may.is_answer).0
+      (answer_opens s message.client message.number message.call answer may.is_answer),
+  tt,
+)
+taken_answers sent s request (Waits message note touched new serving admitted) h asked = tt
+taken_answers sent s request _ h asked = (tt, tt)
+
+pub swept_answers : (sent : List Message) (s : MasterState) (c : SweepCase s) → FitsMessages sent s → Sends sent s.secret (swept_by s c).1.outs
+swept_answers sent s (Quiet none) h = tt
+swept_answers sent s (Recovers recovering heard) h = tt
+swept_answers sent s (Expires client session due) h = tt
+swept_answers sent s (OfEnded front back task call turn work gone) h = tt
+swept_answers sent s (Ended front back task call note answer turn work live made) h =
+    sends_plain sent s task.client task.number answer (record { client = task.client; epoch = s.epoch; number = task.number; call = call }) (turn_sent sent s front task back turn h call work) (turned_opens s task.client task.number call _ made)
+swept_answers sent s (Applied front back task call note change answer turn work live made) h =
+    sends_plain sent s task.client task.number answer (record { client = task.client; epoch = s.epoch; number = task.number; call = call }) (turn_sent sent s front task back turn h call work) (turned_opens s task.client task.number call _ made)
+swept_answers sent s _ h = (tt, tt)
+
+-- ---- the cell's secret stays
+
+mod_secret : (rows : Rows) (change : Mod) (next : ℕ) → (changed_rows rows (edit_of change ∷ NextInstance next ∷ [])).secret ≡ rows.secret
+mod_secret rows (Put name view) next = refl
+mod_secret rows (Gone name) next = refl
+
+swept_secret : (rows : Rows) (s : MasterState) (c : SweepCase s) → (changed_rows rows (swept_edits s c)).secret ≡ rows.secret
+swept_secret rows s (Expires client session due) =
+    ap (λ (r : Rows). r.secret) (expired_rows rows (locks_of client s.held_locks) client (record { principal = session.principal; live = false })).1
+swept_secret rows s (Applied front back task call note change answer turn work live made) = mod_secret rows change.change change.next_instance
+swept_secret rows s _ = refl
+
+-- ---- the messages behind a step
+
+-- all replies are answers
+abbrev pub AllAnswer : List Message → List ℕ → Type 0
+AllAnswer sent secret = (at : ℕ) (reply : Reply) → out_at sent at ≡ Some (outs.Reply reply) → IsAnswer sent secret reply
+
+more_answer : (sent : List Message) (out : List Out) (secret : List ℕ) → AllAnswer sent secret → Sends sent secret out → AllAnswer (sent ++ map ToClient out) secret
+more_answer sent out secret h sends at reply is = elim (out_more sent (map ToClient out) at (outs.Reply reply) is) [
+  | inl a ↦ answer_stays sent (map ToClient out) secret reply (h at reply a)
+  | inr b ↦ answer_at (sent ++ map ToClient out) secret out b.0 reply sends (out_among out b.0 (outs.Reply reply) b.1)
+]
+
+asked_answer : (sent : List Message) (o : Option Request) (secret : List ℕ) → AllAnswer sent secret → AllAnswer (sent ++ sending o) secret
+asked_answer sent None secret h at reply is = elim (out_more sent [] at (outs.Reply reply) is) [
+  | inl a ↦ answer_stays sent [] secret reply (h at reply a)
+  | inr b ↦ cc
+]
+asked_answer sent (Some request) secret h at reply is = elim (out_more sent (ToMaster request ∷ []) at (outs.Reply reply) is) [
+  | inl a ↦ answer_stays sent (ToMaster request ∷ []) secret reply (h at reply a)
+  | inr b ↦ absurd (one_no_out request (outs.Reply reply) b.0 b.1)
+]
+
+-- ---- a step
+
+abbrev pub AllReplied : WorldState → Type 0
+AllReplied w = AllAnswer w.messages w.rows.secret
+
+own_answers : (old new : WorldState) (printed : List Line) → AllReplied old → IsOwn old new printed → AllReplied new
+own_answers old new printed h o =
+    subst (λ (m : List Message). AllAnswer m new.rows.secret) (sym o.grown)
+    (subst (λ (secret : List ℕ). AllAnswer (old.messages ++ sending o.sent) secret) (sym (ap (λ (w : WorldState). w.rows.secret) o.is)) (asked_answer old.messages o.sent old.rows.secret h))
+
+secret_at : (w : WorldState) → IsConsistent w → (s : MasterState) → w.master ≡ Some s → s.secret ≡ w.rows.secret
+secret_at w h s up = (agrees_at w w.master s up h.master).secret
+
+pub replies_answer : (old : WorldState) (step : Step) (new : WorldState) (printed : List Line) → IsConsistent old → WorldCase old step new printed → AllReplied new
+replies_answer old step new printed h (ComesUp u) = subst AllReplied (sym u.is) h.answers
+replies_answer old step new printed h (Joins j) = subst AllReplied (sym j.is) h.answers
+replies_answer old step new printed h (Asks a) = own_answers old new printed h.answers (asks_own old step new printed a)
+replies_answer old step new printed h (Beats b) = own_answers old new printed h.answers (beats_own old step new printed b)
+replies_answer old step new printed h (Gives g) = own_answers old new printed h.answers (gives_own old step new printed g)
+replies_answer old step new printed h (Ticks t) = subst AllReplied (sym t.is) h.answers
+replies_answer old step new printed h (Takes t) =
+    let s = noted t.master old.clock in
+    let asked = λ (call : CallMessage) (e : t.request ≡ requests.Call call). h.named t.at call (t.was_sent ∙ ap (λ r. Some r) e) in
+    subst AllReplied (sym t.is) (more_answer old.messages (taken_by s t.request t.case).1.outs old.rows.secret h.answers
+    (subst (λ (secret : List ℕ). Sends old.messages secret (taken_by s t.request t.case).1.outs) (secret_at old h t.master t.is_up) (taken_answers old.messages s t.request t.case (noted_fits old h t.master t.is_up) asked)))
+replies_answer old step new printed h (Sweeps t) =
+    let s = noted t.master old.clock in
+    subst AllReplied (sym t.is) (subst (λ (secret : List ℕ). AllAnswer (old.messages ++ map ToClient (swept_by s t.case).1.outs) secret) (sym (swept_secret old.rows s t.case))
+    (more_answer old.messages (swept_by s t.case).1.outs old.rows.secret h.answers
+    (subst (λ (secret : List ℕ). Sends old.messages secret (swept_by s t.case).1.outs) (secret_at old h t.master t.is_up) (swept_answers old.messages s t.case (noted_fits old h t.master t.is_up)))))
