@@ -15,6 +15,8 @@ use Rattle.tags_cell.specs.declared.outs.CallResult.{CallResult}
 use Rattle.tags_cell.specs.declared.outs.CallResult.TheVariants as results
 use Rattle.tags_cell.specs.declared.outs.NewHandle.{NewHandle}
 use Rattle.tags_cell.specs.declared.outs.Started.{Started}
+use Rattle.tags_cell.specs.declared.outs.Refused.{Refused}
+use Rattle.node_core.specs.declared.refusals.Fault.TheVariants as faults
 use Rattle.session_core.specs.declared.records.Kept.{Kept}
 use Rattle.session_core.specs.declared.records.Session.{Session}
 use Rattle.tags_cell.specs.declared.outs.Reply.{Reply}
@@ -203,6 +205,8 @@ pub record IsConsistent (w : WorldState) : Type 0 where
   pub sent : (client number : ℕ) (call : CallMessage) → call_of w.messages client number ≡ Some call → HasSent w client number call
   -- no session was granted in an epoch to come
   pub started : (at : ℕ) (started : Started) → out_at w.messages at ≡ Some (outs.Started started) → started.epoch ≤ w.rows.epoch
+  -- nor was any client told of such an epoch
+  pub told : (at present : ℕ) (refused : Refused) → out_at w.messages at ≡ Some (outs.Refused refused) → refused.fault ≡ faults.OldEpoch present → present ≤ w.rows.epoch
   -- each reply is to a call
   pub answers : (at : ℕ) (reply : Reply) → out_at w.messages at ≡ Some (outs.Reply reply) → IsAnswer w.messages w.rows.secret reply
   -- the master, where one is up, agrees with the rows
