@@ -9,3 +9,4 @@ pub mod Calls
 pub mod Opens
 pub mod Targets
 pub mod Invalidations
+pub mod Events
