@@ -1,18 +1,15 @@
 -- The events that an Alive carries.
-use Rattle.std.specs.Prelude.{ℕ, ◌+◌, ◌==◌, ◌&&◌, nat_lt, nat_le, Bool, true, List, [], ◌∷◌, if◌then◌else◌}
+use Rattle.std.specs.Prelude.{ℕ, nat_lt, Bool, List, [], ◌∷◌, map, if◌then◌else◌}
 use Rattle.node_core.specs.declared.lines.Line.{Line}
 use Rattle.node_core.specs.declared.lines.Line.TheVariants as lines
 use Rattle.tags_cell.specs.declared.beats.NumberedEvent.{NumberedEvent}
+use Rattle.client_parts.specs.InOrder.{are_in_order}
 
--- each number is one more than the one before
-abbrev pub events_follow : ℕ → List NumberedEvent → Bool
-events_follow last [] = true
-events_follow last (next ∷ others) = next.number == last + 1 && events_follow next.number others
+abbrev pub event_numbers : List NumberedEvent → List ℕ
+event_numbers events = map (λ (next : NumberedEvent). next.number) events
 
--- they rise by one, and begin at most one above what was processed
 abbrev pub are_events_in_order : ℕ → List NumberedEvent → Bool
-are_events_in_order processed [] = true
-are_events_in_order processed (first ∷ others) = nat_le first.number (processed + 1) && events_follow first.number others
+are_events_in_order processed events = are_in_order processed (event_numbers events)
 
 -- the last number, or this one where there is none
 abbrev pub last_event : ℕ → List NumberedEvent → ℕ
