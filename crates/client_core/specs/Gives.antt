@@ -258,12 +258,13 @@ unknown_lines client (Some call) = unknown_line client call call.target
 abbrev pub learned : ClientState → ℕ → ClientState
 learned s epoch = record s { epoch = epoch; processed = 0; heard = 0; cache = record s.cache { entries = [] }; outstanding = None }
 
-abbrev pub learn_step : ClientState → ℕ → Refused → Option ℕ → ClientState × Result Given Fault
-learn_step s moment message None = lose_step s moment (session_after (session_then s moment) s.epoch message.epoch message.fault)
-learn_step s moment message (Some present) = (learned (note s moment) present, Ok (told s moment (unknown_lines s.number s.outstanding) None))
+-- else the session may be lost
+abbrev pub learn_step : ClientState → ℕ → Option Session → Option ℕ → ClientState × Result Given Fault
+learn_step s moment after None = lose_step s moment after
+learn_step s moment after (Some present) = (learned (note s moment) present, Ok (told s moment (unknown_lines s.number s.outstanding) None))
 
 abbrev pub refused_step : ClientState → ℕ → Refused → ClientState × Result Given Fault
-refused_step s moment message = learn_step s moment message (later_epoch s moment message.fault)
+refused_step s moment message = learn_step s moment (session_after (session_then s moment) s.epoch message.epoch message.fault) (later_epoch s moment message.fault)
 
 -- ---- every message
 

@@ -74,7 +74,12 @@ impl Client {
         ensures { IfOk result (λ lines. lines ≡ note_lines self.now moment ++ event_lines self.now.number self.now.heard alive.now.events) }
     {
         let lines = self.note_lines(moment)?;
-        with_events(lines, self.number.get(), self.heard, alive.events.as_slice())
+        with_events(
+            lines,
+            self.number.get(),
+            self.heard,
+            alive.events.as_slice(),
+        )
     }
 
     // The lines that there may be are made before anything changes.
