@@ -21,6 +21,9 @@ use Rattle.session_core.specs.declared.records.Session.{Session}
 abbrev pub nothing_issued : Tally
 nothing_issued = record { issued = 0; acknowledged = 0 }
 
+abbrev pub one_more : Tally → Tally
+one_more tally = record tally { issued = tally.issued + 1 }
+
 -- a session of which this master knows no Beat and no call
 abbrev pub session_until : {K : Type 0} → List ℕ → Bool → ℕ → Session K
 session_until principal live timeout = record {
@@ -35,8 +38,13 @@ session_until principal live timeout = record {
 }
 
 -- a session as a new master finds it in the rows
+-- to a live one it issues its first event, which tells that a new master is up
+abbrev pub first_issued : Bool → Tally
+first_issued true = one_more nothing_issued
+first_issued false = nothing_issued
+
 abbrev pub recovered_session : {K : Type 0} → List ℕ → Bool → ℕ → Session K
-recovered_session principal live now = session_until principal live (now + recovery_timeout)
+recovered_session principal live now = record (session_until principal live (now + recovery_timeout)) { events = first_issued live }
 
 -- a client without a session may start, and one with a live session of the same principal
 abbrev pub may_start : {K : Type 0} → Option (Session K) → List ℕ → Bool
@@ -65,9 +73,6 @@ is_owing tally = nat_lt tally.acknowledged tally.issued
 -- an older acknowledgement takes nothing back
 abbrev pub acknowledged_to : ℕ → Tally → Tally
 acknowledged_to count tally = record tally { acknowledged = max tally.acknowledged count }
-
-abbrev pub one_more : Tally → Tally
-one_more tally = record tally { issued = tally.issued + 1 }
 
 abbrev pub tally_of : {K : Type 0} → Issued → Session K → Tally
 tally_of kinds.Invalidation session = session.invalidations
