@@ -37,12 +37,12 @@ session_until principal live timeout = record {
   kept = None;
 }
 
--- a session as a new master finds it in the rows
--- to a live one it issues its first event, which tells that a new master is up
+-- to a live session a new master issues its first event, which tells that it is up
 abbrev pub first_issued : Bool → Tally
 first_issued true = one_more nothing_issued
 first_issued false = nothing_issued
 
+-- a session as a new master finds it in the rows
 abbrev pub recovered_session : {K : Type 0} → List ℕ → Bool → ℕ → Session K
 recovered_session principal live now = record (session_until principal live (now + recovery_timeout)) { events = first_issued live }
 
