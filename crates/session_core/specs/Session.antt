@@ -21,9 +21,6 @@ use Rattle.session_core.specs.declared.records.Session.{Session}
 abbrev pub nothing_issued : Tally
 nothing_issued = record { issued = 0; acknowledged = 0 }
 
-abbrev pub one_more : Tally → Tally
-one_more tally = record tally { issued = tally.issued + 1 }
-
 -- a session of which this master knows no Beat and no call
 abbrev pub session_until : {K : Type 0} → List ℕ → Bool → ℕ → Session K
 session_until principal live timeout = record {
@@ -39,8 +36,7 @@ session_until principal live timeout = record {
 
 -- to a live session a new master issues its first event, which tells that it is up
 abbrev pub first_issued : Bool → Tally
-first_issued true = one_more nothing_issued
-first_issued false = nothing_issued
+first_issued live = record nothing_issued { issued = if live then 1 else 0 }
 
 -- a session as a new master finds it in the rows
 abbrev pub recovered_session : {K : Type 0} → List ℕ → Bool → ℕ → Session K
@@ -73,6 +69,9 @@ is_owing tally = nat_lt tally.acknowledged tally.issued
 -- an older acknowledgement takes nothing back
 abbrev pub acknowledged_to : ℕ → Tally → Tally
 acknowledged_to count tally = record tally { acknowledged = max tally.acknowledged count }
+
+abbrev pub one_more : Tally → Tally
+one_more tally = record tally { issued = tally.issued + 1 }
 
 abbrev pub tally_of : {K : Type 0} → Issued → Session K → Tally
 tally_of kinds.Invalidation session = session.invalidations
