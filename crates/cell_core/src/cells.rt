@@ -126,7 +126,7 @@ impl Cell {
         &self.sessions
     }
 
-    /// Whether some session of an earlier master has neither been heard from nor expired.
+    /// Whether some session of an earlier master has neither acknowledged its first event nor expired.
     pub fn recovering(&self) -> bool
         ensures { result ≡ self.now.recovering }
     {

@@ -5,8 +5,8 @@ use Rattle.node_core.specs.declared.refusals.Fault.{Fault}
 use Rattle.node_core.specs.declared.refusals.Fault.TheVariants as faults
 use Rattle.node_core.specs.declared.lines.Line.{Line}
 use Rattle.node_core.specs.declared.lines.Line.TheVariants as lines
-use Rattle.rows_cell.specs.declared.tables.Edit.{Edit}
 use Rattle.node_core.specs.declared.events.Event.TheVariants as events
+use Rattle.rows_cell.specs.declared.tables.Edit.{Edit}
 use Rattle.tags_cell.specs.declared.beats.Invalidation.{Invalidation}
 use Rattle.tags_cell.specs.declared.beats.NumberedEvent.{NumberedEvent}
 use Rattle.tags_cell.specs.declared.outs.Out.{Out}
@@ -15,8 +15,8 @@ use Rattle.tags_cell.specs.declared.calls.Call.{Call}
 use Rattle.rights_core.specs.declared.endings.Ending.TheVariants as endings
 use Rattle.rights_core.specs.Rights.{numbers_ending, unacked_of}
 use Rattle.session_core.specs.declared.records.Offer.{Offer}
-use Rattle.session_core.specs.Session.{is_owing, is_client_expired, is_client_due, offered_span}
-use Rattle.session_core.specs.Sessions.{all_heard, lowest, offer_of}
+use Rattle.session_core.specs.Session.{is_client_expired, is_client_due, offered_span}
+use Rattle.session_core.specs.Sessions.{owes_event, all_heard, lowest, offer_of}
 use Rattle.cell_core.specs.declared.deeds.Deed.{Deed}
 use Rattle.cell_core.specs.declared.deeds.SessionDeed.{SessionDeed}
 use Rattle.cell_core.specs.declared.deeds.SessionDeed.TheVariants.{Begins, Prolongs, Ends, Answers}
@@ -133,7 +133,7 @@ first_event = record { number = 1; event = events.FailOver }
 
 -- those that the client has still to acknowledge, in order of their numbers
 abbrev pub events_for : MasterState → ℕ → List NumberedEvent
-events_for s client = if option_map_or (λ session. is_owing session.events) (session_of s client) false then first_event ∷ [] else []
+events_for s client = if owes_event s.sessions client then first_event ∷ [] else []
 
 -- the session lives for a lease from now on
 abbrev pub alive_out : MasterState → ℕ → Offer → Out
