@@ -11,6 +11,7 @@ mod notes;
 mod offers;
 mod plans;
 mod poisons;
+mod refusals;
 mod replies;
 mod serves;
 
