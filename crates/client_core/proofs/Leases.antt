@@ -322,15 +322,20 @@ abbrev request_of : Result Beaten Fault → Option Request
 request_of (Ok beaten) = beaten.request
 request_of (Err fault) = None
 
-acknowledges : (s : ClientState) (now : ℕ) (beat : BeatMessage) (c : BeatCase s now) → request_of (beaten_in s now c).1 ≡ Some (requests.Beat beat) → beat.invalidations ≡ s.processed
+-- what was processed
+pub record Acknowledges (s : ClientState) (beat : BeatMessage) : Type 0 where
+  pub invalidations : beat.invalidations ≡ s.processed
+  pub events : beat.events ≡ s.heard
+
+acknowledges : (s : ClientState) (now : ℕ) (beat : BeatMessage) (c : BeatCase s now) → request_of (beaten_in s now c).1 ≡ Some (requests.Beat beat) → Acknowledges s beat
 acknowledges s now beat (BeatTooLate late) h = cc
 acknowledges s now beat (OutOfBeats early last) h = cc
 acknowledges s now beat (Starts early unstarted room) h = cc
-acknowledges s now beat (Beats early live then room) h = cc
+acknowledges s now beat (Beats early live then room) h = record { invalidations = cc; events = cc }
 acknowledges s now beat (Quiet early started live) h = cc
 
 -- a Beat acknowledges what was processed
-pub beat_acknowledges : (s : ClientState) (now : ℕ) (beat : BeatMessage) → request_of (beat_step s now).1 ≡ Some (requests.Beat beat) → beat.invalidations ≡ s.processed
+pub beat_acknowledges : (s : ClientState) (now : ℕ) (beat : BeatMessage) → request_of (beat_step s now).1 ≡ Some (requests.Beat beat) → Acknowledges s beat
 beat_acknowledges s now beat h = let c = beat_case s now in acknowledges s now beat c.0 (ap (λ p. request_of p.1) (sym c.1) ∙ h)
 
 -- ---- the epoch before the first session
@@ -362,3 +367,17 @@ no_epoch_behind s new now out (LeasePassed message is fit session epoch processe
 
 pub give_keeps_no_epoch : (s : ClientState) (now : ℕ) (out : Out) → HasNoEpoch s → HasNoEpoch (give_step s now out).0
 give_keeps_no_epoch s now out h = no_epoch_behind s (give_step s now out).0 now out (give_lease s now out) h
+
+-- ---- the epoch rises
+
+rises_by : (s new : ClientState) (now : ℕ) (out : Out) → LeaseDoes s now out new → HasNoEpoch s → s.epoch ≤ new.epoch
+rises_by s new now out (LeaseKept kept) h = omega (arith, kept.epoch)
+rises_by s new now out (LeaseLeft standing live epoch processed lease) h = omega (arith, epoch)
+rises_by s new now out (LeaseCarried message present is later session epoch processed lease) h = omega (arith, epoch, later.later)
+rises_by s new now out (LeaseBegun message is standing fits live epoch processed lease) h = omega (arith, h standing.unstarted)
+rises_by s new now out (LeaseBettered message is fit taken session epoch processed lease) h = omega (arith, epoch)
+rises_by s new now out (LeasePassed message is fit session epoch processed lease) h = omega (arith, epoch)
+
+-- no message takes a client back into an earlier epoch
+pub give_epoch_rises : (s : ClientState) (now : ℕ) (out : Out) → HasNoEpoch s → s.epoch ≤ (give_step s now out).0.epoch
+give_epoch_rises s now out h = rises_by s (give_step s now out).0 now out (give_lease s now out) h

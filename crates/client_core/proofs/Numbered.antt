@@ -1,6 +1,6 @@
 -- What the steps make of the handle numbers, of a reply that comes again, and of what is refused: each by the cases of the step.
 use Rattle.std.proofs.Common.{◌≡◌, ◌≢◌, ◌⊎◌, inl, inr, ℕ, ◌+◌, ◌<◌, ◌≤◌, Bool, true, false, cond, List, [], ◌∷◌, ◌++◌, Option, Some, None, Result, Ok, Err, refl, sym, ap, ◌∙◌, arith}
-use Rattle.std.specs.Prelude.{◌==◌, ◌&&◌, nat_lt}
+use Rattle.std.specs.Prelude.{◌==◌, ◌&&◌}
 use Rattle.std.specs.Option.{option_to_list}
 use Rattle.std.proofs.lemmas.Bool.Decides.{nat_tests}
 use Rattle.lease_core.specs.Lease.{moment_limit}
@@ -29,19 +29,19 @@ use Rattle.client_parts.specs.declared.sessions.Session.{Session}
 use Rattle.client_parts.specs.declared.sessions.Session.TheVariants as sessions
 use Rattle.client_parts.specs.declared.steps.Given.{Given}
 use Rattle.client_parts.specs.declared.targets.Target.{Target}
-use Rattle.client_parts.specs.declared.targets.Target.TheVariants as targets
 use Rattle.client_parts.specs.declared.targets.Outstanding.{Outstanding}
 use Rattle.client_core.specs.State.{ClientState, standing_then, session_then, note, note_live, note_lines_in, note_lines}
 use Rattle.client_parts.specs.Opens.{read_answer}
 use Rattle.client_parts.specs.Events.{event_lines}
 use Rattle.client_core.specs.Lessons.{Lesson, may_install, taught}
-use Rattle.client_core.specs.Gives.{is_live, passed_over, target_for, awaited, answer_of, ended_plainly, unknown_line, unknown_lines}
+use Rattle.client_core.specs.Gives.{is_live, passed_over, target_for, awaited, answer_of, ended_plainly, unknown_lines}
 use Rattle.client_core.specs.Laws.{HandleNumbersRise, SharedNumbersRise, HandleNumbersStay, RepeatedReplyIsDropped, RefusedCallChangesNothing}
 use Rattle.client_core.specs.Cases.{noted_moment, IsSafe, IsAwaited, AskCase, asked_in, BeatCase, beaten_in, GiveCase, given_in}
 use Rattle.client_core.specs.Cases.AskCase.{AskedTooLate, Unsafe, Refused, ReadServed, AbsenceServed, Shared, OutOfHandles, Released, OutOfCalls, Sent, Poisoned}
 use Rattle.client_core.specs.Cases.BeatCase.{BeatTooLate, OutOfBeats, Starts, Beats, Quiet}
 use Rattle.client_core.specs.Cases.GiveCase.{GivenTooLate, OfAnother, Started, StartedUnfit, StartedDropped, LeaseTaken, LeaseStays, AliveUnfit, AliveDropped, OutOfNumbers, Replied, Installed, ReplyDropped, NotAwaited, Learns, Lost, TurnedAway, RefusalDropped}
 use Rattle.client_core.proofs.Noting.{Relies, relied_note, relied_lines, live_before, note_number, note_clock, note_epoch, note_outstanding, note_opened, note_session}
+use Rattle.client_core.proofs.Printed.{events_hold, unknown_holds}
 use Rattle.client_core.proofs.AskCases.{ask_case, beat_case}
 use Rattle.client_core.proofs.GiveCases.{taught_if, give_case}
 
@@ -104,24 +104,15 @@ note_silent s sessions.Live moment = turn_silent s.number s.standing (standing_t
 note_silent s sessions.Lost moment = tt
 note_silent s sessions.TurnedAway moment = tt
 
--- what may be printed before others
-before_silent : (b : Bool) (line : Line) (others : List Line) → gives_handle line ≡ false → AreSilent others → AreSilent (cond b (line ∷ others) others)
-before_silent true line others h k = (h, k)
-before_silent false line others h k = k
+safe_silent : (b : Bool) (number : ℕ) → AreSilent (cond b (lines.Safe number ∷ []) [])
+safe_silent true number = (refl, tt)
+safe_silent false number = tt
 
 event_silent : (number processed : ℕ) (events : List NumberedEvent) → AreSilent (event_lines number processed events)
-event_silent number processed [] = tt
-event_silent number processed (next ∷ others) = before_silent (nat_lt processed next.number) (lines.Told number next.event) (event_lines number processed others) refl (event_silent number processed others)
-
-unknown_by : (number : ℕ) (call : Outstanding) (target : Target) → AreSilent (unknown_line number call target)
-unknown_by number call targets.NewHandle = (refl, tt)
-unknown_by number call (targets.Closing handle) = (refl, tt)
-unknown_by number call (targets.Handle handle) = (refl, tt)
-unknown_by number call targets.Dropped = tt
+event_silent number processed events = events_hold AreSilent number processed events tt (λ event others h. (refl, h))
 
 unknown_silent : (number : ℕ) (o : Option Outstanding) → AreSilent (unknown_lines number o)
-unknown_silent number None = tt
-unknown_silent number (Some call) = unknown_by number call call.target
+unknown_silent number o = unknown_holds AreSilent number o tt (λ call. (refl, tt))
 
 -- nor does the noting of the time
 silent : (s : ClientState) (moment client call handle : ℕ) (more : List Line) (X : Type 0) → AreSilent more → Ends (note_lines s moment ++ more) (lines.Done client call (answers.Opened handle)) → X
@@ -166,7 +157,7 @@ rises_in s new now client call handle out (Started message heard is standing fit
 rises_in s new now client call handle out (StartedUnfit message heard is standing long) h told = silent s (noted_moment s now) client call handle [] _ tt told
 rises_in s new now client call handle out (StartedDropped message heard is old) h told = silent s (noted_moment s now) client call handle [] _ tt told
 rises_in s new now client call handle out (LeaseTaken message heard is fit taken) h told =
-    silent s (noted_moment s now) client call handle _ _ (both_silent (event_lines s.number s.heard message.events) _ (event_silent s.number s.heard message.events) (before_silent _ (lines.Safe s.number) [] refl tt)) told
+    silent s (noted_moment s now) client call handle _ _ (both_silent (event_lines s.number s.heard message.events) _ (event_silent s.number s.heard message.events) (safe_silent _ s.number)) told
 rises_in s new now client call handle out (LeaseStays message heard is fit worse) h told = silent s (noted_moment s now) client call handle _ _ (event_silent s.number s.heard message.events) told
 rises_in s new now client call handle out (AliveUnfit message heard is alive unfit) h told = silent s (noted_moment s now) client call handle [] _ tt told
 rises_in s new now client call handle out (AliveDropped message heard is strange) h told = silent s (noted_moment s now) client call handle [] _ tt told

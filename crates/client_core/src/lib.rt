@@ -5,6 +5,7 @@
 
 mod calls;
 mod client;
+mod epochs;
 mod laws;
 mod lessons;
 mod notes;

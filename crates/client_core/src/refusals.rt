@@ -1,15 +1,14 @@
 //! A client is given a refusal.
-ghost use Rattle.std.specs.Prelude.{◌≡◌, ◌++◌, None, OnOk, OnErr, IfOk, Ok};
+ghost use Rattle.std.specs.Prelude.{◌≡◌, OnErr, IfOk, Ok};
 ghost use Rattle.lease_core.specs.Lease.{IsMoment};
 ghost use Rattle.client_parts.specs.Sessions.{session_after};
-ghost use Rattle.client_core.specs.State.{session_then, note, note_lines};
-ghost use Rattle.client_core.specs.Gives.{told, lost, lose_step, later_epoch, unknown_lines, learned, refused_step};
+ghost use Rattle.client_core.specs.State.{session_then};
+ghost use Rattle.client_core.specs.Gives.{lost, lose_step, refused_step};
 
 use crate::client::Client;
 use cache_core::Standing;
-use client_parts::{Given, Session, Target, pushed};
-use node_core::{Answer, Fault, Line};
-use plain::Items;
+use client_parts::{Given, Session, pushed};
+use node_core::Line;
 use std::alloc::AllocError;
 use tags_cell::Refused;
 
@@ -28,64 +27,6 @@ impl Client {
             Some(present) => self.learn(moment, present),
             None => self.take_loss(moment, refused),
         }
-    }
-
-    // The master's epoch, where the refusal tells of a later one than the client's, in its session.
-    fn later_epoch(&self, moment: u64, fault: Fault) -> Option<u64>
-        ensures { result ≡ later_epoch self.now moment fault }
-    {
-        let Fault::OldEpoch(present) = fault else {
-            return None;
-        };
-        if self.session_then(moment) == Session::Live && self.epoch < present {
-            Some(present)
-        } else {
-            None
-        }
-    }
-
-    // Tells how the outstanding call ends, and takes the epoch.
-    fn learn(&mut self, moment: u64, present: u64) -> Result<Given, AllocError>
-        requires { IsMoment moment }
-        ensures told { IfOk result (λ given. given ≡ told self.old moment (unknown_lines self.old.number self.old.outstanding) None) }
-        ensures ok { OnOk result (self.new ≡ learned (note self.old moment) present) }
-        ensures err { OnErr result (self.new ≡ self.old) }
-    {
-        let lines = self.learn_lines(moment)?;
-        self.note(moment);
-        self.take_epoch(present);
-        Ok(Given {
-            lines,
-            refused: None,
-        })
-    }
-
-    // What the noting of the time prints, and that nobody knows what became of the outstanding call. One whose reply is
-    // dropped was told of before.
-    fn learn_lines(&self, moment: u64) -> Result<Items<Line>, AllocError>
-        ensures { IfOk result (λ lines. lines ≡ note_lines self.now moment ++ unknown_lines self.now.number self.now.outstanding) }
-    {
-        let lines = self.note_lines(moment)?;
-        let Some(call) = &self.outstanding else {
-            return Ok(lines);
-        };
-        if call.target == Target::Dropped {
-            return Ok(lines);
-        }
-        let answer = Answer::Refused(Fault::Unknown);
-        let number = call.request.number().get();
-        pushed(lines, Line::Done(self.number.get(), number, answer))
-    }
-
-    // Of the new master nothing is cached and nothing was processed yet.
-    fn take_epoch(&mut self, present: u64)
-        ensures { self.new ≡ learned self.old present }
-    {
-        self.epoch = present;
-        self.processed = 0;
-        self.heard = 0;
-        self.cache.clear();
-        self.end();
     }
 
     // Ends the session, where the master of a refusal knows none.
