@@ -7,6 +7,7 @@ pub(crate) const VERSION: &str = "0.1.0";
 pub(crate) const SCRIPTS: &str = "\
 Steps, one a line, with one space between two words; blank lines and lines that begin with # are skipped:
   up M              a master comes up, its clock at M milliseconds
+  down              the master is gone; the rows stay
   tick DM DK [C:DK]...
                     the master's clock moves by DM, that of client C by its own DK, those of all other clients by the first
   join C PRINCIPAL  client C joins and acts for the principal

@@ -71,3 +71,4 @@ tick_out word rest is (steps.Beat n) w = absurd (other (codes "tick") (codes "be
 tick_out word rest is (steps.Take n) w = absurd (other (codes "tick") (codes "take") refl is w.0)
 tick_out word rest is (steps.Give n) w = absurd (other (codes "tick") (codes "give") refl is w.0)
 tick_out word rest is steps.Sweep w = absurd (other (codes "tick") (codes "sweep") refl is w.0)
+tick_out word rest is steps.Down w = absurd (other (codes "tick") (codes "down") refl is w.0)

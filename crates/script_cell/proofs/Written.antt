@@ -318,6 +318,7 @@ ask_out words rest client word shape (steps.Tick ticks) w = absurd (other (codes
 ask_out words rest client word shape (steps.Take n) w = absurd (other (codes "ask") (codes "take") refl refl w.0)
 ask_out words rest client word shape (steps.Give n) w = absurd (other (codes "ask") (codes "give") refl refl w.0)
 ask_out words rest client word shape steps.Sweep w = absurd (other (codes "ask") (codes "sweep") refl refl w.0)
+ask_out words rest client word shape steps.Down w = absurd (other (codes "ask") (codes "down") refl refl w.0)
 
 pub ask_written : (words rest : List (List ℕ)) (client word : List ℕ) (n : ℕ) (call : Ask) → decimal n ≡ client → IsNumber n → words ≡ client ∷ (word ∷ rest) → WritesCall word rest call → WritesStep (codes "ask") words (steps.Ask n call)
 ask_written words rest client word n call is small shape w = (refl, (word, rest, shape ∙ ap (λ x. x ∷ (word ∷ rest)) (sym is), (small, w)))
@@ -345,3 +346,4 @@ no_client words client principal n is small none shape (steps.Tick ticks) w = ot
 no_client words client principal n is small none shape (steps.Take m) w = other (codes "join") (codes "take") refl refl w.0
 no_client words client principal n is small none shape (steps.Give m) w = other (codes "join") (codes "give") refl refl w.0
 no_client words client principal n is small none shape steps.Sweep w = other (codes "join") (codes "sweep") refl refl w.0
+no_client words client principal n is small none shape steps.Down w = other (codes "join") (codes "down") refl refl w.0

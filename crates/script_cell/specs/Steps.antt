@@ -138,6 +138,7 @@ WritesStep word rest (steps.Tick ticks) = (word ≡ codes "tick") × WritesTicks
 WritesStep word rest (steps.Take message) = (word ≡ codes "take") × WritesNumber rest message
 WritesStep word rest (steps.Give message) = (word ≡ codes "give") × WritesNumber rest message
 WritesStep word rest steps.Sweep = (word ≡ codes "sweep") × (rest ≡ [])
+WritesStep word rest steps.Down = (word ≡ codes "down") × (rest ≡ [])
 
 abbrev pub WritesWords : List (List ℕ) → Step → Type 0
 WritesWords [] step = ⊥

@@ -112,6 +112,7 @@ fn step_of(alloc: Global, word: &str, rest: &[&str]) -> Result<Step, Flaw>
         "take" => Ok(Step::Take(only_number(rest)?)),
         "give" => Ok(Step::Give(only_number(rest)?)),
         "sweep" if rest.is_empty() => Ok(Step::Sweep),
+        "down" if rest.is_empty() => Ok(Step::Down),
         _ => Err(Flaw::Bad),
     }
 }

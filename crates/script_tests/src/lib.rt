@@ -4,6 +4,8 @@
 #[cfg(test)]
 mod caches;
 #[cfg(test)]
+mod fail_overs;
+#[cfg(test)]
 mod leases;
 #[cfg(test)]
 mod masters;

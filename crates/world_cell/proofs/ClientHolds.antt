@@ -1,11 +1,11 @@
 -- What a client holds of its cache, of its handles and of its call stays as it should, whatever it is asked for and given.
-use Rattle.std.proofs.Common.{◌≡◌, ◌≢◌, ℕ, ◌+◌, ◌≤◌, Bool, true, false, cond, List, [], ◌∷◌, ◌++◌, Option, Some, None, Result, Ok, Err, refl, sym, ap, ◌∙◌, subst, arith, drop}
+use Rattle.std.proofs.Common.{◌≡◌, ℕ, ◌+◌, ◌≤◌, Bool, true, false, cond, List, [], ◌∷◌, ◌++◌, Option, Some, None, Result, Ok, Err, refl, sym, ap, ◌∙◌, subst, arith, drop}
 use Rattle.std.specs.Prelude.{nat_lt, length, is_some}
 use Rattle.std.specs.Cmp.{nat_cmp_total}
 use Rattle.std.specs.List.{AllByRecursion, IsDistinct}
 use Rattle.std.specs.List.Sorted.{IsStrictlySortedBy}
 use Rattle.std.specs.Option.{option_map}
-use Rattle.std.specs.Map.{keys_of, set_value, remove_entry}
+use Rattle.std.specs.Map.{keys_of, remove_entry}
 use Rattle.std.specs.BTreeMap.{is_at, insert_entry}
 use Rattle.std.specs.Ordering.{nat_cmp}
 use Rattle.std.proofs.lemmas.Map.{keys-set_value}
@@ -18,7 +18,6 @@ use Rattle.tags_cell.specs.Handles.{name_in}
 use Rattle.tags_cell.specs.declared.calls.Call.{Call}
 use Rattle.tags_cell.specs.declared.calls.Call.TheVariants as calls
 use Rattle.tags_cell.specs.declared.calls.Open.{Open}
-use Rattle.tags_cell.specs.declared.requests.Request.TheVariants as requests
 use Rattle.tags_cell.specs.declared.requests.CallMessage.{CallMessage}
 use Rattle.tags_cell.specs.declared.outs.Out.{Out}
 use Rattle.tags_cell.specs.declared.outs.Reply.{Reply}
@@ -54,7 +53,7 @@ use Rattle.client_core.specs.Lessons.{opening_of}
 use Rattle.client_core.specs.Gives.{closed, handles_behind, kept_behind, ended_plainly}
 use Rattle.client_core.specs.Cases.{AskCase, asked_in, BeatCase, beaten_in, GiveCase, given_in}
 use Rattle.client_core.proofs.Leases.{LeaseDoes, asked_keeps, beaten_keeps_session, given_lease, unstarted_stays}
-use Rattle.client_core.proofs.Leases.LeaseDoes.{LeaseKept, LeaseLeft, LeaseBegun, LeaseBettered, LeasePassed}
+use Rattle.client_core.proofs.Leases.LeaseDoes.{LeaseKept, LeaseLeft, LeaseCarried, LeaseBegun, LeaseBettered, LeasePassed}
 use Rattle.client_core.proofs.OneEntry.{EntryDoes, none_stays, asked_stays, beaten_stays, given_entry}
 use Rattle.client_core.proofs.OneEntry.EntryDoes.{EntryStays, EntryInstalled}
 use Rattle.world_cell.specs.declared.mail.Message.{Message}
@@ -424,6 +423,7 @@ module _ (sent later : List Message) (s : ClientState) (now : ℕ) (h : Holds se
   session_back : (out : Out) (new : ClientState) → LeaseDoes s now out new → new.session ≡ sessions.Unstarted → s.session ≡ sessions.Unstarted
   session_back out new (LeaseKept kept) e = unstarted_stays s new kept.session e
   session_back out new (LeaseLeft standing live epoch processed lease) e = absurd (standing e)
+  session_back out new (LeaseCarried message present is later session epoch processed lease) e = sym session ∙ e
   session_back out new (LeaseBegun message is standing fits live epoch processed lease) e = let two : sessions.Live ≡ sessions.Unstarted = sym live ∙ e in cc
   session_back out new (LeaseBettered message is fit taken session epoch processed lease) e = sym session ∙ e
   session_back out new (LeasePassed message is fit session epoch processed lease) e = sym session ∙ e

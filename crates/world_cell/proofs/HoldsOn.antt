@@ -1,5 +1,5 @@
 -- Of a consistent world, behind each step, each client holds what it should.
-use Rattle.std.proofs.Common.{◌≡◌, ℕ, ◌+◌, true, List, [], ◌∷◌, ◌++◌, Option, Some, None, refl, sym, ap, ◌∙◌, subst}
+use Rattle.std.proofs.Common.{◌≡◌, ℕ, ◌+◌, true, List, [], ◌∷◌, ◌++◌, Some, None, refl, sym, ap, ◌∙◌, subst}
 use Rattle.node_core.specs.declared.lines.Line.{Line}
 use Rattle.tags_cell.specs.declared.calls.Call.TheVariants as calls
 use Rattle.tags_cell.specs.declared.requests.Request.{Request}
@@ -15,7 +15,7 @@ use Rattle.client_core.specs.Asks.{message_of}
 use Rattle.client_core.specs.Cases.{noted_moment, IsAwaited, AskCase, asked_in, BeatCase, beaten_in, GiveCase, given_in}
 use Rattle.client_core.specs.Cases.AskCase.{AskedTooLate, Unsafe, Refused, ReadServed, AbsenceServed, Shared, OutOfHandles, Released, OutOfCalls, Sent, Poisoned}
 use Rattle.client_core.specs.Cases.BeatCase.{BeatTooLate, OutOfBeats, Starts, Beats as BeatSent, Quiet}
-use Rattle.client_core.specs.Cases.GiveCase.{GivenTooLate, OfAnother, Started, StartedUnfit, StartedDropped, LeaseTaken, LeaseStays, AliveUnfit, AliveDropped, OutOfNumbers, Replied, Installed, ReplyDropped, NotAwaited, Lost, TurnedAway, RefusalDropped}
+use Rattle.client_core.specs.Cases.GiveCase.{GivenTooLate, OfAnother, Started, StartedUnfit, StartedDropped, LeaseTaken, LeaseStays, AliveUnfit, AliveDropped, OutOfNumbers, Replied, Installed, ReplyDropped, NotAwaited, Learns, Lost, TurnedAway, RefusalDropped}
 use Rattle.world_cell.specs.declared.steps.Step.{Step}
 use Rattle.world_cell.specs.declared.mail.Message.{Message}
 use Rattle.world_cell.specs.declared.mail.Message.TheVariants.{ToMaster}
@@ -29,7 +29,7 @@ use Rattle.world_cell.proofs.ConsistentSteps.{unsent, at_joined}
 use Rattle.world_cell.proofs.OwnSteps.{Comes, it_comes}
 use Rattle.world_cell.proofs.ClientHolds.{Grips, grips, note_grips, grips_stay, grips_end, grips_shared, grips_released, grips_poisoned, grips_sent, grips_replied, serves_name, IsReplied, is_replied, asked_rest, beaten_rest, given_rest, holds_more, new_holds}
 use Rattle.world_cell.proofs.WorldCases.{WorldCase}
-use Rattle.world_cell.proofs.WorldCases.WorldCase.{ComesUp, Joins, Asks, Beats, Gives, Ticks, Takes, Sweeps}
+use Rattle.world_cell.proofs.WorldCases.WorldCase.{ComesUp, Joins, Asks, Beats, Gives, Ticks, Takes, Sweeps, GoesDown}
 
 abbrev pub AllHold : WorldState → Type 0
 AllHold w = (number : ℕ) (seat : Seat) → seat_of w number ≡ Some seat → Holds w.messages seat.client
@@ -122,9 +122,10 @@ module _ (w : WorldState) (h : IsConsistent w) (number : ℕ) (seat : Seat) (fou
     give_holds (Installed message call taught stamp heard is for learned) = give_stays (Installed message call taught stamp heard is for learned) (grips_end w.messages s _ own.handles own.kept refl)
     give_holds (ReplyDropped message call heard is for dropped) = give_stays (ReplyDropped message call heard is for dropped) (grips_end w.messages s _ own.handles own.kept refl)
     give_holds (NotAwaited message heard is none) = give_stays (NotAwaited message heard is none) noted_only
+    give_holds (Learns message present heard is later) = give_stays (Learns message present heard is later) (grips_end w.messages s _ own.handles own.kept refl)
     give_holds (Lost message heard is loss) = give_stays (Lost message heard is loss) (grips_stay w.messages s _ held (record { number = refl; opened = refl; handles = refl; kept = refl; outstanding = refl }))
     give_holds (TurnedAway message heard is fault unstarted) = give_stays (TurnedAway message heard is fault unstarted) (grips_stay w.messages s _ held (record { number = refl; opened = refl; handles = refl; kept = refl; outstanding = refl }))
-    give_holds (RefusalDropped message heard is stays_so) = give_stays (RefusalDropped message heard is stays_so) noted_only
+    give_holds (RefusalDropped message heard is earlier stays_so) = give_stays (RefusalDropped message heard is earlier stays_so) noted_only
 
 -- ---- a step
 
@@ -143,3 +144,4 @@ holds_on old step new printed h (Ticks t) =
     (λ q x is. subst (λ (c : ClientState). Holds old.messages c) (sym (moves_so old.master old t.ticks q x).client) (h.holds q x is)))
 holds_on old step new printed h (Takes t) = subst AllHold (sym t.is) (more_hold old _ h.holds)
 holds_on old step new printed h (Sweeps t) = subst AllHold (sym t.is) (more_hold old _ h.holds)
+holds_on old step new printed h (GoesDown d) = subst AllHold (sym d.is) h.holds

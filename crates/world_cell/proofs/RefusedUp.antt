@@ -1,6 +1,6 @@
 -- A master that comes up where none is, or doesn't.
-use Rattle.std.proofs.Common.{◌≡◌, ℕ, List, [], ◌∷◌, Result, Ok, Err, Option, Some, None, true, false, refl, sym, ap, subst, ◌∙◌, inl, inr, arith}
-use Rattle.std.specs.Prelude.{◌⊎◌, ◌≤◌, is_some, not}
+use Rattle.std.proofs.Common.{◌≡◌, ℕ, List, [], ◌∷◌, Ok, Err, Option, Some, None, true, false, refl, sym, ap, subst, ◌∙◌, inl, inr, arith}
+use Rattle.std.specs.Prelude.{◌⊎◌, is_some, not}
 use Rattle.std.specs.Option.{option_map}
 use Rattle.node_core.specs.declared.refusals.Fault.{Fault}
 use Rattle.node_core.specs.declared.refusals.Fault.TheVariants as faults
@@ -8,7 +8,6 @@ use Rattle.node_core.specs.declared.lines.Line.{Line}
 use Rattle.node_core.specs.declared.lines.Line.TheVariants as lines
 use Rattle.rows_cell.specs.declared.tables.Rows.{Rows}
 use Rattle.rows_cell.specs.declared.tables.Edit.{Edit}
-use Rattle.rows_cell.specs.Rows.{changed_rows}
 use Rattle.rows_cell.specs.Stores.{Store, IsRead, IsUnread, MayLeave, MayRefuse, IsRefused as Uncommitted}
 use Rattle.cell_core.specs.State.{MasterState}
 use Rattle.cell_core.specs.Step.{is_past_end}
@@ -16,7 +15,7 @@ use Rattle.over_core.specs.Up.{up_step, up_edits, up_commit, ComesUp, IsKeptDown
 use Rattle.world_cell.specs.declared.mail.Message.{Message}
 use Rattle.world_cell.specs.declared.steps.Step.TheVariants as steps
 use Rattle.world_cell.specs.Seats.{Clients, each_seat, at_up}
-use Rattle.world_cell.specs.World.{WorldState, WorldView, Outcome, store_in, held, view_of, as_read, came_up, world_step, world_up, came_up_edits, step_edits, IsAtUp, IsStored, IsLeft, IsOutsideUp}
+use Rattle.world_cell.specs.World.{WorldState, WorldView, Outcome, store_in, held, view_of, as_read, came_up, world_step, world_up, came_up_edits, step_edits, IsAtUp, IsStored, IsOutsideUp}
 use Rattle.world_cell.specs.Runs.{WasMade, WasRefused}
 use Rattle.world_cell.proofs.AsRead.{at_now}
 

@@ -1,5 +1,5 @@
 -- What holds of every world: how its clients, its messages and its master fit one another.
-use Rattle.std.specs.Prelude.{◌≡◌, ◌⊎◌, ℕ, ◌+◌, ◌*◌, Bool, true, false, ◌≤◌, ◌==◌, List, [], ◌∷◌, Option, Some, None, if◌then◌else◌}
+use Rattle.std.specs.Prelude.{◌≡◌, ◌⊎◌, ℕ, ◌+◌, ◌*◌, Bool, true, false, ◌<◌, ◌≤◌, ◌==◌, List, [], ◌∷◌, Option, Some, None, if◌then◌else◌}
 use Rattle.std.specs.List.{AllByRecursion}
 use Rattle.std.specs.List.Sorted.{IsStrictlySortedBy}
 use Rattle.std.specs.Map.{keys_of}
@@ -15,6 +15,8 @@ use Rattle.tags_cell.specs.declared.outs.CallResult.{CallResult}
 use Rattle.tags_cell.specs.declared.outs.CallResult.TheVariants as results
 use Rattle.tags_cell.specs.declared.outs.NewHandle.{NewHandle}
 use Rattle.tags_cell.specs.declared.outs.Started.{Started}
+use Rattle.tags_cell.specs.declared.outs.Refused.{Refused}
+use Rattle.node_core.specs.declared.refusals.Fault.TheVariants as faults
 use Rattle.session_core.specs.declared.records.Kept.{Kept}
 use Rattle.session_core.specs.declared.records.Session.{Session}
 use Rattle.tags_cell.specs.declared.outs.Reply.{Reply}
@@ -53,6 +55,7 @@ pub record IsSeated (epoch number : ℕ) (seat : Seat) : Type 0 where
   pub own : seat.client.number ≡ number
   pub past : seat.client.epoch ≤ epoch
   pub unstarted : seat.client.session ≡ sessions.Unstarted → seat.client.epoch ≡ 0
+  pub live : seat.client.session ≡ sessions.Live → 0 < seat.client.epoch
   -- it knows no moment to come
   pub noted : seat.client.clock ≤ seat.clock
 
@@ -203,6 +206,8 @@ pub record IsConsistent (w : WorldState) : Type 0 where
   pub sent : (client number : ℕ) (call : CallMessage) → call_of w.messages client number ≡ Some call → HasSent w client number call
   -- no session was granted in an epoch to come
   pub started : (at : ℕ) (started : Started) → out_at w.messages at ≡ Some (outs.Started started) → started.epoch ≤ w.rows.epoch
+  -- nor was any client told of such an epoch
+  pub told : (at present : ℕ) (refused : Refused) → out_at w.messages at ≡ Some (outs.Refused refused) → refused.fault ≡ faults.OldEpoch present → present ≤ w.rows.epoch
   -- each reply is to a call
   pub answers : (at : ℕ) (reply : Reply) → out_at w.messages at ≡ Some (outs.Reply reply) → IsAnswer w.messages w.rows.secret reply
   -- the master, where one is up, agrees with the rows

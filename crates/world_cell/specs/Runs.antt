@@ -154,6 +154,7 @@ told_ended rights number status = if list_any (is_held_as number) rights then So
 -- what a line makes of the rights of an epoch; None where it tells of one out of its turn
 abbrev pub rights_by : List Told → Line → Option (List Told)
 rights_by rights (lines.Up epoch) = Some []
+rights_by rights lines.Down = Some []
 rights_by rights (lines.Granted number client name) = told_more rights number client name
 rights_by rights (lines.Acked number) = told_ended rights number statuses.Acknowledged
 rights_by rights (lines.Expired number) = told_ended rights number statuses.Expired

@@ -110,6 +110,16 @@ abbrev pub world_up : WorldState → ℕ → Option MasterState → Outcome
 world_up w now (Some master) = Err faults.MasterUp
 world_up w now None = came_up w now (up_step w.cell w.rows w.lease now)
 
+-- ---- the master goes down
+
+-- what it knew beside the rows is lost
+abbrev pub without_master : WorldState → WorldState
+without_master w = record w { master = None }
+
+abbrev pub world_down : WorldState → Option MasterState → Outcome
+world_down w None = Err faults.MasterDown
+world_down w (Some master) = Ok (without_master w, lines.Down ∷ [])
+
 -- ---- clients
 
 abbrev pub seat_of : WorldState → ℕ → Option Seat
@@ -271,6 +281,7 @@ world_step w (steps.Tick ticks) = world_tick w ticks
 world_step w (steps.Take number) = world_take w number w.master
 world_step w (steps.Give number) = world_give w number
 world_step w steps.Sweep = without_quiet (world_sweep w w.master)
+world_step w steps.Down = world_down w w.master
 
 -- ---- the store
 

@@ -34,4 +34,6 @@ pub enum Step {
     /// The message of this number comes to its client.
     Give(u64),
     Sweep,
+    /// The master is gone; the rows stay.
+    Down,
 }
