@@ -1,31 +1,22 @@
 -- Each reply that is sent is to a call that was sent before, whatever the master takes or sweeps.
-use Rattle.std.proofs.Common.{◌≡◌, ℕ, List, [], ◌∷◌, ◌++◌, Option, Some, None, refl, sym, ap, ◌∙◌, inl, inr, subst, map, zero, suc}
+use Rattle.std.proofs.Common.{◌≡◌, ℕ, List, [], ◌∷◌, ◌++◌, Option, Some, None, sym, inl, inr, subst, zero, suc}
 use Rattle.std.specs.List.{slice_get}
-use Rattle.node_core.specs.declared.refusals.Fault.TheVariants as faults
-use Rattle.rows_cell.specs.declared.keys.LockKey.{LockKey}
-use Rattle.rows_cell.specs.declared.tables.Rows.{Rows}
-use Rattle.rows_cell.specs.declared.tables.Session as stored
-use Rattle.rows_cell.specs.Rows.{changed_rows}
 use Rattle.tags_cell.specs.declared.calls.Call.{Call}
-use Rattle.tags_cell.specs.declared.requests.Request.{Request}
 use Rattle.tags_cell.specs.declared.requests.CallMessage.{CallMessage}
 use Rattle.tags_cell.specs.declared.outs.CallResult.{CallResult}
-use Rattle.tags_cell.specs.declared.outs.CallResult.TheVariants as results
 use Rattle.tags_cell.specs.declared.outs.Out.{Out}
 use Rattle.tags_cell.specs.declared.outs.Out.TheVariants as outs
 use Rattle.tags_cell.specs.declared.outs.Reply.{Reply}
-use Rattle.session_core.specs.declared.records.Kept.{Kept}
 use Rattle.cell_core.specs.declared.handles.Note.{Note}
 use Rattle.cell_core.specs.State.{MasterState}
 use Rattle.cell_core.specs.Names.{name_asked}
-use Rattle.cell_core.specs.Step.{admission_of, kept_of, reply_of, stamped_reply, repeated_reply, with_note}
 use Rattle.cell_core.specs.Cases.{IsAnswered}
 use Rattle.over_core.specs.declared.effects.Effect.{Effect}
 use Rattle.over_core.specs.Effect.{effect}
 use Rattle.world_cell.specs.declared.mail.Message.{Message}
 use Rattle.world_cell.specs.declared.mail.Message.TheVariants.{ToClient}
 use Rattle.world_cell.specs.Messages.{call_of}
-use Rattle.world_cell.specs.Consistent.{OpensAs, IsAnswer, FitsMessages}
+use Rattle.world_cell.specs.Consistent.{OpensAs, IsAnswer}
 use Rattle.world_cell.proofs.MessagesGrow.{call_stays}
 use Rattle.world_cell.proofs.GrantsSent.{none_granted, now_granted, later_granted}
 use Rattle.world_cell.proofs.OpensNamed.{answer_opens, effect_opens}

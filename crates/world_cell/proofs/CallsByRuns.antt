@@ -36,7 +36,7 @@ use Rattle.world_cell.proofs.SilentLines.{IsSilent}
 use Rattle.world_cell.proofs.PartsOfRuns.{run_push}
 use Rattle.world_cell.proofs.MasterFits.{waits_as, turn_sent}
 use Rattle.world_cell.proofs.WorldCases.{IsTake, IsSweep, WorldCase, world_case}
-use Rattle.world_cell.proofs.WorldCases.WorldCase.{ComesUp, Joins, Asks, Beats, Gives, Ticks, Takes, Sweeps}
+use Rattle.world_cell.proofs.WorldCases.WorldCase.{ComesUp, Joins, Asks, Beats, Gives, Ticks, Takes, Sweeps, GoesDown}
 use Rattle.world_cell.proofs.OwnSteps.{own_silent, asks_own, beats_own, gives_own}
 use Rattle.world_cell.proofs.ConsistentSteps.{noted_fits}
 use Rattle.world_cell.proofs.OnceByRuns.{taken_silent}
@@ -267,6 +267,7 @@ module _ (g : Ground) (step : Step) (new : WorldView) (printed : List Line) (h :
       (take_calls next (noted t.master g.here.world.clock) t.request t.case (calls_then t.master t.is_up) (λ message is_call same. inr (taken_now g step printed new t h made message is_call same)))
   made_queue made (Sweeps t) =
       queued_as next new.world.master _ (ap (λ (w : WorldState). w.master) t.is) (sweep_calls next (noted t.master g.here.world.clock) t.case (calls_then t.master t.is_up))
+  made_queue made (GoesDown d) = queued_as next new.world.master None (ap (λ (w : WorldState). w.master) d.is) tt
 
 step_stands : (g : Ground) (step : Step) (new : WorldView) (printed : List Line) → Stands g → Does g.here step new printed → IsConsistent new.world → Stands (ground_after g step printed new)
 step_stands g step new printed h (inl m) fits = record {
@@ -389,6 +390,7 @@ made_here g step next printed before told later client number change steps rest 
       | Ticks t ↦ absurd (silent_split printed before told client number change (rw t.tells tt) e)
       | Takes t ↦ absurd (silent_split printed before told client number change (rw t.tells (taken_silent (noted t.master g.here.world.clock) t.request t.case)) e)
       | Sweeps t ↦ of_sweep g step next printed before told later client number change steps rest new h t made run e r
+      | GoesDown d ↦ absurd (silent_split printed before told client number change (rw d.tells (tt, tt)) e)
     ]
 
 -- ---- a run

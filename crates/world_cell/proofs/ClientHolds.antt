@@ -1,11 +1,11 @@
 -- What a client holds of its cache, of its handles and of its call stays as it should, whatever it is asked for and given.
-use Rattle.std.proofs.Common.{◌≡◌, ◌≢◌, ℕ, ◌+◌, ◌≤◌, Bool, true, false, cond, List, [], ◌∷◌, ◌++◌, Option, Some, None, Result, Ok, Err, refl, sym, ap, ◌∙◌, subst, arith, drop}
+use Rattle.std.proofs.Common.{◌≡◌, ℕ, ◌+◌, ◌≤◌, Bool, true, false, cond, List, [], ◌∷◌, ◌++◌, Option, Some, None, Result, Ok, Err, refl, sym, ap, ◌∙◌, subst, arith, drop}
 use Rattle.std.specs.Prelude.{nat_lt, length, is_some}
 use Rattle.std.specs.Cmp.{nat_cmp_total}
 use Rattle.std.specs.List.{AllByRecursion, IsDistinct}
 use Rattle.std.specs.List.Sorted.{IsStrictlySortedBy}
 use Rattle.std.specs.Option.{option_map}
-use Rattle.std.specs.Map.{keys_of, set_value, remove_entry}
+use Rattle.std.specs.Map.{keys_of, remove_entry}
 use Rattle.std.specs.BTreeMap.{is_at, insert_entry}
 use Rattle.std.specs.Ordering.{nat_cmp}
 use Rattle.std.proofs.lemmas.Map.{keys-set_value}
@@ -18,7 +18,6 @@ use Rattle.tags_cell.specs.Handles.{name_in}
 use Rattle.tags_cell.specs.declared.calls.Call.{Call}
 use Rattle.tags_cell.specs.declared.calls.Call.TheVariants as calls
 use Rattle.tags_cell.specs.declared.calls.Open.{Open}
-use Rattle.tags_cell.specs.declared.requests.Request.TheVariants as requests
 use Rattle.tags_cell.specs.declared.requests.CallMessage.{CallMessage}
 use Rattle.tags_cell.specs.declared.outs.Out.{Out}
 use Rattle.tags_cell.specs.declared.outs.Reply.{Reply}

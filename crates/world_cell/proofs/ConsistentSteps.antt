@@ -1,6 +1,6 @@
 -- Why a step of a consistent world leads to a consistent one.
-use Rattle.std.proofs.Common.{◌≡◌, ◌≢◌, ℕ, ◌+◌, ◌*◌, ◌≤◌, max, List, [], ◌∷◌, ◌++◌, true, false, cond, Option, Some, None, Result, Ok, Err, refl, sym, ap, ◌∙◌, inl, inr, arith, subst, map, zero, suc}
-use Rattle.std.specs.Prelude.{IfOk, IfErr, OnOk, OnErr}
+use Rattle.std.proofs.Common.{◌≡◌, ◌≢◌, ℕ, ◌+◌, ◌*◌, ◌≤◌, max, List, [], ◌∷◌, ◌++◌, Bool, true, false, cond, Option, Some, None, Result, Ok, Err, refl, sym, ap, ◌∙◌, inl, inr, arith, subst, map, zero, suc}
+use Rattle.std.specs.Prelude.{nat_le, nat_lt, IfOk, IfErr, OnOk, OnErr}
 use Rattle.std.specs.List.{slice_get}
 use Rattle.std.specs.Option.{option_map}
 use Rattle.std.specs.Map.{lookup}
@@ -13,6 +13,7 @@ use Rattle.coherence.specs.Slice.{Reached}
 use Rattle.coherence.proofs.Reached.{reached_at_start}
 use Rattle.node_core.specs.Nodes.{get_node}
 use Rattle.node_core.specs.declared.refusals.Fault.{Fault}
+use Rattle.node_core.specs.declared.refusals.Fault.TheVariants as faults
 use Rattle.node_core.specs.declared.lines.Line.{Line}
 use Rattle.node_core.specs.declared.lines.Line.TheVariants as lines
 use Rattle.node_core.specs.declared.views.Mod.{Mod}
@@ -25,19 +26,22 @@ use Rattle.rows_cell.specs.Rows.{StoredLocks, changed_rows, edited, map_of}
 use Rattle.tags_cell.specs.declared.requests.Request.{Request}
 use Rattle.tags_cell.specs.declared.requests.Request.TheVariants as requests
 use Rattle.tags_cell.specs.declared.requests.CallMessage.{CallMessage}
+use Rattle.tags_cell.specs.declared.beats.Beat.{Beat}
 use Rattle.tags_cell.specs.declared.outs.Out.{Out}
 use Rattle.tags_cell.specs.declared.outs.Out.TheVariants as outs
 use Rattle.tags_cell.specs.declared.outs.Started.{Started}
+use Rattle.tags_cell.specs.declared.outs.Refused.{Refused}
 use Rattle.tags_cell.specs.declared.outs.Reply.{Reply}
 use Rattle.cell_core.specs.declared.handles.Note.{Note}
 use Rattle.session_core.specs.declared.records.Kept.{Kept}
 use Rattle.session_core.specs.declared.records.Session.{Session}
+use Rattle.session_core.specs.Session.{live_beat_fault, beat_fault}
 use Rattle.cell_core.specs.State.{MasterState, master_of, taken_over, locks_of}
-use Rattle.cell_core.specs.Step.{with_note, with_call, asking_for, repeated_reply, noted}
+use Rattle.cell_core.specs.Step.{session_of, with_note, with_call, asking_for, repeated_reply, noted}
 use Rattle.cell_core.specs.Deeds.{edit_of}
 use Rattle.cell_core.specs.Cases.{TakeCase, taken_by}
 use Rattle.over_core.specs.SweepCase.{SweepCase, swept_by, swept_edits}
-use Rattle.cell_core.specs.Cases.TakeCase.{Repeated, StartQueued, BeatParked, Answered, Granted, Waits}
+use Rattle.cell_core.specs.Cases.TakeCase.{Repeated, StartQueued, OldBeat, BeatRefused, BeatParked, OldEpoch, Answered, Granted, Waits}
 use Rattle.over_core.specs.SweepCase.SweepCase.{Quiet, Recovers, Expires, StartedAgain, Started as StartedFirst, OfEnded, Ended, Applied}
 use Rattle.over_core.specs.Kept.{IsKept}
 use Rattle.over_core.specs.Up.{up_edits}
@@ -52,7 +56,7 @@ use Rattle.world_cell.specs.declared.mail.Message.TheVariants.{ToMaster, ToClien
 use Rattle.world_cell.specs.declared.seats.Seat.{Seat}
 use Rattle.world_cell.specs.Seats.{Clients, new_seat, seated, each_seat, at_up}
 use Rattle.world_cell.specs.Messages.{request_at, out_at, call_of}
-use Rattle.world_cell.specs.World.{WorldState, WorldView, IsUndoubted, seat_of, new_world, world_step, world_sweep, without_quiet, step_edits, IsStored, IsLeft, clock_then, stays_fair, are_fair, moved, ticked}
+use Rattle.world_cell.specs.World.{WorldState, WorldView, IsUndoubted, seat_of, new_world, world_step, world_sweep, without_quiet, step_edits, IsStored, IsLeft, clock_then, stays_fair, are_fair, moved, ticked, without_master}
 use Rattle.world_cell.specs.Slices.{slice, standing_in}
 use Rattle.world_cell.specs.Consistent.{IsSeated, Holds, HasSent, IsAnswer, FitsMessages, Agrees, Fits, IsNoted, IsInTurn, IsFairSince, AreFair, IsConsistent}
 use Rattle.world_cell.proofs.MessagesGrow.{none_sent, none_out, request_more, out_more, call_stays, call_more, call_new, no_call, no_request, one_call, its_call, one_request, one_no_out, out_among}
@@ -62,7 +66,7 @@ use Rattle.world_cell.proofs.SeatsFound.{some_same, own_seat, other_seat, at_sea
 use Rattle.world_cell.specs.Runs.{WasMade, WasRefused}
 use Rattle.world_cell.proofs.AsRead.{made_doubts, made_sure, refused_doubts, refused_sure}
 use Rattle.world_cell.proofs.WorldCases.{WorldCase, world_case}
-use Rattle.world_cell.proofs.WorldCases.WorldCase.{ComesUp, Joins, Asks, Beats, Gives, Ticks, Takes, Sweeps}
+use Rattle.world_cell.proofs.WorldCases.WorldCase.{ComesUp, Joins, Asks, Beats, Gives, Ticks, Takes, Sweeps, GoesDown}
 use Rattle.world_cell.proofs.OwnSteps.{IsNoCall, IsNextCall, Sends, OfEpoch, sending, IsOwn, asks_own, beats_own, gives_own}
 use Rattle.world_cell.proofs.OwnSteps.Sends.{Nothing, NoCall, NextCall}
 use Rattle.world_cell.proofs.OwnSteps.OfEpoch.{SameEpoch, GrantedEpoch}
@@ -98,6 +102,7 @@ record AreFresh (old new : WorldState) (more : List Message) : Type 0 where
   named : (j : ℕ) (call : CallMessage) → slice_get more j ≡ Some (ToMaster (requests.Call call)) → (call_of old.messages call.client call.number ≡ None) × (call_of more call.client call.number ≡ Some call)
   sent : (client number : ℕ) (call : CallMessage) → call_of more client number ≡ Some call → HasSent new client number call
   started : (j : ℕ) (started : Started) → slice_get more j ≡ Some (ToClient (outs.Started started)) → started.epoch ≤ new.rows.epoch
+  told : (j present : ℕ) (refused : Refused) → slice_get more j ≡ Some (ToClient (outs.Refused refused)) → refused.fault ≡ faults.OldEpoch present → present ≤ new.rows.epoch
 
 pub fits_more : (old new : WorldState) (more : List Message) (o : Option MasterState) → new.messages ≡ old.messages ++ more → Fits old o → Fits new o
 fits_more old new more None e h = tt
@@ -150,6 +155,14 @@ module _ (old new : WorldState) (more : List Message) (h : IsConsistent old) (la
         | inr b ↦ fresh.started b.0 started b.1
       ]
 
+  all_told : (at present : ℕ) (refused : Refused) → out_at new.messages at ≡ Some (outs.Refused refused) → refused.fault ≡ faults.OldEpoch present → present ≤ new.rows.epoch
+  all_told at present refused is of =
+      let k : out_at (old.messages ++ more) at ≡ Some (outs.Refused refused) = rw fresh.grown at is in
+      elim (out_more old.messages more at (outs.Refused refused) k) [
+        | inl a ↦ (let was = h.told at present refused a of in let epoch = later.epoch in omega arith)
+        | inr b ↦ fresh.told b.0 present refused b.1 of
+      ]
+
   all_consistent : ((number : ℕ) (seat : Seat) → seat_of new number ≡ Some seat → IsSeated new.rows.epoch number seat) → Fits new new.master → new.lease ≡ old.lease → IsNoted new.clock new.master → AreFair new new.master → Becomes new
   all_consistent clients fits lease noted fair = Becomes.OnceServed (λ master served. record {
     clients = clients;
@@ -157,6 +170,7 @@ module _ (old new : WorldState) (more : List Message) (h : IsConsistent old) (la
     named = all_named;
     sent = all_sent;
     started = all_started;
+    told = all_told;
     answers = served.answers;
     master = master;
     fits = fits;
@@ -174,6 +188,7 @@ none_fresh old new e = record {
   named = λ j call k. cc;
   sent = λ client number call k. cc;
   started = λ j started k. cc;
+  told = λ j present refused k of. cc;
 }
 
 pub no_call_found : (request : Request) (client number : ℕ) → IsNoCall request → call_of (ToMaster request ∷ []) client number ≡ None
@@ -187,30 +202,45 @@ beat_fresh old new request none e = record {
   named = λ j call k. absurd (subst IsNoCall (sym (one_request request (requests.Call call) j k)) none);
   sent = λ client number call k. let nothing = no_call_found request client number none in cc;
   started = λ j started k. absurd (one_no_out request (outs.Started started) j k);
+  told = λ j present refused k of. absurd (one_no_out request (outs.Refused refused) j k);
 }
 
--- what grants a session is of an epoch that was
-abbrev IsGrantIn : ℕ → Out → Type 0
-IsGrantIn epoch (outs.Started started) = started.epoch ≤ epoch
-IsGrantIn epoch _ = Unit {0}
+-- what grants a session is of an epoch that was, and so is what tells of one
+abbrev IsFaultIn : ℕ → Fault → Type 0
+IsFaultIn epoch (faults.OldEpoch present) = present ≤ epoch
+IsFaultIn epoch _ = Unit {0}
 
-abbrev AreGrantsIn : ℕ → List Out → Type 0
-AreGrantsIn epoch [] = Unit {0}
-AreGrantsIn epoch (out ∷ rest) = IsGrantIn epoch out × AreGrantsIn epoch rest
+abbrev IsTellingIn : ℕ → Out → Type 0
+IsTellingIn epoch (outs.Started started) = started.epoch ≤ epoch
+IsTellingIn epoch (outs.Refused refused) = IsFaultIn epoch refused.fault
+IsTellingIn epoch _ = Unit {0}
 
-grant_at : (epoch : ℕ) (sent : List Out) (j : ℕ) (started : Started) → AreGrantsIn epoch sent → slice_get sent j ≡ Some (outs.Started started) → started.epoch ≤ epoch
+abbrev AreTellingIn : ℕ → List Out → Type 0
+AreTellingIn epoch [] = Unit {0}
+AreTellingIn epoch (out ∷ rest) = IsTellingIn epoch out × AreTellingIn epoch rest
+
+told_at : (epoch : ℕ) (sent : List Out) (j present : ℕ) (refused : Refused) → AreTellingIn epoch sent → slice_get sent j ≡ Some (outs.Refused refused) → refused.fault ≡ faults.OldEpoch present → present ≤ epoch
+told_at epoch [] j present refused h k of = cc
+told_at epoch (out ∷ rest) zero present refused h k of =
+    let e : out ≡ outs.Refused refused = cc in
+    let g : IsTellingIn epoch (outs.Refused refused) = subst (IsTellingIn epoch) e h.0 in
+    subst (IsFaultIn epoch) of g
+told_at epoch (out ∷ rest) (suc j) present refused h k of = told_at epoch rest j present refused h.1 k of
+
+grant_at : (epoch : ℕ) (sent : List Out) (j : ℕ) (started : Started) → AreTellingIn epoch sent → slice_get sent j ≡ Some (outs.Started started) → started.epoch ≤ epoch
 grant_at epoch [] j started h k = cc
 grant_at epoch (out ∷ rest) zero started h k =
     let e : out ≡ outs.Started started = cc in
     let g = h.0 in rw e at g
 grant_at epoch (out ∷ rest) (suc j) started h k = grant_at epoch rest j started h.1 k
 
-outs_fresh : (old new : WorldState) (sent : List Out) → new.messages ≡ old.messages ++ map ToClient sent → AreGrantsIn new.rows.epoch sent → AreFresh old new (map ToClient sent)
-outs_fresh old new sent e grants = record {
+outs_fresh : (old new : WorldState) (sent : List Out) → new.messages ≡ old.messages ++ map ToClient sent → AreTellingIn new.rows.epoch sent → AreFresh old new (map ToClient sent)
+outs_fresh old new sent e telling = record {
   grown = e;
   named = λ j call k. absurd (no_request sent j (requests.Call call) k);
   sent = λ client number call k. let none = no_call sent client number in cc;
-  started = λ j started k. grant_at new.rows.epoch sent j started grants (out_among sent j (outs.Started started) k);
+  started = λ j started k. grant_at new.rows.epoch sent j started telling (out_among sent j (outs.Started started) k);
+  told = λ j present refused k of. told_at new.rows.epoch sent j present refused telling (out_among sent j (outs.Refused refused) k) of;
 }
 
 -- ---- all clients as they were
@@ -428,6 +458,7 @@ call_fresh w h number seat found client call m calls =
           rw o (unsent w h number seat found call m (call_of w.messages call.client call.number) refl, its_call call);
       sent = λ q k other is. let t = one_call call other q k is in rw (t.0, ← t.1, ← t.2) sent;
       started = λ j started k. absurd (one_no_out (requests.Call call) (outs.Started started) j k);
+      told = λ j present refused k of. absurd (one_no_out (requests.Call call) (outs.Refused refused) j k);
     }
 
 module _ (w : WorldState) (h : IsConsistent w) (number : ℕ) (seat : Seat) (found : seat_of w number ≡ Some seat) (client : ClientState) (own : IsSeated w.rows.epoch number (record seat { client = client })) where
@@ -527,25 +558,44 @@ noted_at now o s e k = rw e at k
 pub noted_fits : (w : WorldState) → IsConsistent w → (s : MasterState) → w.master ≡ Some s → FitsMessages w.messages (noted s w.clock)
 noted_fits w h s up = let f = fits_at w w.master s up h.fits in record { queue = f.queue; kept = f.kept; replies = f.replies; answers = f.answers; turns = f.turns }
 
-repeated_grants : (epoch : ℕ) (reply : Option Reply) → AreGrantsIn epoch (repeated_reply reply).outs
-repeated_grants epoch None = tt
-repeated_grants epoch (Some reply) = (tt, tt)
+repeated_tells : (epoch : ℕ) (reply : Option Reply) → AreTellingIn epoch (repeated_reply reply).outs
+repeated_tells epoch None = tt
+repeated_tells epoch (Some reply) = (tt, tt)
 
-taken_grants : (epoch : ℕ) (s : MasterState) (request : Request) (c : TakeCase s request) → AreGrantsIn epoch (taken_by s request c).1.outs
-taken_grants epoch s request (Repeated message kept heard is number) = repeated_grants epoch kept.reply
-taken_grants epoch s request (StartQueued start is may serving room) = tt
-taken_grants epoch s request (BeatParked beat is same taken) = tt
-taken_grants epoch s request (Waits message note touched new serving admitted) = tt
-taken_grants epoch s request _ = (tt, tt)
+-- by the tests of a Beat
+live_beat_tells : (epoch : ℕ) (old over above : Bool) (issued told : ℕ) (fault : Fault) → cond old (Some faults.Repeat) (cond over (Some (faults.BadAck issued)) (cond above (Some (faults.BadAck told)) None)) ≡ Some fault → IsFaultIn epoch fault
+live_beat_tells epoch true over above issued told fault is = let e : faults.Repeat ≡ fault = cc in subst (IsFaultIn epoch) e tt
+live_beat_tells epoch false true above issued told fault is = let e : faults.BadAck issued ≡ fault = cc in subst (IsFaultIn epoch) e tt
+live_beat_tells epoch false false true issued told fault is = let e : faults.BadAck told ≡ fault = cc in subst (IsFaultIn epoch) e tt
+live_beat_tells epoch false false false issued told fault is = cc
 
-swept_grants : (s : MasterState) (c : SweepCase s) → AreGrantsIn s.epoch (swept_by s c).1.outs
-swept_grants s (Quiet none) = tt
-swept_grants s (Recovers recovering heard) = tt
-swept_grants s (Expires client session due) = tt
-swept_grants s (StartedAgain front back task principal received session turn work found live) = (least s.epoch, tt)
-swept_grants s (StartedFirst front back task principal received turn work none) = (least s.epoch, tt)
-swept_grants s (OfEnded front back task call turn work gone) = tt
-swept_grants s _ = (tt, tt)
+-- a Beat of the master's epoch isn't refused as one of an old epoch
+beat_tells : {K : Type 0} (epoch : ℕ) (session : Option (Session K)) (beat : Beat) (fault : Fault) → beat_fault session beat ≡ Some fault → IsFaultIn epoch fault
+beat_tells epoch None beat fault is = let e : faults.NoSession ≡ fault = cc in subst (IsFaultIn epoch) e tt
+beat_tells epoch (Some session) beat fault is =
+    elim session.live as (λ live. cond live (live_beat_fault session beat) (Some faults.NoSession) ≡ Some fault → IsFaultIn epoch fault) [
+      | true ↦ live_beat_tells epoch (nat_le beat.number session.newest_beat) (nat_lt session.invalidations.issued beat.invalidations) (nat_lt session.events.issued beat.events) session.invalidations.issued session.events.issued fault
+      | false ↦ (λ k. let e : faults.NoSession ≡ fault = cc in subst (IsFaultIn epoch) e tt)
+    ] is
+
+taken_tells : (s : MasterState) (request : Request) (c : TakeCase s request) → AreTellingIn s.epoch (taken_by s request c).1.outs
+taken_tells s request (OldBeat beat is apart) = (least s.epoch, tt)
+taken_tells s request (BeatRefused beat fault is same refused) = (beat_tells s.epoch (session_of s beat.client) beat fault refused, tt)
+taken_tells s request (OldEpoch message is apart) = (least s.epoch, tt)
+taken_tells s request (Repeated message kept heard is number) = repeated_tells s.epoch kept.reply
+taken_tells s request (StartQueued start is may serving room) = tt
+taken_tells s request (BeatParked beat is same taken) = tt
+taken_tells s request (Waits message note touched new serving admitted) = tt
+taken_tells s request _ = (tt, tt)
+
+swept_tells : (s : MasterState) (c : SweepCase s) → AreTellingIn s.epoch (swept_by s c).1.outs
+swept_tells s (Quiet none) = tt
+swept_tells s (Recovers recovering heard) = tt
+swept_tells s (Expires client session due) = tt
+swept_tells s (StartedAgain front back task principal received session turn work found live) = (least s.epoch, tt)
+swept_tells s (StartedFirst front back task principal received turn work none) = (least s.epoch, tt)
+swept_tells s (OfEnded front back task call turn work gone) = tt
+swept_tells s _ = (tt, tt)
 
 -- ---- the rows behind a sweep
 
@@ -600,8 +650,9 @@ module _ (w : WorldState) (h : IsConsistent w) (s : MasterState) (up : w.master 
       let asked = λ (call : CallMessage) (e : request ≡ requests.Call call). h.named at call (found ∙ ap (λ r. Some r) e) in
       let fits = take_fits w.messages (noted s w.clock) request c (noted_fits w h s up) asked in
       let clock = taken_clock (noted s w.clock) request c in
+      let telling : AreTellingIn w.rows.epoch sent = subst (λ n. AreTellingIn n sent) (agrees_at w w.master s up h.master).epoch (taken_tells (noted s w.clock) request c) in
       let early = within in
-      all_consistent w new (map ToClient sent) h (same_clients w new refl (least w.rows.epoch) refl) (outs_fresh w new sent refl (taken_grants w.rows.epoch (noted s w.clock) request c)) (same_seats w new h refl (least w.rows.epoch))
+      all_consistent w new (map ToClient sent) h (same_clients w new refl (least w.rows.epoch) refl) (outs_fresh w new sent refl telling) (same_seats w new h refl (least w.rows.epoch))
       fits refl (omega (arith, clock, early)) (fair_at w w.master s up h.fair)
 
   sweep_holds : (c : SweepCase (noted s w.clock)) → Becomes (record w { rows = changed_rows w.rows (swept_edits (noted s w.clock) c); master = Some (swept_by (noted s w.clock) c).0; messages = w.messages ++ map ToClient (swept_by (noted s w.clock) c).1.outs })
@@ -610,13 +661,22 @@ module _ (w : WorldState) (h : IsConsistent w) (s : MasterState) (up : w.master 
       let new : WorldState = record w { rows = changed_rows w.rows (swept_edits (noted s w.clock) c); master = Some (swept_by (noted s w.clock) c).0; messages = w.messages ++ map ToClient sent } in
       let stays : new.rows.epoch ≡ w.rows.epoch = swept_epoch w.rows (noted s w.clock) c in
       let epoch : s.epoch ≡ new.rows.epoch = (agrees_at w w.master s up h.master).epoch ∙ sym stays in
-      let grants : AreGrantsIn new.rows.epoch sent = subst (λ n. AreGrantsIn n sent) epoch (swept_grants (noted s w.clock) c) in
+      let telling : AreTellingIn new.rows.epoch sent = subst (λ n. AreTellingIn n sent) epoch (swept_tells (noted s w.clock) c) in
       let fits = sweep_fits w.messages (noted s w.clock) c (noted_fits w h s up) in
       let no_less : w.rows.epoch ≤ new.rows.epoch = omega (arith, stays) in
       let clock = swept_clock (noted s w.clock) c in
       let early = within in
-      all_consistent w new (map ToClient sent) h (same_clients w new refl no_less refl) (outs_fresh w new sent refl grants) (same_seats w new h refl no_less)
+      all_consistent w new (map ToClient sent) h (same_clients w new refl no_less refl) (outs_fresh w new sent refl telling) (same_seats w new h refl no_less)
       (fits_stays w.messages (map ToClient sent) (swept_by (noted s w.clock) c).0 fits) refl (omega (arith, clock, early)) (fair_at w w.master s up h.fair)
+
+-- ---- the master goes down
+
+down_later : (w : WorldState) → Later w (without_master w)
+down_later w = same_clients w (without_master w) refl (least w.rows.epoch) refl
+
+down_holds : (w : WorldState) → IsConsistent w → Becomes (without_master w)
+down_holds w h =
+    all_consistent w (without_master w) [] h (down_later w) (none_fresh w (without_master w) refl) (same_seats w (without_master w) h refl (least w.rows.epoch)) tt refl tt tt
 
 -- ---- a step
 
@@ -629,6 +689,7 @@ case_holds old step new printed h (Gives g) = own_holds old new printed h (gives
 case_holds old step new printed h (Ticks t) = subst Becomes (sym t.is) (tick_holds old h t.ticks t.fair)
 case_holds old step new printed h (Takes t) = subst Becomes (sym t.is) (take_holds old h t.master t.is_up t.at t.request t.case t.was_sent)
 case_holds old step new printed h (Sweeps t) = subst Becomes (sym t.is) (sweep_holds old h t.master t.is_up t.case)
+case_holds old step new printed h (GoesDown d) = subst Becomes (sym d.is) (down_holds old h)
 
 pub case_later : (old : WorldState) (step : Step) (new : WorldState) (printed : List Line) → IsConsistent old → WorldCase old step new printed → Later old new
 case_later old step new printed h (ComesUp u) = subst (Later old) (sym u.is) (up_later old h u.now)
@@ -642,6 +703,7 @@ case_later old step new printed h (Sweeps t) =
     let e = swept_epoch old.rows (noted t.master old.clock) t.case in
     let l : old.rows.epoch ≤ (changed_rows old.rows (swept_edits (noted t.master old.clock) t.case)).epoch = omega (arith, e) in
     subst (Later old) (sym t.is) (same_clients old _ refl l refl)
+case_later old step new printed h (GoesDown d) = subst (Later old) (sym d.is) (down_later old)
 
 -- the world behind a step serves its clients
 abbrev pub LeadsOn : Type 0
@@ -681,6 +743,7 @@ new_holds cell rows lease range = record {
   named = λ at call is. none_sent at (requests.Call call) is;
   sent = λ client number call is. cc;
   started = λ at started is. none_out at (outs.Started started) is;
+  told = λ at present refused is of. none_out at (outs.Refused refused) is;
   answers = λ at reply is. none_out at (outs.Reply reply) is;
   master = tt;
   fits = tt;

@@ -1,15 +1,14 @@
 -- What stands in a client's cache behind an Alive: it stood there before, under a lease that runs, and the Alive invalidates nothing of it that is new.
-use Rattle.std.proofs.Common.{◌≡◌, ℕ, ◌≤◌, ◌<◌, Bool, true, false, cond, List, [], ◌∷◌, Option, Some, None, inl, inr, refl, sym, ◌∙◌, ap, subst, arith}
+use Rattle.std.proofs.Common.{◌≡◌, ℕ, ◌≤◌, ◌<◌, Bool, true, false, cond, List, [], ◌∷◌, Option, Some, None, inl, inr, refl, sym, ◌∙◌, arith}
 use Rattle.std.specs.Prelude.{nat_lt}
 use Rattle.std.specs.Str.{bytes_eq}
 use Rattle.std.proofs.lemmas.Bool.Decides.{nat_tests}
 use Rattle.plain.proofs.Keys.{bytes_same}
 use Rattle.lease_core.specs.Lease.{LeaseTerms, IsUnexpired, is_unexpired}
-use Rattle.tags_cell.specs.declared.beats.Alive.{Alive}
 use Rattle.tags_cell.specs.declared.beats.Invalidation.{Invalidation}
 use Rattle.cache_core.specs.Caches.{Entries, CacheState, AreCacheEntries, entry_of, flushed, is_leased, noted}
 use Rattle.client_parts.specs.Invalidations.{all_flushed}
-use Rattle.client_core.specs.State.{ClientState, lease_of}
+use Rattle.client_core.specs.State.{lease_of}
 use Rattle.client_core.specs.Gives.{under}
 use Rattle.client_core.proofs.OneEntry.{StaysOrGoes, fits_if, invalidated_goes, noted_stays, all_stay_or_go}
 use Rattle.world_cell.specs.Slices.{Shown, name_number}

@@ -1,5 +1,5 @@
 -- Of a consistent world, behind each step, each client holds what it should.
-use Rattle.std.proofs.Common.{◌≡◌, ℕ, ◌+◌, true, List, [], ◌∷◌, ◌++◌, Option, Some, None, refl, sym, ap, ◌∙◌, subst}
+use Rattle.std.proofs.Common.{◌≡◌, ℕ, ◌+◌, true, List, [], ◌∷◌, ◌++◌, Some, None, refl, sym, ap, ◌∙◌, subst}
 use Rattle.node_core.specs.declared.lines.Line.{Line}
 use Rattle.tags_cell.specs.declared.calls.Call.TheVariants as calls
 use Rattle.tags_cell.specs.declared.requests.Request.{Request}
@@ -29,7 +29,7 @@ use Rattle.world_cell.proofs.ConsistentSteps.{unsent, at_joined}
 use Rattle.world_cell.proofs.OwnSteps.{Comes, it_comes}
 use Rattle.world_cell.proofs.ClientHolds.{Grips, grips, note_grips, grips_stay, grips_end, grips_shared, grips_released, grips_poisoned, grips_sent, grips_replied, serves_name, IsReplied, is_replied, asked_rest, beaten_rest, given_rest, holds_more, new_holds}
 use Rattle.world_cell.proofs.WorldCases.{WorldCase}
-use Rattle.world_cell.proofs.WorldCases.WorldCase.{ComesUp, Joins, Asks, Beats, Gives, Ticks, Takes, Sweeps}
+use Rattle.world_cell.proofs.WorldCases.WorldCase.{ComesUp, Joins, Asks, Beats, Gives, Ticks, Takes, Sweeps, GoesDown}
 
 abbrev pub AllHold : WorldState → Type 0
 AllHold w = (number : ℕ) (seat : Seat) → seat_of w number ≡ Some seat → Holds w.messages seat.client
@@ -143,3 +143,4 @@ holds_on old step new printed h (Ticks t) =
     (λ q x is. subst (λ (c : ClientState). Holds old.messages c) (sym (moves_so old.master old t.ticks q x).client) (h.holds q x is)))
 holds_on old step new printed h (Takes t) = subst AllHold (sym t.is) (more_hold old _ h.holds)
 holds_on old step new printed h (Sweeps t) = subst AllHold (sym t.is) (more_hold old _ h.holds)
+holds_on old step new printed h (GoesDown d) = subst AllHold (sym d.is) h.holds

@@ -1,5 +1,5 @@
 -- What a client puts into its cache was granted to it: by the name that stands in the bytes of its handle, or that its Open names.
-use Rattle.std.proofs.Common.{◌≡◌, ℕ, Bool, true, false, cond, List, [], ◌∷◌, Option, Some, None, inl, refl, sym, ap, ◌∙◌, subst}
+use Rattle.std.proofs.Common.{◌≡◌, ℕ, Bool, true, false, cond, List, [], Option, Some, None, inl, refl, sym, ap, ◌∙◌, subst}
 use Rattle.std.specs.Prelude.{◌==◌, ◌&&◌, is_none}
 use Rattle.std.specs.Option.{option_map, option_map_or}
 use Rattle.coherence.specs.Slice as one
@@ -14,7 +14,6 @@ use Rattle.tags_cell.specs.declared.calls.Call.{Call}
 use Rattle.tags_cell.specs.declared.calls.Call.TheVariants as calls
 use Rattle.tags_cell.specs.declared.calls.Open.{Open}
 use Rattle.tags_cell.specs.declared.requests.CallMessage.{CallMessage}
-use Rattle.tags_cell.specs.declared.outs.Out.TheVariants as outs
 use Rattle.tags_cell.specs.declared.outs.Reply.{Reply}
 use Rattle.tags_cell.specs.declared.outs.CallResult.{CallResult}
 use Rattle.tags_cell.specs.declared.outs.CallResult.TheVariants as results

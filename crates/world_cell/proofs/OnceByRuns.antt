@@ -47,7 +47,7 @@ use Rattle.world_cell.proofs.MessagesGrow.{call_more, no_call, one_call}
 use Rattle.world_cell.proofs.OneSession.{same, other, kept_own, kept_other, kept_stays, kept_issued, kept_begins, answered_so}
 use Rattle.world_cell.proofs.MasterFits.{turn_sent, call_turn, WasAsked, live_note, behind_note, epoch_note}
 use Rattle.world_cell.proofs.WorldCases.{WorldCase, world_case}
-use Rattle.world_cell.proofs.WorldCases.WorldCase.{ComesUp, Joins, Asks, Beats, Gives, Ticks, Takes, Sweeps}
+use Rattle.world_cell.proofs.WorldCases.WorldCase.{ComesUp, Joins, Asks, Beats, Gives, Ticks, Takes, Sweeps, GoesDown}
 use Rattle.world_cell.proofs.OwnSteps.{IsNextCall, Sends, sending, IsOwn, own_silent, asks_own, beats_own, gives_own}
 use Rattle.world_cell.proofs.OwnSteps.Sends.{Nothing, NoCall, NextCall}
 use Rattle.world_cell.proofs.SeatsFound.{some_same}
@@ -394,6 +394,8 @@ module _ (client : ℕ) (last : Option ℕ) (old : WorldState) (step : Step) (ne
           master = subst (λ (x : WorldState). PastIn x.messages client x.master next) (sym t.is) later;
         };
       })
+  step_on (GoesDown d) =
+      silent_on client new printed last (rw d.tells (tt, tt)) (record { counted = counted_on (GoesDown d); master = subst (λ (x : WorldState). PastIn x.messages client x.master last) (sym d.is) tt })
 
 does_on : (client : ℕ) (last : Option ℕ) (old : WorldView) (step : Step) (new : WorldView) (printed : List Line) → IsConsistent old.world → Past old.world client last → Does old step new printed → StepsOn client last printed new.world
 does_on client last old step new printed h p (inl m) = step_on client last old.world step new.world printed h p (world_case old.world step new.world printed h.master m.is_step)

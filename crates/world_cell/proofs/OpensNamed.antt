@@ -1,6 +1,6 @@
 -- A handle that a call is answered is of an Open of the name that stands in its bytes.
 use Rattle.std.proofs.Common.{◌≡◌, ℕ, List, Bool, true, false, cond, Option, Some, None, Result, Ok, Err, refl, ◌∙◌, subst}
-use Rattle.std.specs.Prelude.{◌==◌, ◌&&◌, ◌||◌, is_none, nat_lt, length}
+use Rattle.std.specs.Prelude.{◌&&◌, ◌||◌, is_none, nat_lt, length}
 use Rattle.std.specs.Option.{option_map_or}
 use Rattle.names_cell.specs.Text.{parent_of}
 use Rattle.node_core.specs.declared.refusals.Fault.{Fault}
@@ -29,7 +29,7 @@ use Rattle.tags_cell.proofs.Fields.{name_of_bytes}
 use Rattle.cell_core.specs.State.{MasterState}
 use Rattle.cell_core.specs.Step.{missing_right, node_of_handle, new_handle, open_present, plain_open, opened_answer, content_fault, node_fault, write_fault, list_answer, needing, answer_on_node, answer_on, admission_of_open, handle_admission, admission_of, shown_handle, is_of_cell, may}
 use Rattle.over_core.specs.declared.effects.Effect.{Effect}
-use Rattle.over_core.specs.Effect.{answered, refused, opened_effect, create_made, create_numbered, create_permitted, create_in, create_under, create_new, create_over, create_effect, create_here, open_effect, generation_fits, is_last, put_at, delete_at, change_at, change_on, effect_on, handle_effect, effect, new_view, acls_of, with_content, with_acls}
+use Rattle.over_core.specs.Effect.{answered, refused, create_made, create_numbered, create_permitted, create_in, create_under, create_new, create_over, create_effect, open_effect, generation_fits, is_last, put_at, change_at, change_on, effect_on, handle_effect, effect, new_view, acls_of, with_content, with_acls}
 use Rattle.world_cell.specs.Consistent.{OpensAs}
 
 -- a first answer, if there is one

@@ -1,14 +1,14 @@
 -- Behind each step a consistent world serves its clients: to each client, and of each name, it is what some schedule leads to; what clients hold and are replied is as it should be.
-use Rattle.std.proofs.Common.{◌≡◌, ℕ, List, sym, subst}
+use Rattle.std.proofs.Common.{ℕ, List, sym, subst}
 use Rattle.coherence.specs.Slice.{Reached}
 use Rattle.node_core.specs.declared.lines.Line.{Line}
 use Rattle.world_cell.specs.declared.steps.Step.{Step}
 use Rattle.world_cell.specs.World.{WorldState}
 use Rattle.world_cell.specs.Slices.{slice}
 use Rattle.world_cell.specs.Consistent.{IsConsistent}
-use Rattle.world_cell.proofs.SliceSteps.{reached_behind_ticks, reached_behind_up, reached_behind_join, reached_behind_ask, reached_behind_beat, reached_behind_give, reached_behind_take, reached_behind_sweep}
+use Rattle.world_cell.proofs.SliceSteps.{reached_behind_ticks, reached_behind_up, reached_behind_join, reached_behind_ask, reached_behind_beat, reached_behind_give, reached_behind_take, reached_behind_sweep, reached_behind_down}
 use Rattle.world_cell.proofs.WorldCases.{WorldCase}
-use Rattle.world_cell.proofs.WorldCases.WorldCase.{ComesUp, Joins, Asks, Beats, Gives, Ticks, Takes, Sweeps}
+use Rattle.world_cell.proofs.WorldCases.WorldCase.{ComesUp, Joins, Asks, Beats, Gives, Ticks, Takes, Sweeps, GoesDown}
 use Rattle.world_cell.proofs.ConsistentSteps.{LeadsOn}
 use Rattle.world_cell.proofs.RepliesSent.{replies_answer}
 use Rattle.world_cell.proofs.HoldsOn.{holds_on}
@@ -22,6 +22,7 @@ reaches_on old step new printed h (Gives g) client name = reached_behind_give ol
 reaches_on old step new printed h (Ticks t) client name = subst (λ z. Reached (slice client name z)) (sym t.is) (reached_behind_ticks old h client name t.ticks t.fair)
 reaches_on old step new printed h (Takes t) client name = subst (λ z. Reached (slice client name z)) (sym t.is) (reached_behind_take old h client name t.master t.at t.request t.case t.is_up t.was_sent t.unspent)
 reaches_on old step new printed h (Sweeps t) client name = subst (λ z. Reached (slice client name z)) (sym t.is) (reached_behind_sweep old h client name t.master t.case t.is_up)
+reaches_on old step new printed h (GoesDown d) client name = subst (λ z. Reached (slice client name z)) (sym d.is) (reached_behind_down old h client name d.master d.is_up)
 
 pub leads_on : LeadsOn
 leads_on old step new printed h case = record {

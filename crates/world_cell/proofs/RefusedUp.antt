@@ -1,6 +1,6 @@
 -- A master that comes up where none is, or doesn't.
-use Rattle.std.proofs.Common.{◌≡◌, ℕ, List, [], ◌∷◌, Result, Ok, Err, Option, Some, None, true, false, refl, sym, ap, subst, ◌∙◌, inl, inr, arith}
-use Rattle.std.specs.Prelude.{◌⊎◌, ◌≤◌, is_some, not}
+use Rattle.std.proofs.Common.{◌≡◌, ℕ, List, [], ◌∷◌, Ok, Err, Option, Some, None, true, false, refl, sym, ap, subst, ◌∙◌, inl, inr, arith}
+use Rattle.std.specs.Prelude.{◌⊎◌, is_some, not}
 use Rattle.std.specs.Option.{option_map}
 use Rattle.node_core.specs.declared.refusals.Fault.{Fault}
 use Rattle.node_core.specs.declared.refusals.Fault.TheVariants as faults
@@ -8,7 +8,6 @@ use Rattle.node_core.specs.declared.lines.Line.{Line}
 use Rattle.node_core.specs.declared.lines.Line.TheVariants as lines
 use Rattle.rows_cell.specs.declared.tables.Rows.{Rows}
 use Rattle.rows_cell.specs.declared.tables.Edit.{Edit}
-use Rattle.rows_cell.specs.Rows.{changed_rows}
 use Rattle.rows_cell.specs.Stores.{Store, IsRead, IsUnread, MayLeave, MayRefuse, IsRefused as Uncommitted}
 use Rattle.cell_core.specs.State.{MasterState}
 use Rattle.cell_core.specs.Step.{is_past_end}
@@ -16,7 +15,7 @@ use Rattle.over_core.specs.Up.{up_step, up_edits, up_commit, ComesUp, IsKeptDown
 use Rattle.world_cell.specs.declared.mail.Message.{Message}
 use Rattle.world_cell.specs.declared.steps.Step.TheVariants as steps
 use Rattle.world_cell.specs.Seats.{Clients, each_seat, at_up}
-use Rattle.world_cell.specs.World.{WorldState, WorldView, Outcome, store_in, held, view_of, as_read, came_up, world_step, world_up, came_up_edits, step_edits, IsAtUp, IsStored, IsLeft, IsOutsideUp}
+use Rattle.world_cell.specs.World.{WorldState, WorldView, Outcome, store_in, held, view_of, as_read, came_up, world_step, world_up, came_up_edits, step_edits, IsAtUp, IsStored, IsOutsideUp}
 use Rattle.world_cell.specs.Runs.{WasMade, WasRefused}
 use Rattle.world_cell.proofs.AsRead.{at_now}
 
@@ -66,11 +65,14 @@ module _ (old : WorldView) (now : ℕ) (none : old.world.master ≡ None) where
   made_by master after h =
       let at : WorldView = as_read old h.read in
       let made : List ℕ → Rows → Outcome = λ cell rows. Ok (record (with_master old now after master).world { cell = cell; rows = rows }, lines.Up master.epoch ∷ []) in
-      let edits : step_edits at.world (steps.Up now) ≡ up_edits h.read.rows = edits_up at.world now at.world.master none ∙ ap (λ r. up_commit r h.read.rows) h.came in
-      (at, read_at old old.world.master h.read none h.was_read, record {
-        is_step = came_as at.world master none h.came ∙ sym (ap (λ c. made c after.rows) h.committed.cell ∙ ap (λ r. made h.read.cell r) h.committed.rows);
-        stored = subst (λ e. IsStored e at (with_master old now after master)) (sym edits) (record { leave = h.committed.leave; counted = h.committed.counted; doubted = h.committed.doubted });
-      })
+      let edits : step_edits at.world (steps.Up now) ≡ up_edits h.read.rows = edits_up at.world now at.world.master none ∙ ap (λ r. up_commit r h.read.rows) h.came in (
+        at,
+        read_at old old.world.master h.read none h.was_read,
+        record {
+          is_step = came_as at.world master none h.came ∙ sym (ap (λ c. made c after.rows) h.committed.cell ∙ ap (λ r. made h.read.cell r) h.committed.rows);
+          stored = subst (λ e. IsStored e at (with_master old now after master)) (sym edits) (record { leave = h.committed.leave; counted = h.committed.counted; doubted = h.committed.doubted });
+        },
+      )
 
   -- ---- it stays down
 
@@ -82,45 +84,57 @@ module _ (old : WorldView) (now : ℕ) (none : old.world.master ≡ None) where
   late fault w past is = rw (past, is) refl
 
   refused_late : (fault : Fault) → is_past_end now ≡ true → fault ≡ faults.Exhausted → WasRefused old (steps.Up now) old (lines.Refused fault ∷ [])
-  refused_late fault past is =
-      (old, at_now (steps.Up now) old, record {
-        fault = fault;
-        why = inl (refused_as old.world fault none (late fault old.world past is), refl);
-        left = record { same = refl; leave = leaves_same (step_edits old.world (steps.Up now)) old.world.rows old.may_leave old.may_leave refl; doubted = omega arith };
-        line = refl;
-      })
+  refused_late fault past is = (
+    old,
+    at_now (steps.Up now) old,
+    record {
+      fault = fault;
+      why = inl (refused_as old.world fault none (late fault old.world past is), refl);
+      left = record { same = refl; leave = leaves_same (step_edits old.world (steps.Up now)) old.world.rows old.may_leave old.may_leave refl; doubted = omega arith };
+      line = refl;
+    },
+  )
 
   refused_unread : (fault : Fault) (after : Store) → is_past_end now ≡ false → IsUnread fault (store_in old) after → WasRefused old (steps.Up now) (as_read old after) (lines.Refused fault ∷ [])
-  refused_unread fault after early h =
-      (old, at_now (steps.Up now) old, record {
-        fault = fault;
-        why = inr (outside_up old (as_read old after) now fault old.world.master none early (inl h));
-        left = record { same = stands old (store_in old) after h.cell h.rows; leave = leaves_same (step_edits old.world (steps.Up now)) old.world.rows old.may_leave after.may_leave h.leave; doubted = h.doubted };
-        line = refl;
-      })
+  refused_unread fault after early h = (
+    old,
+    at_now (steps.Up now) old,
+    record {
+      fault = fault;
+      why = inr (outside_up old (as_read old after) now fault old.world.master none early (inl h));
+      left = record { same = stands old (store_in old) after h.cell h.rows; leave = leaves_same (step_edits old.world (steps.Up now)) old.world.rows old.may_leave after.may_leave h.leave; doubted = h.doubted };
+      line = refl;
+    },
+  )
 
   -- what was read lets no master come up
   refused_read : (fault : Fault) (read : Store) → IsRead (store_in old) read → up_step read.cell read.rows old.world.lease now ≡ Err fault → WasRefused old (steps.Up now) (as_read old read) (lines.Refused fault ∷ [])
   refused_read fault read was_read told =
-      let at : WorldView = as_read old read in
-      (at, read_at old old.world.master read none was_read, record {
-        fault = fault;
-        why = inl (refused_as at.world fault none told, refl);
-        left = record { same = refl; leave = leaves_same (step_edits at.world (steps.Up now)) read.rows read.may_leave read.may_leave refl; doubted = omega arith };
-        line = refl;
-      })
+      let at : WorldView = as_read old read in (
+        at,
+        read_at old old.world.master read none was_read,
+        record {
+          fault = fault;
+          why = inl (refused_as at.world fault none told, refl);
+          left = record { same = refl; leave = leaves_same (step_edits at.world (steps.Up now)) read.rows read.may_leave read.may_leave refl; doubted = omega arith };
+          line = refl;
+        },
+      )
 
   -- the epoch isn't committed
   refused_commit : (fault : Fault) (read after : Store) → is_past_end now ≡ false → IsRead (store_in old) read → Uncommitted fault (up_commit (up_step read.cell read.rows old.world.lease now) read.rows) read after → WasRefused old (steps.Up now) (as_read old after) (lines.Refused fault ∷ [])
   refused_commit fault read after early was_read h =
       let at : WorldView = as_read old read in
-      let edits = edits_up at.world now at.world.master none in
-      (at, read_at old old.world.master read none was_read, record {
-        fault = fault;
-        why = inr (outside_up at (as_read old after) now fault at.world.master none early (inr h.why));
-        left = record { same = stands old read after h.cell h.rows; leave = subst (λ e. MayLeave e read.rows read.may_leave after.may_leave) (sym edits) h.leave; doubted = h.doubted };
-        line = refl;
-      })
+      let edits = edits_up at.world now at.world.master none in (
+        at,
+        read_at old old.world.master read none was_read,
+        record {
+          fault = fault;
+          why = inr (outside_up at (as_read old after) now fault at.world.master none early (inr h.why));
+          left = record { same = stands old read after h.cell h.rows; leave = subst (λ e. MayLeave e read.rows read.may_leave after.may_leave) (sym edits) h.leave; doubted = h.doubted };
+          line = refl;
+        },
+      )
 
   kept_down : (fault : Fault) (after read : Store) → is_past_end now ≡ false → IsRead (store_in old) read → ((up_step read.cell read.rows old.world.lease now ≡ Err fault) × (after ≡ read)) ⊎ Uncommitted fault (up_commit (up_step read.cell read.rows old.world.lease now) read.rows) read after → WasRefused old (steps.Up now) (as_read old after) (lines.Refused fault ∷ [])
   kept_down fault after read early was_read (inl h) =
@@ -163,12 +177,16 @@ twice_by old now (Some master) up = refl
 pub refused_twice : (old new : WorldView) (now : ℕ) → is_some old.world.master ≡ true → new ≡ old → WasRefused old (steps.Up now) new (lines.Refused faults.MasterUp ∷ [])
 unfolding world_step
 refused_twice old new now up same =
-    subst (λ w. WasRefused old (steps.Up now) w (lines.Refused faults.MasterUp ∷ [])) (sym same) (old, at_now (steps.Up now) old, record {
-      fault = faults.MasterUp;
-      why = inl (twice_by old now old.world.master up, refl);
-      left = record { same = refl; leave = leaves_same (step_edits old.world (steps.Up now)) old.world.rows old.may_leave old.may_leave refl; doubted = omega arith };
-      line = refl;
-    })
+    subst (λ w. WasRefused old (steps.Up now) w (lines.Refused faults.MasterUp ∷ [])) (sym same) (
+      old,
+      at_now (steps.Up now) old,
+      record {
+        fault = faults.MasterUp;
+        why = inl (twice_by old now old.world.master up, refl);
+        left = record { same = refl; leave = leaves_same (step_edits old.world (steps.Up now)) old.world.rows old.may_leave old.may_leave refl; doubted = omega arith };
+        line = refl;
+      },
+    )
 
 pub up_view : {Cell : Type 0} (master : Cell → MasterState) (part : Cell → Store) (up : Option Cell) (cell : Cell) (rest : Option Store) (now : ℕ) (moved clients : Clients) (messages : List Message) (lease : ℕ) → up ≡ Some cell → moved ≡ each_seat (λ number. at_up now) clients
     → view_of (held (option_map part up) rest) (option_map master up) now moved messages lease ≡ view_of (part cell) (Some (master cell)) now (each_seat (λ number. at_up now) clients) messages lease

@@ -1,5 +1,5 @@
 -- Of a consistent world, behind each step, each reply that was sent is to a call that was sent before.
-use Rattle.std.proofs.Common.{◌≡◌, ℕ, false, List, [], ◌∷◌, ◌++◌, Option, Some, None, Ok, refl, sym, ap, ◌∙◌, inl, inr, subst, map}
+use Rattle.std.proofs.Common.{◌≡◌, ℕ, false, List, [], ◌∷◌, ◌++◌, Option, Some, None, refl, sym, ap, ◌∙◌, inl, inr, subst, map}
 use Rattle.node_core.specs.declared.refusals.Fault.TheVariants as faults
 use Rattle.node_core.specs.declared.lines.Line.{Line}
 use Rattle.node_core.specs.declared.views.Mod.{Mod}
@@ -37,7 +37,7 @@ use Rattle.world_cell.proofs.OpensNamed.{answer_opens}
 use Rattle.world_cell.proofs.ConsistentSteps.{noted_fits, agrees_at, expired_rows}
 use Rattle.world_cell.proofs.OwnSteps.{IsOwn, sending, asks_own, beats_own, gives_own}
 use Rattle.world_cell.proofs.WorldCases.{WorldCase}
-use Rattle.world_cell.proofs.WorldCases.WorldCase.{ComesUp, Joins, Asks, Beats, Gives, Ticks, Takes, Sweeps}
+use Rattle.world_cell.proofs.WorldCases.WorldCase.{ComesUp, Joins, Asks, Beats, Gives, Ticks, Takes, Sweeps, GoesDown}
 
 -- ---- what a master sends
 
@@ -146,3 +146,4 @@ replies_answer old step new printed h (Sweeps t) =
     subst AllReplied (sym t.is) (subst (λ (secret : List ℕ). AllAnswer (old.messages ++ map ToClient (swept_by s t.case).1.outs) secret) (sym (swept_secret old.rows s t.case))
     (more_answer old.messages (swept_by s t.case).1.outs old.rows.secret h.answers
     (subst (λ (secret : List ℕ). Sends old.messages secret (swept_by s t.case).1.outs) (secret_at old h t.master t.is_up) (swept_answers old.messages s t.case (noted_fits old h t.master t.is_up)))))
+replies_answer old step new printed h (GoesDown d) = subst AllReplied (sym d.is) h.answers

@@ -35,7 +35,7 @@ use Rattle.world_cell.specs.Consistent.{IsConsistent}
 use Rattle.world_cell.specs.Runs.{Does, Run, Told, is_held_as, with_status, told_more, told_ended, rights_by, rights_at, told_of, rights_in, is_held_told, is_acknowledged_told, is_expired_told, totals_by, AreRecordedOnce}
 use Rattle.world_cell.proofs.SilentLines.{IsOfNoRight, AreOfNoRight, quiet_rightless}
 use Rattle.world_cell.proofs.WorldCases.{WorldCase, world_case}
-use Rattle.world_cell.proofs.WorldCases.WorldCase.{ComesUp, Joins, Asks, Beats, Gives, Ticks, Takes, Sweeps}
+use Rattle.world_cell.proofs.WorldCases.WorldCase.{ComesUp, Joins, Asks, Beats, Gives, Ticks, Takes, Sweeps, GoesDown}
 use Rattle.world_cell.proofs.OwnSteps.{IsOwn, asks_own, beats_own, gives_own}
 use Rattle.world_cell.proofs.ConsistentSteps.{agrees_at}
 
@@ -55,6 +55,7 @@ told_both rights mid later xs ys h k = rights_more rights xs ys ∙ ap (option_a
 
 line_rights : (rights : List Told) (line : Line) → IsOfNoRight line → rights_by rights line ≡ Some rights
 line_rights rights (lines.Up epoch) h = absurd h
+line_rights rights lines.Down h = absurd h
 line_rights rights (lines.Granted number client name) h = absurd h
 line_rights rights (lines.Acked number) h = absurd h
 line_rights rights (lines.Expired number) h = absurd h
@@ -262,6 +263,7 @@ case_told old step new printed h (Sweeps t) =
     let s = noted t.master old.clock in
     master_told old.master new.master printed t.master (swept_by s t.case).0 (swept_by s t.case).1.lines t.is_up (ap (λ (w : WorldState). w.master) t.is) t.tells
     (sweep_told s t.case (agrees_at old old.master t.master t.is_up h.master).recorded)
+case_told old step new printed h (GoesDown d) = rw (d.tells, ap (λ (w : WorldState). w.master) d.is) refl
 
 step_told : (old : WorldView) (step : Step) (new : WorldView) (printed : List Line) → IsConsistent old.world → Does old step new printed → Tells old.world.master printed new.world.master
 step_told old step new printed h (inl m) = case_told old.world step new.world printed h (world_case old.world step new.world printed h.master m.is_step)

@@ -23,7 +23,7 @@ use Rattle.world_cell.specs.Runs.{Does, Run, map_by, map_at, epoch_by, epoch_at}
 use Rattle.world_cell.proofs.SilentLines.{IsSilentLine, IsSilent}
 use Rattle.world_cell.proofs.OnceByRuns.{taken_silent}
 use Rattle.world_cell.proofs.WorldCases.{WorldCase, world_case}
-use Rattle.world_cell.proofs.WorldCases.WorldCase.{ComesUp, Joins, Asks, Beats, Gives, Ticks, Takes, Sweeps}
+use Rattle.world_cell.proofs.WorldCases.WorldCase.{ComesUp, Joins, Asks, Beats, Gives, Ticks, Takes, Sweeps, GoesDown}
 use Rattle.world_cell.proofs.OwnSteps.{IsOwn, own_silent, asks_own, beats_own, gives_own}
 use Rattle.world_cell.proofs.ConsistentSteps.{expired_rows}
 
@@ -93,6 +93,7 @@ case_tells old step new printed (Ticks t) = silent_tells old.rows new.rows print
 case_tells old step new printed (Takes t) =
     silent_tells old.rows new.rows printed (rw t.tells (taken_silent (noted t.master old.clock) t.request t.case)) (rw t.is refl)
 case_tells old step new printed (Sweeps t) = rw (t.tells, t.is) (swept_tells old.rows (noted t.master old.clock) t.case)
+case_tells old step new printed (GoesDown d) = silent_tells old.rows new.rows printed (rw d.tells (tt, tt)) (rw d.is refl)
 
 pub step_tells : (old : WorldView) (step : Step) (new : WorldView) (printed : List Line) → IsConsistent old.world → Does old step new printed → Tells old.world.rows new.world.rows printed
 step_tells old step new printed h (inl m) = case_tells old.world step new.world printed (world_case old.world step new.world printed h.master m.is_step)

@@ -1,9 +1,8 @@
 -- Whatever a client serves from its cache is what the map holds of that name.
-use Rattle.std.proofs.Common.{◌≡◌, ℕ, ◌+◌, Bool, true, false, cond, List, [], ◌∷◌, ◌++◌, map, Option, Some, None, Result, Ok, Err, inl, inr, refl, sym, ap, ◌∙◌, subst, arith}
+use Rattle.std.proofs.Common.{◌≡◌, ℕ, ◌+◌, Bool, true, false, cond, List, [], ◌∷◌, ◌++◌, map, Option, Some, None, Result, Ok, Err, inl, inr, refl, sym, subst, arith}
 use Rattle.std.specs.Prelude.{◌&&◌, IfOk}
 use Rattle.std.specs.Option.{option_to_list}
 use Rattle.lease_core.specs.Lease.{IsUnexpired, is_unexpired}
-use Rattle.coherence.specs.Slice as one
 use Rattle.coherence.proofs.Reached.{reached_serves_present}
 use Rattle.node_core.specs.declared.refusals.Fault.{Fault}
 use Rattle.node_core.specs.declared.refusals.Fault.TheVariants as faults
@@ -13,7 +12,7 @@ use Rattle.node_core.specs.declared.lines.Line.TheVariants as lines
 use Rattle.node_core.specs.declared.views.View.{View}
 use Rattle.node_core.specs.Nodes.{Nodes, get_node}
 use Rattle.rows_cell.specs.Rows.{map_of}
-use Rattle.cache_core.specs.Caches.{CacheState, entry_of, is_leased, answer}
+use Rattle.cache_core.specs.Caches.{entry_of, is_leased, answer}
 use Rattle.cache_core.specs.Standings.{turn_line}
 use Rattle.cache_core.specs.declared.standings.Standing.{Standing}
 use Rattle.cache_core.specs.declared.standings.Standing.TheVariants as standings
@@ -57,7 +56,7 @@ use Rattle.world_cell.proofs.EntryFacts.{is_leased_so}
 use Rattle.world_cell.proofs.OwnSteps.{Comes, it_comes}
 use Rattle.world_cell.proofs.RowsByRuns.{step_tells}
 use Rattle.world_cell.proofs.WorldCases.{WorldCase, world_case}
-use Rattle.world_cell.proofs.WorldCases.WorldCase.{ComesUp, Joins, Asks, Beats, Gives, Ticks, Takes, Sweeps}
+use Rattle.world_cell.proofs.WorldCases.WorldCase.{ComesUp, Joins, Asks, Beats, Gives, Ticks, Takes, Sweeps, GoesDown}
 
 -- ---- lines, one by one
 
@@ -281,6 +280,7 @@ case_serves old step new printed h (Gives g) = it_comes (StepServes old) (gave o
 case_serves old step new printed h (Ticks t) = others_step old new printed (subst AreOthers (sym t.tells) tt)
 case_serves old step new printed h (Takes t) = others_step old new printed (subst AreOthers (sym t.tells) (taken_other (noted t.master old.clock) t.request t.case))
 case_serves old step new printed h (Sweeps t) = others_step old new printed (subst AreOthers (sym t.tells) (swept_other (noted t.master old.clock) t.case))
+case_serves old step new printed h (GoesDown d) = others_step old new printed (subst AreOthers (sym d.tells) (tt, tt))
 
 -- whatever a client serves in a step is what the rows hold
 pub step_serves : (old : WorldState) (step : Step) (new : WorldState) (printed : List Line) → IsConsistent old → world_step old step ≡ Ok (new, printed) → ServesPresent (map_of new.rows) printed

@@ -14,9 +14,10 @@ abbrev pub IsSilent : List Line → Type 0
 IsSilent [] = Unit {0}
 IsSilent (line ∷ rest) = IsSilentLine line × IsSilent rest
 
--- no master comes up, and no right is granted or ends
+-- no master comes up or goes down, and no right is granted or ends
 abbrev pub IsOfNoRight : Line → Type 0
 IsOfNoRight (lines.Up epoch) = ⊥
+IsOfNoRight lines.Down = ⊥
 IsOfNoRight (lines.Granted number client name) = ⊥
 IsOfNoRight (lines.Acked number) = ⊥
 IsOfNoRight (lines.Expired number) = ⊥

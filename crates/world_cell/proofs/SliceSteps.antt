@@ -14,10 +14,10 @@ use Rattle.over_core.specs.SweepCase.{SweepCase}
 use Rattle.world_cell.specs.declared.seats.Seat.{Seat}
 use Rattle.world_cell.specs.declared.steps.Ticks.{Ticks}
 use Rattle.world_cell.specs.Messages.{request_at, out_at}
-use Rattle.world_cell.specs.World.{WorldState, seat_of, asked, beaten, gave, ticked, are_fair}
+use Rattle.world_cell.specs.World.{WorldState, seat_of, asked, beaten, gave, ticked, are_fair, without_master}
 use Rattle.world_cell.specs.Slices.{slice}
 use Rattle.world_cell.specs.Consistent.{IsConsistent, Agrees, Fits, IsNoted}
-use Rattle.world_cell.proofs.SliceTicks.{behind_up, behind_join, reached_stays_at_ticks, reached_stays_at_up, reached_stays_at_join}
+use Rattle.world_cell.proofs.SliceTicks.{behind_up, behind_join, reached_stays_at_ticks, reached_stays_at_up, reached_stays_at_down, reached_stays_at_join}
 use Rattle.world_cell.proofs.SliceClients.{reached_stays_at_ask, reached_stays_at_beat, reached_stays_at_give}
 use Rattle.world_cell.proofs.SliceTakes.{behind_take, reached_stays_at_take}
 use Rattle.world_cell.proofs.SliceSweeps.{behind_sweep, reached_stays_at_sweep}
@@ -49,3 +49,6 @@ module _ (w : WorldState) (fits : IsConsistent w) (c : ℕ) (x : List ℕ) where
 
   pub reached_behind_sweep : (s : MasterState) (case : SweepCase (noted s w.clock)) → w.master ≡ Some s → Reached (slice c x (behind_sweep w s case))
   reached_behind_sweep s case up = reached_stays_at_sweep c x w s case up (subst (IsNoted w.clock) up fits.noted) (subst (Agrees w) up fits.master) (fits.reached c x)
+
+  pub reached_behind_down : (s : MasterState) → w.master ≡ Some s → Reached (slice c x (without_master w))
+  reached_behind_down s up = reached_stays_at_down c x w s up (fits.reached c x)

@@ -1,4 +1,4 @@
--- To each client, and of each name, what a step of the clocks, a master that comes up, and a client that joins are.
+-- To each client, and of each name, what a step of the clocks, a master that comes up or goes down, and a client that joins are.
 use Rattle.std.proofs.Common.{◌≡◌, ℕ, ◌+◌, ◌≤◌, Bool, true, false, cond, List, [], ◌∷◌, Option, Some, None, arith, refl, sym, ap, ◌∙◌, subst}
 use Rattle.std.specs.Prelude.{◌==◌, ◌&&◌, ◌||◌, not, nat_le}
 use Rattle.std.specs.Option.{option_map}
@@ -8,7 +8,7 @@ use Rattle.std.specs.Ordering.{nat_cmp}
 use Rattle.std.proofs.lemmas.Bool.Decides.{nat_tests}
 use Rattle.lease_core.specs.Lease.{longest_lease, recovery_timeout}
 use Rattle.coherence.specs.Slice as one
-use Rattle.coherence.specs.Slice.{Slice, Event, TickBeforeJoin, TickAboveLeast, TickToLeast, TickWithoutMaster, ComeUp, Reached, Leads, nobody}
+use Rattle.coherence.specs.Slice.{Slice, Event, TickBeforeJoin, TickAboveLeast, TickToLeast, TickWithoutMaster, ComeUp, GoDown, Reached, Leads, nobody}
 use Rattle.node_core.specs.Nodes.{get_node}
 use Rattle.rows_cell.specs.declared.tables.Session as of_rows
 use Rattle.rows_cell.specs.Rows.{changed_rows, map_of}
@@ -24,7 +24,7 @@ use Rattle.over_core.specs.Up.{up_edits}
 use Rattle.world_cell.specs.declared.seats.Seat.{Seat}
 use Rattle.world_cell.specs.declared.steps.Ticks.{Ticks}
 use Rattle.world_cell.specs.Seats.{new_seat, each_seat, at_up, is_least, is_fair}
-use Rattle.world_cell.specs.World.{WorldState, seat_of, own_step, clock_then, stays_fair, moved, ticked, are_fair}
+use Rattle.world_cell.specs.World.{WorldState, seat_of, own_step, clock_then, stays_fair, moved, ticked, are_fair, without_master}
 use Rattle.world_cell.specs.Slices.{Shown, slice, standing_so, standing_of, standing_in, seen_of, heard_from, beats_of, offers_of, grants_of, clocks_of, client_of, master_of}
 use Rattle.world_cell.proofs.SliceRights.{no_right}
 use Rattle.world_cell.proofs.Slices.{LeadsTo, reached_stays, unseen, by_test, is_same, is_other, two_same, lookup_rows, lookup_each, all_found, seen_up, seated_as}
@@ -203,6 +203,18 @@ module _ (c : ℕ) (x : List ℕ) (w : WorldState) (now : ℕ) where
 
   pub reached_stays_at_up : w.master ≡ None → w.lease ≤ longest_lease → Reached (slice c x w) → Reached (slice c x (behind_up w now))
   reached_stays_at_up down short reached = reached_stays c x w (behind_up w now) (up_leads down short) reached
+
+-- ---- the master goes down
+
+module _ (c : ℕ) (x : List ℕ) (w : WorldState) where
+  pub down_leads : (s : MasterState) → w.master ≡ Some s → LeadsTo c x w (without_master w)
+  down_leads s up = (
+    GoDown ∷ [],
+    subst (λ (m : Option MasterState). Leads (slice c x (record w { master = m })) (GoDown ∷ []) (slice c x (without_master w))) (sym up) (record { allowed = record { first = refl; rest = tt }; leads_there = refl }),
+  )
+
+  pub reached_stays_at_down : (s : MasterState) → w.master ≡ Some s → Reached (slice c x w) → Reached (slice c x (without_master w))
+  reached_stays_at_down s up reached = reached_stays c x w (without_master w) (down_leads s up) reached
 
 -- ---- a client joins
 

@@ -44,7 +44,7 @@ use Rattle.world_cell.specs.declared.seats.Seat.{Seat}
 use Rattle.world_cell.specs.Seats.{new_seat, each_seat, at_up}
 use Rattle.world_cell.specs.Messages.{request_at, out_at}
 use Rattle.world_cell.specs.Consistent.{Agrees}
-use Rattle.world_cell.specs.World.{WorldState, Outcome, world_step, world_up, came_up, seat_of, asked, beaten, took, world_take, gave, given_to, swept, world_sweep, without_quiet, moves_nobody, are_joined, are_fair, goes_past_end, ticked}
+use Rattle.world_cell.specs.World.{WorldState, Outcome, world_step, world_up, came_up, seat_of, asked, beaten, took, world_take, gave, given_to, swept, world_sweep, without_quiet, without_master, world_down, moves_nobody, are_joined, are_fair, goes_past_end, ticked}
 
 -- ---- the rows
 
@@ -135,6 +135,13 @@ pub record IsSweep (old : WorldState) (step : Step) (new : WorldState) (printed 
   }
   pub tells : printed ≡ (swept_by (noted master old.clock) case).1.lines
 
+pub record IsDown (old : WorldState) (step : Step) (new : WorldState) (printed : List Line) : Type 0 where
+  pub is_step : step ≡ steps.Down
+  pub master : MasterState
+  pub is_up : old.master ≡ Some master
+  pub is : new ≡ without_master old
+  pub tells : printed ≡ lines.Down ∷ []
+
 pub data WorldCase (old : WorldState) (step : Step) (new : WorldState) (printed : List Line) : Type 0 where
   ComesUp : IsUp old step new printed → WorldCase old step new printed
   Joins : IsJoin old step new printed → WorldCase old step new printed
@@ -144,6 +151,7 @@ pub data WorldCase (old : WorldState) (step : Step) (new : WorldState) (printed 
   Ticks : IsTick old step new printed → WorldCase old step new printed
   Takes : IsTake old step new printed → WorldCase old step new printed
   Sweeps : IsSweep old step new printed → WorldCase old step new printed
+  GoesDown : IsDown old step new printed → WorldCase old step new printed
 
 pub ok_pair : {A B E : Type 0} (p : A × B) (a : A) (b : B) → (let q : Result (A × B) E = Ok p in q) ≡ Ok (a, b) → (p.0 ≡ a) × (p.1 ≡ b)
 ok_pair {A} {B} p a b h = let e : ◌≡◌ {A = A × B} p (a, b) = cc in (ap (λ (q : A × B). q.0) e, ap (λ (q : A × B). q.1) e)
@@ -271,6 +279,14 @@ module _ (w : WorldState) (step : Step) (new : WorldState) (printed : List Line)
   sweep_row None agrees is up h = cc
   sweep_row (Some master) agrees is up h = swept_row master (sweep_step master w.clock) agrees is up refl h
 
+  -- ---- the master goes down
+
+  down_row : (m : Option MasterState) → step ≡ steps.Down → w.master ≡ m → world_down w m ≡ Ok (new, printed) → WorldCase w step new printed
+  down_row None is up h = cc
+  down_row (Some master) is up h =
+      let p = ok_pair (without_master w, lines.Down ∷ []) new printed h in
+      GoesDown (record { is_step = is; master = master; is_up = up; is = sym p.0; tells = sym p.1 })
+
 -- ---- every step
 
 pub world_case : (w : WorldState) (step : Step) (new : WorldState) (printed : List Line) → Agrees w w.master → world_step w step ≡ Ok (new, printed) → WorldCase w step new printed
@@ -284,3 +300,4 @@ world_case w (steps.Tick ticks) new printed agrees h =
 world_case w (steps.Take at) new printed agrees h = take_row w (steps.Take at) new printed at w.master refl refl h
 world_case w (steps.Give at) new printed agrees h = give_row w (steps.Give at) new printed at (out_at w.messages at) refl refl h
 world_case w steps.Sweep new printed agrees h = sweep_row w steps.Sweep new printed w.master agrees refl refl h
+world_case w steps.Down new printed agrees h = down_row w steps.Down new printed w.master refl refl h

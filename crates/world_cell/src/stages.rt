@@ -2,7 +2,7 @@
 ghost use Rattle.lease_core.specs.Lease.{longest_lease};
 ghost use Rattle.std.specs.Prelude.{◌≡◌, ◌≤◌, ◌<◌, ◌+◌, ◌∷◌, [], length, false, Some, None, Ok, Err, IfOk, IfErr, OnOk, OnErr, is_some};
 ghost use Rattle.std.specs.Vec.{vec_len, vec_capacity};
-ghost use Rattle.world_cell.specs.World.{opened, store_in, with_refusal, world_join, world_ask, world_beat, world_tick, world_take, world_give, world_sweep, moves_nobody, are_fair, goes_past_end, ticked, step_edits, IsStored, IsLeft, MayRefuseStep};
+ghost use Rattle.world_cell.specs.World.{opened, store_in, with_refusal, world_join, world_ask, world_beat, world_tick, world_take, world_give, world_sweep, world_down, moves_nobody, are_fair, goes_past_end, ticked, step_edits, IsStored, IsLeft, MayRefuseStep};
 ghost use Rattle.world_cell.specs.Runs.{WasMade, WasRefused};
 ghost use Rattle.world_cell.specs.Consistent.{Agrees};
 
@@ -81,6 +81,7 @@ impl<R: Records + Drop> Stage<R> {
             Step::Take(number) => self.take(*number),
             Step::Give(number) => self.give(*number),
             Step::Sweep => Ok(self.sweep()?.lines),
+            Step::Down => self.down(),
         }
     }
 
@@ -168,6 +169,24 @@ impl<R: Records + Drop> Stage<R> {
                     Err(fault)
                 }
             },
+        }
+    }
+
+    // The master is gone, and the records are by themselves again.
+    fn down(&mut self) -> Result<Items<Line>, Fault>
+        ensures ok { IfOk result (λ lines. world_down self.old.world self.old.world.master ≡ Ok (self.new.world, lines)) }
+        ensures stored { OnOk result (IsStored [] self.old self.new) }
+        ensures fault { IfErr result (λ e. MayRefuseStep (world_down self.old.world self.old.world.master) Step.Down e self.old self.new) }
+        ensures left { OnErr result (IsLeft [] self.old self.new) }
+    {
+        let mut lines = Items::new(self.alloc);
+        lines.push(Line::Down)?;
+        match self.master.take() {
+            None => Err(Fault::MasterDown),
+            Some(cell) => {
+                drop(self.records.replace(cell.down()));
+                Ok(lines)
+            }
         }
     }
 

@@ -1,5 +1,5 @@
 use denote.Param.{param}
-use Rattle.std.proofs.Common.{◌≡◌, None, true, subst, sym, ap, ◌∙◌, rules}
+use Rattle.std.proofs.Common.{◌≡◌, None, true, subst, ap, ◌∙◌, rules}
 use Rattle.std.specs.Prelude.{is_some}
 use Rattle.std.specs.Option.{option_map}
 use Rattle.over_core.specs.Kept.{CellState}
