@@ -69,7 +69,8 @@ impl Cell {
     ghost use Rattle.cell_core.specs.Step.{noted};
 
     /// A master that comes up with these rows, with its lease and the moment in milliseconds: nothing waits, no right is
-    /// held, and it knows of no call and of no handle. Where a session is live it is in recovery.
+    /// held, and it knows of no call and of no handle. To each live session it issues its first event, which tells that
+    /// it is up, and where there is one it is in recovery.
     pub fn of_rows(alloc: Global, rows: Rows, lease: u64, now: u64) -> Result<Cell, AllocError>
         requires range { (least_lease ≤ lease) × (lease ≤ longest_lease) }
         requires moment { IsMoment now }
@@ -125,7 +126,7 @@ impl Cell {
         &self.sessions
     }
 
-    /// Whether some session of an earlier master has neither been heard from nor expired.
+    /// Whether some session of an earlier master has neither acknowledged its first event nor expired.
     pub fn recovering(&self) -> bool
         ensures { result ≡ self.now.recovering }
     {

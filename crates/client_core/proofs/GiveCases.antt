@@ -1,5 +1,5 @@
 -- The arm of the table by which a client is given a message.
-use Rattle.std.proofs.Common.{◌≡◌, ◌≢◌, inl, inr, ℕ, ◌<◌, ◌≤◌, max, Bool, true, false, cond, [], ◌∷◌, Option, Some, None, Result, Ok, Err, refl, sym, ap, ◌∙◌, subst, arith, eqb}
+use Rattle.std.proofs.Common.{◌≡◌, ◌≢◌, inl, inr, ℕ, ◌<◌, ◌≤◌, max, Bool, true, false, cond, [], ◌∷◌, ◌++◌, append-nil, Option, Some, None, Result, Ok, Err, refl, sym, ap, ◌∙◌, subst, arith, eqb}
 use Rattle.std.specs.Prelude.{◌==◌, ◌&&◌, nat_lt, nat_le}
 use Rattle.std.proofs.lemmas.Bool.Decides.{nat_tests}
 use Rattle.lease_core.specs.Lease.{moment_limit}
@@ -24,11 +24,12 @@ use Rattle.client_parts.specs.declared.targets.Target.TheVariants as targets
 use Rattle.client_parts.specs.declared.targets.Outstanding.{Outstanding}
 use Rattle.client_core.specs.State.{ClientState, standing_then, session_then, note_in, note, note_live}
 use Rattle.client_core.specs.Lessons.{Lesson, is_safe, is_fresh, may_install, taught, lesson}
-use Rattle.client_core.specs.Gives.{is_live, is_unstarted, is_span, told, passed_over, rejected, offered, begun, with_processed, takes_offer, bettered, with_lease, safe_lines, kept_alive, target_for, awaited, answer_of, has_number, ended_plainly, ended, finish_step, reply_for, lost, lose_step, taken, taken_own, give_at, give_step}
+use Rattle.client_core.specs.Gives.{is_live, is_unstarted, is_span, told, passed_over, rejected, offered, begun, with_processed, takes_offer, bettered, with_lease, safe_lines, kept_alive, is_numbered, target_for, awaited, answer_of, has_number, ended_plainly, ended, finish_step, reply_for, lost, lose_step, later_epoch, unknown_lines, learned, learn_step, taken, taken_own, give_at, give_step}
 use Rattle.client_parts.specs.Invalidations.{is_in_order}
+use Rattle.client_parts.specs.Events.{are_events_in_order, event_lines}
 use Rattle.client_parts.specs.Sessions.{session_without, session_after}
 use Rattle.client_core.specs.Cases.{noted_moment, IsHeard, IsLive, IsStarted, IsAlive, IsFit, IsAwaited, GiveCase, given_in}
-use Rattle.client_core.specs.Cases.GiveCase.{GivenTooLate, OfAnother, Started, StartedUnfit, StartedDropped, LeaseTaken, LeaseStays, AliveUnfit, AliveDropped, OutOfNumbers, Replied, Installed, ReplyDropped, NotAwaited, Lost, TurnedAway, RefusalDropped}
+use Rattle.client_core.specs.Cases.GiveCase.{GivenTooLate, OfAnother, Started, StartedUnfit, StartedDropped, LeaseTaken, LeaseStays, AliveUnfit, AliveDropped, OutOfNumbers, Replied, Installed, ReplyDropped, NotAwaited, Learns, Lost, TurnedAway, RefusalDropped}
 use Rattle.client_core.proofs.Noting.{either, less, not_less, same, other, up_to, both, safely, live_before, unstarted_before, noted_lease}
 
 -- one of the cases is what is done
@@ -68,7 +69,7 @@ started_case s now out message sessions.TurnedAway heard is at = (StartedDropped
 
 -- what an Alive does with the client once it noted the time
 abbrev kept_with : ClientState → ℕ → AliveMessage → ClientState → ClientState × Result Given Fault
-kept_with s m message n = (with_lease (with_processed n message) m message, Ok (told s m (safe_lines (with_processed n message) m message) None))
+kept_with s m message n = (with_lease (with_processed n message) m message, Ok (told s m (event_lines s.number s.heard message.events ++ safe_lines (with_processed n message) m message) None))
 
 -- the client that the lease is offered to
 abbrev processed_live : ClientState → ℕ → AliveMessage → ClientState
@@ -93,17 +94,19 @@ offer_case : (s : ClientState) (now : ℕ) (out : Out) (message : AliveMessage) 
 offer_case s now out message true heard is fit h =
     let e = both (message.number == s.beats) (takes_lease s.cache.lease (offered s message.span)) h in
     let m = noted_moment s now in
-    let n = processed_live s (noted_moment s now) message in (
+    let n = processed_live s (noted_moment s now) message in
+    let l = event_lines s.number s.heard message.events in (
       LeaseTaken message heard is fit (record { newest = same message.number s.beats e.0; better = e.1 }),
-      ap {B = ClientState × Result Given Fault} (λ b. (cond b (bettered n m (offered s message.span)) n, Ok (told s m (safe_lines n m message) None))) (offer_same s m message ∙ h),
+      ap {B = ClientState × Result Given Fault} (λ b. (cond b (bettered n m (offered s message.span)) n, Ok (told s m (l ++ safe_lines n m message) None))) (offer_same s m message ∙ h),
     )
 offer_case s now out message false heard is fit h =
     let m = noted_moment s now in
     let n = processed_live s (noted_moment s now) message in
+    let l = event_lines s.number s.heard message.events in
     let e = offer_same s m message ∙ h in (
       LeaseStays message heard is fit (λ newest. worse (message.number == s.beats) (takes_lease s.cache.lease (offered s message.span)) h (not_same message.number s.beats newest)),
-      ap {B = ClientState × Result Given Fault} (λ b. (cond b (bettered n m (offered s message.span)) n, Ok (told s m (safe_lines n m message) None))) e
-          ∙ ap {B = ClientState × Result Given Fault} (λ l. (n, Ok (told s m l None))) (taken_lines (takes_offer n message) _ _ _ _ e),
+      ap {B = ClientState × Result Given Fault} (λ b. (cond b (bettered n m (offered s message.span)) n, Ok (told s m (l ++ safe_lines n m message) None))) e
+          ∙ ap {B = ClientState × Result Given Fault} (λ more. (n, Ok (told s m more None))) (ap (λ more. l ++ more) (taken_lines (takes_offer n message) _ _ _ _ e) ∙ append-nil l),
     )
 
 fit_case : (s : ClientState) (now : ℕ) (out : Out) (message : AliveMessage) → IsHeard s now out → out ≡ outs.Alive message → IsFit s now message → IsGiven s now out (kept_alive s (noted_moment s now) message)
@@ -111,16 +114,18 @@ fit_case s now out message heard is fit =
     let c = offer_case s now out message (takes_offer s message) heard is fit refl in
     (c.0, in_session s now (kept_with s (noted_moment s now) message) fit.alive.live.live ∙ c.1)
 
-order_case : (s : ClientState) (now : ℕ) (out : Out) (message : AliveMessage) (b : Bool) → IsHeard s now out → out ≡ outs.Alive message → IsAlive s now message → message.span < moment_limit → is_in_order s.processed message.invalidations ≡ b → IsGiven s now out (cond b (kept_alive s (noted_moment s now) message) (rejected s (noted_moment s now)))
-order_case s now out message true heard is alive fits h = fit_case s now out message heard is (record { alive = alive; fits = fits; in_order = h })
+order_case : (s : ClientState) (now : ℕ) (out : Out) (message : AliveMessage) (b : Bool) → IsHeard s now out → out ≡ outs.Alive message → IsAlive s now message → message.span < moment_limit → is_numbered s message ≡ b → IsGiven s now out (cond b (kept_alive s (noted_moment s now) message) (rejected s (noted_moment s now)))
+order_case s now out message true heard is alive fits h =
+    let e = both (is_in_order s.processed message.invalidations) (are_events_in_order s.heard message.events) h in
+    fit_case s now out message heard is (record { alive = alive; fits = fits; in_order = e.0; events_in_order = e.1 })
 order_case s now out message false heard is alive fits h = (AliveUnfit message heard is alive (inr h), refl)
 
 -- what an Alive of the client's epoch does
 abbrev prolong : ClientState → ℕ → AliveMessage → ClientState × Result Given Fault
-prolong s m message = cond (is_span message.span && is_in_order s.processed message.invalidations) (kept_alive s m message) (rejected s m)
+prolong s m message = cond (is_span message.span && is_numbered s message) (kept_alive s m message) (rejected s m)
 
-span_case : (s : ClientState) (now : ℕ) (out : Out) (message : AliveMessage) (b : Bool) → IsHeard s now out → out ≡ outs.Alive message → IsAlive s now message → is_span message.span ≡ b → IsGiven s now out (cond (b && is_in_order s.processed message.invalidations) (kept_alive s (noted_moment s now) message) (rejected s (noted_moment s now)))
-span_case s now out message true heard is alive h = order_case s now out message (is_in_order s.processed message.invalidations) heard is alive (less message.span moment_limit h) refl
+span_case : (s : ClientState) (now : ℕ) (out : Out) (message : AliveMessage) (b : Bool) → IsHeard s now out → out ≡ outs.Alive message → IsAlive s now message → is_span message.span ≡ b → IsGiven s now out (cond (b && is_numbered s message) (kept_alive s (noted_moment s now) message) (rejected s (noted_moment s now)))
+span_case s now out message true heard is alive h = order_case s now out message (is_numbered s message) heard is alive (less message.span moment_limit h) refl
 span_case s now out message false heard is alive h = (AliveUnfit message heard is alive (inl (not_less message.span moment_limit h)), refl)
 
 own_epoch_case : (s : ClientState) (now : ℕ) (out : Out) (message : AliveMessage) (b : Bool) → IsHeard s now out → out ≡ outs.Alive message → IsLive s now → (message.epoch == s.epoch) ≡ b → IsGiven s now out (cond b (prolong s (noted_moment s now) message) (passed_over s (noted_moment s now)))
@@ -213,15 +218,19 @@ reply_case s now out message sessions.TurnedAway heard is at none = not_awaited_
 abbrev left : ClientState → ℕ → RefusedMessage → Option Session
 left s now message = session_after (session_then s (noted_moment s now)) s.epoch message.epoch message.fault
 
-stays_case : (s : ClientState) (now : ℕ) (out : Out) (message : RefusedMessage) → IsHeard s now out → out ≡ outs.Refused message → left s now message ≡ None → IsGiven s now out (passed_over s (noted_moment s now))
-stays_case s now out message heard is stays = (RefusalDropped message heard is stays, refl)
+-- the later epoch that it tells of
+abbrev tells : ClientState → ℕ → RefusedMessage → Option ℕ
+tells s now message = later_epoch s (noted_moment s now) message.fault
 
-loss_case : (s : ClientState) (now : ℕ) (out : Out) (message : RefusedMessage) (b : Bool) → IsHeard s now out → out ≡ outs.Refused message → message.fault ≡ faults.NoSession → IsLive s now → nat_le s.epoch message.epoch ≡ b → left s now message ≡ cond b (Some sessions.Lost) None → IsGiven s now out (lose_step s (noted_moment s now) (cond b (Some sessions.Lost) None))
-loss_case s now out message true heard is fault live h after = (
+stays_case : (s : ClientState) (now : ℕ) (out : Out) (message : RefusedMessage) → IsHeard s now out → out ≡ outs.Refused message → tells s now message ≡ None → left s now message ≡ None → IsGiven s now out (passed_over s (noted_moment s now))
+stays_case s now out message heard is earlier stays = (RefusalDropped message heard is earlier stays, refl)
+
+loss_case : (s : ClientState) (now : ℕ) (out : Out) (message : RefusedMessage) (b : Bool) → IsHeard s now out → out ≡ outs.Refused message → message.fault ≡ faults.NoSession → IsLive s now → nat_le s.epoch message.epoch ≡ b → tells s now message ≡ None → left s now message ≡ cond b (Some sessions.Lost) None → IsGiven s now out (lose_step s (noted_moment s now) (cond b (Some sessions.Lost) None))
+loss_case s now out message true heard is fault live h earlier after = (
   Lost message heard is (record { fault = fault; live = live; epoch = up_to s.epoch message.epoch h }),
   in_session s now (λ n. (lost n sessions.Lost, Ok (told s (noted_moment s now) (lines.Lost s.number ∷ []) None))) live.live,
 )
-loss_case s now out message false heard is fault live h after = stays_case s now out message heard is after
+loss_case s now out message false heard is fault live h earlier after = stays_case s now out message heard is earlier after
 
 away_case : (s : ClientState) (now : ℕ) (out : Out) (message : RefusedMessage) → IsHeard s now out → out ≡ outs.Refused message → message.fault ≡ faults.NoSession → s.session ≡ sessions.Unstarted → IsGiven s now out (lose_step s (noted_moment s now) (Some sessions.TurnedAway))
 away_case s now out message heard is fault unstarted = (
@@ -229,15 +238,29 @@ away_case s now out message heard is fault unstarted = (
   ap (λ x. (lost (note_in x s (noted_moment s now)) sessions.TurnedAway, Ok (told s (noted_moment s now) (lines.Lost s.number ∷ []) None))) unstarted,
 )
 
-without_case : (s : ClientState) (now : ℕ) (out : Out) (message : RefusedMessage) (session : Session) → IsHeard s now out → out ≡ outs.Refused message → message.fault ≡ faults.NoSession → session_then s (noted_moment s now) ≡ session → left s now message ≡ session_without session s.epoch message.epoch → IsGiven s now out (lose_step s (noted_moment s now) (session_without session s.epoch message.epoch))
-without_case s now out message sessions.Unstarted heard is fault at after = away_case s now out message heard is fault (unstarted_before s s.session (noted_moment s now) at)
-without_case s now out message sessions.Live heard is fault at after = loss_case s now out message (nat_le s.epoch message.epoch) heard is fault (lives s now at) refl after
-without_case s now out message sessions.Lost heard is fault at after = stays_case s now out message heard is after
-without_case s now out message sessions.TurnedAway heard is fault at after = stays_case s now out message heard is after
+without_case : (s : ClientState) (now : ℕ) (out : Out) (message : RefusedMessage) (session : Session) → IsHeard s now out → out ≡ outs.Refused message → message.fault ≡ faults.NoSession → session_then s (noted_moment s now) ≡ session → tells s now message ≡ None → left s now message ≡ session_without session s.epoch message.epoch → IsGiven s now out (lose_step s (noted_moment s now) (session_without session s.epoch message.epoch))
+without_case s now out message sessions.Unstarted heard is fault at earlier after = away_case s now out message heard is fault (unstarted_before s s.session (noted_moment s now) at)
+without_case s now out message sessions.Live heard is fault at earlier after = loss_case s now out message (nat_le s.epoch message.epoch) heard is fault (lives s now at) refl earlier after
+without_case s now out message sessions.Lost heard is fault at earlier after = stays_case s now out message heard is earlier after
+without_case s now out message sessions.TurnedAway heard is fault at earlier after = stays_case s now out message heard is earlier after
 
-refused_case : (s : ClientState) (now : ℕ) (out : Out) (message : RefusedMessage) (fault : Fault) → IsHeard s now out → out ≡ outs.Refused message → message.fault ≡ fault → left s now message ≡ session_after (session_then s (noted_moment s now)) s.epoch message.epoch fault → IsGiven s now out (lose_step s (noted_moment s now) (session_after (session_then s (noted_moment s now)) s.epoch message.epoch fault))
-refused_case s now out message faults.NoSession heard is at after = without_case s now out message (session_then s (noted_moment s now)) heard is at refl after
-refused_case s now out message fault heard is at after = stays_case s now out message heard is after
+later_case : (s : ClientState) (now : ℕ) (out : Out) (message : RefusedMessage) (present : ℕ) (b : Bool) → IsHeard s now out → out ≡ outs.Refused message → message.fault ≡ faults.OldEpoch present → IsLive s now → nat_lt s.epoch present ≡ b → tells s now message ≡ cond b (Some present) None → left s now message ≡ None → IsGiven s now out (learn_step s (noted_moment s now) None (cond b (Some present) None))
+later_case s now out message present true heard is fault live h told_of after = (
+  Learns message present heard is (record { fault = fault; live = live; later = less s.epoch present h }),
+  in_session s now (λ n. (learned n present, Ok (told s (noted_moment s now) (unknown_lines s.number s.outstanding) None))) live.live,
+)
+later_case s now out message present false heard is fault live h earlier after = stays_case s now out message heard is earlier after
+
+old_case : (s : ClientState) (now : ℕ) (out : Out) (message : RefusedMessage) (present : ℕ) (session : Session) → IsHeard s now out → out ≡ outs.Refused message → message.fault ≡ faults.OldEpoch present → session_then s (noted_moment s now) ≡ session → tells s now message ≡ cond (is_live session && nat_lt s.epoch present) (Some present) None → left s now message ≡ None → IsGiven s now out (learn_step s (noted_moment s now) None (cond (is_live session && nat_lt s.epoch present) (Some present) None))
+old_case s now out message present sessions.Unstarted heard is fault at earlier after = stays_case s now out message heard is earlier after
+old_case s now out message present sessions.Live heard is fault at told_of after = later_case s now out message present (nat_lt s.epoch present) heard is fault (lives s now at) refl told_of after
+old_case s now out message present sessions.Lost heard is fault at earlier after = stays_case s now out message heard is earlier after
+old_case s now out message present sessions.TurnedAway heard is fault at earlier after = stays_case s now out message heard is earlier after
+
+refused_case : (s : ClientState) (now : ℕ) (out : Out) (message : RefusedMessage) (fault : Fault) → IsHeard s now out → out ≡ outs.Refused message → message.fault ≡ fault → tells s now message ≡ later_epoch s (noted_moment s now) fault → left s now message ≡ session_after (session_then s (noted_moment s now)) s.epoch message.epoch fault → IsGiven s now out (learn_step s (noted_moment s now) (session_after (session_then s (noted_moment s now)) s.epoch message.epoch fault) (later_epoch s (noted_moment s now) fault))
+refused_case s now out message faults.NoSession heard is at earlier after = without_case s now out message (session_then s (noted_moment s now)) heard is at refl earlier after
+refused_case s now out message (faults.OldEpoch present) heard is at told_of after = old_case s now out message present (session_then s (noted_moment s now)) heard is at refl told_of after
+refused_case s now out message fault heard is at earlier after = stays_case s now out message heard is earlier after
 
 -- ---- the lemma
 
@@ -245,7 +268,7 @@ taken_case : (s : ClientState) (now : ℕ) (out message : Out) → IsHeard s now
 taken_case s now out (outs.Started message) heard is = started_case s now out message s.session heard is refl
 taken_case s now out (outs.Alive message) heard is = alive_case s now out message (session_then s (noted_moment s now)) heard is refl
 taken_case s now out (outs.Reply message) heard is = reply_case s now out message (session_then s (noted_moment s now)) heard is refl refl
-taken_case s now out (outs.Refused message) heard is = refused_case s now out message message.fault heard is refl refl
+taken_case s now out (outs.Refused message) heard is = refused_case s now out message message.fault heard is refl refl refl
 
 own_case : (s : ClientState) (now : ℕ) (out : Out) → nat_lt now moment_limit ≡ true → IsGiven s now out (taken_own s (noted_moment s now) out)
 own_case s now out h =

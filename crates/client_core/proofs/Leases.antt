@@ -13,6 +13,7 @@ use Rattle.tags_cell.specs.declared.outs.Out.{Out}
 use Rattle.tags_cell.specs.declared.outs.Out.TheVariants as outs
 use Rattle.tags_cell.specs.declared.outs.Started.{Started as StartedMessage}
 use Rattle.tags_cell.specs.declared.beats.Alive.{Alive as AliveMessage}
+use Rattle.tags_cell.specs.declared.outs.Refused.{Refused as RefusedMessage}
 use Rattle.tags_cell.specs.declared.outs.CallResult.{CallResult}
 use Rattle.tags_cell.specs.declared.outs.CallResult.TheVariants as results
 use Rattle.client_parts.specs.declared.asks.Ask.{Ask}
@@ -25,10 +26,10 @@ use Rattle.client_core.specs.Asks.{ask_step}
 use Rattle.client_core.specs.Beats.{start_message, beat_message, with_beat, beaten, beat_step}
 use Rattle.client_core.specs.Gives.{offered, ended_plainly, give_step}
 use Rattle.client_parts.specs.Invalidations.{last_number}
-use Rattle.client_core.specs.Cases.{noted_moment, IsLive, IsStarted, IsFit, IsTaken, AskCase, asked_in, BeatCase, beaten_in, GiveCase, given_in, noted}
+use Rattle.client_core.specs.Cases.{noted_moment, IsLive, IsStarted, IsFit, IsTaken, IsLater, AskCase, asked_in, BeatCase, beaten_in, GiveCase, given_in, noted}
 use Rattle.client_core.specs.Cases.AskCase.{AskedTooLate, Unsafe, Refused, ReadServed, AbsenceServed, Shared, OutOfHandles, Released, OutOfCalls, Sent, Poisoned}
 use Rattle.client_core.specs.Cases.BeatCase.{BeatTooLate, OutOfBeats, Starts, Beats, Quiet}
-use Rattle.client_core.specs.Cases.GiveCase.{GivenTooLate, OfAnother, Started, StartedUnfit, StartedDropped, LeaseTaken, LeaseStays, AliveUnfit, AliveDropped, OutOfNumbers, Replied, Installed, ReplyDropped, NotAwaited, Lost, TurnedAway, RefusalDropped}
+use Rattle.client_core.specs.Cases.GiveCase.{GivenTooLate, OfAnother, Started, StartedUnfit, StartedDropped, LeaseTaken, LeaseStays, AliveUnfit, AliveDropped, OutOfNumbers, Replied, Installed, ReplyDropped, NotAwaited, Learns, Lost, TurnedAway, RefusalDropped}
 use Rattle.client_core.proofs.Noting.{noted_lease, note_clock, note_beats, note_sent, note_epoch, note_processed, note_lease}
 use Rattle.client_core.proofs.AskCases.{ask_case, beat_case}
 use Rattle.client_core.proofs.GiveCases.{give_case}
@@ -98,9 +99,10 @@ given_noted s now out (Replied message call heard is for room kept plain) = inr 
 given_noted s now out (Installed message call taught stamp heard is for learned) = inr refl
 given_noted s now out (ReplyDropped message call heard is for dropped) = inr refl
 given_noted s now out (NotAwaited message heard is none) = is_noted s now
+given_noted s now out (Learns message present heard is later) = inr refl
 given_noted s now out (Lost message heard is loss) = inr refl
 given_noted s now out (TurnedAway message heard is fault unstarted) = inr refl
-given_noted s now out (RefusalDropped message heard is stays) = is_noted s now
+given_noted s now out (RefusalDropped message heard is earlier stays) = is_noted s now
 
 pub give_noted : (s : ClientState) (now : ℕ) (out : Out) → IsNoted s now (give_step s now out).0
 give_noted s now out = let c = give_case s now out in subst (λ p. IsNoted s now p.0) (sym c.1) (given_noted s now out c.0)
@@ -239,9 +241,10 @@ given_keeps_beats s now out (Replied message call heard is for room kept plain) 
 given_keeps_beats s now out (Installed message call taught stamp heard is for learned) = record { beats = refl; sent = refl }
 given_keeps_beats s now out (ReplyDropped message call heard is for dropped) = record { beats = refl; sent = refl }
 given_keeps_beats s now out (NotAwaited message heard is none) = (note_keeps s (noted_moment s now)).of_beats
+given_keeps_beats s now out (Learns message present heard is later) = record { beats = refl; sent = refl }
 given_keeps_beats s now out (Lost message heard is loss) = record { beats = refl; sent = refl }
 given_keeps_beats s now out (TurnedAway message heard is fault unstarted) = record { beats = refl; sent = refl }
-given_keeps_beats s now out (RefusalDropped message heard is stays) = (note_keeps s (noted_moment s now)).of_beats
+given_keeps_beats s now out (RefusalDropped message heard is earlier stays) = (note_keeps s (noted_moment s now)).of_beats
 
 -- no message changes what was sent
 pub give_keeps_beats : (s : ClientState) (now : ℕ) (out : Out) → KeepsBeats s (give_step s now out).0
@@ -257,6 +260,8 @@ pub data LeaseDoes (s : ClientState) (now : ℕ) (out : Out) (new : ClientState)
   LeaseKept : KeepsSession s new → LeaseDoes s now out new
   -- the client has none from here on: it lost it, or is told that it gets none
   LeaseLeft : new.session ≢ sessions.Unstarted → new.session ≢ sessions.Live → new.epoch ≡ s.epoch → new.processed ≡ s.processed → new.cache.lease ≡ s.cache.lease → LeaseDoes s now out new
+  -- a refusal tells of a later epoch: it has the same lease in that, and has processed nothing of it
+  LeaseCarried : (message : RefusedMessage) (present : ℕ) → out ≡ outs.Refused message → IsLater s now message present → new.session ≡ s.session → new.epoch ≡ present → new.processed ≡ 0 → new.cache.lease ≡ s.cache.lease → LeaseDoes s now out new
   -- its newest Start is answered
   LeaseBegun : (message : StartedMessage) → out ≡ outs.Started message → IsStarted s message → message.span < moment_limit → new.session ≡ sessions.Live → new.epoch ≡ message.epoch → new.processed ≡ s.processed → new.cache.lease ≡ Some (offered s message.span) → LeaseDoes s now out new
   -- invalidations are processed, and its newest Beat is answered with a better lease
@@ -283,9 +288,10 @@ given_lease s now out (Replied message call heard is for room kept plain) = Leas
 given_lease s now out (Installed message call taught stamp heard is for learned) = LeaseKept (record { session = inl refl; epoch = refl; processed = refl; lease = refl })
 given_lease s now out (ReplyDropped message call heard is for dropped) = LeaseKept (record { session = inl (behind_live s now for.live); epoch = refl; processed = refl; lease = noted_lease s.cache (noted_moment s now) })
 given_lease s now out (NotAwaited message heard is none) = LeaseKept (note_keeps s (noted_moment s now)).of_session
+given_lease s now out (Learns message present heard is later) = LeaseCarried message present is later (behind_live s now later.live) refl refl (noted_lease s.cache (noted_moment s now))
 given_lease s now out (Lost message heard is loss) = LeaseLeft (λ e. cc) (λ e. cc) refl refl (noted_lease s.cache (noted_moment s now))
 given_lease s now out (TurnedAway message heard is fault unstarted) = LeaseLeft (λ e. cc) (λ e. cc) refl refl refl
-given_lease s now out (RefusalDropped message heard is stays) = LeaseKept (note_keeps s (noted_moment s now)).of_session
+given_lease s now out (RefusalDropped message heard is earlier stays) = LeaseKept (note_keeps s (noted_moment s now)).of_session
 
 pub give_lease : (s : ClientState) (now : ℕ) (out : Out) → LeaseDoes s now out (give_step s now out).0
 give_lease s now out = let c = give_case s now out in subst (λ p. LeaseDoes s now out p.0) (sym c.1) (given_lease s now out c.0)
@@ -295,12 +301,15 @@ give_lease s now out = let c = give_case s now out in subst (λ p. LeaseDoes s n
 -- what a message does to what was processed, whatever becomes of the lease
 pub data ProcessedDoes (s : ClientState) (now : ℕ) (out : Out) (new : ClientState) : Type 0 where
   ProcessedKept : new.processed ≡ s.processed → ProcessedDoes s now out new
+  -- a refusal tells of a later epoch
+  ProcessedAnew : (message : RefusedMessage) (present : ℕ) → out ≡ outs.Refused message → IsLater s now message present → new.epoch ≡ present → new.processed ≡ 0 → ProcessedDoes s now out new
   -- an Alive of the client's epoch, in its session, carries no number twice and leaves none out
   ProcessedMore : (message : AliveMessage) → out ≡ outs.Alive message → IsFit s now message → new.epoch ≡ s.epoch → ProcessesMore s message new → ProcessedDoes s now out new
 
 pub processed_by : (s new : ClientState) (now : ℕ) (out : Out) → LeaseDoes s now out new → ProcessedDoes s now out new
 processed_by s new now out (LeaseKept kept) = ProcessedKept kept.processed
 processed_by s new now out (LeaseLeft standing live epoch processed lease) = ProcessedKept processed
+processed_by s new now out (LeaseCarried message present is later session epoch processed lease) = ProcessedAnew message present is later epoch processed
 processed_by s new now out (LeaseBegun message is standing fits live epoch processed lease) = ProcessedKept processed
 processed_by s new now out (LeaseBettered message is fit taken session epoch processed lease) = ProcessedMore message is fit epoch processed
 processed_by s new now out (LeasePassed message is fit session epoch processed lease) = ProcessedMore message is fit epoch processed
@@ -313,15 +322,20 @@ abbrev request_of : Result Beaten Fault → Option Request
 request_of (Ok beaten) = beaten.request
 request_of (Err fault) = None
 
-acknowledges : (s : ClientState) (now : ℕ) (beat : BeatMessage) (c : BeatCase s now) → request_of (beaten_in s now c).1 ≡ Some (requests.Beat beat) → beat.invalidations ≡ s.processed
+-- what was processed
+pub record Acknowledges (s : ClientState) (beat : BeatMessage) : Type 0 where
+  pub invalidations : beat.invalidations ≡ s.processed
+  pub events : beat.events ≡ s.heard
+
+acknowledges : (s : ClientState) (now : ℕ) (beat : BeatMessage) (c : BeatCase s now) → request_of (beaten_in s now c).1 ≡ Some (requests.Beat beat) → Acknowledges s beat
 acknowledges s now beat (BeatTooLate late) h = cc
 acknowledges s now beat (OutOfBeats early last) h = cc
 acknowledges s now beat (Starts early unstarted room) h = cc
-acknowledges s now beat (Beats early live then room) h = cc
+acknowledges s now beat (Beats early live then room) h = record { invalidations = cc; events = cc }
 acknowledges s now beat (Quiet early started live) h = cc
 
 -- a Beat acknowledges what was processed
-pub beat_acknowledges : (s : ClientState) (now : ℕ) (beat : BeatMessage) → request_of (beat_step s now).1 ≡ Some (requests.Beat beat) → beat.invalidations ≡ s.processed
+pub beat_acknowledges : (s : ClientState) (now : ℕ) (beat : BeatMessage) → request_of (beat_step s now).1 ≡ Some (requests.Beat beat) → Acknowledges s beat
 beat_acknowledges s now beat h = let c = beat_case s now in acknowledges s now beat c.0 (ap (λ p. request_of p.1) (sym c.1) ∙ h)
 
 -- ---- the epoch before the first session
@@ -346,9 +360,24 @@ beat_keeps_no_epoch s now h = no_epoch_kept s (beat_step s now).0 (beat_keeps_se
 no_epoch_behind : (s new : ClientState) (now : ℕ) (out : Out) → LeaseDoes s now out new → HasNoEpoch s → HasNoEpoch new
 no_epoch_behind s new now out (LeaseKept kept) h = no_epoch_kept s new kept h
 no_epoch_behind s new now out (LeaseLeft standing live epoch processed lease) h = λ e. absurd (standing e)
+no_epoch_behind s new now out (LeaseCarried message present is later session epoch processed lease) h = λ e. let two : sessions.Live ≡ sessions.Unstarted = sym later.live.live ∙ (sym session ∙ e) in cc
 no_epoch_behind s new now out (LeaseBegun message is standing fits live epoch processed lease) h = λ e. let two : sessions.Live ≡ sessions.Unstarted = sym live ∙ e in cc
 no_epoch_behind s new now out (LeaseBettered message is fit taken session epoch processed lease) h = λ e. epoch ∙ h (sym session ∙ e)
 no_epoch_behind s new now out (LeasePassed message is fit session epoch processed lease) h = λ e. epoch ∙ h (sym session ∙ e)
 
 pub give_keeps_no_epoch : (s : ClientState) (now : ℕ) (out : Out) → HasNoEpoch s → HasNoEpoch (give_step s now out).0
 give_keeps_no_epoch s now out h = no_epoch_behind s (give_step s now out).0 now out (give_lease s now out) h
+
+-- ---- the epoch rises
+
+rises_by : (s new : ClientState) (now : ℕ) (out : Out) → LeaseDoes s now out new → HasNoEpoch s → s.epoch ≤ new.epoch
+rises_by s new now out (LeaseKept kept) h = omega (arith, kept.epoch)
+rises_by s new now out (LeaseLeft standing live epoch processed lease) h = omega (arith, epoch)
+rises_by s new now out (LeaseCarried message present is later session epoch processed lease) h = omega (arith, epoch, later.later)
+rises_by s new now out (LeaseBegun message is standing fits live epoch processed lease) h = omega (arith, h standing.unstarted)
+rises_by s new now out (LeaseBettered message is fit taken session epoch processed lease) h = omega (arith, epoch)
+rises_by s new now out (LeasePassed message is fit session epoch processed lease) h = omega (arith, epoch)
+
+-- no message takes a client back into an earlier epoch
+pub give_epoch_rises : (s : ClientState) (now : ℕ) (out : Out) → HasNoEpoch s → s.epoch ≤ (give_step s now out).0.epoch
+give_epoch_rises s now out h = rises_by s (give_step s now out).0 now out (give_lease s now out) h

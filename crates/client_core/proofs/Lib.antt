@@ -1,4 +1,5 @@
 pub mod Noting
+pub mod Printed
 pub mod AskCases
 pub mod GiveCases
 pub mod Numbered

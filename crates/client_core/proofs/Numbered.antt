@@ -9,11 +9,11 @@ use Rattle.cache_core.specs.declared.standings.Standing.{Standing}
 use Rattle.cache_core.specs.declared.standings.Standing.TheVariants as standings
 use Rattle.node_core.specs.declared.refusals.Fault.{Fault}
 use Rattle.node_core.specs.declared.refusals.Fault.TheVariants as faults
-use Rattle.node_core.specs.declared.answers.Answer.{Answer}
 use Rattle.node_core.specs.declared.answers.Answer.TheVariants as answers
 use Rattle.node_core.specs.declared.lines.Line.{Line}
 use Rattle.node_core.specs.declared.lines.Line.TheVariants as lines
 use Rattle.node_core.specs.declared.views.View.{View}
+use Rattle.tags_cell.specs.declared.beats.NumberedEvent.{NumberedEvent}
 use Rattle.tags_cell.specs.declared.outs.Out.{Out}
 use Rattle.tags_cell.specs.declared.outs.Out.TheVariants as outs
 use Rattle.tags_cell.specs.declared.outs.Reply.{Reply}
@@ -32,14 +32,16 @@ use Rattle.client_parts.specs.declared.targets.Target.{Target}
 use Rattle.client_parts.specs.declared.targets.Outstanding.{Outstanding}
 use Rattle.client_core.specs.State.{ClientState, standing_then, session_then, note, note_live, note_lines_in, note_lines}
 use Rattle.client_parts.specs.Opens.{read_answer}
+use Rattle.client_parts.specs.Events.{event_lines}
 use Rattle.client_core.specs.Lessons.{Lesson, may_install, taught}
-use Rattle.client_core.specs.Gives.{is_live, told, passed_over, target_for, awaited, answer_of, ended_plainly}
+use Rattle.client_core.specs.Gives.{is_live, passed_over, target_for, awaited, answer_of, ended_plainly, unknown_lines}
 use Rattle.client_core.specs.Laws.{HandleNumbersRise, SharedNumbersRise, HandleNumbersStay, RepeatedReplyIsDropped, RefusedCallChangesNothing}
 use Rattle.client_core.specs.Cases.{noted_moment, IsSafe, IsAwaited, AskCase, asked_in, BeatCase, beaten_in, GiveCase, given_in}
 use Rattle.client_core.specs.Cases.AskCase.{AskedTooLate, Unsafe, Refused, ReadServed, AbsenceServed, Shared, OutOfHandles, Released, OutOfCalls, Sent, Poisoned}
 use Rattle.client_core.specs.Cases.BeatCase.{BeatTooLate, OutOfBeats, Starts, Beats, Quiet}
-use Rattle.client_core.specs.Cases.GiveCase.{GivenTooLate, OfAnother, Started, StartedUnfit, StartedDropped, LeaseTaken, LeaseStays, AliveUnfit, AliveDropped, OutOfNumbers, Replied, Installed, ReplyDropped, NotAwaited, Lost, TurnedAway, RefusalDropped}
+use Rattle.client_core.specs.Cases.GiveCase.{GivenTooLate, OfAnother, Started, StartedUnfit, StartedDropped, LeaseTaken, LeaseStays, AliveUnfit, AliveDropped, OutOfNumbers, Replied, Installed, ReplyDropped, NotAwaited, Learns, Lost, TurnedAway, RefusalDropped}
 use Rattle.client_core.proofs.Noting.{Relies, relied_note, relied_lines, live_before, note_number, note_clock, note_epoch, note_outstanding, note_opened, note_session}
+use Rattle.client_core.proofs.Printed.{events_hold, unknown_holds}
 use Rattle.client_core.proofs.AskCases.{ask_case, beat_case}
 use Rattle.client_core.proofs.GiveCases.{taught_if, give_case}
 
@@ -69,32 +71,59 @@ lines_of (Err fault) = []
 abbrev Ends : List Line → Line → Type 0
 Ends printed line = last_line lines.Recovered printed ≡ line
 
-turns_silently : (number client call : ℕ) (answer : Answer) (former standing : Standing) (X : Type 0) → Ends (option_to_list (turn_line number former standing) ++ []) (lines.Done client call answer) → X
-turns_silently number client call answer standings.Safe standings.Safe X h = cc
-turns_silently number client call answer standings.Safe (standings.Jeopardy since) X h = cc
-turns_silently number client call answer standings.Safe standings.Lost X h = cc
-turns_silently number client call answer (standings.Jeopardy since) standings.Safe X h = cc
-turns_silently number client call answer (standings.Jeopardy since) (standings.Jeopardy later) X h = cc
-turns_silently number client call answer (standings.Jeopardy since) standings.Lost X h = cc
-turns_silently number client call answer standings.Lost standing X h = cc
+-- whether the line tells that a call gave a handle
+abbrev gives_handle : Line → Bool
+gives_handle (lines.Done client call (answers.Opened handle)) = true
+gives_handle line = false
 
-notes_silently : (s : ClientState) (session : Session) (moment client call : ℕ) (answer : Answer) (X : Type 0) → Ends (note_lines_in session s moment ++ []) (lines.Done client call answer) → X
-notes_silently s sessions.Unstarted moment client call answer X h = cc
-notes_silently s sessions.Live moment client call answer X h = turns_silently s.number client call answer s.standing (standing_then s moment) X h
-notes_silently s sessions.Lost moment client call answer X h = cc
-notes_silently s sessions.TurnedAway moment client call answer X h = cc
+-- none of them does
+abbrev AreSilent : List Line → Type 0
+AreSilent [] = Unit {0}
+AreSilent (line ∷ others) = (gives_handle line ≡ false) × AreSilent others
 
--- the noting of the time ends no call
-silent : (s : ClientState) (moment client call : ℕ) (answer : Answer) (X : Type 0) → Ends (note_lines s moment ++ []) (lines.Done client call answer) → X
-silent s moment client call answer X h = notes_silently s s.session moment client call answer X h
+both_silent : (before behind : List Line) → AreSilent before → AreSilent behind → AreSilent (before ++ behind)
+both_silent [] behind h k = k
+both_silent (line ∷ before) behind h k = (h.0, both_silent before behind h.1 k)
+
+last_silent : (line : Line) (printed : List Line) → gives_handle line ≡ false → AreSilent printed → gives_handle (last_line line printed) ≡ false
+last_silent line [] h k = h
+last_silent line (next ∷ others) h k = last_silent next others k.0 k.1
+
+turn_silent : (number : ℕ) (former standing : Standing) → AreSilent (option_to_list (turn_line number former standing))
+turn_silent number standings.Safe standings.Safe = tt
+turn_silent number standings.Safe (standings.Jeopardy since) = (refl, tt)
+turn_silent number standings.Safe standings.Lost = (refl, tt)
+turn_silent number (standings.Jeopardy since) standings.Safe = (refl, tt)
+turn_silent number (standings.Jeopardy since) (standings.Jeopardy later) = tt
+turn_silent number (standings.Jeopardy since) standings.Lost = (refl, tt)
+turn_silent number standings.Lost standing = tt
+
+note_silent : (s : ClientState) (session : Session) (moment : ℕ) → AreSilent (note_lines_in session s moment)
+note_silent s sessions.Unstarted moment = tt
+note_silent s sessions.Live moment = turn_silent s.number s.standing (standing_then s moment)
+note_silent s sessions.Lost moment = tt
+note_silent s sessions.TurnedAway moment = tt
+
+safe_silent : (b : Bool) (number : ℕ) → AreSilent (cond b (lines.Safe number ∷ []) [])
+safe_silent true number = (refl, tt)
+safe_silent false number = tt
+
+event_silent : (number processed : ℕ) (events : List NumberedEvent) → AreSilent (event_lines number processed events)
+event_silent number processed events = events_hold AreSilent number processed events tt (λ event others h. (refl, h))
+
+unknown_silent : (number : ℕ) (o : Option Outstanding) → AreSilent (unknown_lines number o)
+unknown_silent number o = unknown_holds AreSilent number o tt (λ call. (refl, tt))
+
+-- nor does the noting of the time
+silent : (s : ClientState) (moment client call handle : ℕ) (more : List Line) (X : Type 0) → AreSilent more → Ends (note_lines s moment ++ more) (lines.Done client call (answers.Opened handle)) → X
+silent s moment client call handle more X h told =
+    let none : gives_handle (last_line lines.Recovered (note_lines s moment ++ more)) ≡ false = last_silent lines.Recovered (note_lines s moment ++ more) refl (both_silent (note_lines s moment) more (note_silent s s.session moment) h) in
+    let two : true ≡ false = ap gives_handle (sym told) ∙ none in
+    cc
 
 -- a line that is printed behind it is the last one
 ends_in : (s : ClientState) (moment : ℕ) (line end : Line) → Ends (note_lines s moment ++ line ∷ []) end → line ≡ end
 ends_in s moment line end h = sym (last_is lines.Recovered line (note_lines s moment)) ∙ h
-
-safe_silently : (s : ClientState) (moment number client call : ℕ) (answer : Answer) (b : Bool) (X : Type 0) → Ends (note_lines s moment ++ cond b (lines.Safe number ∷ []) []) (lines.Done client call answer) → X
-safe_silently s moment number client call answer true X h = let e = ends_in s moment (lines.Safe number) (lines.Done client call answer) h in cc
-safe_silently s moment number client call answer false X h = silent s moment client call answer X h
 
 -- ---- handle numbers
 
@@ -123,14 +152,15 @@ gives_none s target (results.Refused fault) t client number call handle X h told
 
 rises_in : (s new : ClientState) (now client call handle : ℕ) (out : Out) (c : GiveCase s now out) → (given_in s now out c).0 ≡ new → Ends (lines_of (given_in s now out c).1) (lines.Done client call (answers.Opened handle)) → (s.opened < handle) × (new.opened ≡ handle)
 rises_in s new now client call handle out (GivenTooLate late) h told = cc
-rises_in s new now client call handle out (OfAnother early other) h told = silent s (noted_moment s now) client call (answers.Opened handle) _ told
-rises_in s new now client call handle out (Started message heard is standing fits) h told = silent s (noted_moment s now) client call (answers.Opened handle) _ told
-rises_in s new now client call handle out (StartedUnfit message heard is standing long) h told = silent s (noted_moment s now) client call (answers.Opened handle) _ told
-rises_in s new now client call handle out (StartedDropped message heard is old) h told = silent s (noted_moment s now) client call (answers.Opened handle) _ told
-rises_in s new now client call handle out (LeaseTaken message heard is fit taken) h told = safe_silently s (noted_moment s now) s.number client call (answers.Opened handle) _ _ told
-rises_in s new now client call handle out (LeaseStays message heard is fit worse) h told = silent s (noted_moment s now) client call (answers.Opened handle) _ told
-rises_in s new now client call handle out (AliveUnfit message heard is alive unfit) h told = silent s (noted_moment s now) client call (answers.Opened handle) _ told
-rises_in s new now client call handle out (AliveDropped message heard is strange) h told = silent s (noted_moment s now) client call (answers.Opened handle) _ told
+rises_in s new now client call handle out (OfAnother early other) h told = silent s (noted_moment s now) client call handle [] _ tt told
+rises_in s new now client call handle out (Started message heard is standing fits) h told = silent s (noted_moment s now) client call handle [] _ tt told
+rises_in s new now client call handle out (StartedUnfit message heard is standing long) h told = silent s (noted_moment s now) client call handle [] _ tt told
+rises_in s new now client call handle out (StartedDropped message heard is old) h told = silent s (noted_moment s now) client call handle [] _ tt told
+rises_in s new now client call handle out (LeaseTaken message heard is fit taken) h told =
+    silent s (noted_moment s now) client call handle _ _ (both_silent (event_lines s.number s.heard message.events) _ (event_silent s.number s.heard message.events) (safe_silent _ s.number)) told
+rises_in s new now client call handle out (LeaseStays message heard is fit worse) h told = silent s (noted_moment s now) client call handle _ _ (event_silent s.number s.heard message.events) told
+rises_in s new now client call handle out (AliveUnfit message heard is alive unfit) h told = silent s (noted_moment s now) client call handle [] _ tt told
+rises_in s new now client call handle out (AliveDropped message heard is strange) h told = silent s (noted_moment s now) client call handle [] _ tt told
 rises_in s new now client call handle out (OutOfNumbers message waiting heard is for last) h told = cc
 rises_in s new now client call handle out (Replied message waiting heard is for room kept plain) h told =
     reply_rises s (note_live s (noted_moment s now)) new waiting.target message.result client message.number call handle refl h
@@ -138,13 +168,12 @@ rises_in s new now client call handle out (Replied message waiting heard is for 
 rises_in s new now client call handle out (Installed message waiting t stamp heard is for learned) h told =
     gives_none s waiting.target message.result t client message.number call handle _ (taught_if (may_install s (noted_moment s now) message.stamp) (taught s waiting.target message.result) t learned.teaches).1
     (ends_in s (noted_moment s now) (lines.Done s.number message.number (answer_of s message.result)) (lines.Done client call (answers.Opened handle)) told)
-rises_in s new now client call handle out (ReplyDropped message waiting heard is for dropped) h told = silent s (noted_moment s now) client call (answers.Opened handle) _ told
-rises_in s new now client call handle out (NotAwaited message heard is none) h told = silent s (noted_moment s now) client call (answers.Opened handle) _ told
-rises_in s new now client call handle out (Lost message heard is loss) h told =
-    let e = ends_in s (noted_moment s now) (lines.Lost s.number) (lines.Done client call (answers.Opened handle)) told in cc
-rises_in s new now client call handle out (TurnedAway message heard is fault unstarted) h told =
-    let e = ends_in s (noted_moment s now) (lines.Lost s.number) (lines.Done client call (answers.Opened handle)) told in cc
-rises_in s new now client call handle out (RefusalDropped message heard is stays) h told = silent s (noted_moment s now) client call (answers.Opened handle) _ told
+rises_in s new now client call handle out (ReplyDropped message waiting heard is for dropped) h told = silent s (noted_moment s now) client call handle [] _ tt told
+rises_in s new now client call handle out (NotAwaited message heard is none) h told = silent s (noted_moment s now) client call handle [] _ tt told
+rises_in s new now client call handle out (Learns message present heard is later) h told = silent s (noted_moment s now) client call handle _ _ (unknown_silent s.number s.outstanding) told
+rises_in s new now client call handle out (Lost message heard is loss) h told = silent s (noted_moment s now) client call handle (lines.Lost s.number ∷ []) _ (refl, tt) told
+rises_in s new now client call handle out (TurnedAway message heard is fault unstarted) h told = silent s (noted_moment s now) client call handle (lines.Lost s.number ∷ []) _ (refl, tt) told
+rises_in s new now client call handle out (RefusalDropped message heard is earlier stays) h told = silent s (noted_moment s now) client call handle [] _ tt told
 
 pub handle_numbers_rise : HandleNumbersRise
 handle_numbers_rise s new now client call handle out before h =
@@ -238,9 +267,10 @@ give_stays s now out (Replied message waiting heard is for room kept plain) = en
 give_stays s now out (Installed message waiting t stamp heard is for learned) = omega arith
 give_stays s now out (ReplyDropped message waiting heard is for dropped) = omega arith
 give_stays s now out (NotAwaited message heard is none) = note_stays s (noted_moment s now)
+give_stays s now out (Learns message present heard is later) = omega arith
 give_stays s now out (Lost message heard is loss) = omega arith
 give_stays s now out (TurnedAway message heard is fault unstarted) = omega arith
-give_stays s now out (RefusalDropped message heard is stays) = note_stays s (noted_moment s now)
+give_stays s now out (RefusalDropped message heard is earlier stays) = note_stays s (noted_moment s now)
 
 pub handle_numbers_stay : HandleNumbersStay
 handle_numbers_stay s now ask out =
@@ -310,9 +340,10 @@ stale_in s new now reply given (ReplyDropped message waiting heard is for droppe
 stale_in s new now reply given (NotAwaited message heard is none) h told =
     let it : message ≡ reply = cc in
     rw (← h) (inr (never_awaited s (noted_moment s now) reply (ap (awaited s (noted_moment s now)) (sym it) ∙ none)))
+stale_in s new now reply given (Learns message present heard is later) h told = cc
 stale_in s new now reply given (Lost message heard is loss) h told = cc
 stale_in s new now reply given (TurnedAway message heard is fault unstarted) h told = cc
-stale_in s new now reply given (RefusalDropped message heard is stays) h told = cc
+stale_in s new now reply given (RefusalDropped message heard is earlier stays) h told = cc
 
 -- what a client awaits it has a call for
 is_target : (session_live same number : Bool) (target : Target) → session_live ≡ true → same ≡ true → number ≡ true → cond (session_live && same) (cond number (Some target) None) None ≡ Some target
@@ -355,9 +386,10 @@ dropped_in s now reply (Replied message waiting heard is for room kept plain) st
 dropped_in s now reply (Installed message waiting t stamp heard is for learned) stale moment = not_both s now reply message waiting stale is heard.own for _
 dropped_in s now reply (ReplyDropped message waiting heard is for dropped) stale moment = not_both s now reply message waiting stale is heard.own for _
 dropped_in s now reply (NotAwaited message heard is none) stale moment = refl
+dropped_in s now reply (Learns message present heard is later) stale moment = cc
 dropped_in s now reply (Lost message heard is loss) stale moment = cc
 dropped_in s now reply (TurnedAway message heard is fault unstarted) stale moment = cc
-dropped_in s now reply (RefusalDropped message heard is stays) stale moment = refl
+dropped_in s now reply (RefusalDropped message heard is earlier stays) stale moment = refl
 
 pub repeated_reply_is_dropped : RepeatedReplyIsDropped
 repeated_reply_is_dropped s new now later reply given h k =

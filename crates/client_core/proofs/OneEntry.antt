@@ -23,7 +23,7 @@ use Rattle.client_parts.specs.Invalidations.{all_flushed}
 use Rattle.client_core.specs.Cases.{noted_moment, IsAwaited, IsLearned, AskCase, asked_in, BeatCase, beaten_in, GiveCase, given_in}
 use Rattle.client_core.specs.Cases.AskCase.{AskedTooLate, Unsafe, Refused, ReadServed, AbsenceServed, Shared, OutOfHandles, Released, OutOfCalls, Sent, Poisoned}
 use Rattle.client_core.specs.Cases.BeatCase.{BeatTooLate, OutOfBeats, Starts, Beats, Quiet}
-use Rattle.client_core.specs.Cases.GiveCase.{GivenTooLate, OfAnother, Started, StartedUnfit, StartedDropped, LeaseTaken, LeaseStays, AliveUnfit, AliveDropped, OutOfNumbers, Replied, Installed, ReplyDropped, NotAwaited, Lost, TurnedAway, RefusalDropped}
+use Rattle.client_core.specs.Cases.GiveCase.{GivenTooLate, OfAnother, Started, StartedUnfit, StartedDropped, LeaseTaken, LeaseStays, AliveUnfit, AliveDropped, OutOfNumbers, Replied, Installed, ReplyDropped, NotAwaited, Learns, Lost, TurnedAway, RefusalDropped}
 use Rattle.client_core.proofs.AskCases.{ask_case, beat_case}
 use Rattle.client_core.proofs.GiveCases.{give_case}
 use Rattle.client_core.proofs.Leases.{ended_same}
@@ -218,9 +218,10 @@ given_entry s now out name (Installed message call taught stamp heard is for lea
     installed_by s now out name taught.0 taught.1 message call stamp _ (same_name name taught.0) h is for learned refl refl
 given_entry s now out name (ReplyDropped message call heard is for dropped) h = EntryStays (noted_stays s.cache (noted_moment s now) name h)
 given_entry s now out name (NotAwaited message heard is none) h = EntryStays (note_stays s (noted_moment s now) name h)
+given_entry s now out name (Learns message present heard is later) h = EntryStays (no_cache s.cache.entries [] name h refl)
 given_entry s now out name (Lost message heard is loss) h = EntryStays (no_cache s.cache.entries [] name h refl)
 given_entry s now out name (TurnedAway message heard is fault unstarted) h = EntryStays (no_cache s.cache.entries [] name h refl)
-given_entry s now out name (RefusalDropped message heard is stays) h = EntryStays (note_stays s (noted_moment s now) name h)
+given_entry s now out name (RefusalDropped message heard is earlier stays) h = EntryStays (note_stays s (noted_moment s now) name h)
 
 pub give_entry : (s : ClientState) (now : ℕ) (out : Out) (name : List ℕ) → AreCacheEntries s.cache.entries → EntryDoes s now out name (give_step s now out).0
 give_entry s now out name h = let c = give_case s now out in subst (λ p. EntryDoes s now out name p.0) (sym c.1) (given_entry s now out name c.0 h)

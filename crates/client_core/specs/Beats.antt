@@ -14,9 +14,9 @@ use Rattle.client_core.specs.State.{ClientState, moment, session_then, note, not
 abbrev pub start_message : ClientState → Request
 start_message s = requests.Start (record { client = s.number; number = s.beats + 1; principal = s.principal })
 
--- what was processed is acknowledged; no event is told yet
+-- what was processed is acknowledged
 abbrev pub beat_message : ClientState → Request
-beat_message s = requests.Beat (record { client = s.number; epoch = s.epoch; number = s.beats + 1; invalidations = s.processed; events = 0 })
+beat_message s = requests.Beat (record { client = s.number; epoch = s.epoch; number = s.beats + 1; invalidations = s.processed; events = s.heard })
 
 -- a lease that answers it counts from now on
 abbrev pub with_beat : ClientState → ℕ → ClientState

@@ -1,5 +1,5 @@
 -- By which arm of its table a client does a step. Each law of the client is a match on these.
-use Rattle.std.specs.Prelude.{◌≡◌, ◌≢◌, ◌⊎◌, ℕ, ◌+◌, ◌<◌, ◌≤◌, max, true, false, [], ◌∷◌, Option, Some, None, Result, Ok, Err}
+use Rattle.std.specs.Prelude.{◌≡◌, ◌≢◌, ◌⊎◌, ℕ, ◌+◌, ◌<◌, ◌≤◌, max, true, false, [], ◌∷◌, ◌++◌, Option, Some, None, Result, Ok, Err}
 use Rattle.lease_core.specs.Lease.{moment_limit}
 use Rattle.cache_core.specs.Caches.{is_leased, takes_lease, answer}
 use Rattle.cache_core.specs.Kept.{serving}
@@ -40,8 +40,9 @@ use Rattle.client_core.specs.Asks.{fault_then, plan_of, asked_for, message_of, w
 use Rattle.client_core.specs.Poisons.{with_poisoned, poison_lines}
 use Rattle.client_core.specs.Beats.{start_message, beat_message, with_beat, beaten}
 use Rattle.client_core.specs.Lessons.{Lesson, lesson}
-use Rattle.client_core.specs.Gives.{told, passed_over, rejected, offered, begun, with_processed, bettered, safe_lines, awaited, answer_of, has_number, ended_plainly, with_lesson, lost}
+use Rattle.client_core.specs.Gives.{is_numbered, later_epoch, unknown_lines, learned, told, passed_over, rejected, offered, begun, with_processed, bettered, safe_lines, awaited, answer_of, has_number, ended_plainly, with_lesson, lost}
 use Rattle.client_parts.specs.Invalidations.{is_in_order}
+use Rattle.client_parts.specs.Events.{are_events_in_order, event_lines}
 use Rattle.client_parts.specs.Sessions.{session_after}
 
 -- the moment that is noted
@@ -172,6 +173,7 @@ pub record IsFit (s : ClientState) (now : ℕ) (message : AliveMessage) : Type 0
   pub alive : IsAlive s now message
   pub fits : message.span < moment_limit
   pub in_order : is_in_order s.processed message.invalidations ≡ true
+  pub events_in_order : are_events_in_order s.heard message.events ≡ true
 
 -- an offer for the newest Beat, better than the lease that there is
 pub record IsTaken (s : ClientState) (message : AliveMessage) : Type 0 where
@@ -199,6 +201,12 @@ pub record IsLoss (s : ClientState) (now : ℕ) (message : RefusedMessage) : Typ
   pub live : IsLive s now
   pub epoch : s.epoch ≤ message.epoch
 
+-- the master is of a later epoch than the client's
+pub record IsLater (s : ClientState) (now : ℕ) (message : RefusedMessage) (present : ℕ) : Type 0 where
+  pub fault : message.fault ≡ faults.OldEpoch present
+  pub live : IsLive s now
+  pub later : s.epoch < present
+
 pub data GiveCase (s : ClientState) (now : ℕ) (out : Out) : Type 0 where
   GivenTooLate : moment_limit ≤ now → GiveCase s now out
   OfAnother : now < moment_limit → out_client out ≢ s.number → GiveCase s now out
@@ -209,7 +217,7 @@ pub data GiveCase (s : ClientState) (now : ℕ) (out : Out) : Type 0 where
   -- AN ALIVE
   LeaseTaken : (message : AliveMessage) → IsHeard s now out → out ≡ outs.Alive message → IsFit s now message → IsTaken s message → GiveCase s now out
   LeaseStays : (message : AliveMessage) → IsHeard s now out → out ≡ outs.Alive message → IsFit s now message → (message.number ≡ s.beats → takes_lease s.cache.lease (offered s message.span) ≡ false) → GiveCase s now out
-  AliveUnfit : (message : AliveMessage) → IsHeard s now out → out ≡ outs.Alive message → IsAlive s now message → (moment_limit ≤ message.span) ⊎ (is_in_order s.processed message.invalidations ≡ false) → GiveCase s now out
+  AliveUnfit : (message : AliveMessage) → IsHeard s now out → out ≡ outs.Alive message → IsAlive s now message → (moment_limit ≤ message.span) ⊎ (is_numbered s message ≡ false) → GiveCase s now out
   AliveDropped : (message : AliveMessage) → IsHeard s now out → out ≡ outs.Alive message → (session_then s (noted_moment s now) ≡ sessions.Live → message.epoch ≢ s.epoch) → GiveCase s now out
   -- A REPLY
   OutOfNumbers : (message : Reply) (call : Outstanding) → IsHeard s now out → out ≡ outs.Reply message → IsAwaited s now message call → has_number s message.result ≡ false → GiveCase s now out
@@ -220,9 +228,10 @@ pub data GiveCase (s : ClientState) (now : ℕ) (out : Out) : Type 0 where
   ReplyDropped : (message : Reply) (call : Outstanding) → IsHeard s now out → out ≡ outs.Reply message → IsAwaited s now message call → call.target ≡ targets.Dropped → GiveCase s now out
   NotAwaited : (message : Reply) → IsHeard s now out → out ≡ outs.Reply message → awaited s (noted_moment s now) message ≡ None → GiveCase s now out
   -- A REFUSAL
+  Learns : (message : RefusedMessage) (present : ℕ) → IsHeard s now out → out ≡ outs.Refused message → IsLater s now message present → GiveCase s now out
   Lost : (message : RefusedMessage) → IsHeard s now out → out ≡ outs.Refused message → IsLoss s now message → GiveCase s now out
   TurnedAway : (message : RefusedMessage) → IsHeard s now out → out ≡ outs.Refused message → message.fault ≡ faults.NoSession → s.session ≡ sessions.Unstarted → GiveCase s now out
-  RefusalDropped : (message : RefusedMessage) → IsHeard s now out → out ≡ outs.Refused message → session_after (session_then s (noted_moment s now)) s.epoch message.epoch message.fault ≡ None → GiveCase s now out
+  RefusalDropped : (message : RefusedMessage) → IsHeard s now out → out ≡ outs.Refused message → later_epoch s (noted_moment s now) message.fault ≡ None → session_after (session_then s (noted_moment s now)) s.epoch message.epoch message.fault ≡ None → GiveCase s now out
 
 -- what the client is then, and prints
 abbrev pub given_in : (s : ClientState) (now : ℕ) (out : Out) → GiveCase s now out → ClientState × Result Given Fault
@@ -232,9 +241,9 @@ given_in s now out (Started message heard is standing fits) = (begun s (noted_mo
 given_in s now out (StartedUnfit message heard is standing long) = rejected s (noted_moment s now)
 given_in s now out (StartedDropped message heard is old) = passed_over s (noted_moment s now)
 given_in s now out (LeaseTaken message heard is fit taken) =
-    (bettered (with_processed (note_live s (noted_moment s now)) message) (noted_moment s now) (offered s message.span), Ok (told s (noted_moment s now) (safe_lines (with_processed (note_live s (noted_moment s now)) message) (noted_moment s now) message) None))
+    (bettered (with_processed (note_live s (noted_moment s now)) message) (noted_moment s now) (offered s message.span), Ok (told s (noted_moment s now) (event_lines s.number s.heard message.events ++ safe_lines (with_processed (note_live s (noted_moment s now)) message) (noted_moment s now) message) None))
 given_in s now out (LeaseStays message heard is fit worse) =
-    (with_processed (note_live s (noted_moment s now)) message, Ok (told s (noted_moment s now) [] None))
+    (with_processed (note_live s (noted_moment s now)) message, Ok (told s (noted_moment s now) (event_lines s.number s.heard message.events) None))
 given_in s now out (AliveUnfit message heard is alive unfit) = rejected s (noted_moment s now)
 given_in s now out (AliveDropped message heard is other) = passed_over s (noted_moment s now)
 given_in s now out (OutOfNumbers message call heard is for last) = (s, Err faults.Exhausted)
@@ -244,6 +253,8 @@ given_in s now out (Installed message call taught stamp heard is for learned) =
     (with_lesson s (noted_moment s now) taught, Ok (told s (noted_moment s now) (lines.Done s.number message.number (answer_of s message.result) ∷ []) None))
 given_in s now out (ReplyDropped message call heard is for dropped) = (record (note_live s (noted_moment s now)) { outstanding = None }, Ok (told s (noted_moment s now) [] None))
 given_in s now out (NotAwaited message heard is none) = passed_over s (noted_moment s now)
+given_in s now out (Learns message present heard is later) =
+    (learned (note_live s (noted_moment s now)) present, Ok (told s (noted_moment s now) (unknown_lines s.number s.outstanding) None))
 given_in s now out (Lost message heard is loss) = (lost (note_live s (noted_moment s now)) sessions.Lost, Ok (told s (noted_moment s now) (lines.Lost s.number ∷ []) None))
 given_in s now out (TurnedAway message heard is fault unstarted) = (lost (at_moment s (noted_moment s now)) sessions.TurnedAway, Ok (told s (noted_moment s now) (lines.Lost s.number ∷ []) None))
-given_in s now out (RefusalDropped message heard is stays) = passed_over s (noted_moment s now)
+given_in s now out (RefusalDropped message heard is earlier stays) = passed_over s (noted_moment s now)

@@ -37,6 +37,7 @@ use Rattle.client_parts.specs.declared.targets.Target.TheVariants as targets
 use Rattle.client_parts.specs.declared.targets.Outstanding.{Outstanding}
 use Rattle.client_parts.specs.Sessions.{session_after}
 use Rattle.client_parts.specs.Invalidations.{is_in_order, last_number, all_flushed}
+use Rattle.client_parts.specs.Events.{are_events_in_order, last_event, event_lines}
 use Rattle.client_core.specs.State.{ClientState, moment, session_then, note, note_lines}
 use Rattle.client_parts.specs.Opens.{is_shareable, kept_handle}
 use Rattle.client_core.specs.Lessons.{Lesson, opening_of, lesson}
@@ -97,12 +98,13 @@ started_step s moment message =
     then (if is_span message.span then (begun s moment message, Ok (told s moment [] None)) else rejected s moment)
     else passed_over s moment
 
--- ---- Alive: its invalidations
+-- ---- Alive: its invalidations and its events
 
 -- what is invalidated goes out of the cache; an older message takes nothing back
 abbrev pub with_processed : ClientState → Alive → ClientState
 with_processed s message = record s {
   processed = max s.processed (last_number 0 message.invalidations);
+  heard = max s.heard (last_event 0 message.events);
   cache = record s.cache { entries = all_flushed s.processed s.cache.entries message.invalidations };
 }
 
@@ -133,13 +135,17 @@ safe_lines s moment message =
 
 abbrev pub kept_alive : ClientState → ℕ → Alive → ClientState × Result Given Fault
 kept_alive s moment message =
-    (with_lease (with_processed (note s moment) message) moment message, Ok (told s moment (safe_lines (with_processed (note s moment) message) moment message) None))
+    (with_lease (with_processed (note s moment) message) moment message, Ok (told s moment (event_lines s.number s.heard message.events ++ safe_lines (with_processed (note s moment) message) moment message) None))
+
+-- the numbers of its invalidations and of its events rise by one
+abbrev pub is_numbered : ClientState → Alive → Bool
+is_numbered s message = is_in_order s.processed message.invalidations && are_events_in_order s.heard message.events
 
 -- one of another epoch is dropped; one whose span or whose numbers no master sends is refused
 abbrev pub alive_step : ClientState → ℕ → Alive → ClientState × Result Given Fault
 alive_step s moment message =
     if is_live (session_then s moment) && message.epoch == s.epoch
-    then (if is_span message.span && is_in_order s.processed message.invalidations then kept_alive s moment message else rejected s moment)
+    then (if is_span message.span && is_numbered s message then kept_alive s moment message else rejected s moment)
     else passed_over s moment
 
 -- ---- Reply
@@ -234,8 +240,31 @@ abbrev pub lose_step : ClientState → ℕ → Option Session → ClientState ×
 lose_step s moment None = passed_over s moment
 lose_step s moment (Some session) = (lost (note s moment) session, Ok (told s moment (lines.Lost s.number ∷ []) None))
 
+-- the master's epoch, where the refusal tells a client in its session of a later one
+abbrev pub later_epoch : ClientState → ℕ → Fault → Option ℕ
+later_epoch s moment (faults.OldEpoch present) = if is_live (session_then s moment) && nat_lt s.epoch present then Some present else None
+later_epoch s moment _ = None
+
+-- nobody knows what became of the outstanding call; one whose reply is dropped was told of before
+abbrev pub unknown_line : ℕ → Outstanding → Target → List Line
+unknown_line client call targets.Dropped = []
+unknown_line client call target = lines.Done client (request_number call.request) (answers.Refused faults.Unknown) ∷ []
+
+abbrev pub unknown_lines : ℕ → Option Outstanding → List Line
+unknown_lines client None = []
+unknown_lines client (Some call) = unknown_line client call call.target
+
+-- it takes the epoch, with an empty cache and both its counts at 0
+abbrev pub learned : ClientState → ℕ → ClientState
+learned s epoch = record s { epoch = epoch; processed = 0; heard = 0; cache = record s.cache { entries = [] }; outstanding = None }
+
+-- else the session may be lost
+abbrev pub learn_step : ClientState → ℕ → Option Session → Option ℕ → ClientState × Result Given Fault
+learn_step s moment after None = lose_step s moment after
+learn_step s moment after (Some present) = (learned (note s moment) present, Ok (told s moment (unknown_lines s.number s.outstanding) None))
+
 abbrev pub refused_step : ClientState → ℕ → Refused → ClientState × Result Given Fault
-refused_step s moment message = lose_step s moment (session_after (session_then s moment) s.epoch message.epoch message.fault)
+refused_step s moment message = learn_step s moment (session_after (session_then s moment) s.epoch message.epoch message.fault) (later_epoch s moment message.fault)
 
 -- ---- every message
 

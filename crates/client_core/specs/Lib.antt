@@ -3,6 +3,7 @@ pub use Rattle.client_parts.specs.Opens
 pub use Rattle.client_parts.specs.Sessions
 pub use Rattle.client_parts.specs.Targets
 pub use Rattle.client_parts.specs.Invalidations
+pub use Rattle.client_parts.specs.Events
 pub use Rattle.cache_core.specs.Caches
 pub use Rattle.cache_core.specs.Kept
 pub use Rattle.cache_core.specs.Standings

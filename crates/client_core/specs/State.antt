@@ -31,6 +31,8 @@ pub record ClientState : Type 0 where
   pub epoch : ℕ
   -- the number of the last invalidation that it has processed in its epoch, 0 before the first
   pub processed : ℕ
+  -- the number of the last event that it has processed in its epoch, 0 before the first
+  pub heard : ℕ
   -- what it holds of nodes, under the lease on its session
   pub cache : CacheState
   -- whether it may rely on its session
@@ -54,7 +56,7 @@ lease_of (Some lease) = lease
 -- a client that has done nothing yet
 abbrev pub new_client : ℕ → List ℕ → ClientState
 new_client number principal =
-    record { number = number; principal = principal; clock = 0; beats = 0; sent = 0; session = sessions.Unstarted; epoch = 0; processed = 0; cache = new_cache; standing = standings.Safe; calls = 0; outstanding = None; handles = []; kept = []; opened = 0 }
+    record { number = number; principal = principal; clock = 0; beats = 0; sent = 0; session = sessions.Unstarted; epoch = 0; processed = 0; heard = 0; cache = new_cache; standing = standings.Safe; calls = 0; outstanding = None; handles = []; kept = []; opened = 0 }
 
 -- moments and numbers are within their limits
 pub record IsWithin (clock sent beats calls opened : ℕ) : Type 0 where

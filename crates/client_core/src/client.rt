@@ -30,10 +30,13 @@ use tags_cell::{Beat, ClientNumber, MessageNumber, NewHandle, Out, Request, Star
 /// master counts its promise from the receipt, which is no earlier (Gray and Cheriton 1989, section 2; Burrows 2006,
 /// section 2.8).
 ///
-/// The invalidations that its master sends take entries out of its cache, in order of their numbers, and are acknowledged
-/// by its next Beat (Burrows 2006, section 2.7).
+/// The invalidations that its master sends take entries out of its cache, in order of their numbers, and the events that it
+/// sends are printed; both are acknowledged by its next Beat (Burrows 2006, sections 2.5 and 2.7).
 ///
-/// What isn't there yet: events, locks, and a change of the master's epoch.
+/// Where a refusal tells of a later epoch, another master has come up: the client keeps its session, its lease and its
+/// handles, forgets what it has cached, and gives its outstanding call up (Burrows 2006, section 2.9).
+///
+/// What isn't there yet: locks.
 #[derive(Drop)]
 pub struct Client {
     pub(crate) alloc: Global,
@@ -45,6 +48,7 @@ pub struct Client {
     pub(crate) session: Session,
     pub(crate) epoch: u64,
     pub(crate) processed: u64,
+    pub(crate) heard: u64,
     pub(crate) cache: Cache,
     pub(crate) standing: Standing,
     pub(crate) calls: u64,
@@ -68,6 +72,7 @@ impl Model for Client {
       session = c.session;
       epoch = c.epoch;
       processed = c.processed;
+      heard = c.heard;
       cache = c.cache;
       standing = c.standing;
       calls = c.calls;
@@ -96,6 +101,7 @@ impl Client {
             session: Session::Unstarted,
             epoch: 0,
             processed: 0,
+            heard: 0,
             cache: Cache::new(alloc),
             standing: Standing::Safe,
             calls: 0,
@@ -107,7 +113,7 @@ impl Client {
     }
 
     /// Asks for what keeps the session, under the next number: a Start until the client has a session, then a Beat, which
-    /// acknowledges the invalidations that it has processed, and no events yet; where the session is lost, or the client
+    /// acknowledges the invalidations and the events that it has processed; where the session is lost, or the client
     /// was told that it gets none, nothing more. The lease that it is answered with counts from the moment that is noted
     /// now. The lines are those that the noting of the time prints. Behind the last number, 2^63-1, it is refused as
     /// Exhausted, and nothing changes.
@@ -136,12 +142,14 @@ impl Client {
     /// A Started gives it the session that its newest Start asked for, with the lease on it. An Alive that answers its
     /// newest Beat gives it a lease, if it is of the client's epoch and the lease ends later than the one that there is;
     /// it is taken even if it has ended already, and one that runs ends a jeopardy and lets the cache serve. Of every Alive
-    /// of its epoch, whichever Beat that answers, it processes the invalidations, in order of their numbers, and skips
-    /// those that it has processed before (Burrows 2006, section 2.7): what they name goes out of the cache.
+    /// of its epoch, whichever Beat that answers, it processes the invalidations and the events, in order of their
+    /// numbers, and skips those that it has processed before (Burrows 2006, sections 2.5 and 2.7): what an invalidation
+    /// names goes out of the cache, and an event is printed.
     ///
     /// Refused as ProtocolFault, since no master sends it: in that Started, and in every Alive of the client's epoch, a
-    /// span of 2^53 or more; and an Alive of its epoch in which the numbers of the invalidations don't rise by one, or
-    /// begin more than one above the last that it has processed. That changes nothing but the noted time.
+    /// span of 2^53 or more; and an Alive of its epoch in which the numbers of the invalidations, or those of the events,
+    /// don't rise by one, or begin more than one above the last that it has processed. That changes nothing but the noted
+    /// time.
     ///
     /// A Reply ends the outstanding call, if it is for that call and of the client's epoch; a handle gets the client's next
     /// number for it, none is given out twice, and the number of a closed handle is open no more. Where the call's handle
@@ -149,6 +157,11 @@ impl Client {
     /// kept beside, to be shared, at most 4,096 of them. The view of a read, and the absence that a plain Open met, go into
     /// the cache where the master stamped the answer, no invalidation was processed since that isn't counted in the stamp,
     /// and the lease runs; never in jeopardy.
+    ///
+    /// A refusal as OldEpoch that tells a client in its session of a later epoch than its own is how it learns of another
+    /// master (Burrows 2006, section 2.9). It takes that epoch, empties its cache, has processed no invalidation and no
+    /// event of it, and gives its outstanding call up as Unknown: that may have been done or not. It stays enabled under
+    /// its lease, and its handles stay.
     ///
     /// A refusal as NoSession, unless it is of an earlier epoch, ends the session. Every other message changes nothing but
     /// what the noting of the time does: a repeated one, one of another epoch, another refusal, any message once the
@@ -205,6 +218,7 @@ impl Client {
         let client = self.number;
         let epoch = self.epoch;
         let invalidations = self.processed;
+        let events = self.heard;
         self.count_beat(
             moment,
             Request::Beat(Beat {
@@ -212,7 +226,7 @@ impl Client {
                 epoch,
                 number,
                 invalidations,
-                events: 0,
+                events,
             }),
         )
     }

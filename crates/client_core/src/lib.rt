@@ -5,12 +5,14 @@
 
 mod calls;
 mod client;
+mod epochs;
 mod laws;
 mod lessons;
 mod notes;
 mod offers;
 mod plans;
 mod poisons;
+mod refusals;
 mod replies;
 mod serves;
 

@@ -2,16 +2,22 @@
 //! answered, in milliseconds by its own clock, and not from when the answer came. So where the clocks are fair its count
 //! ends no later than the master's promise, however long the answer was on its way (Gray and Cheriton 1989, section 2;
 //! Burrows 2006, section 2.8).
-ghost use Rattle.std.specs.Prelude.{◌≡◌, ◌&&◌, Some, None, if◌then◌else◌};
+ghost use Rattle.std.specs.Prelude.{◌≡◌, ◌&&◌, ◌++◌, Some, None, IfOk, if◌then◌else◌};
 ghost use Rattle.lease_core.specs.Lease.{IsMoment, is_unexpired};
-ghost use Rattle.client_core.specs.State.{Does};
-ghost use Rattle.client_core.specs.Gives.{is_span, offered, under, started_step, alive_step, kept_alive, with_processed, with_lease, takes_offer, is_jeopardy};
+ghost use Rattle.client_parts.specs.Events.{event_lines};
+ghost use Rattle.client_core.specs.State.{note_lines, Does};
+ghost use Rattle.client_core.specs.Gives.{is_span, offered, under, started_step, is_numbered, alive_step, kept_alive, with_processed, with_lease, takes_offer, is_jeopardy};
 
 use crate::client::Client;
 use cache_core::{CacheOp, Standing};
-use client_parts::{Given, Session, flush_all, is_in_order, last_number};
+use client_parts::{
+    Given, Session, are_events_in_order, flush_all, is_in_order, last_event, last_number,
+    with_events,
+};
 use lease_core::Lease;
 use node_core::{Fault, Line};
+use plain::Items;
+use std::alloc::AllocError;
 use tags_cell::{Alive, Started};
 
 impl Client {
@@ -37,8 +43,8 @@ impl Client {
         })
     }
 
-    // Processes the invalidations, and takes the lease that the newest Beat was answered with, if it is better than the
-    // present one.
+    // Processes the invalidations and the events, and takes the lease that the newest Beat was answered with, if it is
+    // better than the present one.
     pub(crate) fn take_alive(&mut self, moment: u64, alive: &Alive) -> Result<Given, Fault>
         requires { IsMoment moment }
         ensures { Does self.old self.new result (alive_step self.old moment alive.now) }
@@ -49,19 +55,40 @@ impl Client {
         let Some(lease) = self.offered(alive.span) else {
             return Ok(self.pass_over(moment, Some(Fault::ProtocolFault))?);
         };
-        if !is_in_order(self.processed, alive.invalidations.as_slice()) {
+        if !self.is_numbered(alive) {
             return Ok(self.pass_over(moment, Some(Fault::ProtocolFault))?);
         }
         self.keep_alive(moment, alive, lease)
     }
 
-    // The line that there may be is made before anything changes.
+    // Whether the numbers of its invalidations and of its events are such as a master sends.
+    fn is_numbered(&self, alive: &Alive) -> bool
+        ensures { result ≡ is_numbered self.now alive.now }
+    {
+        is_in_order(self.processed, alive.invalidations.as_slice())
+            && are_events_in_order(self.heard, alive.events.as_slice())
+    }
+
+    // What the noting of the time prints, and the events.
+    fn alive_lines(&self, moment: u64, alive: &Alive) -> Result<Items<Line>, AllocError>
+        ensures { IfOk result (λ lines. lines ≡ note_lines self.now moment ++ event_lines self.now.number self.now.heard alive.now.events) }
+    {
+        let lines = self.note_lines(moment)?;
+        with_events(
+            lines,
+            self.number.get(),
+            self.heard,
+            alive.events.as_slice(),
+        )
+    }
+
+    // The lines that there may be are made before anything changes.
     fn keep_alive(&mut self, moment: u64, alive: &Alive, lease: Lease) -> Result<Given, Fault>
         requires moment { IsMoment moment }
         requires lease { lease ≡ offered self.old alive.now.span }
         ensures { Does self.old self.new result (kept_alive self.old moment alive.now) }
     {
-        let mut lines = self.note_lines(moment)?;
+        let mut lines = self.alive_lines(moment, alive)?;
         lines.push(Line::Safe(self.number.get()))?;
         self.note(moment);
         self.process(alive);
@@ -74,13 +101,14 @@ impl Client {
         })
     }
 
-    // What is invalidated goes, and the last number is acknowledged by the next Beat.
+    // What is invalidated goes, and the last numbers are acknowledged by the next Beat.
     fn process(&mut self, alive: &Alive)
         ensures { self.new ≡ with_processed self.old alive.now }
     {
         let invalidations = alive.invalidations.as_slice();
         flush_all(&mut self.cache, self.processed, invalidations);
         self.processed = self.processed.max(last_number(invalidations));
+        self.heard = self.heard.max(last_event(alive.events.as_slice()));
     }
 
     // Takes the lease, if it is for the newest Beat and better than the present one; says whether that ends a jeopardy.

@@ -1,4 +1,4 @@
-//! A client is given the reply to its outstanding call, or a refusal.
+//! A client is given the reply to its outstanding call.
 ghost use Rattle.std.specs.Prelude.{◌≡◌, ◌++◌, ◌∷◌, [], true, OnOk, OnErr, IfOk, Ok};
 ghost use Rattle.std.specs.BTreeMap.{insert_entry};
 ghost use Rattle.std.specs.Ordering.{nat_cmp};
@@ -6,15 +6,15 @@ ghost use Rattle.cache_core.specs.Kept.{with_kept};
 ghost use Rattle.lease_core.specs.Lease.{IsMoment};
 ghost use Rattle.client_core.specs.State.{note, note_lines, Does};
 ghost use Rattle.client_core.specs.Lessons.{opening_of, lesson};
-ghost use Rattle.client_core.specs.Gives.{awaited, answer_of, has_number, handles_behind, kept_behind, ended_plainly, ended, finish_step, reply_for, reply_step, lost, refused_step};
+ghost use Rattle.client_core.specs.Gives.{awaited, answer_of, has_number, handles_behind, kept_behind, ended_plainly, ended, finish_step, reply_for, reply_step};
 
 use crate::client::Client;
-use cache_core::{Kept, Standing};
+use cache_core::Kept;
 use client_parts::{ClientHandle, Given, Session, Target, is_shareable, pushed, share_of};
 use node_core::{Answer, Fault, Line, NUMBER_LIMIT};
 use plain::Items;
 use std::alloc::AllocError;
-use tags_cell::{CallResult, NewHandle, Open, Refused, Reply};
+use tags_cell::{CallResult, NewHandle, Open, Reply};
 
 impl Client {
     pub(crate) fn take_reply(&mut self, moment: u64, reply: &Reply) -> Result<Given, Fault>
@@ -209,42 +209,9 @@ impl Client {
     }
 
     // No call is outstanding from here on.
-    fn end(&mut self)
+    pub(crate) fn end(&mut self)
         ensures { self.new ≡ record self.old { outstanding = None } }
     {
         drop(self.outstanding.take());
-    }
-
-    // Ends the session, where the master of a refusal knows none.
-    pub(crate) fn take_refused(
-        &mut self,
-        moment: u64,
-        refused: &Refused,
-    ) -> Result<Given, AllocError>
-        requires { IsMoment moment }
-        ensures ok { IfOk result (λ given. refused_step self.old moment refused.now ≡ (self.new, Ok given)) }
-        ensures err { OnErr result (self.new ≡ self.old) }
-    {
-        let session = self.session_then(moment);
-        let Some(session) = session.after(self.epoch, refused.epoch, refused.fault) else {
-            return self.pass_over(moment, None);
-        };
-        let lines = pushed(self.note_lines(moment)?, Line::Lost(self.number.get()))?;
-        self.note(moment);
-        self.lose(session);
-        Ok(Given {
-            lines,
-            refused: None,
-        })
-    }
-
-    // A client without a session holds nothing.
-    fn lose(&mut self, session: Session)
-        ensures { self.new ≡ lost self.old session }
-    {
-        self.session = session;
-        self.cache.clear();
-        self.cache.disable();
-        self.standing = Standing::Lost;
     }
 }

@@ -1,17 +1,14 @@
 -- The invalidations that an Alive carries, and what they leave of a cache.
-use Rattle.std.specs.Prelude.{ℕ, ◌+◌, ◌==◌, ◌&&◌, nat_lt, nat_le, Bool, true, List, [], ◌∷◌, if◌then◌else◌}
+use Rattle.std.specs.Prelude.{ℕ, nat_lt, Bool, List, [], ◌∷◌, map, if◌then◌else◌}
 use Rattle.cache_core.specs.Caches.{Entries, flushed}
 use Rattle.tags_cell.specs.declared.beats.Invalidation.{Invalidation}
+use Rattle.client_parts.specs.InOrder.{are_in_order}
 
--- each number is one more than the one before
-abbrev pub follow : ℕ → List Invalidation → Bool
-follow last [] = true
-follow last (next ∷ others) = next.number == last + 1 && follow next.number others
+abbrev pub invalidation_numbers : List Invalidation → List ℕ
+invalidation_numbers invalidations = map (λ (next : Invalidation). next.number) invalidations
 
--- they rise by one, and begin at most one above what was processed
 abbrev pub is_in_order : ℕ → List Invalidation → Bool
-is_in_order processed [] = true
-is_in_order processed (first ∷ others) = nat_le first.number (processed + 1) && follow first.number others
+is_in_order processed invalidations = are_in_order processed (invalidation_numbers invalidations)
 
 -- the last number, or this one where there is none
 abbrev pub last_number : ℕ → List Invalidation → ℕ

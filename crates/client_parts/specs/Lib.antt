@@ -8,4 +8,6 @@ pub mod Sessions
 pub mod Calls
 pub mod Opens
 pub mod Targets
+pub mod InOrder
 pub mod Invalidations
+pub mod Events

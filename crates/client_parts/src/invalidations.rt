@@ -1,7 +1,8 @@
 //! The invalidations that an Alive carries: those that the master didn't know to be processed, in order of their numbers
 //! (Burrows 2006, section 2.7). The numbers may be any that a u64 holds.
 ghost use Rattle.std.specs.Prelude.{◌≡◌};
-ghost use Rattle.client_parts.specs.Invalidations.{follow, is_in_order, last_number, all_flushed};
+ghost use Rattle.client_parts.specs.InOrder.{follow};
+ghost use Rattle.client_parts.specs.Invalidations.{invalidation_numbers, is_in_order, last_number, all_flushed};
 
 use cache_core::Cache;
 use tags_cell::Invalidation;
@@ -20,7 +21,7 @@ pub fn is_in_order(processed: u64, invalidations: &[Invalidation]) -> bool
 
 // Whether the numbers rise by one from behind this one on.
 fn follow(mut last: u64, invalidations: &[Invalidation]) -> bool
-    ensures { result ≡ follow last invalidations.now }
+    ensures { result ≡ follow last (invalidation_numbers invalidations.now) }
 {
     for next in invalidations {
         if next.number.checked_sub(1) != Some(last) {

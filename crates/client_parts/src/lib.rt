@@ -1,8 +1,9 @@
 //! What a client is made of: its handles, its outstanding call, how it stands with its master; what it is asked for, and what comes
-//! of that; and what the invalidations that it is sent do to its cache.
+//! of that; what the invalidations that it is sent do to its cache, and what it prints of the events.
 #![tactic(auto)]
 
 mod asks;
+mod events;
 mod handles;
 mod invalidations;
 mod lines;
@@ -11,6 +12,7 @@ mod steps;
 mod targets;
 
 pub use asks::{Ask, Asked, NodeCall, Outcome};
+pub use events::{are_events_in_order, last_event, with_events};
 pub use handles::{ClientHandle, is_plain, is_read_only, is_shareable, share_of};
 pub use invalidations::{flush_all, is_in_order, last_number};
 pub use lines::{one_line, pushed};

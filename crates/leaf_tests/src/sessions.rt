@@ -233,7 +233,8 @@ fn starts_and_ends(rt: HostRuntime) {
     runs(&rt, rt.alloc(), table.as_slice());
 }
 
-// Its time is 60,002 ms from the coming up on. It is heard once its first event is acknowledged.
+// Its time is 60,002 ms from the coming up on. It is heard once its first event is acknowledged, which the master issued
+// to each live session by itself, so that a parked Beat is answered at once until then.
 #[test]
 fn sessions_of_a_new_master(rt: HostRuntime) {
     let table = [
@@ -241,9 +242,16 @@ fn sessions_of_a_new_master(rt: HostRuntime) {
         (Step::Recover(1, true, 1_000), Ok(0)),
         (Step::Recover(2, false, 1_000), Ok(0)),
         (Step::Recover(3, true, 1_000), Ok(0)),
-        (Step::Issue(1, Issued::Event), Ok(0)),
-        (Step::Issue(3, Issued::Event), Ok(0)),
+        (Step::AllHeard, Ok(0)),
+        (Step::Beat(2, 1, 0, 0, 1_500), Err(Fault::NoSession)),
+        (Step::Beat(1, 5, 0, 2, 1_500), Err(Fault::BadAck(1))),
+        (Step::Beat(1, 5, 1, 1, 1_500), Err(Fault::BadAck(0))),
+        (Step::Beat(1, 5, 0, 0, 1_500), Ok(0)),
+        (Step::Due(1_500), Ok(1)),
+        (Step::Answer(1, 1_500), Ok(0)),
+        (Step::Due(1_500), Ok(0)),
         (Step::Beat(1, 7, 0, 1, 2_000), Ok(0)),
+        (Step::Due(2_000), Ok(0)),
         (Step::AllHeard, Ok(0)),
         (Step::Answer(1, 2_000), Ok(0)),
         (Step::Expired(61_001), Ok(0)),

@@ -5,8 +5,10 @@ use Rattle.node_core.specs.declared.refusals.Fault.{Fault}
 use Rattle.node_core.specs.declared.refusals.Fault.TheVariants as faults
 use Rattle.node_core.specs.declared.lines.Line.{Line}
 use Rattle.node_core.specs.declared.lines.Line.TheVariants as lines
+use Rattle.node_core.specs.declared.events.Event.TheVariants as events
 use Rattle.rows_cell.specs.declared.tables.Edit.{Edit}
 use Rattle.tags_cell.specs.declared.beats.Invalidation.{Invalidation}
+use Rattle.tags_cell.specs.declared.beats.NumberedEvent.{NumberedEvent}
 use Rattle.tags_cell.specs.declared.outs.Out.{Out}
 use Rattle.tags_cell.specs.declared.outs.Out.TheVariants as outs
 use Rattle.tags_cell.specs.declared.calls.Call.{Call}
@@ -14,7 +16,7 @@ use Rattle.rights_core.specs.declared.endings.Ending.TheVariants as endings
 use Rattle.rights_core.specs.Rights.{numbers_ending, unacked_of}
 use Rattle.session_core.specs.declared.records.Offer.{Offer}
 use Rattle.session_core.specs.Session.{is_client_expired, is_client_due, offered_span}
-use Rattle.session_core.specs.Sessions.{all_heard, lowest, offer_of}
+use Rattle.session_core.specs.Sessions.{owes_event, all_heard, lowest, offer_of}
 use Rattle.cell_core.specs.declared.deeds.Deed.{Deed}
 use Rattle.cell_core.specs.declared.deeds.SessionDeed.{SessionDeed}
 use Rattle.cell_core.specs.declared.deeds.SessionDeed.TheVariants.{Begins, Prolongs, Ends, Answers}
@@ -125,10 +127,18 @@ invalidation_of entry = record { number = entry.0; name = entry.1 }
 abbrev pub invalidations_for : MasterState → ℕ → List Invalidation
 invalidations_for s client = map invalidation_of (unacked_of client s.rights)
 
+-- the first event tells that a new master is up; there is no other yet
+abbrev pub first_event : NumberedEvent
+first_event = record { number = 1; event = events.FailOver }
+
+-- those that the client has still to acknowledge, in order of their numbers
+abbrev pub events_for : MasterState → ℕ → List NumberedEvent
+events_for s client = if owes_event s.sessions client then first_event ∷ [] else []
+
 -- the session lives for a lease from now on
 abbrev pub alive_out : MasterState → ℕ → Offer → Out
 alive_out s client offer =
-    outs.Alive (record { client = client; epoch = s.epoch; number = offer.number; span = offer.span; invalidations = invalidations_for s client; events = [] })
+    outs.Alive (record { client = client; epoch = s.epoch; number = offer.number; span = offer.span; invalidations = invalidations_for s client; events = events_for s client })
 
 abbrev pub plan_answer : MasterState → ℕ → Plan
 plan_answer s client = option_map_or (λ offer. session_plan (Answers client) [] (alive_out s client offer ∷ [])) (offer_of s.sessions client s.clock) no_plan

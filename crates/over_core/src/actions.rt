@@ -9,7 +9,7 @@ use tags_cell::ClientNumber;
 /// answer never stands before an end or a change that was due.
 #[derive(Clone, Copy, Debug, PartialEq, Eq)]
 pub enum Action {
-    /// The recovery is over: each session of an earlier master was heard from, or has ended.
+    /// The recovery is over: each session of an earlier master has acknowledged the fail-over, or has ended.
     Recover,
     /// The session of this client ends: its timeout has come (Gray and Cheriton 1989, section 2: whoever gave a lease
     /// may go on without its holder once it has expired).

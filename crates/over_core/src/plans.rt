@@ -3,7 +3,7 @@ ghost use Rattle.std.specs.Prelude.{◌≡◌, [], ◌∷◌, Some, None, map, I
 ghost use Rattle.node_core.specs.declared.lines.Line.TheVariants as lines;
 ghost use Rattle.cell_core.specs.Step.{sends};
 ghost use Rattle.over_core.specs.declared.actions.Action.TheVariants as actions;
-ghost use Rattle.over_core.specs.Sweep.{no_deed, started_out, alive_out, applied_lines, plan_session, plan_start, plan_effect, plan_call, plan_work, expiry_lines, plan_expiry, invalidation_of, plan_answer, plan_of};
+ghost use Rattle.over_core.specs.Sweep.{no_deed, started_out, events_for, alive_out, applied_lines, plan_session, plan_start, plan_effect, plan_call, plan_work, expiry_lines, plan_expiry, invalidation_of, plan_answer, plan_of};
 
 use crate::actions::Action;
 use crate::effects::{Effect, effect_of};
@@ -11,12 +11,14 @@ use cell_core::{
     Cell as Master, Change, Deed, KeptPut, SessionDeed, Taken, Task, Work, answered_by,
 };
 use names_cell::{Name, Principal};
-use node_core::{Fault, Line, Mod};
+use node_core::{Event, Fault, Line, Mod};
 use plain::{Items, Table};
 use rights_core::Ending;
 use session_core::Offer;
 use std::alloc::{AllocError, Global};
-use tags_cell::{Alive, Call, ClientNumber, Invalidation, MessageNumber, Out, Reply, Started};
+use tags_cell::{
+    Alive, Call, ClientNumber, Invalidation, MessageNumber, NumberedEvent, Out, Reply, Started,
+};
 
 /// What is done for an action. It is made before anything changes.
 #[derive(Debug, Drop)]
@@ -292,8 +294,23 @@ fn alive_out(master: &Master, client: ClientNumber, offer: Offer) -> Result<Take
         number,
         span,
         invalidations,
-        events: Items::new(master.alloc()),
+        events: events_for(master, client)?,
     }))
+}
+
+// The events that the client has still to acknowledge. The first tells that a new master is up (Burrows 2006, section
+// 2.5), and there is no other.
+fn events_for(master: &Master, client: ClientNumber) -> Result<Items<NumberedEvent>, AllocError>
+    ensures { IfOk result (λ events. events ≡ events_for master.now client) }
+{
+    let mut events = Items::new(master.alloc());
+    if master.sessions().owes_event(client.get()) {
+        events.push(NumberedEvent {
+            number: 1,
+            event: Event::FailOver,
+        })?;
+    }
+    Ok(events)
 }
 
 // The invalidations of these numbers and names, as they are sent.

@@ -1,5 +1,5 @@
 -- What a table of invalidations makes of each session.
-use Rattle.std.proofs.Common.{◌≡◌, ◌≢◌, ℕ, List, [], ◌∷◌, true, false, cond, Option, Some, None, ◌≤◌, refl, sym, ap, ◌∙◌, arith}
+use Rattle.std.proofs.Common.{◌≡◌, ◌≢◌, ℕ, List, [], ◌∷◌, true, false, cond, Option, Some, None, ◌≤◌, refl, ap, ◌∙◌, arith}
 use Rattle.std.specs.Option.{option_map, option_map_or}
 use Rattle.std.specs.Ordering.{nat_cmp}
 use Rattle.std.specs.Map.{lookup, keys_of, set_value}
@@ -9,8 +9,8 @@ use Rattle.std.proofs.lemmas.Map.{keys-set_value}
 use Rattle.session_core.specs.declared.records.Session.{Session}
 use Rattle.session_core.specs.Session.{issued_through}
 use Rattle.session_core.specs.Sessions.{SessionTable, session_of, with_session, with_issued, issued_by}
-use Rattle.session_core.specs.Laws.{issued_at, IssuesToEach}
-use Rattle.session_core.proofs.Keys.{at_itself, same_key, apart}
+use Rattle.session_core.specs.Laws.{issued_at}
+use Rattle.session_core.proofs.Keys.{at_itself, same_key}
 use Rattle.session_core.proofs.OneClient.{own_session, other_session}
 use Rattle.session_core.proofs.Lowest.{none_up_to}
 use Rattle.session_core.proofs.RowsOfSessions.{rows_of, rows_stay}

@@ -34,9 +34,13 @@ session_until principal live timeout = record {
   kept = None;
 }
 
+-- to a live session a new master issues its first event, which tells that it is up
+abbrev pub first_issued : Bool → Tally
+first_issued live = record nothing_issued { issued = if live then 1 else 0 }
+
 -- a session as a new master finds it in the rows
 abbrev pub recovered_session : {K : Type 0} → List ℕ → Bool → ℕ → Session K
-recovered_session principal live now = session_until principal live (now + recovery_timeout)
+recovered_session principal live now = record (session_until principal live (now + recovery_timeout)) { events = first_issued live }
 
 -- a client without a session may start, and one with a live session of the same principal
 abbrev pub may_start : {K : Type 0} → Option (Session K) → List ℕ → Bool

@@ -2,7 +2,7 @@
 ghost use Rattle.std.specs.Prelude.{◌≡◌, ◌≤◌, [], IfOk, OnOk, OnErr};
 ghost use Rattle.std.specs.Option.{option_copied};
 ghost use Rattle.lease_core.specs.Lease.{IsMoment, least_lease, longest_lease};
-ghost use Rattle.session_core.specs.Session.{session_until, recovered_session};
+ghost use Rattle.session_core.specs.Session.{first_issued, session_until, recovered_session};
 
 use crate::records::{Session, Tally};
 use lease_core::RECOVERY_TIMEOUT;
@@ -87,7 +87,17 @@ impl<K> Sessions<K> {
 }
 
 impl<K> Sessions<K> {
-    ghost use Rattle.session_core.specs.Sessions.{all_heard};
+    ghost use Rattle.session_core.specs.Sessions.{owes_event, all_heard};
+
+    /// Whether an event that was issued to a client's session waits for its acknowledgement. Takes no memory.
+    pub fn owes_event(&self, client: u64) -> bool
+        ensures { result ≡ owes_event self.now client }
+    {
+        match self.map.get(&client) {
+            None => false,
+            Some(session) => session.events.is_owing(),
+        }
+    }
 
     /// Whether each live session has acknowledged its first event, by which a new master tells of itself. Takes no
     /// memory.
@@ -104,7 +114,8 @@ impl<K> Sessions<K> {
 impl<K: Drop> Sessions<K> {
     ghost use Rattle.session_core.specs.Sessions.{with_new};
 
-    /// A new master, come up at `now`, takes over a session of the rows.
+    /// A new master, come up at `now`, takes over a session of the rows. To a live one it issues its first event, which
+    /// tells that it is up.
     pub fn recover(
         &mut self,
         client: u64,
@@ -116,11 +127,22 @@ impl<K: Drop> Sessions<K> {
         ensures ok { OnOk result (self.new ≡ with_new self.old client (recovered_session principal live now)) }
         ensures err { OnErr result (self.new ≡ self.old) }
     {
-        let session = session_until(principal, live, now + RECOVERY_TIMEOUT);
+        let mut session = session_until(principal, live, now + RECOVERY_TIMEOUT);
+        session.events = first_issued(live);
         let until = session.quiet_until(self.lease);
         drop(self.map.insert(client, session)?);
         self.quiet = self.quiet.min(until);
         Ok(())
+    }
+}
+
+// To a live session a new master issues its first event.
+fn first_issued(live: bool) -> Tally
+    ensures { result ≡ first_issued live }
+{
+    Tally {
+        issued: u64::from(live),
+        acknowledged: 0,
     }
 }
 

@@ -53,7 +53,7 @@ use Rattle.client_core.specs.Lessons.{opening_of}
 use Rattle.client_core.specs.Gives.{closed, handles_behind, kept_behind, ended_plainly}
 use Rattle.client_core.specs.Cases.{AskCase, asked_in, BeatCase, beaten_in, GiveCase, given_in}
 use Rattle.client_core.proofs.Leases.{LeaseDoes, asked_keeps, beaten_keeps_session, given_lease, unstarted_stays}
-use Rattle.client_core.proofs.Leases.LeaseDoes.{LeaseKept, LeaseLeft, LeaseBegun, LeaseBettered, LeasePassed}
+use Rattle.client_core.proofs.Leases.LeaseDoes.{LeaseKept, LeaseLeft, LeaseCarried, LeaseBegun, LeaseBettered, LeasePassed}
 use Rattle.client_core.proofs.OneEntry.{EntryDoes, none_stays, asked_stays, beaten_stays, given_entry}
 use Rattle.client_core.proofs.OneEntry.EntryDoes.{EntryStays, EntryInstalled}
 use Rattle.world_cell.specs.declared.mail.Message.{Message}
@@ -423,6 +423,7 @@ module _ (sent later : List Message) (s : ClientState) (now : ℕ) (h : Holds se
   session_back : (out : Out) (new : ClientState) → LeaseDoes s now out new → new.session ≡ sessions.Unstarted → s.session ≡ sessions.Unstarted
   session_back out new (LeaseKept kept) e = unstarted_stays s new kept.session e
   session_back out new (LeaseLeft standing live epoch processed lease) e = absurd (standing e)
+  session_back out new (LeaseCarried message present is later session epoch processed lease) e = sym session ∙ e
   session_back out new (LeaseBegun message is standing fits live epoch processed lease) e = let two : sessions.Live ≡ sessions.Unstarted = sym live ∙ e in cc
   session_back out new (LeaseBettered message is fit taken session epoch processed lease) e = sym session ∙ e
   session_back out new (LeasePassed message is fit session epoch processed lease) e = sym session ∙ e

@@ -1,5 +1,5 @@
 -- Why a step of a consistent world leads to a consistent one.
-use Rattle.std.proofs.Common.{◌≡◌, ◌≢◌, ℕ, ◌+◌, ◌*◌, ◌≤◌, max, List, [], ◌∷◌, ◌++◌, Bool, true, false, cond, Option, Some, None, Result, Ok, Err, refl, sym, ap, ◌∙◌, inl, inr, arith, subst, map, zero, suc}
+use Rattle.std.proofs.Common.{◌≡◌, ◌≢◌, ℕ, ◌+◌, ◌*◌, ◌<◌, ◌≤◌, max, List, [], ◌∷◌, ◌++◌, Bool, true, false, cond, Option, Some, None, Result, Ok, Err, refl, sym, ap, ◌∙◌, inl, inr, arith, subst, map, zero, suc}
 use Rattle.std.specs.Prelude.{nat_le, nat_lt, IfOk, IfErr, OnOk, OnErr}
 use Rattle.std.specs.List.{slice_get}
 use Rattle.std.specs.Option.{option_map}
@@ -69,7 +69,8 @@ use Rattle.world_cell.proofs.WorldCases.{WorldCase, world_case}
 use Rattle.world_cell.proofs.WorldCases.WorldCase.{ComesUp, Joins, Asks, Beats, Gives, Ticks, Takes, Sweeps, GoesDown}
 use Rattle.world_cell.proofs.OwnSteps.{IsNoCall, IsNextCall, Sends, OfEpoch, sending, IsOwn, asks_own, beats_own, gives_own}
 use Rattle.world_cell.proofs.OwnSteps.Sends.{Nothing, NoCall, NextCall}
-use Rattle.world_cell.proofs.OwnSteps.OfEpoch.{SameEpoch, GrantedEpoch}
+use Rattle.world_cell.proofs.OwnSteps.OfEpoch.{SameEpoch, GrantedEpoch, LearnedEpoch}
+use Rattle.world_cell.proofs.Slices.{started_some}
 
 least : (n : ℕ) → n ≤ n
 least n = omega arith
@@ -259,7 +260,7 @@ same_clients old new e epoch clock = record {
 }
 
 seated_later : (old new number : ℕ) (seat : Seat) → old ≤ new → IsSeated old number seat → IsSeated new number seat
-seated_later old new number seat more t = let past = t.past in record { own = t.own; past = omega arith; unstarted = t.unstarted; noted = t.noted }
+seated_later old new number seat more t = let past = t.past in record { own = t.own; past = omega arith; unstarted = t.unstarted; live = t.live; noted = t.noted }
 
 same_seats : (old new : WorldState) → IsConsistent old → new.clients ≡ old.clients → old.rows.epoch ≤ new.rows.epoch → (number : ℕ) (seat : Seat) → seat_of new number ≡ Some seat → IsSeated new.rows.epoch number seat
 same_seats old new h e epoch number seat is =
@@ -316,7 +317,7 @@ module _ (w : WorldState) (h : IsConsistent w) (now : ℕ) where
   up_holds =
       all_consistent w up [] h up_later (none_fresh w up refl)
       (at_each_seat (λ number. at_up now) w.clients (λ q x. IsSeated (w.rows.epoch + 1) q x) (λ q x is.
-      let t = seated_later w.rows.epoch (w.rows.epoch + 1) q x next_epoch (h.clients q x is) in record { own = t.own; past = t.past; unstarted = t.unstarted; noted = t.noted }))
+      let t = seated_later w.rows.epoch (w.rows.epoch + 1) q x next_epoch (h.clients q x is) in record { own = t.own; past = t.past; unstarted = t.unstarted; live = t.live; noted = t.noted }))
       (record { queue = tt; kept = λ client kept is. no_kept client kept is; replies = λ client kept reply is of. no_kept client kept is; answers = λ client kept reply is of. no_kept client kept is; turns = λ client. (all_first now w.rows.sessions client).1 }) refl (least now)
       (at_each_seat (λ number. at_up now) w.clients (λ q x. IsFairSince now x) (λ q x is. fair_at_once now (at_up now x) refl refl))
 
@@ -359,7 +360,7 @@ module _ (w : WorldState) (h : IsConsistent w) (number : ℕ) (principal : List 
   join_holds : Becomes joined
   join_holds =
       all_consistent w joined [] h join_later (none_fresh w joined refl)
-      (at_joined (λ q x. IsSeated w.rows.epoch q x) (record { own = refl; past = zero_least w.rows.epoch; unstarted = λ e. refl; noted = least 0 }) h.clients)
+      (at_joined (λ q x. IsSeated w.rows.epoch q x) (record { own = refl; past = zero_least w.rows.epoch; unstarted = λ e. refl; live = λ e. cc; noted = least 0 }) h.clients)
       (fits_more w joined [] w.master (sym (append-nil w.messages)) h.fits) refl h.noted (fair_joined w.master h.fair)
 
 -- ---- a client does a step
@@ -403,7 +404,7 @@ module _ (w : WorldState) (h : IsConsistent w) (number : ℕ) (seat : Seat) (fou
 -- the client's own seat then
 module _ (w : WorldState) (h : IsConsistent w) (number : ℕ) (seat : Seat) (found : seat_of w number ≡ Some seat) (client : ClientState) where
   seated_by : client.number ≡ seat.client.number → client.clock ≡ max seat.client.clock seat.clock → OfEpoch w.messages seat.client client → IsSeated w.rows.epoch number (record seat { client = client })
-  seated_by own notes (SameEpoch epoch unstarted) =
+  seated_by own notes (SameEpoch epoch unstarted live) =
       let t = h.clients number seat found in
       let within = t.noted in
       let past = t.past in
@@ -411,6 +412,7 @@ module _ (w : WorldState) (h : IsConsistent w) (number : ℕ) (seat : Seat) (fou
         own = own ∙ t.own;
         past = omega (arith, epoch);
         unstarted = λ e. epoch ∙ t.unstarted (unstarted e);
+        live = λ e. let some = t.live (live e) in omega (arith, epoch, some);
         noted = omega (arith, notes, within);
       }
   seated_by own notes (GrantedEpoch at started sent epoch live) =
@@ -421,6 +423,18 @@ module _ (w : WorldState) (h : IsConsistent w) (number : ℕ) (seat : Seat) (fou
         own = own ∙ t.own;
         past = omega (arith, epoch, past);
         unstarted = λ e. let two : sessions.Live ≡ sessions.Unstarted = sym live ∙ e in cc;
+        live = λ e. let some = started_some w h.reached at started sent in omega (arith, epoch, some);
+        noted = omega (arith, notes, within);
+      }
+  seated_by own notes (LearnedEpoch at present refused sent fault later epoch live) =
+      let t = h.clients number seat found in
+      let within = t.noted in
+      let past = h.told at present refused sent fault in
+      record {
+        own = own ∙ t.own;
+        past = omega (arith, epoch, past);
+        unstarted = λ e. let two : sessions.Live ≡ sessions.Unstarted = sym live ∙ e in cc;
+        live = λ e. omega (arith, epoch, later);
         noted = omega (arith, notes, within);
       }
 
@@ -522,6 +536,7 @@ module _ (w : WorldState) (h : IsConsistent w) (ticks : ClockSteps) where
         own = subst (λ (c : ClientState). c.number ≡ q) (sym same) t.own;
         past = subst (λ (c : ClientState). c.epoch ≤ w.rows.epoch) (sym same) t.past;
         unstarted = subst (λ (c : ClientState). c.session ≡ sessions.Unstarted → c.epoch ≡ 0) (sym same) t.unstarted;
+        live = subst (λ (c : ClientState). c.session ≡ sessions.Live → 0 < c.epoch) (sym same) t.live;
         noted = subst (λ (c : ClientState). c.clock ≤ (moved w.master w ticks q x).clock) (sym same) (omega (arith, to, within));
       }
 

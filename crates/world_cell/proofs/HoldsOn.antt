@@ -15,7 +15,7 @@ use Rattle.client_core.specs.Asks.{message_of}
 use Rattle.client_core.specs.Cases.{noted_moment, IsAwaited, AskCase, asked_in, BeatCase, beaten_in, GiveCase, given_in}
 use Rattle.client_core.specs.Cases.AskCase.{AskedTooLate, Unsafe, Refused, ReadServed, AbsenceServed, Shared, OutOfHandles, Released, OutOfCalls, Sent, Poisoned}
 use Rattle.client_core.specs.Cases.BeatCase.{BeatTooLate, OutOfBeats, Starts, Beats as BeatSent, Quiet}
-use Rattle.client_core.specs.Cases.GiveCase.{GivenTooLate, OfAnother, Started, StartedUnfit, StartedDropped, LeaseTaken, LeaseStays, AliveUnfit, AliveDropped, OutOfNumbers, Replied, Installed, ReplyDropped, NotAwaited, Lost, TurnedAway, RefusalDropped}
+use Rattle.client_core.specs.Cases.GiveCase.{GivenTooLate, OfAnother, Started, StartedUnfit, StartedDropped, LeaseTaken, LeaseStays, AliveUnfit, AliveDropped, OutOfNumbers, Replied, Installed, ReplyDropped, NotAwaited, Learns, Lost, TurnedAway, RefusalDropped}
 use Rattle.world_cell.specs.declared.steps.Step.{Step}
 use Rattle.world_cell.specs.declared.mail.Message.{Message}
 use Rattle.world_cell.specs.declared.mail.Message.TheVariants.{ToMaster}
@@ -122,9 +122,10 @@ module _ (w : WorldState) (h : IsConsistent w) (number : ℕ) (seat : Seat) (fou
     give_holds (Installed message call taught stamp heard is for learned) = give_stays (Installed message call taught stamp heard is for learned) (grips_end w.messages s _ own.handles own.kept refl)
     give_holds (ReplyDropped message call heard is for dropped) = give_stays (ReplyDropped message call heard is for dropped) (grips_end w.messages s _ own.handles own.kept refl)
     give_holds (NotAwaited message heard is none) = give_stays (NotAwaited message heard is none) noted_only
+    give_holds (Learns message present heard is later) = give_stays (Learns message present heard is later) (grips_end w.messages s _ own.handles own.kept refl)
     give_holds (Lost message heard is loss) = give_stays (Lost message heard is loss) (grips_stay w.messages s _ held (record { number = refl; opened = refl; handles = refl; kept = refl; outstanding = refl }))
     give_holds (TurnedAway message heard is fault unstarted) = give_stays (TurnedAway message heard is fault unstarted) (grips_stay w.messages s _ held (record { number = refl; opened = refl; handles = refl; kept = refl; outstanding = refl }))
-    give_holds (RefusalDropped message heard is stays_so) = give_stays (RefusalDropped message heard is stays_so) noted_only
+    give_holds (RefusalDropped message heard is earlier stays_so) = give_stays (RefusalDropped message heard is earlier stays_so) noted_only
 
 -- ---- a step
 

@@ -1,9 +1,10 @@
 -- Whatever a client serves from its cache is what the map holds of that name.
 use Rattle.std.proofs.Common.{◌≡◌, ℕ, ◌+◌, Bool, true, false, cond, List, [], ◌∷◌, ◌++◌, map, Option, Some, None, Result, Ok, Err, inl, inr, refl, sym, subst, arith}
-use Rattle.std.specs.Prelude.{◌&&◌, IfOk}
+use Rattle.std.specs.Prelude.{◌&&◌, nat_lt, IfOk}
 use Rattle.std.specs.Option.{option_to_list}
 use Rattle.lease_core.specs.Lease.{IsUnexpired, is_unexpired}
 use Rattle.coherence.proofs.Reached.{reached_serves_present}
+use Rattle.node_core.specs.declared.events.Event.{Event}
 use Rattle.node_core.specs.declared.refusals.Fault.{Fault}
 use Rattle.node_core.specs.declared.refusals.Fault.TheVariants as faults
 use Rattle.node_core.specs.declared.answers.Answer.TheVariants as answers
@@ -19,6 +20,7 @@ use Rattle.cache_core.specs.declared.standings.Standing.TheVariants as standings
 use Rattle.tags_cell.specs.declared.outs.Out.{Out}
 use Rattle.tags_cell.specs.declared.outs.Reply.{Reply}
 use Rattle.tags_cell.specs.declared.beats.Alive.{Alive}
+use Rattle.tags_cell.specs.declared.beats.NumberedEvent.{NumberedEvent}
 use Rattle.tags_cell.specs.Messages.{request_number, out_client}
 use Rattle.rights_core.specs.declared.endings.Ending.TheVariants as endings
 use Rattle.rights_core.specs.declared.grants.Grant.{Grant}
@@ -35,14 +37,17 @@ use Rattle.client_parts.specs.declared.asks.Ask.{Ask}
 use Rattle.client_parts.specs.declared.sessions.Session.{Session}
 use Rattle.client_parts.specs.declared.sessions.Session.TheVariants as sessions
 use Rattle.client_parts.specs.declared.targets.Outstanding.{Outstanding}
+use Rattle.client_parts.specs.declared.targets.Target.{Target}
+use Rattle.client_parts.specs.declared.targets.Target.TheVariants as targets
 use Rattle.client_parts.specs.Targets.{is_on}
+use Rattle.client_parts.specs.Events.{event_lines}
 use Rattle.client_core.specs.State.{ClientState, standing_then, note_live, note_lines_in, note_lines}
 use Rattle.client_core.specs.Poisons.{refused_lines, poison_lines}
-use Rattle.client_core.specs.Gives.{with_processed, takes_offer, is_jeopardy, safe_lines}
+use Rattle.client_core.specs.Gives.{with_processed, takes_offer, is_jeopardy, safe_lines, unknown_line, unknown_lines}
 use Rattle.client_core.specs.Cases.{noted_moment, AskCase, asked_in, BeatCase, beaten_in, GiveCase, given_in}
 use Rattle.client_core.specs.Cases.AskCase.{AskedTooLate, Unsafe, Refused, ReadServed, AbsenceServed, Shared, OutOfHandles, Released, OutOfCalls, Sent, Poisoned}
 use Rattle.client_core.specs.Cases.BeatCase.{BeatTooLate, OutOfBeats, Starts, Beats as BeatSent, Quiet}
-use Rattle.client_core.specs.Cases.GiveCase.{GivenTooLate, OfAnother, Started, StartedUnfit, StartedDropped, LeaseTaken, LeaseStays, AliveUnfit, AliveDropped, OutOfNumbers, Replied, Installed, ReplyDropped, NotAwaited, Lost, TurnedAway, RefusalDropped}
+use Rattle.client_core.specs.Cases.GiveCase.{GivenTooLate, OfAnother, Started, StartedUnfit, StartedDropped, LeaseTaken, LeaseStays, AliveUnfit, AliveDropped, OutOfNumbers, Replied, Installed, ReplyDropped, NotAwaited, Learns, Lost, TurnedAway, RefusalDropped}
 use Rattle.world_cell.specs.declared.steps.Step.{Step}
 use Rattle.world_cell.specs.declared.seats.Seat.{Seat}
 use Rattle.world_cell.specs.World.{WorldState, WorldView, IsUndoubted, seat_of, with_client, with_refusal, asked, beaten, gave, world_step}
@@ -160,6 +165,22 @@ if_other false line h = tt
 safe_other : (s : ClientState) (moment : ℕ) (message : Alive) → AreOthers (safe_lines s moment message)
 safe_other s moment message = if_other (takes_offer s message && (is_unexpired s.sent message.span moment && is_jeopardy s.standing)) (lines.Safe s.number) tt
 
+told_if : (b : Bool) (client : ℕ) (event : Event) (more : List Line) → AreOthers more → AreOthers (cond b (lines.Told client event ∷ more) more)
+told_if true client event more h = (tt, h)
+told_if false client event more h = h
+
+events_other : (client processed : ℕ) (events : List NumberedEvent) → AreOthers (event_lines client processed events)
+events_other client processed [] = tt
+events_other client processed (next ∷ others) = told_if (nat_lt processed next.number) client next.event (event_lines client processed others) (events_other client processed others)
+
+target_other : (client : ℕ) (call : Outstanding) (target : Target) → AreOthers (unknown_line client call target)
+target_other client call targets.Dropped = tt
+target_other client call _ = (tt, tt)
+
+unknown_other : (client : ℕ) (o : Option Outstanding) → AreOthers (unknown_lines client o)
+unknown_other client None = tt
+unknown_other client (Some call) = target_other client call call.target
+
 poison_other : (s : ClientState) (number : ℕ) (o : Option Outstanding) → AreOthers (refused_lines s number o)
 poison_other s number None = tt
 poison_other s number (Some call) = if_other (is_on number call.target) (lines.Done s.number (request_number call.request) (answers.Refused faults.Poisoned)) tt
@@ -224,8 +245,11 @@ module _ (w : WorldState) (h : IsConsistent w) (number : ℕ) (seat : Seat) (fou
   give_serves out (Started message heard is standing fits) = tells_only _ [] tt
   give_serves out (StartedUnfit message heard is standing long) = refuses _ faults.ProtocolFault
   give_serves out (StartedDropped message heard is old) = tells_only _ [] tt
-  give_serves out (LeaseTaken message heard is fit taken) = tells_only _ (safe_lines (with_processed (note_live s then) message) then message) (safe_other (with_processed (note_live s then) message) then message)
-  give_serves out (LeaseStays message heard is fit worse) = tells_only _ [] tt
+  give_serves out (LeaseTaken message heard is fit taken) =
+      let behind = with_processed (note_live s then) message in
+      let events = event_lines s.number s.heard message.events in
+      tells_only _ (events ++ safe_lines behind then message) (both_others events (safe_lines behind then message) (events_other s.number s.heard message.events) (safe_other behind then message))
+  give_serves out (LeaseStays message heard is fit worse) = tells_only _ (event_lines s.number s.heard message.events) (events_other s.number s.heard message.events)
   give_serves out (AliveUnfit message heard is alive unfit) = refuses _ faults.ProtocolFault
   give_serves out (AliveDropped message heard is strange) = tells_only _ [] tt
   give_serves out (OutOfNumbers message call heard is for last) = tt
@@ -233,9 +257,10 @@ module _ (w : WorldState) (h : IsConsistent w) (number : ℕ) (seat : Seat) (fou
   give_serves out (Installed message call taught_it stamp heard is for learned) = tells_only _ (lines.Done s.number message.number _ ∷ []) (tt, tt)
   give_serves out (ReplyDropped message call heard is for dropped) = tells_only _ [] tt
   give_serves out (NotAwaited message heard is none) = tells_only _ [] tt
+  give_serves out (Learns message present heard is later) = tells_only _ (unknown_lines s.number s.outstanding) (unknown_other s.number s.outstanding)
   give_serves out (Lost message heard is loss) = tells_only _ (lines.Lost s.number ∷ []) (tt, tt)
   give_serves out (TurnedAway message heard is fault unstarted) = tells_only _ (lines.Lost s.number ∷ []) (tt, tt)
-  give_serves out (RefusalDropped message heard is stays_so) = tells_only _ [] tt
+  give_serves out (RefusalDropped message heard is earlier stays_so) = tells_only _ [] tt
 
 -- ---- the master's lines
 

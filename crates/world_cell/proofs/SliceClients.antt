@@ -1,11 +1,11 @@
 -- To each client, and of each name, what a client's own steps are: a call that it is asked for, a Start or a Beat, and a message that it is given.
-use Rattle.std.proofs.Common.{◌≡◌, ◌≢◌, ℕ, ◌+◌, ◌≤◌, Bool, true, false, cond, max, List, [], ◌∷◌, Ok, Option, Some, None, inl, inr, arith, refl, sym, ap, ◌∙◌, subst}
+use Rattle.std.proofs.Common.{◌≡◌, ◌≢◌, ℕ, ◌+◌, ◌<◌, ◌≤◌, Bool, true, false, cond, max, List, [], ◌∷◌, Ok, Option, Some, None, inl, inr, arith, refl, sym, ap, ◌∙◌, subst}
 use Rattle.std.specs.Prelude.{◌==◌}
 use Rattle.std.specs.Option.{option_map}
 use Rattle.std.proofs.lemmas.Bool.Decides.{nat_tests}
 use Rattle.lease_core.specs.Lease.{LeaseTerms, IsUnexpired, is_unexpired}
 use Rattle.coherence.specs.Slice as one
-use Rattle.coherence.specs.Slice.{IsIn, Slice, Event, SendBeat, StartAnew, Prolong, Process, Invalidate, Install, Forget, Reached, Leads}
+use Rattle.coherence.specs.Slice.{IsIn, Slice, Event, SendBeat, StartAnew, Prolong, Process, Invalidate, LearnEpoch, Install, Forget, Reached, Leads}
 use Rattle.coherence.proofs.Runs.{always}
 use Rattle.node_core.specs.declared.lines.Line.{Line}
 use Rattle.tags_cell.specs.declared.requests.Request.{Request}
@@ -27,7 +27,7 @@ use Rattle.client_core.specs.Gives.{offered, ended_plainly}
 use Rattle.client_core.specs.Cases.{noted_moment, IsHeard, IsFit, IsTaken, AskCase, asked_in, BeatCase, beaten_in, GiveCase, given_in}
 use Rattle.client_core.specs.Cases.AskCase.{AskedTooLate, Unsafe, Refused, ReadServed, AbsenceServed, Shared, OutOfHandles, Released, OutOfCalls, Sent, Poisoned}
 use Rattle.client_core.specs.Cases.BeatCase.{BeatTooLate, OutOfBeats, Starts, Beats, Quiet}
-use Rattle.client_core.specs.Cases.GiveCase.{GivenTooLate, OfAnother, Started, StartedUnfit, StartedDropped, LeaseTaken, LeaseStays, AliveUnfit, AliveDropped, OutOfNumbers, Replied, Installed, ReplyDropped, NotAwaited, Lost, TurnedAway, RefusalDropped}
+use Rattle.client_core.specs.Cases.GiveCase.{GivenTooLate, OfAnother, Started, StartedUnfit, StartedDropped, LeaseTaken, LeaseStays, AliveUnfit, AliveDropped, OutOfNumbers, Replied, Installed, ReplyDropped, NotAwaited, Learns, Lost, TurnedAway, RefusalDropped}
 use Rattle.client_core.proofs.Leases.{asked_keeps, note_keeps, ended_same}
 use Rattle.client_core.proofs.Noting.{noted_lease}
 use Rattle.client_core.proofs.GiveCases.{taught_if}
@@ -341,6 +341,16 @@ module _ (x : List ℕ) (w : WorldState) (number : ℕ) (seat : Seat) (client : 
           }),
     )
 
+  -- it is told of a later epoch
+  learns : (present : ℕ) → 0 < s.epoch → s.epoch < present → present ≤ w.rows.epoch
+      → client.beats ≡ s.beats → client.sent ≡ s.sent → client.epoch ≡ present → client.processed ≡ 0 → client.cache.lease ≡ s.cache.lease → entry_of client.cache.entries x ≡ None → LeadsTo number x w (with_client w number seat client)
+  learns present started later committed beats_are sent_is epoch_is processed_is lease_is none = (
+    LearnEpoch present ∷ [],
+    own_led x w number seat client (LearnEpoch present ∷ []) (half x w number seat client s.beats s.sent present 0 s.cache.lease None) found
+        (half_is x w number seat client s.beats s.sent present 0 s.cache.lease None beats_are sent_is epoch_is processed_is lease_is none)
+        (record { allowed = record { first = record { started = started; later = later; committed = committed }; rest = tt }; leads_there = refl }),
+  )
+
   -- it puts a granted view into its cache
   installs : (grant : one.Grant Shown) → IsIn grant (grants_of number x w.rows.secret w.messages) → grant.epoch ≡ s.epoch → s.processed ≤ grant.stamp → IsUnexpired (lease_of s.cache.lease).sent (lease_of s.cache.lease).span seat.clock
       → Keeps s client → entry_of client.cache.entries x ≡ Some grant.view → LeadsTo number x w (with_client w number seat client)
@@ -457,9 +467,14 @@ module _ (c : ℕ) (x : List ℕ) (w : WorldState) (h : IsConsistent w) (seat : 
   give_leads (Installed message call taught_it stamp heard is for learned) = keeps_by (Installed message call taught_it stamp heard is for learned) (record { beats = refl; sent = refl; epoch = refl; processed = refl; lease = refl })
   give_leads (ReplyDropped message call heard is for dropped) = keeps_by (ReplyDropped message call heard is for dropped) (record { beats = refl; sent = refl; epoch = refl; processed = refl; lease = noted_lease own.cache then })
   give_leads (NotAwaited message heard is none) = keeps_by (NotAwaited message heard is none) note_keeps_here
+  give_leads (Learns message present heard is later) =
+      let committed = h.told at present message (sent ∙ ap (λ o. Some o) is) later.fault in
+      let client = client_by (Learns message present heard is later) in
+      own_or_unseen x w to seat client c
+      (learns x w to seat client found present ((h.clients to seat found).live later.live.live) later.later committed refl refl refl refl (noted_lease own.cache then) refl)
   give_leads (Lost message heard is loss) = keeps_by (Lost message heard is loss) (record { beats = refl; sent = refl; epoch = refl; processed = refl; lease = noted_lease own.cache then })
   give_leads (TurnedAway message heard is fault unstarted) = keeps_by (TurnedAway message heard is fault unstarted) (record { beats = refl; sent = refl; epoch = refl; processed = refl; lease = refl })
-  give_leads (RefusalDropped message heard is stays_so) = keeps_by (RefusalDropped message heard is stays_so) note_keeps_here
+  give_leads (RefusalDropped message heard is earlier stays_so) = keeps_by (RefusalDropped message heard is earlier stays_so) note_keeps_here
 
 -- ---- each step leaves the slice reached
 

@@ -1,5 +1,5 @@
 -- What a world shows of one client and one name where a step leaves it, and how their slice is led on.
-use Rattle.std.proofs.Common.{◌≡◌, ◌≢◌, ℕ, ◌-◌, ◌≤◌, max, Bool, true, false, cond, List, [], ◌∷◌, ◌++◌, map, zero, suc, Option, Some, None, inl, inr, arith, refl, sym, ap, ◌∙◌, subst}
+use Rattle.std.proofs.Common.{◌≡◌, ◌≢◌, ℕ, ◌-◌, ◌<◌, ◌≤◌, max, Bool, true, false, cond, List, [], ◌∷◌, ◌++◌, map, zero, suc, Option, Some, None, inl, inr, arith, refl, sym, ap, ◌∙◌, subst}
 use Rattle.std.specs.Prelude.{◌⊎◌, ◌==◌, ◌&&◌, fold}
 use Rattle.std.specs.Option.{option_map, option_map_or}
 use Rattle.std.specs.List.{slice_get, list_all}
@@ -10,6 +10,7 @@ use Rattle.std.proofs.lemmas.Bool.Decides.{nat_tests}
 use Rattle.coherence.specs.Slice as one
 use Rattle.coherence.specs.Slice.{IsIn, Slice, Event, Reached, Leads}
 use Rattle.coherence.proofs.Reached.{reached_led}
+use Rattle.coherence.proofs.Runs.{always}
 use Rattle.node_core.specs.Nodes.{get_node}
 use Rattle.rows_cell.specs.declared.tables.Rows.{Rows}
 use Rattle.rows_cell.specs.Rows.{map_of}
@@ -17,6 +18,7 @@ use Rattle.tags_cell.specs.declared.requests.Request.{Request}
 use Rattle.tags_cell.specs.declared.requests.Request.TheVariants as requests
 use Rattle.tags_cell.specs.declared.outs.Out.{Out}
 use Rattle.tags_cell.specs.declared.outs.Out.TheVariants as outs
+use Rattle.tags_cell.specs.declared.outs.Started.{Started}
 use Rattle.tags_cell.specs.declared.outs.Reply.{Reply}
 use Rattle.session_core.specs.declared.records.Session.{Session}
 use Rattle.session_core.specs.Sessions.{SessionTable, with_session}
@@ -468,3 +470,16 @@ first_in false x xs h = cc
 pub no_start : (c : ℕ) (ws : List (Waiting Task)) (x : Waiting Task) → start_of c x.change.body ≡ [] → starts_of c (ws ++ x ∷ []) ≡ starts_of c ws
 no_start c [] x e = rw e refl
 no_start c (y ∷ ws) x e = ap (λ l. start_of c y.change.body ++ l) (no_start c ws x e)
+
+-- ---- epochs
+
+offered_some : (slice : Slice Shown) → Reached slice → (offer : one.Offer) → IsIn offer slice.offers → 0 < offer.epoch
+offered_some slice reached =
+    subst (λ (z : Slice Shown). (offer : one.Offer) → IsIn offer z.offers → 0 < offer.epoch) reached.leads_here (λ offer was. ((always reached.present reached.session reached.epoch reached.events reached.allowed).epochs.offers offer was).some)
+
+-- a session was granted in the epoch of some master
+pub started_some : (w : WorldState) → ((client : ℕ) (name : List ℕ) → Reached (slice client name w)) → (at : ℕ) (started : Started) → out_at w.messages at ≡ Some (outs.Started started) → 0 < started.epoch
+started_some w reached at started sent =
+    let offer : one.Offer = record { epoch = started.epoch; number = started.number; span = started.span; last_invalidation = 0; name_invalidation = 0 } in
+    offered_some (slice started.client [] w) (reached started.client []) offer
+    (offer_sent started.client [] w.messages at (outs.Started started) offer sent (λ offers. first_in (started.client == started.client) offer offers (same_test started.client started.client refl)))

@@ -1,5 +1,5 @@
 -- What holds of every world: how its clients, its messages and its master fit one another.
-use Rattle.std.specs.Prelude.{◌≡◌, ◌⊎◌, ℕ, ◌+◌, ◌*◌, Bool, true, false, ◌≤◌, ◌==◌, List, [], ◌∷◌, Option, Some, None, if◌then◌else◌}
+use Rattle.std.specs.Prelude.{◌≡◌, ◌⊎◌, ℕ, ◌+◌, ◌*◌, Bool, true, false, ◌<◌, ◌≤◌, ◌==◌, List, [], ◌∷◌, Option, Some, None, if◌then◌else◌}
 use Rattle.std.specs.List.{AllByRecursion}
 use Rattle.std.specs.List.Sorted.{IsStrictlySortedBy}
 use Rattle.std.specs.Map.{keys_of}
@@ -55,6 +55,7 @@ pub record IsSeated (epoch number : ℕ) (seat : Seat) : Type 0 where
   pub own : seat.client.number ≡ number
   pub past : seat.client.epoch ≤ epoch
   pub unstarted : seat.client.session ≡ sessions.Unstarted → seat.client.epoch ≡ 0
+  pub live : seat.client.session ≡ sessions.Live → 0 < seat.client.epoch
   -- it knows no moment to come
   pub noted : seat.client.clock ≤ seat.clock
 

@@ -1,6 +1,5 @@
 use Rattle.std.proofs.Common.{◌≡◌}
-use Rattle.std.specs.Prelude.{fold}
-use Rattle.session_core.specs.Sessions.{with_issued, issued_by}
+use Rattle.session_core.specs.Sessions.{issued_by}
 use Rattle.session_core.proofs.sessions.Sessions.issue_all.Given as goal
 
 abbrev pub invariant-loop-client : goal.invariant-loop-client
