@@ -25,6 +25,7 @@ use Rattle.world_cell.specs.declared.steps.Step.{Step}
 use Rattle.world_cell.specs.declared.steps.Step.TheVariants.{Take, Sweep}
 use Rattle.world_cell.specs.Messages.{request_at, call_of}
 use Rattle.lease_core.specs.Lease.{IsUnexpired}
+use Rattle.coherence.specs.Joint.{IsJoint}
 use Rattle.rows_cell.specs.Sound.{is_live_in}
 use Rattle.tags_cell.specs.declared.outs.Reply.{Reply}
 use Rattle.session_core.specs.declared.records.Session.{Session}
@@ -32,6 +33,7 @@ use Rattle.cell_core.specs.Step.{session_of}
 use Rattle.client_core.specs.State.{lease_of}
 use Rattle.world_cell.specs.declared.seats.Seat.{Seat}
 use Rattle.world_cell.specs.World.{WorldState, WorldView, IsUndoubted, seat_of, world_step, step_edits, IsAt, IsStored, IsLeft, MayRefuseStep}
+use Rattle.world_cell.specs.Slices.{slice}
 use Rattle.world_cell.specs.Consistent.{IsConsistent}
 
 -- ---- runs
@@ -113,6 +115,13 @@ pub record HasSession (w : WorldState) (number : ℕ) : Type 0 where
 -- a client whose lease runs by its own clock has its session
 abbrev pub LeasesKeepSessions : WorldState → Type 0
 LeasesKeepSessions w = (number : ℕ) (seat : Seat) → seat_of w number ≡ Some seat → IsUnexpired (lease_of seat.client.cache.lease).sent (lease_of seat.client.cache.lease).span seat.clock → HasSession w number
+
+-- ---- each client and each name
+
+-- the five parts of the joint invariant: the session outlives the client's lease, what is cached under it is present and held, what was granted is held or was given back, what is
+-- acknowledged is processed, and a recovery is empty
+abbrev pub AreJoint : WorldState → Type 0
+AreJoint w = (client : ℕ) (name : List ℕ) → IsJoint (slice client name w)
 
 -- ---- clocks
 
