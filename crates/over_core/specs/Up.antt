@@ -54,3 +54,22 @@ abbrev pub StaysDown : ℕ → ℕ → Fault → Store → Store → Type 0
 StaysDown lease now fault old new =
     ((is_past_end now ≡ true) × (fault ≡ faults.Exhausted) × (new ≡ old))
     ⊎ ((is_past_end now ≡ false) × (IsUnread fault old new ⊎ IsKeptDown lease now fault old new))
+
+-- ---- whether one could come up, by what is read alone
+
+-- whatever its lease, a master could come up by the rows that were read, and would then have these
+pub record CouldComeUp (now : ℕ) (old read : Store) : Type 0 where
+  pub was_read : IsRead old read
+  pub rows : Rows
+  pub comes : (lease : ℕ) → up_step read.cell read.rows lease now ≡ Ok (master_of rows lease now)
+
+-- whatever its lease, what was read lets no master come up
+pub record IsTurnedDown (now : ℕ) (fault : Fault) (old read : Store) : Type 0 where
+  pub was_read : IsRead old read
+  pub why : (lease : ℕ) → up_step read.cell read.rows lease now ≡ Err fault
+
+-- the moment is past the end, or the store isn't read, or what was read lets no master come up
+abbrev pub CouldNotComeUp : ℕ → Fault → Store → Store → Type 0
+CouldNotComeUp now fault old new =
+    ((is_past_end now ≡ true) × (fault ≡ faults.Exhausted) × (new ≡ old))
+    ⊎ ((is_past_end now ≡ false) × (IsUnread fault old new ⊎ IsTurnedDown now fault old new))

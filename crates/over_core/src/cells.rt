@@ -10,7 +10,7 @@ ghost use Rattle.cell_core.specs.Step.{take_step};
 ghost use Rattle.rows_cell.specs.Stores.{Commits, IsCommitted, IsRead, IsRefused, IsUnread};
 ghost use Rattle.over_core.specs.Sweep.{sweep_step, sweep_edits};
 ghost use Rattle.over_core.specs.Kept.{IsKept};
-ghost use Rattle.over_core.specs.Up.{up_edits, next_epoch, ComesUp, StaysDown};
+ghost use Rattle.over_core.specs.Up.{up_edits, next_epoch, ComesUp, StaysDown, CouldComeUp, CouldNotComeUp};
 
 use crate::sweeps::{Swept, sweep_by};
 use cell_core::{Cell as Master, Taken};
@@ -44,8 +44,9 @@ impl<R: Records> Model for Cell<R> {
 impl<R: Records> Cell<R> {
     /// A master comes up: it reads the rows and commits the next epoch, before it can send anything. The lease and the
     /// moment are in milliseconds. Each live session of the rows goes on, with 60,002 ms from the moment: its client may
-    /// count on a lease that an earlier master gave. While there is one that wasn't heard from the master is in recovery
-    /// (Burrows 2006, section 2.9: fail-overs), in which it makes no change and begins no session.
+    /// count on a lease that an earlier master gave. To each the master issues its first event, which tells of the
+    /// fail-over. While there is one that neither acknowledged it nor expired the master is in recovery (Burrows 2006,
+    /// section 2.9: fail-overs), in which it makes no change and begins no session.
     ///
     /// Refused, in this order: a moment of 2^53 or more as Exhausted; where the store refuses to be read, or its rows
     /// aren't sound; behind the last epoch, 2^63-1, as Exhausted; where the store refuses the commit. The records then
@@ -59,6 +60,19 @@ impl<R: Records> Cell<R> {
             Ok(master) => Ok(Cell { records, master }),
             Err(fault) => Err((fault, records)),
         }
+    }
+
+    /// Whether a master could come up at a moment, by the rows as they stand: they are read, and nothing is committed.
+    /// Refused as `up` is before its commit, and in the same order; but memory is asked for the rows alone.
+    pub fn could_come_up(records: &mut R, now: u64) -> Result<(), Fault>
+        ensures ok { OnOk result (CouldComeUp now (R.store records.old) (R.store records.new)) }
+        ensures fault { IfErr result (λ e. CouldNotComeUp now e (R.store records.old) (R.store records.new)) }
+    {
+        if now >= MOMENT_LIMIT {
+            return Err(Fault::Exhausted);
+        }
+        drop(next_rows(records)?);
+        Ok(())
     }
 
     /// One step by a request that came; nothing is committed. A moment, in milliseconds, that is earlier than the last
