@@ -22,7 +22,8 @@ use Rattle.cell_core.specs.declared.pending.Work.TheVariants as works
 use Rattle.cell_core.specs.State.{MasterState}
 use Rattle.over_core.specs.Effect.{effect}
 use Rattle.world_cell.specs.declared.steps.Step.{Step}
-use Rattle.world_cell.specs.declared.steps.Step.TheVariants.{Take, Sweep}
+use Rattle.world_cell.specs.declared.steps.Step.TheVariants.{Take, Sweep, CutSweep}
+use Rattle.world_cell.specs.declared.steps.Commit.TheVariants.{Kept}
 use Rattle.world_cell.specs.Messages.{request_at, call_of}
 use Rattle.lease_core.specs.Lease.{IsUnexpired}
 use Rattle.coherence.specs.Joint.{IsJoint}
@@ -264,18 +265,21 @@ pub record HasWaited (before : Option MasterState) (epoch client number : ℕ) (
   pub waits : master.gate.waiting ≡ front ++ record { number = turn; change = record { touched = touched; body = record { client = client; number = number; work = works.Calls call } } } ∷ back
 
 -- a change that a line shows: behind a first part of the steps, with the lines before it, the master was up with the map and the epoch that these lines tell; the next
--- step swept and was made; and the change is what a call does there, which its client had sent in that epoch, and which that master had taken
+-- step was a sweep, or one that a crash cut behind its commit, and was made; and the change is what a call does there, which its client had sent in that epoch, and which
+-- that master had taken
 pub record IsOfCall (old : WorldView) (steps : List Step) (before : List Line) (client number : ℕ) (change : Mod) (rest : List Line) (new : WorldView) : Type 0 where
   pub front : List Step
+  pub at : Step
+  pub sweeps : (at ≡ Sweep) ⊎ (at ≡ CutSweep Kept)
   pub back : List Step
-  pub is_split : steps ≡ front ++ Sweep ∷ back
+  pub is_split : steps ≡ front ++ at ∷ back
   pub told : List Line
   pub after : List Line
   pub are_lines : rest ≡ told ++ after
   pub here : WorldView
   pub next : WorldView
   pub first : Run old front before here
-  pub is_made : IsMade here Sweep next (lines.Applied client number change ∷ told)
+  pub is_made : IsMade here at next (lines.Applied client number change ∷ told)
   pub last : Run next back after new
   pub master : MasterState
   pub is_up : here.world.master ≡ Some master
