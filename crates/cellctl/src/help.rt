@@ -8,6 +8,10 @@ pub(crate) const SCRIPTS: &str = "\
 Steps, one a line, with one space between two words; blank lines and lines that begin with # are skipped:
   up M              a master comes up, its clock at M milliseconds
   down              the master is gone; the rows stay
+  cut sweep kept|lost
+                    one sweep in a crash: what it commits stands or is lost, nothing is sent, and the master is gone
+  cut up M kept|lost
+                    the same of a master that comes up
   tick DM DK [C:DK]...
                     the master's clock moves by DM, that of client C by its own DK, those of all other clients by the first
   join C PRINCIPAL  client C joins and acts for the principal

@@ -319,6 +319,8 @@ ask_out words rest client word shape (steps.Take n) w = absurd (other (codes "as
 ask_out words rest client word shape (steps.Give n) w = absurd (other (codes "ask") (codes "give") refl refl w.0)
 ask_out words rest client word shape steps.Sweep w = absurd (other (codes "ask") (codes "sweep") refl refl w.0)
 ask_out words rest client word shape steps.Down w = absurd (other (codes "ask") (codes "down") refl refl w.0)
+ask_out words rest client word shape (steps.CutSweep commit) w = absurd (other (codes "ask") (codes "cut") refl refl w.0)
+ask_out words rest client word shape (steps.CutUp m commit) w = absurd (other (codes "ask") (codes "cut") refl refl w.0)
 
 pub ask_written : (words rest : List (List ℕ)) (client word : List ℕ) (n : ℕ) (call : Ask) → decimal n ≡ client → IsNumber n → words ≡ client ∷ (word ∷ rest) → WritesCall word rest call → WritesStep (codes "ask") words (steps.Ask n call)
 ask_written words rest client word n call is small shape w = (refl, (word, rest, shape ∙ ap (λ x. x ∷ (word ∷ rest)) (sym is), (small, w)))
@@ -347,3 +349,5 @@ no_client words client principal n is small none shape (steps.Take m) w = other 
 no_client words client principal n is small none shape (steps.Give m) w = other (codes "join") (codes "give") refl refl w.0
 no_client words client principal n is small none shape steps.Sweep w = other (codes "join") (codes "sweep") refl refl w.0
 no_client words client principal n is small none shape steps.Down w = other (codes "join") (codes "down") refl refl w.0
+no_client words client principal n is small none shape (steps.CutSweep commit) w = other (codes "join") (codes "cut") refl refl w.0
+no_client words client principal n is small none shape (steps.CutUp m commit) w = other (codes "join") (codes "cut") refl refl w.0

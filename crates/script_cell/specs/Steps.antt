@@ -21,6 +21,8 @@ use Rattle.client_parts.specs.declared.asks.NodeCall.TheVariants as nodes
 use Rattle.world_cell.specs.declared.steps.Step.{Step}
 use Rattle.world_cell.specs.declared.steps.Step.TheVariants as steps
 use Rattle.world_cell.specs.declared.steps.Ticks.{Ticks}
+use Rattle.world_cell.specs.declared.steps.Commit.{Commit}
+use Rattle.world_cell.specs.declared.steps.Commit.TheVariants.{Kept, Lost}
 use Rattle.script_cell.specs.Words.{letters_of, HasRight, IsContent}
 
 -- a number that a word may write
@@ -128,6 +130,10 @@ abbrev pub WritesTicks : List (List ℕ) → Ticks → Type 0
 WritesTicks words ticks =
     (rest : List (List ℕ)) × (words ≡ decimal ticks.master ∷ (decimal ticks.clients ∷ rest)) × (IsNumber ticks.master × (IsNumber ticks.clients × WritesOwn rest ticks.own))
 
+abbrev pub commit_word : Commit → List ℕ
+commit_word Kept = codes "kept"
+commit_word Lost = codes "lost"
+
 -- the word of a step, and the words behind it
 abbrev pub WritesStep : List ℕ → List (List ℕ) → Step → Type 0
 WritesStep word rest (steps.Up moment) = (word ≡ codes "up") × WritesNumber rest moment
@@ -139,6 +145,8 @@ WritesStep word rest (steps.Take message) = (word ≡ codes "take") × WritesNum
 WritesStep word rest (steps.Give message) = (word ≡ codes "give") × WritesNumber rest message
 WritesStep word rest steps.Sweep = (word ≡ codes "sweep") × (rest ≡ [])
 WritesStep word rest steps.Down = (word ≡ codes "down") × (rest ≡ [])
+WritesStep word rest (steps.CutSweep commit) = (word ≡ codes "cut") × (rest ≡ codes "sweep" ∷ (commit_word commit ∷ []))
+WritesStep word rest (steps.CutUp moment commit) = (word ≡ codes "cut") × ((rest ≡ codes "up" ∷ (decimal moment ∷ (commit_word commit ∷ []))) × IsNumber moment)
 
 abbrev pub WritesWords : List (List ℕ) → Step → Type 0
 WritesWords [] step = ⊥

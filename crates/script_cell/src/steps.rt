@@ -1,7 +1,7 @@
 //! The steps of a script, each of them a line.
 ghost use Rattle.std.specs.Prelude.{◌≡◌, ◌∷◌, [], codes, IfOk, decimal, None};
 ghost use Rattle.std.specs.Str.Lossy.{utf8_lossy};
-ghost use Rattle.script_cell.specs.Steps.{WritesLine, WritesStep, WritesCall, WritesOpen, WritesCreate, WritesPermanent, WritesMade, WritesNumber, WritesNodeCall, WritesGeneration, IsHandleCall, IsFileContent, IsNumber, WritesTicks, WritesOwn, IsOwn, own_word, acl_words, new_acl_words, disposition_word, texts, step_fault, call_fault, open_fault, create_fault, made_fault, new_acls_fault, acls_fault, node_call_fault};
+ghost use Rattle.script_cell.specs.Steps.{WritesLine, WritesStep, WritesCall, WritesOpen, WritesCreate, WritesPermanent, WritesMade, WritesNumber, WritesNodeCall, WritesGeneration, IsHandleCall, IsFileContent, IsNumber, WritesTicks, WritesOwn, IsOwn, own_word, commit_word, acl_words, new_acl_words, disposition_word, texts, step_fault, call_fault, open_fault, create_fault, made_fault, new_acls_fault, acls_fault, node_call_fault};
 ghost use Rattle.script_cell.specs.Readings.{Reads, IsParsed, flaw_of};
 
 use crate::words::{content, mode, number};
@@ -12,7 +12,7 @@ use plain::{Bytes, Items};
 use std::alloc::{AllocError, Global};
 use std::str;
 use tags_cell::{AclNames, ClientNumber, Create, Disposition, NewNode, Open};
-use world_cell::{Step, Ticks};
+use world_cell::{Commit, Step, Ticks};
 
 /// What a line of a script asks for.
 #[derive(Debug, Drop)]
@@ -113,6 +113,32 @@ fn step_of(alloc: Global, word: &str, rest: &[&str]) -> Result<Step, Flaw>
         "give" => Ok(Step::Give(only_number(rest)?)),
         "sweep" if rest.is_empty() => Ok(Step::Sweep),
         "down" if rest.is_empty() => Ok(Step::Down),
+        "cut" => cut(rest),
+        _ => Err(Flaw::Bad),
+    }
+}
+
+// A step that a crash cuts.
+fn cut(words: &[&str]) -> Result<Step, Flaw>
+    ensures { Reads (WritesStep (codes "cut") (texts words.now)) step_fault result }
+{
+    match words {
+        ["sweep", commit] => Ok(Step::CutSweep(commit_of(commit)?)),
+        ["up", moment, commit] => {
+            let moment = number_of(moment)?;
+            Ok(Step::CutUp(moment, commit_of(commit)?))
+        }
+        _ => Err(Flaw::Bad),
+    }
+}
+
+// What becomes of its commit.
+fn commit_of(word: &str) -> Result<Commit, Flaw>
+    ensures { Reads (λ commit. commit_word commit ≡ word.now) (λ _. None) result }
+{
+    match word {
+        "kept" => Ok(Commit::Kept),
+        "lost" => Ok(Commit::Lost),
         _ => Err(Flaw::Bad),
     }
 }

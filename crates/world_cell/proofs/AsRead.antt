@@ -19,6 +19,7 @@ up_now (Some master) old = refl
 -- the world of before is one
 pub at_now : (step : Step) (old : WorldView) → IsAt step old old
 at_now (steps.Up now) old = up_now old.world.master old
+at_now (steps.CutUp now commit) old = up_now old.world.master old
 at_now _ old = refl
 
 up_doubts : (m : Option MasterState) (old at : WorldView) → IsAtUp m old at → old.doubt ≤ at.doubt
@@ -27,6 +28,7 @@ up_doubts (Some master) old at h = subst (λ (w : WorldView). old.doubt ≤ w.do
 
 pub at_doubts : (step : Step) (old at : WorldView) → IsAt step old at → old.doubt ≤ at.doubt
 at_doubts (steps.Up now) old at h = up_doubts old.world.master old at h
+at_doubts (steps.CutUp now commit) old at h = up_doubts old.world.master old at h
 at_doubts _ old at h = subst (λ (w : WorldView). old.doubt ≤ w.doubt) (sym h) (omega arith)
 
 up_sure : (m : Option MasterState) (old at : WorldView) → IsAtUp m old at → IsUndoubted at → at ≡ old
@@ -38,6 +40,7 @@ up_sure (Some master) old at h none = h
 -- and the only one where nothing is in doubt
 pub at_sure : (step : Step) (old at : WorldView) → IsAt step old at → IsUndoubted at → at ≡ old
 at_sure (steps.Up now) old at h none = up_sure old.world.master old at h none
+at_sure (steps.CutUp now commit) old at h none = up_sure old.world.master old at h none
 at_sure _ old at h none = h
 
 -- ---- a step

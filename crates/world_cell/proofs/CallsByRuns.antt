@@ -1,6 +1,6 @@
 -- Why each applied change is the effect of a call that was sent and taken.
 use Rattle.std.proofs.Common.{◌≡◌, ℕ, ◌+◌, List, [], ◌∷◌, ◌++◌, Option, Some, None, refl, sym, ap, ◌∙◌, inl, inr, append_assoc, subst, map}
-use Rattle.std.specs.Prelude.{◌⊎◌}
+use Rattle.std.specs.Prelude.{◌⊎◌, filter}
 use Rattle.std.proofs.lemmas.List.{append-nil}
 use Rattle.node_core.specs.declared.lines.Line.{Line}
 use Rattle.node_core.specs.declared.lines.Line.TheVariants as lines
@@ -27,18 +27,20 @@ use Rattle.cell_core.specs.Cases.TakeCase.{StartQueued, Answered, Granted, Waits
 use Rattle.over_core.specs.SweepCase.SweepCase.{Quiet, Recovers, Expires, AnswersBeat, TurnedAway, StartedAgain, Started as StartedFirst, OfEnded, Ended, Applied}
 use Rattle.over_core.specs.Kept.{IsKept}
 use Rattle.world_cell.specs.declared.steps.Step.{Step}
-use Rattle.world_cell.specs.declared.steps.Step.TheVariants.{Take}
+use Rattle.world_cell.specs.declared.steps.Step.TheVariants.{Take, Sweep, CutSweep}
+use Rattle.world_cell.specs.declared.steps.Commit.TheVariants.{Kept}
 use Rattle.world_cell.specs.Messages.{call_of}
-use Rattle.world_cell.specs.World.{WorldState, WorldView}
+use Rattle.world_cell.specs.World.{WorldState, WorldView, is_of_commit}
 use Rattle.world_cell.specs.Consistent.{Agrees, IsConsistent}
 use Rattle.world_cell.specs.Runs.{IsMade, Does, Run, change_of, IsTaken, HasWaited, IsOfCall}
 use Rattle.world_cell.proofs.SilentLines.{IsSilent}
 use Rattle.world_cell.proofs.PartsOfRuns.{run_push}
 use Rattle.world_cell.proofs.MasterFits.{waits_as, turn_sent}
-use Rattle.world_cell.proofs.WorldCases.{IsTake, IsSweep, WorldCase, world_case}
-use Rattle.world_cell.proofs.WorldCases.WorldCase.{ComesUp, Joins, Asks, Beats, Gives, Ticks, Takes, Sweeps, GoesDown}
+use Rattle.world_cell.proofs.WorldCases.{IsTake, WorldCase, world_case}
+use Rattle.world_cell.proofs.WorldCases.WorldCase.{ComesUp, Joins, Asks, Beats, Gives, Ticks, Takes, Sweeps, GoesDown, CutsSweep, CutsUp, LosesUp}
 use Rattle.world_cell.proofs.OwnSteps.{own_silent, asks_own, beats_own, gives_own}
 use Rattle.world_cell.proofs.ConsistentSteps.{noted_fits}
+use Rattle.world_cell.proofs.CutLines.{cut_lines, swept_kept}
 use Rattle.world_cell.proofs.OnceByRuns.{taken_silent}
 use Rattle.world_cell.proofs.RowsByRuns.{run_tells}
 
@@ -84,6 +86,13 @@ expiry_split (right ∷ numbers) whose [] rest client number change e =
 expiry_split (right ∷ numbers) whose (b ∷ before) rest client number change e =
     let t : map lines.Expired numbers ++ lines.Ended whose ∷ [] ≡ before ++ lines.Applied client number change ∷ rest = cc in
     expiry_split numbers whose before rest client number change t
+
+-- nor does a master that came up and is gone
+up_split : (epoch : ℕ) (before rest : List Line) (client number : ℕ) (change : Mod) → lines.Up epoch ∷ lines.Down ∷ [] ≡ before ++ lines.Applied client number change ∷ rest → ⊥
+up_split epoch [] rest client number change e = let line : lines.Up epoch ≡ lines.Applied client number change = cc in cc
+up_split epoch (b ∷ before) rest client number change e =
+    let t : lines.Down ∷ [] ≡ before ++ lines.Applied client number change ∷ rest = cc in
+    silent_split (lines.Down ∷ []) before rest client number change (tt, tt) t
 
 -- ---- where the calls that wait come from
 
@@ -268,6 +277,9 @@ module _ (g : Ground) (step : Step) (new : WorldView) (printed : List Line) (h :
   made_queue made (Sweeps t) =
       queued_as next new.world.master _ (ap (λ (w : WorldState). w.master) t.is) (sweep_calls next (noted t.master g.here.world.clock) t.case (calls_then t.master t.is_up))
   made_queue made (GoesDown d) = queued_as next new.world.master None (ap (λ (w : WorldState). w.master) d.is) tt
+  made_queue made (CutsSweep k) = queued_as next new.world.master None (ap (λ (w : WorldState). w.master) k.is) tt
+  made_queue made (CutsUp k) = queued_as next new.world.master None (ap (λ (w : WorldState). w.master) k.is ∙ k.comes.none) tt
+  made_queue made (LosesUp k) = queued_as next new.world.master None (ap (λ (w : WorldState). w.master) k.is ∙ k.none) tt
 
 step_stands : (g : Ground) (step : Step) (new : WorldView) (printed : List Line) → Stands g → Does g.here step new printed → IsConsistent new.world → Stands (ground_after g step printed new)
 step_stands g step new printed h (inl m) fits = record {
@@ -342,37 +354,52 @@ of_turn s (StartedFirst front back task principal received turn work none) befor
     let line : lines.Started task.client ≡ lines.Applied client number change = t.1 in cc
 of_turn s _ before told client number change e = absurd (no_split before told (lines.Applied client number change) e)
 
-of_sweep : (g : Ground) (step : Step) (next : WorldView) (printed before told later : List Line) (client number : ℕ) (change : Mod) (steps : List Step) (rest : List Line) (new : WorldView) → Stands g → (t : IsSweep g.here.world step next.world printed) → IsMade g.here step next printed → Run next steps later new → printed ≡ before ++ lines.Applied client number change ∷ told → rest ≡ told ++ later → IsOfCall g.old (g.past ++ step ∷ steps) (g.told ++ before) client number change rest new
-of_sweep g step next printed before told later client number change steps rest new h t made run e r =
-    let s = noted t.master g.here.world.clock in
-    let turn = of_turn s t.case before told client number change (sym t.tells ∙ e) in
-    let kept = agreed g.here.world g.here.world.master t.master t.is_up h.consistent.master in
+-- the same of a sweep that was cut
+of_cut : (s : MasterState) (c : SweepCase s) (before told : List Line) (client number : ℕ) (change : Mod) → cut_lines (swept_by s c).1.lines ≡ before ++ lines.Applied client number change ∷ told → IsOfTurn s before client number change
+of_cut s c before told client number change e =
+    elim (split (filter is_of_commit (swept_by s c).1.lines) (lines.Down ∷ []) before told (lines.Applied client number change) e) [
+      | inl k ↦ elim (swept_kept s c) [
+        | inl all ↦ of_turn s c before k.0 client number change (sym all ∙ k.1)
+        | inr none ↦ absurd (no_split before k.0 (lines.Applied client number change) (sym none ∙ k.1))
+      ]
+      | inr k ↦
+          (let t = one_split lines.Down k.0 told (lines.Applied client number change) k.2 in
+          let line : lines.Down ≡ lines.Applied client number change = t.1 in cc)
+    ]
+
+-- s: the master that sweeps, at this moment
+of_sweep : (g : Ground) (step : Step) (next : WorldView) (printed before told later : List Line) (client number : ℕ) (change : Mod) (steps : List Step) (rest : List Line) (new : WorldView) → Stands g → (step ≡ Sweep) ⊎ (step ≡ CutSweep Kept) → (master : MasterState) → g.here.world.master ≡ Some master → IsOfTurn (noted master g.here.world.clock) before client number change → IsMade g.here step next printed → Run next steps later new → printed ≡ before ++ lines.Applied client number change ∷ told → rest ≡ told ++ later → IsOfCall g.old (g.past ++ step ∷ steps) (g.told ++ before) client number change rest new
+of_sweep g step next printed before told later client number change steps rest new h sweeps master is_up turn made run e r =
+    let s = noted master g.here.world.clock in
+    let kept = agreed g.here.world g.here.world.master master is_up h.consistent.master in
     let tells = run_tells g.old g.past g.told g.here h.began h.run in
     let is_line : printed ≡ lines.Applied client number change ∷ told = e ∙ ap (λ l. l ++ lines.Applied client number change ∷ told) turn.first in
     rw (turn.first, append-nil g.told) (record {
       front = g.past;
+      at = step;
+      sweeps = sweeps;
       back = steps;
-      is_split = ap (λ s. g.past ++ s ∷ steps) t.is_step;
+      is_split = refl;
       told = told;
       after = later;
       are_lines = r;
       here = g.here;
       next = next;
       first = h.run;
-      is_made = let m = made in rw (t.is_step, is_line) at m;
+      is_made = let m = made in rw is_line at m;
       last = run;
-      master = t.master;
-      is_up = t.is_up;
+      master = master;
+      is_up = is_up;
       nodes = kept.nodes ∙ tells.is_map;
       epoch = kept.epoch ∙ tells.is_epoch;
       call = turn.call;
-      sent = subst (λ k. call_of g.here.world.messages client k ≡ Some (record { client = client; epoch = t.master.epoch; number = k; call = turn.call })) turn.same
-          (subst (λ k. call_of g.here.world.messages k turn.task.number ≡ Some (record { client = k; epoch = t.master.epoch; number = turn.task.number; call = turn.call })) turn.own
-          (turn_sent g.here.world.messages s turn.front turn.task turn.back turn.turn (noted_fits g.here.world h.consistent t.master t.is_up) turn.call turn.work));
-      taken = subst (λ k. WasTaken g t.master.epoch client k turn.call) turn.same
-          (subst (λ k. WasTaken g t.master.epoch k turn.task.number turn.call) turn.own
-          (subst (λ x. IsCalled g t.master.epoch turn.task.client turn.task.number x) turn.work (turn_calls g s turn.front turn.task turn.back turn.turn (queued_at g g.here.world.master t.master t.is_up h.queue)).0));
-      is_effect = ap change_of (sym (noted_effect t.master g.here.world.clock client number turn.call)) ∙ turn.is_effect;
+      sent = subst (λ k. call_of g.here.world.messages client k ≡ Some (record { client = client; epoch = master.epoch; number = k; call = turn.call })) turn.same
+          (subst (λ k. call_of g.here.world.messages k turn.task.number ≡ Some (record { client = k; epoch = master.epoch; number = turn.task.number; call = turn.call })) turn.own
+          (turn_sent g.here.world.messages s turn.front turn.task turn.back turn.turn (noted_fits g.here.world h.consistent master is_up) turn.call turn.work));
+      taken = subst (λ k. WasTaken g master.epoch client k turn.call) turn.same
+          (subst (λ k. WasTaken g master.epoch k turn.task.number turn.call) turn.own
+          (subst (λ x. IsCalled g master.epoch turn.task.client turn.task.number x) turn.work (turn_calls g s turn.front turn.task turn.back turn.turn (queued_at g g.here.world.master master is_up h.queue)).0));
+      is_effect = ap change_of (sym (noted_effect master g.here.world.clock client number turn.call)) ∙ turn.is_effect;
     })
 
 made_here : (g : Ground) (step : Step) (next : WorldView) (printed before told later : List Line) (client number : ℕ) (change : Mod) (steps : List Step) (rest : List Line) (new : WorldView) → Stands g → Does g.here step next printed → Run next steps later new → printed ≡ before ++ lines.Applied client number change ∷ told → rest ≡ told ++ later → IsOfCall g.old (g.past ++ step ∷ steps) (g.told ++ before) client number change rest new
@@ -389,8 +416,15 @@ made_here g step next printed before told later client number change steps rest 
       | Gives v ↦ absurd (silent_split printed before told client number change (own_silent g.here.world next.world printed (gives_own g.here.world step next.world printed v)) e)
       | Ticks t ↦ absurd (silent_split printed before told client number change (rw t.tells tt) e)
       | Takes t ↦ absurd (silent_split printed before told client number change (rw t.tells (taken_silent (noted t.master g.here.world.clock) t.request t.case)) e)
-      | Sweeps t ↦ of_sweep g step next printed before told later client number change steps rest new h t made run e r
+      | Sweeps t ↦
+          of_sweep g step next printed before told later client number change steps rest new h (inl t.is_step) t.master t.is_up
+          (of_turn (noted t.master g.here.world.clock) t.case before told client number change (sym t.tells ∙ e)) made run e r
       | GoesDown d ↦ absurd (silent_split printed before told client number change (rw d.tells (tt, tt)) e)
+      | CutsSweep k ↦
+          of_sweep g step next printed before told later client number change steps rest new h (inr k.is_step) k.sweeps.master k.sweeps.is_up
+          (of_cut (noted k.sweeps.master g.here.world.clock) k.sweeps.case before told client number change (sym (k.tells ∙ ap cut_lines k.sweeps.tells) ∙ e)) made run e r
+      | CutsUp k ↦ absurd (up_split (g.here.world.rows.epoch + 1) before told client number change (sym (k.tells ∙ ap (λ xs. xs ++ lines.Down ∷ []) k.comes.tells) ∙ e))
+      | LosesUp k ↦ absurd (silent_split printed before told client number change (rw k.tells (tt, tt)) e)
     ]
 
 -- ---- a run

@@ -65,8 +65,8 @@ use Rattle.world_cell.proofs.MasterFits.{fits_stays, take_fits, sweep_fits}
 use Rattle.world_cell.proofs.SeatsFound.{some_same, own_seat, other_seat, at_seats, each_found, at_each_seat, all_found, moves_so, fair_at_once, fair_beside}
 use Rattle.world_cell.specs.Runs.{WasMade, WasRefused}
 use Rattle.world_cell.proofs.AsRead.{made_doubts, made_sure, refused_doubts, refused_sure}
-use Rattle.world_cell.proofs.WorldCases.{WorldCase, world_case}
-use Rattle.world_cell.proofs.WorldCases.WorldCase.{ComesUp, Joins, Asks, Beats, Gives, Ticks, Takes, Sweeps, GoesDown}
+use Rattle.world_cell.proofs.WorldCases.{IsUp, IsSweep, WorldCase, world_case}
+use Rattle.world_cell.proofs.WorldCases.WorldCase.{ComesUp, Joins, Asks, Beats, Gives, Ticks, Takes, Sweeps, GoesDown, CutsSweep, CutsUp, LosesUp}
 use Rattle.world_cell.proofs.OwnSteps.{IsNoCall, IsNextCall, Sends, OfEpoch, sending, IsOwn, asks_own, beats_own, gives_own}
 use Rattle.world_cell.proofs.OwnSteps.Sends.{Nothing, NoCall, NextCall}
 use Rattle.world_cell.proofs.OwnSteps.OfEpoch.{SameEpoch, GrantedEpoch, LearnedEpoch}
@@ -693,6 +693,28 @@ down_holds : (w : WorldState) → IsConsistent w → Becomes (without_master w)
 down_holds w h =
     all_consistent w (without_master w) [] h (down_later w) (none_fresh w (without_master w) refl) (same_seats w (without_master w) h refl (least w.rows.epoch)) tt refl tt tt
 
+-- ---- a crash cuts a step behind its commit
+
+cut_later : (w : WorldState) (rows : Rows) → w.rows.epoch ≤ rows.epoch → Later w (record (without_master w) { rows = rows })
+cut_later w rows more = same_clients w (record (without_master w) { rows = rows }) refl more refl
+
+cut_holds : (w : WorldState) → IsConsistent w → (rows : Rows) → w.rows.epoch ≤ rows.epoch → Becomes (record (without_master w) { rows = rows })
+cut_holds w h rows more =
+    let new : WorldState = record (without_master w) { rows = rows } in
+    all_consistent w new [] h (cut_later w rows more) (none_fresh w new refl) (same_seats w new h refl more) tt refl tt tt
+
+-- no master was up
+pub rows_only : (w : WorldState) (rows : Rows) → w.master ≡ None → record w { rows = rows } ≡ record (without_master w) { rows = rows }
+rows_only w rows none = ap (λ (m : Option MasterState). record w { rows = rows; master = m }) none
+
+up_more : (old : WorldState) (step : Step) (mid : WorldState) (told : List Line) → IsUp old step mid told → old.rows.epoch ≤ mid.rows.epoch
+up_more old step mid told u = subst (λ (w : WorldState). old.rows.epoch ≤ w.rows.epoch) (sym u.is) (omega arith)
+
+sweep_more : (old : WorldState) (step : Step) (mid : WorldState) (told : List Line) → IsSweep old step mid told → old.rows.epoch ≤ mid.rows.epoch
+sweep_more old step mid told t =
+    let e = swept_epoch old.rows (noted t.master old.clock) t.case in
+    subst (λ (w : WorldState). old.rows.epoch ≤ w.rows.epoch) (sym t.is) (omega (arith, e))
+
 -- ---- a step
 
 case_holds : (old : WorldState) (step : Step) (new : WorldState) (printed : List Line) → IsConsistent old → WorldCase old step new printed → Becomes new
@@ -705,6 +727,9 @@ case_holds old step new printed h (Ticks t) = subst Becomes (sym t.is) (tick_hol
 case_holds old step new printed h (Takes t) = subst Becomes (sym t.is) (take_holds old h t.master t.is_up t.at t.request t.case t.was_sent)
 case_holds old step new printed h (Sweeps t) = subst Becomes (sym t.is) (sweep_holds old h t.master t.is_up t.case)
 case_holds old step new printed h (GoesDown d) = subst Becomes (sym d.is) (down_holds old h)
+case_holds old step new printed h (CutsSweep k) = subst Becomes (sym k.is) (cut_holds old h k.mid.rows (sweep_more old steps.Sweep k.mid k.told k.sweeps))
+case_holds old step new printed h (CutsUp k) = subst Becomes (sym (k.is ∙ rows_only old k.mid.rows k.comes.none)) (cut_holds old h k.mid.rows (up_more old (steps.Up k.now) k.mid k.told k.comes))
+case_holds old step new printed h (LosesUp k) = subst Becomes (sym k.is) (Becomes.OnceServed (λ agrees served. h))
 
 pub case_later : (old : WorldState) (step : Step) (new : WorldState) (printed : List Line) → IsConsistent old → WorldCase old step new printed → Later old new
 case_later old step new printed h (ComesUp u) = subst (Later old) (sym u.is) (up_later old h u.now)
@@ -719,6 +744,9 @@ case_later old step new printed h (Sweeps t) =
     let l : old.rows.epoch ≤ (changed_rows old.rows (swept_edits (noted t.master old.clock) t.case)).epoch = omega (arith, e) in
     subst (Later old) (sym t.is) (same_clients old _ refl l refl)
 case_later old step new printed h (GoesDown d) = subst (Later old) (sym d.is) (down_later old)
+case_later old step new printed h (CutsSweep k) = subst (Later old) (sym k.is) (cut_later old k.mid.rows (sweep_more old steps.Sweep k.mid k.told k.sweeps))
+case_later old step new printed h (CutsUp k) = subst (Later old) (sym (k.is ∙ rows_only old k.mid.rows k.comes.none)) (cut_later old k.mid.rows (up_more old (steps.Up k.now) k.mid k.told k.comes))
+case_later old step new printed h (LosesUp k) = subst (Later old) (sym k.is) (same_clients old old refl (least old.rows.epoch) refl)
 
 -- the world behind a step serves its clients
 abbrev pub LeadsOn : Type 0

@@ -29,7 +29,7 @@ use Rattle.world_cell.proofs.ConsistentSteps.{unsent, at_joined}
 use Rattle.world_cell.proofs.OwnSteps.{Comes, it_comes}
 use Rattle.world_cell.proofs.ClientHolds.{Grips, grips, note_grips, grips_stay, grips_end, grips_shared, grips_released, grips_poisoned, grips_sent, grips_replied, serves_name, IsReplied, is_replied, asked_rest, beaten_rest, given_rest, holds_more, new_holds}
 use Rattle.world_cell.proofs.WorldCases.{WorldCase}
-use Rattle.world_cell.proofs.WorldCases.WorldCase.{ComesUp, Joins, Asks, Beats, Gives, Ticks, Takes, Sweeps, GoesDown}
+use Rattle.world_cell.proofs.WorldCases.WorldCase.{ComesUp, Joins, Asks, Beats, Gives, Ticks, Takes, Sweeps, GoesDown, CutsSweep, CutsUp, LosesUp}
 
 abbrev pub AllHold : WorldState → Type 0
 AllHold w = (number : ℕ) (seat : Seat) → seat_of w number ≡ Some seat → Holds w.messages seat.client
@@ -145,3 +145,6 @@ holds_on old step new printed h (Ticks t) =
 holds_on old step new printed h (Takes t) = subst AllHold (sym t.is) (more_hold old _ h.holds)
 holds_on old step new printed h (Sweeps t) = subst AllHold (sym t.is) (more_hold old _ h.holds)
 holds_on old step new printed h (GoesDown d) = subst AllHold (sym d.is) h.holds
+holds_on old step new printed h (CutsSweep k) = subst AllHold (sym k.is) h.holds
+holds_on old step new printed h (CutsUp k) = subst AllHold (sym k.is) h.holds
+holds_on old step new printed h (LosesUp k) = subst AllHold (sym k.is) h.holds

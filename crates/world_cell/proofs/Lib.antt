@@ -1,13 +1,16 @@
 pub mod SilentLines
 pub mod OneSession
 pub mod OneMessage
+pub mod SweepLines
 pub mod SeatAnswers
 pub mod SeatsFound
 pub mod SeatsMove
 pub mod TickOutcomes
 pub mod AsRead
 pub mod RefusedUp
+pub mod CutUps
 pub mod WorldCases
+pub mod CutLines
 pub mod OwnSteps
 pub mod PartsOfRuns
 pub mod MessagesGrow
@@ -35,6 +38,7 @@ pub mod SliceCalls
 pub mod SliceTakes
 pub mod SweptNames
 pub mod SliceSweeps
+pub mod SliceCuts
 pub mod SliceLeases
 pub mod ServedLines
 pub mod SliceSteps

@@ -47,7 +47,8 @@ use Rattle.world_cell.proofs.MessagesGrow.{call_more, no_call, one_call}
 use Rattle.world_cell.proofs.OneSession.{same, other, kept_own, kept_other, kept_stays, kept_issued, kept_begins, answered_so}
 use Rattle.world_cell.proofs.MasterFits.{turn_sent, call_turn, WasAsked, live_note, behind_note, epoch_note}
 use Rattle.world_cell.proofs.WorldCases.{WorldCase, world_case}
-use Rattle.world_cell.proofs.WorldCases.WorldCase.{ComesUp, Joins, Asks, Beats, Gives, Ticks, Takes, Sweeps, GoesDown}
+use Rattle.world_cell.proofs.WorldCases.WorldCase.{ComesUp, Joins, Asks, Beats, Gives, Ticks, Takes, Sweeps, GoesDown, CutsSweep, CutsUp, LosesUp}
+use Rattle.world_cell.proofs.CutLines.{cut_applied}
 use Rattle.world_cell.proofs.OwnSteps.{IsNextCall, Sends, sending, IsOwn, own_silent, asks_own, beats_own, gives_own}
 use Rattle.world_cell.proofs.OwnSteps.Sends.{Nothing, NoCall, NextCall}
 use Rattle.world_cell.proofs.SeatsFound.{some_same}
@@ -396,6 +397,25 @@ module _ (client : ℕ) (last : Option ℕ) (old : WorldState) (step : Step) (ne
       })
   step_on (GoesDown d) =
       silent_on client new printed last (rw d.tells (tt, tt)) (record { counted = counted_on (GoesDown d); master = subst (λ (x : WorldState). PastIn x.messages client x.master last) (sym d.is) tt })
+  step_on (CutsSweep k) =
+      let t = k.sweeps in
+      let s = noted t.master old.clock in
+      let fits = noted_fits old h t.master t.is_up in
+      let on = sweep_past old.messages s client last fits (past_master old.messages client last old.master t.master t.is_up p.master) t.case in
+      let next : Option ℕ = last_after last (applied client (swept_by s t.case).1.lines) in
+      let same : applied client printed ≡ applied client (swept_by s t.case).1.lines = ap (applied client) k.tells ∙ cut_applied client k.told ∙ ap (applied client) t.tells in
+      let past : Past new client next = record {
+        counted = counted_later old new client next (case_later old step new printed h (CutsSweep k)) (applied_counted old h s t.case client last fits p.counted);
+        master = subst (λ (x : WorldState). PastIn x.messages client x.master next) (sym k.is) tt;
+      } in
+      record { rises = subst (RisesFrom last) (sym same) on.rises; past = subst (λ numbers. Past new client (last_after last numbers)) (sym same) past }
+  step_on (CutsUp k) =
+      let u = k.comes in
+      let none : new.master ≡ None = ap (λ (w : WorldState). w.master) k.is ∙ u.none in
+      rw (k.tells, u.tells) (record { rises = tt; past = record { counted = counted_on (CutsUp k); master = rw none tt } })
+  step_on (LosesUp k) =
+      let none : new.master ≡ None = ap (λ (w : WorldState). w.master) k.is ∙ k.none in
+      silent_on client new printed last (rw k.tells (tt, tt)) (record { counted = counted_on (LosesUp k); master = rw none tt })
 
 does_on : (client : ℕ) (last : Option ℕ) (old : WorldView) (step : Step) (new : WorldView) (printed : List Line) → IsConsistent old.world → Past old.world client last → Does old step new printed → StepsOn client last printed new.world
 does_on client last old step new printed h p (inl m) = step_on client last old.world step new.world printed h p (world_case old.world step new.world printed h.master m.is_step)

@@ -150,7 +150,7 @@ safe_by false number = tt
 safe_quiet : (s : ClientState) (moment : ℕ) (message : AliveMessage) → IsQuiet (safe_lines s moment message)
 safe_quiet s moment message = safe_by (takes_offer s message && (is_unexpired s.sent message.span moment && is_jeopardy s.standing)) s.number
 
--- one of these for each event that is new to it
+-- a client prints a line for each event that is new to it
 told_if : (b : Bool) (client : ℕ) (event : Event) (more : List Line) → IsQuiet more → IsQuiet (cond b (lines.Told client event ∷ more) more)
 told_if true client event more quiet = (tt, tt, quiet)
 told_if false client event more quiet = quiet

@@ -24,11 +24,11 @@ pub of_records : {Cell Master Records : Type 0} (master : Cell → Master) (part
 of_records master part store None records r down there = rw there refl
 of_records master part store (Some cell) records r down there = cc
 
-read_at : (old : WorldView) (m : Option MasterState) (read : Store) → m ≡ None → IsRead (store_in old) read → IsAtUp m old (as_read old read)
+pub read_at : (old : WorldView) (m : Option MasterState) (read : Store) → m ≡ None → IsRead (store_in old) read → IsAtUp m old (as_read old read)
 read_at old None read none h = (read, h, refl)
 read_at old (Some master) read none h = cc
 
-edits_up : (w : WorldState) (now : ℕ) (m : Option MasterState) → m ≡ None → came_up_edits w now m ≡ up_commit (up_step w.cell w.rows w.lease now) w.rows
+pub edits_up : (w : WorldState) (now : ℕ) (m : Option MasterState) → m ≡ None → came_up_edits w now m ≡ up_commit (up_step w.cell w.rows w.lease now) w.rows
 edits_up w now None none = refl
 edits_up w now (Some master) none = cc
 
@@ -41,12 +41,12 @@ outside_up old new now fault None none early why = inr (early, why)
 outside_up old new now fault (Some master) none early why = cc
 
 -- the same rows stand
-stands : (old : WorldView) (a b : Store) → b.cell ≡ a.cell → b.rows ≡ a.rows → (as_read old b).world ≡ (as_read old a).world
+pub stands : (old : WorldView) (a b : Store) → b.cell ≡ a.cell → b.rows ≡ a.rows → (as_read old b).world ≡ (as_read old a).world
 stands old a b cell rows =
     let made : List ℕ → Rows → WorldState = λ c r. record old.world { cell = c; rows = r } in
     ap (λ c. made c b.rows) cell ∙ ap (λ r. made a.cell r) rows
 
-leaves_same : (edits : List Edit) (rows : Rows) (old new : List Rows) → new ≡ old → MayLeave edits rows old new
+pub leaves_same : (edits : List Edit) (rows : Rows) (old new : List Rows) → new ≡ old → MayLeave edits rows old new
 leaves_same [] rows old new same = same
 leaves_same (edit ∷ edits) rows old new same = inl same
 

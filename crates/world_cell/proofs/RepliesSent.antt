@@ -37,7 +37,7 @@ use Rattle.world_cell.proofs.OpensNamed.{answer_opens}
 use Rattle.world_cell.proofs.ConsistentSteps.{noted_fits, agrees_at, expired_rows}
 use Rattle.world_cell.proofs.OwnSteps.{IsOwn, sending, asks_own, beats_own, gives_own}
 use Rattle.world_cell.proofs.WorldCases.{WorldCase}
-use Rattle.world_cell.proofs.WorldCases.WorldCase.{ComesUp, Joins, Asks, Beats, Gives, Ticks, Takes, Sweeps, GoesDown}
+use Rattle.world_cell.proofs.WorldCases.WorldCase.{ComesUp, Joins, Asks, Beats, Gives, Ticks, Takes, Sweeps, GoesDown, CutsSweep, CutsUp, LosesUp}
 
 -- ---- what a master sends
 
@@ -147,3 +147,11 @@ replies_answer old step new printed h (Sweeps t) =
     (more_answer old.messages (swept_by s t.case).1.outs old.rows.secret h.answers
     (subst (λ (secret : List ℕ). Sends old.messages secret (swept_by s t.case).1.outs) (secret_at old h t.master t.is_up) (swept_answers old.messages s t.case (noted_fits old h t.master t.is_up)))))
 replies_answer old step new printed h (GoesDown d) = subst AllReplied (sym d.is) h.answers
+replies_answer old step new printed h (CutsSweep k) =
+    let t = k.sweeps in
+    let same : k.mid.rows.secret ≡ old.rows.secret = ap (λ (w : WorldState). w.rows.secret) t.is ∙ swept_secret old.rows (noted t.master old.clock) t.case in
+    subst AllReplied (sym k.is) (subst (AllAnswer old.messages) (sym same) h.answers)
+replies_answer old step new printed h (CutsUp k) =
+    let same : k.mid.rows.secret ≡ old.rows.secret = ap (λ (w : WorldState). w.rows.secret) k.comes.is in
+    subst AllReplied (sym k.is) (subst (AllAnswer old.messages) (sym same) h.answers)
+replies_answer old step new printed h (LosesUp k) = subst AllReplied (sym k.is) h.answers

@@ -30,12 +30,13 @@ use Rattle.cell_core.specs.Cases.TakeCase.{BeatParked, Repeated, Answered, Grant
 use Rattle.over_core.specs.SweepCase.{SweepCase, swept_by}
 use Rattle.over_core.specs.SweepCase.SweepCase.{Expires, Ended, Applied}
 use Rattle.world_cell.specs.declared.steps.Step.{Step}
-use Rattle.world_cell.specs.World.{WorldState, WorldView}
+use Rattle.world_cell.specs.World.{WorldState, WorldView, is_of_commit}
 use Rattle.world_cell.specs.Consistent.{IsConsistent}
 use Rattle.world_cell.specs.Runs.{Does, Run, Told, is_held_as, with_status, told_more, told_ended, rights_by, rights_at, told_of, rights_in, is_held_told, is_acknowledged_told, is_expired_told, totals_by, AreRecordedOnce}
 use Rattle.world_cell.proofs.SilentLines.{IsOfNoRight, AreOfNoRight, quiet_rightless}
 use Rattle.world_cell.proofs.WorldCases.{WorldCase, world_case}
-use Rattle.world_cell.proofs.WorldCases.WorldCase.{ComesUp, Joins, Asks, Beats, Gives, Ticks, Takes, Sweeps, GoesDown}
+use Rattle.world_cell.proofs.WorldCases.WorldCase.{ComesUp, Joins, Asks, Beats, Gives, Ticks, Takes, Sweeps, GoesDown, CutsSweep, CutsUp, LosesUp}
+use Rattle.world_cell.proofs.CutLines.{kept_rights}
 use Rattle.world_cell.proofs.OwnSteps.{IsOwn, asks_own, beats_own, gives_own}
 use Rattle.world_cell.proofs.ConsistentSteps.{agrees_at}
 
@@ -264,6 +265,16 @@ case_told old step new printed h (Sweeps t) =
     master_told old.master new.master printed t.master (swept_by s t.case).0 (swept_by s t.case).1.lines t.is_up (ap (λ (w : WorldState). w.master) t.is) t.tells
     (sweep_told s t.case (agrees_at old old.master t.master t.is_up h.master).recorded)
 case_told old step new printed h (GoesDown d) = rw (d.tells, ap (λ (w : WorldState). w.master) d.is) refl
+case_told old step new printed h (CutsSweep k) =
+    let t = k.sweeps in
+    let s = noted t.master old.clock in
+    let told : rights_at (rights_in old.master) k.told ≡ Some (rights_in (Some (swept_by s t.case).0)) =
+    master_told old.master (Some (swept_by s t.case).0) k.told t.master (swept_by s t.case).0 (swept_by s t.case).1.lines t.is_up refl t.tells
+    (sweep_told s t.case (agrees_at old old.master t.master t.is_up h.master).recorded) in
+    rw (k.tells, ap (λ (w : WorldState). w.master) k.is)
+    (told_both (rights_in old.master) (rights_in (Some (swept_by s t.case).0)) [] (filter is_of_commit k.told) (lines.Down ∷ []) (kept_rights (rights_in old.master) k.told ∙ told) refl)
+case_told old step new printed h (CutsUp k) = let u = k.comes in rw (k.tells, ap (λ (w : WorldState). w.master) k.is ∙ u.none, u.tells) refl
+case_told old step new printed h (LosesUp k) = rw (k.tells, ap (λ (w : WorldState). w.master) k.is ∙ k.none) refl
 
 step_told : (old : WorldView) (step : Step) (new : WorldView) (printed : List Line) → IsConsistent old.world → Does old step new printed → Tells old.world.master printed new.world.master
 step_told old step new printed h (inl m) = case_told old.world step new.world printed h (world_case old.world step new.world printed h.master m.is_step)

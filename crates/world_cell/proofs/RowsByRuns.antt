@@ -21,9 +21,10 @@ use Rattle.world_cell.specs.World.{WorldState, WorldView}
 use Rattle.world_cell.specs.Consistent.{IsConsistent}
 use Rattle.world_cell.specs.Runs.{Does, Run, map_by, map_at, epoch_by, epoch_at}
 use Rattle.world_cell.proofs.SilentLines.{IsSilentLine, IsSilent}
+use Rattle.world_cell.proofs.CutLines.{cut_map, cut_epoch}
 use Rattle.world_cell.proofs.OnceByRuns.{taken_silent}
 use Rattle.world_cell.proofs.WorldCases.{WorldCase, world_case}
-use Rattle.world_cell.proofs.WorldCases.WorldCase.{ComesUp, Joins, Asks, Beats, Gives, Ticks, Takes, Sweeps, GoesDown}
+use Rattle.world_cell.proofs.WorldCases.WorldCase.{ComesUp, Joins, Asks, Beats, Gives, Ticks, Takes, Sweeps, GoesDown, CutsSweep, CutsUp, LosesUp}
 use Rattle.world_cell.proofs.OwnSteps.{IsOwn, own_silent, asks_own, beats_own, gives_own}
 use Rattle.world_cell.proofs.ConsistentSteps.{expired_rows}
 
@@ -94,6 +95,12 @@ case_tells old step new printed (Takes t) =
     silent_tells old.rows new.rows printed (rw t.tells (taken_silent (noted t.master old.clock) t.request t.case)) (rw t.is refl)
 case_tells old step new printed (Sweeps t) = rw (t.tells, t.is) (swept_tells old.rows (noted t.master old.clock) t.case)
 case_tells old step new printed (GoesDown d) = silent_tells old.rows new.rows printed (rw d.tells (tt, tt)) (rw d.is refl)
+case_tells old step new printed (CutsSweep k) =
+    let t = k.sweeps in
+    let h : Tells old.rows k.mid.rows k.told = rw (t.tells, t.is) (swept_tells old.rows (noted t.master old.clock) t.case) in
+    rw (k.tells, k.is) (record { is_map = h.is_map ∙ sym (cut_map (map_of old.rows) k.told); is_epoch = h.is_epoch ∙ sym (cut_epoch old.rows.epoch k.told) })
+case_tells old step new printed (CutsUp k) = let u = k.comes in rw (k.tells, k.is, u.tells, u.is) (record { is_map = refl; is_epoch = refl })
+case_tells old step new printed (LosesUp k) = silent_tells old.rows new.rows printed (rw k.tells (tt, tt)) (rw k.is refl)
 
 pub step_tells : (old : WorldView) (step : Step) (new : WorldView) (printed : List Line) → IsConsistent old.world → Does old step new printed → Tells old.world.rows new.world.rows printed
 step_tells old step new printed h (inl m) = case_tells old.world step new.world printed (world_case old.world step new.world printed h.master m.is_step)

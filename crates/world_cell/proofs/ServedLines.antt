@@ -1,6 +1,6 @@
 -- Whatever a client serves from its cache is what the map holds of that name.
-use Rattle.std.proofs.Common.{◌≡◌, ℕ, ◌+◌, Bool, true, false, cond, List, [], ◌∷◌, ◌++◌, map, Option, Some, None, Result, Ok, Err, inl, inr, refl, sym, subst, arith}
-use Rattle.std.specs.Prelude.{◌&&◌, nat_lt, IfOk}
+use Rattle.std.proofs.Common.{◌≡◌, ℕ, ◌+◌, Bool, true, false, cond, List, [], ◌∷◌, ◌++◌, map, Option, Some, None, Result, Ok, Err, inl, inr, refl, sym, subst, ap, arith, ◌∙◌}
+use Rattle.std.specs.Prelude.{◌&&◌, nat_lt, IfOk, filter}
 use Rattle.std.specs.Option.{option_to_list}
 use Rattle.lease_core.specs.Lease.{IsUnexpired, is_unexpired}
 use Rattle.coherence.proofs.Reached.{reached_serves_present}
@@ -50,7 +50,7 @@ use Rattle.client_core.specs.Cases.BeatCase.{BeatTooLate, OutOfBeats, Starts, Be
 use Rattle.client_core.specs.Cases.GiveCase.{GivenTooLate, OfAnother, Started, StartedUnfit, StartedDropped, LeaseTaken, LeaseStays, AliveUnfit, AliveDropped, OutOfNumbers, Replied, Installed, ReplyDropped, NotAwaited, Learns, Lost, TurnedAway, RefusalDropped}
 use Rattle.world_cell.specs.declared.steps.Step.{Step}
 use Rattle.world_cell.specs.declared.seats.Seat.{Seat}
-use Rattle.world_cell.specs.World.{WorldState, WorldView, IsUndoubted, seat_of, with_client, with_refusal, asked, beaten, gave, world_step}
+use Rattle.world_cell.specs.World.{WorldState, WorldView, IsUndoubted, is_of_commit, seat_of, with_client, with_refusal, asked, beaten, gave, world_step}
 use Rattle.world_cell.specs.Slices.{slice, client_of}
 use Rattle.world_cell.specs.Consistent.{IsConsistent}
 use Rattle.world_cell.specs.Runs.{map_by, map_at, Does, WasMade, Run}
@@ -58,10 +58,11 @@ use Rattle.world_cell.proofs.AsRead.{made_doubts, made_sure}
 use Rattle.world_cell.specs.Served.{ServesPresent, ServesPresentByThen}
 use Rattle.world_cell.proofs.Slices.{latest}
 use Rattle.world_cell.proofs.EntryFacts.{is_leased_so}
+use Rattle.world_cell.proofs.CutLines.{cut_lines}
 use Rattle.world_cell.proofs.OwnSteps.{Comes, it_comes}
 use Rattle.world_cell.proofs.RowsByRuns.{step_tells}
 use Rattle.world_cell.proofs.WorldCases.{WorldCase, world_case}
-use Rattle.world_cell.proofs.WorldCases.WorldCase.{ComesUp, Joins, Asks, Beats, Gives, Ticks, Takes, Sweeps, GoesDown}
+use Rattle.world_cell.proofs.WorldCases.WorldCase.{ComesUp, Joins, Asks, Beats, Gives, Ticks, Takes, Sweeps, GoesDown, CutsSweep, CutsUp, LosesUp}
 
 -- ---- lines, one by one
 
@@ -296,6 +297,14 @@ swept_other s _ = tt
 
 -- ---- a step
 
+cut_others : (told : List Line) → AreOthers told → AreOthers (cut_lines told)
+cut_others [] h = (tt, tt)
+cut_others (line ∷ told) h =
+    elim (is_of_commit line) as (λ b. AreOthers (cond b (line ∷ filter is_of_commit told) (filter is_of_commit told) ++ lines.Down ∷ [])) [
+      | true ↦ (h.0, cut_others told h.1)
+      | false ↦ cut_others told h.1
+    ]
+
 case_serves : (old : WorldState) (step : Step) (new : WorldState) (printed : List Line) → IsConsistent old → WorldCase old step new printed → StepServes old new printed
 case_serves old step new printed h (ComesUp u) = others_step old new printed (subst AreOthers (sym u.tells) (tt, tt))
 case_serves old step new printed h (Joins j) = others_step old new printed (subst AreOthers (sym j.tells) tt)
@@ -306,6 +315,11 @@ case_serves old step new printed h (Ticks t) = others_step old new printed (subs
 case_serves old step new printed h (Takes t) = others_step old new printed (subst AreOthers (sym t.tells) (taken_other (noted t.master old.clock) t.request t.case))
 case_serves old step new printed h (Sweeps t) = others_step old new printed (subst AreOthers (sym t.tells) (swept_other (noted t.master old.clock) t.case))
 case_serves old step new printed h (GoesDown d) = others_step old new printed (subst AreOthers (sym d.tells) (tt, tt))
+case_serves old step new printed h (CutsSweep k) =
+    let t = k.sweeps in
+    others_step old new printed (subst AreOthers (sym k.tells) (cut_others k.told (subst AreOthers (sym t.tells) (swept_other (noted t.master old.clock) t.case))))
+case_serves old step new printed h (CutsUp k) = others_step old new printed (subst AreOthers (sym (k.tells ∙ ap (λ told. told ++ lines.Down ∷ []) k.comes.tells)) (tt, (tt, tt)))
+case_serves old step new printed h (LosesUp k) = others_step old new printed (subst AreOthers (sym k.tells) (tt, tt))
 
 -- whatever a client serves in a step is what the rows hold
 pub step_serves : (old : WorldState) (step : Step) (new : WorldState) (printed : List Line) → IsConsistent old → world_step old step ≡ Ok (new, printed) → ServesPresent (map_of new.rows) printed

@@ -25,9 +25,10 @@ use Rattle.world_cell.specs.World.{WorldState, WorldView}
 use Rattle.world_cell.specs.Consistent.{IsConsistent}
 use Rattle.world_cell.specs.Runs.{Does, Run, live_by, live_at}
 use Rattle.world_cell.proofs.SilentLines.{IsSilentLine, IsSilent}
+use Rattle.world_cell.proofs.CutLines.{cut_lives}
 use Rattle.world_cell.proofs.OnceByRuns.{taken_silent}
 use Rattle.world_cell.proofs.WorldCases.{WorldCase, world_case}
-use Rattle.world_cell.proofs.WorldCases.WorldCase.{ComesUp, Joins, Asks, Beats, Gives, Ticks, Takes, Sweeps, GoesDown}
+use Rattle.world_cell.proofs.WorldCases.WorldCase.{ComesUp, Joins, Asks, Beats, Gives, Ticks, Takes, Sweeps, GoesDown, CutsSweep, CutsUp, LosesUp}
 use Rattle.world_cell.proofs.OwnSteps.{IsOwn, own_silent, asks_own, beats_own, gives_own}
 use Rattle.world_cell.proofs.ConsistentSteps.{expired_rows}
 
@@ -99,6 +100,12 @@ case_tells client old step new printed (Takes t) =
     silent_tells client old.rows new.rows printed (rw t.tells (taken_silent (noted t.master old.clock) t.request t.case)) (rw t.is refl)
 case_tells client old step new printed (Sweeps t) = rw (t.tells, t.is) (swept_tells client old.rows (noted t.master old.clock) t.case)
 case_tells client old step new printed (GoesDown d) = silent_tells client old.rows new.rows printed (rw d.tells (tt, tt)) (rw d.is refl)
+case_tells client old step new printed (CutsSweep k) =
+    let t = k.sweeps in
+    let h : Tells client old.rows k.mid.rows k.told = rw (t.tells, t.is) (swept_tells client old.rows (noted t.master old.clock) t.case) in
+    rw (k.tells, k.is) (h ∙ sym (cut_lives client (is_live_in old.rows client) k.told))
+case_tells client old step new printed (CutsUp k) = let u = k.comes in rw (k.tells, k.is, u.tells, u.is) refl
+case_tells client old step new printed (LosesUp k) = silent_tells client old.rows new.rows printed (rw k.tells (tt, tt)) (rw k.is refl)
 
 step_tells : (client : ℕ) (old : WorldView) (step : Step) (new : WorldView) (printed : List Line) → IsConsistent old.world → Does old step new printed → Tells client old.world.rows new.world.rows printed
 step_tells client old step new printed h (inl m) = case_tells client old.world step new.world printed (world_case old.world step new.world printed h.master m.is_step)

@@ -16,7 +16,7 @@ use Rattle.world_cell.specs.declared.seats.Seat.{Seat}
 use Rattle.world_cell.specs.World.{WorldState, seat_of}
 use Rattle.world_cell.specs.Slices.{slice, standing_so, standing_of, seen_of, client_of, master_of}
 use Rattle.world_cell.specs.Consistent.{IsConsistent}
-use Rattle.world_cell.specs.Runs.{LeasesKeepSessions}
+use Rattle.world_cell.specs.Runs.{LeasesKeepSessions, AreJoint}
 
 is_live : (live : Bool) → standing_so live ≡ Live → live ≡ true
 is_live true h = refl
@@ -40,3 +40,6 @@ leases_keep_sessions w fits number seat found unexpired =
       live = live_row (lookup (is_at (nat_cmp number)) w.rows.sessions) lives.live;
       in_time = λ master session up there. in_time w number [] master session lives.before_timeout up there;
     }
+
+pub joint_everywhere : (w : WorldState) → IsConsistent w → AreJoint w
+joint_everywhere w fits client name = reached_is_joint (slice client name w) (fits.reached client name)

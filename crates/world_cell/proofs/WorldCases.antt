@@ -1,6 +1,6 @@
 -- By which row of its table a world does a step. Each law of runs is a match on these; this is the only place that opens the table.
-use Rattle.std.proofs.Common.{◌≡◌, ℕ, ◌+◌, List, [], ◌∷◌, ◌++◌, Bool, true, false, cond, Result, Ok, Err, Option, Some, None, refl, sym, ap, ◌∙◌, subst, map}
-use Rattle.std.specs.Prelude.{not, is_some}
+use Rattle.std.proofs.Common.{◌≡◌, ℕ, ◌+◌, List, [], ◌∷◌, ◌++◌, Bool, true, false, cond, Result, Ok, Err, Option, Some, None, refl, sym, ap, ◌∙◌, inl, inr, subst, map}
+use Rattle.std.specs.Prelude.{◌⊎◌, not, is_some, filter}
 use Rattle.std.specs.Option.{option_map_or}
 use Rattle.std.specs.BTreeMap.{insert_entry}
 use Rattle.std.specs.Ordering.{nat_cmp}
@@ -28,7 +28,7 @@ use Rattle.over_core.specs.SweepCase.{SweepCase, swept_by, swept_edits}
 use Rattle.cell_core.proofs.TakeCases.{taken_case, taken_unspent}
 use Rattle.over_core.proofs.SweepCases.{swept_case}
 use Rattle.over_core.specs.Kept.{IsKept}
-use Rattle.over_core.specs.Up.{up_edits, master_by}
+use Rattle.over_core.specs.Up.{up_step, up_edits, master_by}
 use Rattle.client_parts.specs.declared.asks.Ask.{Ask}
 use Rattle.client_core.specs.Asks.{ask_step}
 use Rattle.client_core.specs.Beats.{beat_step}
@@ -39,12 +39,14 @@ use Rattle.client_core.proofs.GiveCases.{give_case}
 use Rattle.world_cell.specs.declared.steps.Step.{Step}
 use Rattle.world_cell.specs.declared.steps.Step.TheVariants as steps
 use Rattle.world_cell.specs.declared.steps.Ticks.{Ticks as ClockSteps}
+use Rattle.world_cell.specs.declared.steps.Commit.{Commit}
+use Rattle.world_cell.specs.declared.steps.Commit.TheVariants.{Kept, Lost}
 use Rattle.world_cell.specs.declared.mail.Message.TheVariants.{ToClient}
 use Rattle.world_cell.specs.declared.seats.Seat.{Seat}
 use Rattle.world_cell.specs.Seats.{new_seat, each_seat, at_up}
 use Rattle.world_cell.specs.Messages.{request_at, out_at}
 use Rattle.world_cell.specs.Consistent.{Agrees}
-use Rattle.world_cell.specs.World.{WorldState, Outcome, world_step, world_up, came_up, seat_of, asked, beaten, took, world_take, gave, given_to, swept, world_sweep, without_quiet, without_master, world_down, moves_nobody, are_joined, are_fair, goes_past_end, ticked}
+use Rattle.world_cell.specs.World.{WorldState, Outcome, world_step, world_up, came_up, seat_of, asked, beaten, took, world_take, gave, given_to, swept, world_sweep, without_quiet, without_master, world_down, is_of_commit, cut_sweep, world_cut_sweep, cut_up, world_cut_up, moves_nobody, are_joined, are_fair, goes_past_end, ticked}
 
 -- ---- the rows
 
@@ -136,10 +138,37 @@ pub record IsSweep (old : WorldState) (step : Step) (new : WorldState) (printed 
   pub tells : printed ≡ (swept_by (noted master old.clock) case).1.lines
 
 pub record IsDown (old : WorldState) (step : Step) (new : WorldState) (printed : List Line) : Type 0 where
-  pub is_step : step ≡ steps.Down
+  pub is_step : (step ≡ steps.Down) ⊎ (step ≡ steps.CutSweep Lost)
   pub master : MasterState
   pub is_up : old.master ≡ Some master
   pub is : new ≡ without_master old
+  pub tells : printed ≡ lines.Down ∷ []
+
+-- mid, told: the world behind the whole sweep, and its lines
+pub record IsCutSweep (old : WorldState) (step : Step) (new : WorldState) (printed : List Line) : Type 0 where
+  pub is_step : step ≡ steps.CutSweep Kept
+  pub mid : WorldState
+  pub told : List Line
+  pub sweeps : IsSweep old steps.Sweep mid told
+  pub is : new ≡ record (without_master old) { rows = mid.rows }
+  pub tells : printed ≡ filter is_of_commit told ++ lines.Down ∷ []
+
+-- mid, told: the world where the master comes up, and its lines
+pub record IsCutUp (old : WorldState) (step : Step) (new : WorldState) (printed : List Line) : Type 0 where
+  pub now : ℕ
+  pub is_step : step ≡ steps.CutUp now Kept
+  pub mid : WorldState
+  pub told : List Line
+  pub comes : IsUp old (steps.Up now) mid told
+  pub is : new ≡ record old { rows = mid.rows }
+  pub tells : printed ≡ told ++ lines.Down ∷ []
+
+-- a master that would come up commits nothing
+pub record IsLostUp (old : WorldState) (step : Step) (new : WorldState) (printed : List Line) : Type 0 where
+  pub now : ℕ
+  pub is_step : step ≡ steps.CutUp now Lost
+  pub none : old.master ≡ None
+  pub is : new ≡ old
   pub tells : printed ≡ lines.Down ∷ []
 
 pub data WorldCase (old : WorldState) (step : Step) (new : WorldState) (printed : List Line) : Type 0 where
@@ -152,6 +181,9 @@ pub data WorldCase (old : WorldState) (step : Step) (new : WorldState) (printed 
   Takes : IsTake old step new printed → WorldCase old step new printed
   Sweeps : IsSweep old step new printed → WorldCase old step new printed
   GoesDown : IsDown old step new printed → WorldCase old step new printed
+  CutsSweep : IsCutSweep old step new printed → WorldCase old step new printed
+  CutsUp : IsCutUp old step new printed → WorldCase old step new printed
+  LosesUp : IsLostUp old step new printed → WorldCase old step new printed
 
 pub ok_pair : {A B E : Type 0} (p : A × B) (a : A) (b : B) → (let q : Result (A × B) E = Ok p in q) ≡ Ok (a, b) → (p.0 ≡ a) × (p.1 ≡ b)
 ok_pair {A} {B} p a b h = let e : ◌≡◌ {A = A × B} p (a, b) = cc in (ap (λ (q : A × B). q.0) e, ap (λ (q : A × B). q.1) e)
@@ -172,18 +204,18 @@ in_order w m s up agrees =
 module _ (w : WorldState) (step : Step) (new : WorldState) (printed : List Line) where
   -- ---- a master comes up
 
-  came_case : (now : ℕ) (late damaged last : Bool) → step ≡ steps.Up now → w.master ≡ None → is_past_end now ≡ late → not (sound w.cell w.rows) ≡ damaged → came_up w now (cond late (Err faults.Exhausted) (master_by w.lease now (cond damaged (Err faults.StoreDamaged) (cond last (Err faults.Exhausted) (Ok (changed_rows w.rows (up_edits w.rows))))))) ≡ Ok (new, printed) → WorldCase w step new printed
+  came_case : (now : ℕ) (late damaged last : Bool) → step ≡ steps.Up now → w.master ≡ None → is_past_end now ≡ late → not (sound w.cell w.rows) ≡ damaged → came_up w now (cond late (Err faults.Exhausted) (master_by w.lease now (cond damaged (Err faults.StoreDamaged) (cond last (Err faults.Exhausted) (Ok (changed_rows w.rows (up_edits w.rows))))))) ≡ Ok (new, printed) → IsUp w step new printed
   came_case now true damaged last at none is_late is_damaged h = cc
   came_case now false true last at none is_late is_damaged h = cc
   came_case now false false true at none is_late is_damaged h = cc
   came_case now false false false at none is_late is_damaged h =
       let master : MasterState = master_of (changed_rows w.rows (up_edits w.rows)) w.lease now in
       let p = ok_pair (record w { rows = changed_rows w.rows (up_edits w.rows); master = Some master; clock = now; clients = each_seat (λ number. at_up now) w.clients }, lines.Up master.epoch ∷ []) new printed h in
-      ComesUp (record { now = now; is_step = at; none = none; early = is_late; are_sound = not_false (sound w.cell w.rows) is_damaged; is = sym p.0; tells = sym p.1 })
+      record { now = now; is_step = at; none = none; early = is_late; are_sound = not_false (sound w.cell w.rows) is_damaged; is = sym p.0; tells = sym p.1 }
 
   up_case : (now : ℕ) (m : Option MasterState) → step ≡ steps.Up now → w.master ≡ m → world_up w now m ≡ Ok (new, printed) → WorldCase w step new printed
   up_case now (Some master) at e h = cc
-  up_case now None at e h = came_case now (is_past_end now) (not (sound w.cell w.rows)) (is_last w.rows.epoch) at e refl refl h
+  up_case now None at e h = ComesUp (came_case now (is_past_end now) (not (sound w.cell w.rows)) (is_last w.rows.epoch) at e refl refl h)
 
   -- ---- a client joins
 
@@ -259,13 +291,13 @@ module _ (w : WorldState) (step : Step) (new : WorldState) (printed : List Line)
 
   -- ---- the master sweeps
 
-  swept_row : (master : MasterState) (r : Result (MasterState × Swept) Fault) → Agrees w w.master → step ≡ steps.Sweep → w.master ≡ Some master → sweep_step master w.clock ≡ r → without_quiet (swept w master r) ≡ Ok (new, printed) → WorldCase w step new printed
+  swept_row : (master : MasterState) (r : Result (MasterState × Swept) Fault) → Agrees w w.master → step ≡ steps.Sweep → w.master ≡ Some master → sweep_step master w.clock ≡ r → without_quiet (swept w master r) ≡ Ok (new, printed) → IsSweep w step new printed
   swept_row master (Err fault) agrees is up step_is h = cc
   swept_row master (Ok p) agrees is up step_is h =
       let t = swept_case master p.0 w.clock p.1 (in_order w w.master master up agrees) (kept_at w w.master master up agrees).orderly step_is in
       let made : p ≡ swept_by (noted master w.clock) t.0 = t.1 in
       let q = ok_pair (record w { rows = changed_rows w.rows (sweep_edits master w.clock); master = Some p.0; messages = w.messages ++ map ToClient p.1.outs }, p.1.lines) new printed h in
-      Sweeps (record {
+      record {
         is_step = is;
         master = master;
         is_up = up;
@@ -273,19 +305,53 @@ module _ (w : WorldState) (step : Step) (new : WorldState) (printed : List Line)
         is = sym q.0 ∙ ap (λ (x : MasterState × Swept). record w { rows = changed_rows w.rows (sweep_edits master w.clock); master = Some x.0; messages = w.messages ++ map ToClient x.1.outs }) made
             ∙ ap (λ (e : List Edit). record w { rows = changed_rows w.rows e; master = Some (swept_by (noted master w.clock) t.0).0; messages = w.messages ++ map ToClient (swept_by (noted master w.clock) t.0).1.outs }) t.2;
         tells = sym q.1 ∙ ap (λ (x : MasterState × Swept). x.1.lines) made;
-      })
+      }
 
   sweep_row : (m : Option MasterState) → Agrees w w.master → step ≡ steps.Sweep → w.master ≡ m → without_quiet (world_sweep w m) ≡ Ok (new, printed) → WorldCase w step new printed
   sweep_row None agrees is up h = cc
-  sweep_row (Some master) agrees is up h = swept_row master (sweep_step master w.clock) agrees is up refl h
+  sweep_row (Some master) agrees is up h = Sweeps (swept_row master (sweep_step master w.clock) agrees is up refl h)
 
   -- ---- the master goes down
 
-  down_row : (m : Option MasterState) → step ≡ steps.Down → w.master ≡ m → world_down w m ≡ Ok (new, printed) → WorldCase w step new printed
+  down_row : (m : Option MasterState) → (step ≡ steps.Down) ⊎ (step ≡ steps.CutSweep Lost) → w.master ≡ m → world_down w m ≡ Ok (new, printed) → WorldCase w step new printed
   down_row None is up h = cc
   down_row (Some master) is up h =
       let p = ok_pair (without_master w, lines.Down ∷ []) new printed h in
       GoesDown (record { is_step = is; master = master; is_up = up; is = sym p.0; tells = sym p.1 })
+
+-- ---- a crash cuts a step
+
+module _ (w : WorldState) (step : Step) (new : WorldState) (printed : List Line) where
+  cut_swept_row : (master : MasterState) (r : Result (MasterState × Swept) Fault) → Agrees w w.master → step ≡ steps.CutSweep Kept → w.master ≡ Some master → sweep_step master w.clock ≡ r → cut_sweep w (swept w master r) ≡ Ok (new, printed) → WorldCase w step new printed
+  cut_swept_row master (Err fault) agrees is up step_is h = cc
+  cut_swept_row master (Ok p) agrees is up step_is h =
+      let mid : WorldState = record w { rows = changed_rows w.rows (sweep_edits master w.clock); master = Some p.0; messages = w.messages ++ map ToClient p.1.outs } in
+      let q = ok_pair (record (without_master w) { rows = mid.rows }, filter is_of_commit p.1.lines ++ lines.Down ∷ []) new printed h in
+      CutsSweep (record { is_step = is; mid = mid; told = p.1.lines; sweeps = swept_row w steps.Sweep mid p.1.lines master (Ok p) agrees refl up step_is refl; is = sym q.0; tells = sym q.1 })
+
+  cut_sweep_row : (m : Option MasterState) → Agrees w w.master → step ≡ steps.CutSweep Kept → w.master ≡ m → cut_sweep w (world_sweep w m) ≡ Ok (new, printed) → WorldCase w step new printed
+  cut_sweep_row None agrees is up h = cc
+  cut_sweep_row (Some master) agrees is up h = cut_swept_row master (sweep_step master w.clock) agrees is up refl h
+
+  cut_commit_row : (commit : Commit) → Agrees w w.master → step ≡ steps.CutSweep commit → world_cut_sweep w commit ≡ Ok (new, printed) → WorldCase w step new printed
+  cut_commit_row Kept agrees is h = cut_sweep_row w.master agrees is refl h
+  cut_commit_row Lost agrees is h = down_row w step new printed w.master (inr is) refl h
+
+  cut_came_row : (now : ℕ) (commit : Commit) (r : Result MasterState Fault) → step ≡ steps.CutUp now commit → w.master ≡ None → up_step w.cell w.rows w.lease now ≡ r → cut_up w commit r ≡ Ok (new, printed) → WorldCase w step new printed
+  cut_came_row now commit (Err fault) is none step_is h = cc
+  cut_came_row now Kept (Ok master) is none step_is h =
+      let mid : WorldState = record w { rows = changed_rows w.rows (up_edits w.rows); master = Some master; clock = now; clients = each_seat (λ number. at_up now) w.clients } in
+      let told : List Line = lines.Up master.epoch ∷ [] in
+      let came = came_case w (steps.Up now) mid told now (is_past_end now) (not (sound w.cell w.rows)) (is_last w.rows.epoch) refl none refl refl (ap (came_up w now) step_is) in
+      let q = ok_pair (record w { rows = mid.rows }, told ++ lines.Down ∷ []) new printed h in
+      CutsUp (record { now = now; is_step = is; mid = mid; told = told; comes = came; is = sym q.0; tells = sym q.1 })
+  cut_came_row now Lost (Ok master) is none step_is h =
+      let q = ok_pair (w, lines.Down ∷ []) new printed h in
+      LosesUp (record { now = now; is_step = is; none = none; is = sym q.0; tells = sym q.1 })
+
+  cut_up_row : (now : ℕ) (commit : Commit) (m : Option MasterState) → step ≡ steps.CutUp now commit → w.master ≡ m → world_cut_up w now commit m ≡ Ok (new, printed) → WorldCase w step new printed
+  cut_up_row now commit (Some master) is up h = cc
+  cut_up_row now commit None is up h = cut_came_row now commit (up_step w.cell w.rows w.lease now) is up refl h
 
 -- ---- every step
 
@@ -300,4 +366,6 @@ world_case w (steps.Tick ticks) new printed agrees h =
 world_case w (steps.Take at) new printed agrees h = take_row w (steps.Take at) new printed at w.master refl refl h
 world_case w (steps.Give at) new printed agrees h = give_row w (steps.Give at) new printed at (out_at w.messages at) refl refl h
 world_case w steps.Sweep new printed agrees h = sweep_row w steps.Sweep new printed w.master agrees refl refl h
-world_case w steps.Down new printed agrees h = down_row w steps.Down new printed w.master refl refl h
+world_case w steps.Down new printed agrees h = down_row w steps.Down new printed w.master (inl refl) refl h
+world_case w (steps.CutSweep commit) new printed agrees h = cut_commit_row w (steps.CutSweep commit) new printed commit agrees refl h
+world_case w (steps.CutUp now commit) new printed agrees h = cut_up_row w (steps.CutUp now commit) new printed now commit w.master refl refl h

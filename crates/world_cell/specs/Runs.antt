@@ -22,9 +22,11 @@ use Rattle.cell_core.specs.declared.pending.Work.TheVariants as works
 use Rattle.cell_core.specs.State.{MasterState}
 use Rattle.over_core.specs.Effect.{effect}
 use Rattle.world_cell.specs.declared.steps.Step.{Step}
-use Rattle.world_cell.specs.declared.steps.Step.TheVariants.{Take, Sweep}
+use Rattle.world_cell.specs.declared.steps.Step.TheVariants.{Take, Sweep, CutSweep}
+use Rattle.world_cell.specs.declared.steps.Commit.TheVariants.{Kept}
 use Rattle.world_cell.specs.Messages.{request_at, call_of}
 use Rattle.lease_core.specs.Lease.{IsUnexpired}
+use Rattle.coherence.specs.Joint.{IsJoint}
 use Rattle.rows_cell.specs.Sound.{is_live_in}
 use Rattle.tags_cell.specs.declared.outs.Reply.{Reply}
 use Rattle.session_core.specs.declared.records.Session.{Session}
@@ -32,6 +34,7 @@ use Rattle.cell_core.specs.Step.{session_of}
 use Rattle.client_core.specs.State.{lease_of}
 use Rattle.world_cell.specs.declared.seats.Seat.{Seat}
 use Rattle.world_cell.specs.World.{WorldState, WorldView, IsUndoubted, seat_of, world_step, step_edits, IsAt, IsStored, IsLeft, MayRefuseStep}
+use Rattle.world_cell.specs.Slices.{slice}
 use Rattle.world_cell.specs.Consistent.{IsConsistent}
 
 -- ---- runs
@@ -113,6 +116,13 @@ pub record HasSession (w : WorldState) (number : ℕ) : Type 0 where
 -- a client whose lease runs by its own clock has its session
 abbrev pub LeasesKeepSessions : WorldState → Type 0
 LeasesKeepSessions w = (number : ℕ) (seat : Seat) → seat_of w number ≡ Some seat → IsUnexpired (lease_of seat.client.cache.lease).sent (lease_of seat.client.cache.lease).span seat.clock → HasSession w number
+
+-- ---- each client and each name
+
+-- the five parts of the joint invariant: the session outlives the client's lease, what is cached under it is present and held, what was granted is held or was given back, what is
+-- acknowledged is processed, and a recovery is empty
+abbrev pub AreJoint : WorldState → Type 0
+AreJoint w = (client : ℕ) (name : List ℕ) → IsJoint (slice client name w)
 
 -- ---- clocks
 
@@ -255,18 +265,21 @@ pub record HasWaited (before : Option MasterState) (epoch client number : ℕ) (
   pub waits : master.gate.waiting ≡ front ++ record { number = turn; change = record { touched = touched; body = record { client = client; number = number; work = works.Calls call } } } ∷ back
 
 -- a change that a line shows: behind a first part of the steps, with the lines before it, the master was up with the map and the epoch that these lines tell; the next
--- step swept and was made; and the change is what a call does there, which its client had sent in that epoch, and which that master had taken
+-- step was a sweep, or one that a crash cut behind its commit, and was made; and the change is what a call does there, which its client had sent in that epoch, and which
+-- that master had taken
 pub record IsOfCall (old : WorldView) (steps : List Step) (before : List Line) (client number : ℕ) (change : Mod) (rest : List Line) (new : WorldView) : Type 0 where
   pub front : List Step
+  pub at : Step
+  pub sweeps : (at ≡ Sweep) ⊎ (at ≡ CutSweep Kept)
   pub back : List Step
-  pub is_split : steps ≡ front ++ Sweep ∷ back
+  pub is_split : steps ≡ front ++ at ∷ back
   pub told : List Line
   pub after : List Line
   pub are_lines : rest ≡ told ++ after
   pub here : WorldView
   pub next : WorldView
   pub first : Run old front before here
-  pub is_made : IsMade here Sweep next (lines.Applied client number change ∷ told)
+  pub is_made : IsMade here at next (lines.Applied client number change ∷ told)
   pub last : Run next back after new
   pub master : MasterState
   pub is_up : here.world.master ≡ Some master

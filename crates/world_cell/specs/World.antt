@@ -1,5 +1,5 @@
 -- A world: the rows, the master while one is up, the clients, and all messages; and what each step does.
-use Rattle.std.specs.Prelude.{◌≡◌, ◌⊎◌, ℕ, ◌+◌, ◌≤◌, Bool, true, false, not, ◌||◌, nat_lt, nat_le, List, [], ◌∷◌, ◌++◌, map, Option, Some, None, Result, Ok, Err, if◌then◌else◌, is_some}
+use Rattle.std.specs.Prelude.{◌≡◌, ◌⊎◌, ℕ, ◌+◌, ◌≤◌, Bool, true, false, not, ◌||◌, nat_lt, nat_le, List, [], ◌∷◌, ◌++◌, map, filter, Option, Some, None, Result, Ok, Err, if◌then◌else◌, is_some}
 use Rattle.std.specs.Option.{option_map_or}
 use Rattle.std.specs.List.{list_all, list_any}
 use Rattle.lease_core.specs.Lease.{moment_limit}
@@ -40,6 +40,8 @@ use Rattle.world_cell.specs.declared.steps.Step.{Step}
 use Rattle.world_cell.specs.declared.steps.Step.TheVariants as steps
 use Rattle.world_cell.specs.declared.worlds.Turn.{Turn}
 use Rattle.world_cell.specs.declared.steps.Ticks.{Ticks}
+use Rattle.world_cell.specs.declared.steps.Commit.{Commit}
+use Rattle.world_cell.specs.declared.steps.Commit.TheVariants.{Kept, Lost}
 use Rattle.world_cell.specs.Seats.{Clients, new_seat, seated, each_seat, at_up, is_fair, moved_beside, moved_alone}
 use Rattle.world_cell.specs.Messages.{request_at, out_at}
 
@@ -270,6 +272,32 @@ abbrev pub without_quiet : Result (WorldState × Turn) Fault → Outcome
 without_quiet (Ok p) = Ok (p.0, p.1.lines)
 without_quiet (Err fault) = Err fault
 
+-- ---- a crash cuts a step
+
+-- of a sweep's lines those that tell of its commit: all but the one of a recovery's end
+abbrev pub is_of_commit : Line → Bool
+is_of_commit lines.Recovered = false
+is_of_commit _ = true
+
+abbrev pub cut_sweep : WorldState → Result (WorldState × Turn) Fault → Outcome
+cut_sweep w (Err fault) = Err fault
+cut_sweep w (Ok p) = Ok (record (without_master w) { rows = p.0.rows }, filter is_of_commit p.1.lines ++ lines.Down ∷ [])
+
+-- what the sweep commits stands or is lost, nothing is sent, and the master is gone
+abbrev pub world_cut_sweep : WorldState → Commit → Outcome
+world_cut_sweep w Kept = cut_sweep w (world_sweep w w.master)
+world_cut_sweep w Lost = world_down w w.master
+
+abbrev pub cut_up : WorldState → Commit → Result MasterState Fault → Outcome
+cut_up w commit (Err fault) = Err fault
+cut_up w Kept (Ok master) = Ok (record w { rows = changed_rows w.rows (up_edits w.rows) }, lines.Up master.epoch ∷ lines.Down ∷ [])
+cut_up w Lost (Ok master) = Ok (w, lines.Down ∷ [])
+
+-- the same of a master that comes up
+abbrev pub world_cut_up : WorldState → ℕ → Commit → Option MasterState → Outcome
+world_cut_up w now commit (Some master) = Err faults.MasterUp
+world_cut_up w now commit None = cut_up w commit (up_step w.cell w.rows w.lease now)
+
 -- ---- the table
 
 unfoldable pub world_step : WorldState → Step → Outcome
@@ -282,6 +310,8 @@ world_step w (steps.Take number) = world_take w number w.master
 world_step w (steps.Give number) = world_give w number
 world_step w steps.Sweep = without_quiet (world_sweep w w.master)
 world_step w steps.Down = world_down w w.master
+world_step w (steps.CutSweep commit) = world_cut_sweep w commit
+world_step w (steps.CutUp now commit) = world_cut_up w now commit w.master
 
 -- ---- the store
 
@@ -296,6 +326,7 @@ IsAtUp (Some master) old at = at ≡ old
 -- the world by which a step is made: that of before; where a master comes up, with the store as it was read
 abbrev pub IsAt : Step → WorldView → WorldView → Type 0
 IsAt (steps.Up now) old at = IsAtUp old.world.master old at
+IsAt (steps.CutUp now commit) old at = IsAtUp old.world.master old at
 IsAt _ old at = at ≡ old
 
 -- what a master that comes up commits; one at a time
@@ -307,6 +338,8 @@ came_up_edits w now None = up_commit (up_step w.cell w.rows w.lease now) w.rows
 abbrev pub step_edits : WorldState → Step → List Edit
 step_edits w (steps.Up now) = came_up_edits w now w.master
 step_edits w steps.Sweep = option_map_or (λ master. sweep_edits master w.clock) w.master []
+step_edits w (steps.CutUp now Kept) = came_up_edits w now w.master
+step_edits w (steps.CutSweep Kept) = option_map_or (λ master. sweep_edits master w.clock) w.master []
 step_edits w _ = []
 
 -- behind a step that was made: what it commits stands, and the store refused nothing
@@ -328,10 +361,18 @@ IsOutsideUp None now fault old new =
     ⊎ ((is_past_end now ≡ false) × (IsUnread fault (store_in old) (store_in new) ⊎ MayRefuse (came_up_edits old.world now None) fault old.refusals new.refusals))
 IsOutsideUp (Some master) now fault old new = IsWant fault old.refusals new.refusals
 
+-- nor where the store is read alone
+abbrev pub IsOutsideRead : Option MasterState → ℕ → Fault → WorldView → WorldView → Type 0
+IsOutsideRead None now fault old new = IsWant fault old.refusals new.refusals ⊎ ((is_past_end now ≡ false) × IsUnread fault (store_in old) (store_in new))
+IsOutsideRead (Some master) now fault old new = IsWant fault old.refusals new.refusals
+
 -- what the table doesn't decide: the store may refuse a master that comes up, and the commit of a sweep; any other step is refused for want of memory alone
 abbrev pub IsOutside : Step → Fault → WorldView → WorldView → Type 0
 IsOutside (steps.Up now) fault old new = IsOutsideUp old.world.master now fault old new
 IsOutside steps.Sweep fault old new = MayRefuse (step_edits old.world steps.Sweep) fault old.refusals new.refusals
+IsOutside (steps.CutUp now Kept) fault old new = IsOutsideUp old.world.master now fault old new
+IsOutside (steps.CutUp now Lost) fault old new = IsOutsideRead old.world.master now fault old new
+IsOutside (steps.CutSweep commit) fault old new = MayRefuse (step_edits old.world (steps.CutSweep commit)) fault old.refusals new.refusals
 IsOutside _ fault old new = IsWant fault old.refusals new.refusals
 
 -- why a step is refused: the table refuses it, or want of memory or the store does

@@ -10,5 +10,5 @@ mod worlds;
 
 pub use mail::Message;
 pub use seats::Seat;
-pub use steps::{Step, Ticks};
+pub use steps::{Commit, Step, Ticks};
 pub use worlds::{Turn, World};

@@ -6,7 +6,7 @@ ghost use Rattle.node_core.specs.declared.views.Mod.{Mod};
 ghost use Rattle.world_cell.specs.Consistent.{IsConsistent};
 ghost use Rattle.rows_cell.specs.Sound.{is_live_in};
 ghost use Rattle.world_cell.specs.World.{IsUndoubted};
-ghost use Rattle.world_cell.specs.Runs.{WasRefused, AnyStep, AnyRun, map_at, epoch_at, live_at, LeasesKeepSessions, KeepsClocksFair, AreRecordedOnce, applied, Rises, IsOfCall};
+ghost use Rattle.world_cell.specs.Runs.{WasRefused, AnyStep, AnyRun, map_at, epoch_at, live_at, LeasesKeepSessions, AreJoint, KeepsClocksFair, AreRecordedOnce, applied, Rises, IsOfCall};
 ghost use Rattle.world_cell.specs.Served.{ServesPresentByThen};
 
 use crate::steps::Step;
@@ -42,6 +42,9 @@ impl<R: Records + Drop> World<R> {
         ensures served { IfOk result (λ lines. IsUndoubted self.new → ServesPresentByThen (map_of self.old.world.rows) lines) }
         // Whatever the schedule, a client whose lease runs by its own clock has its session.
         ensures leases { IsUndoubted self.new → LeasesKeepSessions self.new.world }
+        // To each client and of each name: its session outlives its lease, what it caches is present and held, what it was
+        // granted is held or was given back, what is acknowledged is processed, and a recovery is empty.
+        ensures joint { IsUndoubted self.new → AreJoint self.new.world }
         // From each point of the run to its end, where one master was up from first to last, its clock moved by a
         // sixteenth more than a client's at most, and a millisecond.
         ensures clocks { IsUndoubted self.new → KeepsClocksFair self.old steps.now self.new }

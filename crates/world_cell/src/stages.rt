@@ -1,14 +1,15 @@
 //! The parts of a world, and what each step does to them.
 ghost use Rattle.lease_core.specs.Lease.{longest_lease};
-ghost use Rattle.std.specs.Prelude.{◌≡◌, ◌≤◌, ◌<◌, ◌+◌, ◌∷◌, [], length, false, Some, None, Ok, Err, IfOk, IfErr, OnOk, OnErr, is_some};
+ghost use Rattle.std.specs.Prelude.{◌≡◌, ◌≤◌, ◌<◌, ◌+◌, ◌∷◌, ◌++◌, [], length, filter, false, Some, None, Ok, Err, IfOk, IfErr, OnOk, OnErr, is_some};
 ghost use Rattle.std.specs.Vec.{vec_len, vec_capacity};
-ghost use Rattle.world_cell.specs.World.{opened, store_in, with_refusal, world_join, world_ask, world_beat, world_tick, world_take, world_give, world_sweep, world_down, moves_nobody, are_fair, goes_past_end, ticked, step_edits, IsStored, IsLeft, MayRefuseStep};
+ghost use Rattle.rights_core.specs.Rights.{held_limit};
+ghost use Rattle.world_cell.specs.World.{opened, store_in, with_refusal, world_join, world_ask, world_beat, world_tick, world_take, world_give, world_sweep, world_down, without_master, is_of_commit, world_cut_sweep, moves_nobody, are_fair, goes_past_end, ticked, step_edits, IsStored, IsLeft, MayRefuseStep};
 ghost use Rattle.world_cell.specs.Runs.{WasMade, WasRefused};
 ghost use Rattle.world_cell.specs.Consistent.{Agrees};
 
 use crate::mail::{self, Message};
 use crate::seats::Seats;
-use crate::steps::{Step, Ticks};
+use crate::steps::{Commit, Step, Ticks};
 use crate::worlds::Turn;
 use client_core::{Ask, Asked, Beaten, Given, Outcome};
 use lease_core::MOMENT_LIMIT;
@@ -16,6 +17,7 @@ use names_cell::Principal;
 use node_core::{Fault, Line};
 use over_core::Cell;
 use plain::Items;
+use rights_core::HELD_LIMIT;
 use rows_cell::{Records, Settings};
 use std::alloc::{AllocError, Global};
 use std::marker::Model;
@@ -23,6 +25,9 @@ use tags_cell::ClientNumber;
 
 /// The most messages that one step of a master sends.
 const MESSAGES_A_STEP: usize = 1;
+
+/// The most lines that a sweep prints: one for each right that ends, and that of a session's end.
+const LINES_A_SWEEP: usize = HELD_LIMIT + 1;
 
 /// The most lines that a client prints beside its refusal of a call or a message: that of its noting the time.
 const LINES_BESIDE_A_REFUSAL: usize = 1;
@@ -82,6 +87,8 @@ impl<R: Records + Drop> Stage<R> {
             Step::Give(number) => self.give(*number),
             Step::Sweep => Ok(self.sweep()?.lines),
             Step::Down => self.down(),
+            Step::CutSweep(commit) => self.cut_sweep(*commit),
+            Step::CutUp(now, commit) => self.cut_up(*now, *commit),
         }
     }
 
@@ -187,6 +194,107 @@ impl<R: Records + Drop> Stage<R> {
                 drop(self.records.replace(cell.down()));
                 Ok(lines)
             }
+        }
+    }
+
+    // A sweep that a crash cuts.
+    #[tactic(auto, using(crate::proofs::AsRead::made_now, crate::proofs::AsRead::refused_now), unfolding(crate::specs::World::world_step))]
+    fn cut_sweep(&mut self, commit: Commit) -> Result<Items<Line>, Fault>
+        ensures made { IfOk result (λ lines. WasMade self.old (Step.CutSweep commit) self.new lines) }
+        ensures refused { IfErr result (λ e. WasRefused self.old (Step.CutSweep commit) self.new (Line.Refused e ∷ [])) }
+    {
+        match commit {
+            Commit::Kept => self.cut_kept_sweep(),
+            Commit::Lost => self.down(),
+        }
+    }
+
+    // Its commit stands. The room for its lines is made before it.
+    #[tactic(auto, using(crate::proofs::SweepLines::sweep_short))]
+    fn cut_kept_sweep(&mut self) -> Result<Items<Line>, Fault>
+        ensures ok { IfOk result (λ lines. world_cut_sweep self.old.world Commit.Kept ≡ Ok (self.new.world, lines)) }
+        ensures stored { OnOk result (IsStored (step_edits self.old.world (Step.CutSweep Commit.Kept)) self.old self.new) }
+        ensures fault { IfErr result (λ e. MayRefuseStep (world_cut_sweep self.old.world Commit.Kept) (Step.CutSweep Commit.Kept) e self.old self.new) }
+        ensures left { OnErr result (IsLeft (step_edits self.old.world (Step.CutSweep Commit.Kept)) self.old self.new) }
+    {
+        let Some(cell) = &mut self.master else {
+            return Err(Fault::MasterDown);
+        };
+        let room = room_for_sweep(self.alloc)?;
+        cell.kept();
+        let swept = cell.sweep(self.clock)?;
+        drop(swept.outs);
+        self.let_go();
+        Ok(cut_lines(swept.lines, room))
+    }
+
+    // The master, where one is up, is gone, and the records are by themselves again.
+    fn let_go(&mut self)
+        ensures { self.new ≡ record self.old { world = without_master self.old.world } }
+    {
+        if let Some(cell) = self.master.take() {
+            let records = cell.down();
+            drop(self.records.replace(records));
+        }
+    }
+
+    // A master that comes up, and that a crash cuts.
+    fn cut_up(&mut self, now: u64, commit: Commit) -> Result<Items<Line>, Fault>
+        ensures made { IfOk result (λ lines. WasMade self.old (Step.CutUp now commit) self.new lines) }
+        ensures refused { IfErr result (λ e. WasRefused self.old (Step.CutUp now commit) self.new (Line.Refused e ∷ [])) }
+    {
+        match commit {
+            Commit::Kept => self.cut_kept_up(now),
+            Commit::Lost => self.cut_lost_up(now),
+        }
+    }
+
+    // The next epoch stands.
+    #[tactic(auto, using(crate::proofs::AsRead::made_now, crate::proofs::AsRead::refused_now), unfolding(crate::specs::World::world_step))]
+    fn cut_kept_up(&mut self, now: u64) -> Result<Items<Line>, Fault>
+        ensures made { IfOk result (λ lines. WasMade self.old (Step.CutUp now Commit.Kept) self.new lines) }
+        ensures refused { IfErr result (λ e. WasRefused self.old (Step.CutUp now Commit.Kept) self.new (Line.Refused e ∷ [])) }
+    {
+        let mut lines = Items::new(self.alloc);
+        lines.push(Line::Down)?;
+        lines.push(Line::Down)?;
+        match self.records.take() {
+            None => Err(Fault::MasterUp),
+            Some(records) => match Cell::up(self.alloc, records, self.lease, now) {
+                Ok(cell) => {
+                    lines.set(0, Line::Up(cell.epoch()));
+                    let records = cell.down();
+                    drop(self.records.replace(records));
+                    Ok(lines)
+                }
+                Err((fault, records)) => {
+                    drop(self.records.replace(records));
+                    Err(fault)
+                }
+            },
+        }
+    }
+
+    // Nothing is committed.
+    #[tactic(auto, using(crate::proofs::AsRead::made_now, crate::proofs::AsRead::refused_now), unfolding(crate::specs::World::world_step))]
+    fn cut_lost_up(&mut self, now: u64) -> Result<Items<Line>, Fault>
+        ensures made { IfOk result (λ lines. WasMade self.old (Step.CutUp now Commit.Lost) self.new lines) }
+        ensures refused { IfErr result (λ e. WasRefused self.old (Step.CutUp now Commit.Lost) self.new (Line.Refused e ∷ [])) }
+    {
+        let mut lines = Items::new(self.alloc);
+        lines.push(Line::Down)?;
+        match self.records.take() {
+            None => Err(Fault::MasterUp),
+            Some(mut records) => match Cell::could_come_up(&mut records, now) {
+                Ok(()) => {
+                    drop(self.records.replace(records));
+                    Ok(lines)
+                }
+                Err(fault) => {
+                    drop(self.records.replace(records));
+                    Err(fault)
+                }
+            },
         }
     }
 
@@ -352,6 +460,44 @@ impl<R: Records + Drop> Stage<R> {
                 None => Ok(lines),
             },
         }
+    }
+}
+
+// Room for a sweep's lines and one behind them.
+fn room_for_sweep(alloc: Global) -> Result<Vec<Line>, AllocError>
+    ensures empty { IfOk result (λ room. room.items ≡ []) }
+    ensures room { IfOk result (λ room. vec_len room + (held_limit + 1) < vec_capacity room) }
+{
+    let mut room = Vec::new(alloc);
+    room.reserve(LINES_A_SWEEP + 1)?;
+    Ok(room)
+}
+
+// The lines of a sweep's commit, and that the master is gone; takes no memory.
+fn cut_lines(lines: Items<Line>, room: Vec<Line>) -> Items<Line>
+    requires empty { room.items ≡ [] }
+    requires room { vec_len room + length lines < vec_capacity room }
+    ensures { result ≡ filter is_of_commit lines ++ Line.Down ∷ [] }
+{
+    let mut told = room;
+    for line in lines.into_vec() {
+        if is_of_commit(&line) {
+            told.push_reserved(line);
+        } else {
+            drop(line);
+        }
+    }
+    told.push_reserved(Line::Down);
+    Items::from_vec(told)
+}
+
+// Whether a line of a sweep tells of its commit.
+fn is_of_commit(line: &Line) -> bool
+    ensures { result ≡ is_of_commit line.now }
+{
+    match line {
+        Line::Recovered => false,
+        _ => true,
     }
 }
 

@@ -15,6 +15,13 @@ pub struct Ticks {
     pub own: Items<(u64, u64)>,
 }
 
+/// What becomes of the commit of a step that a crash cuts.
+#[derive(Clone, Copy, Debug, PartialEq, Eq)]
+pub enum Commit {
+    Kept,
+    Lost,
+}
+
 /// What may be done in a world. Messages are numbered from 1 in the order in which they were sent, in both directions
 /// together, and may be delivered in any order, any number of times, or never.
 #[derive(Debug, Drop)]
@@ -36,4 +43,8 @@ pub enum Step {
     Sweep,
     /// The master is gone; the rows stay.
     Down,
+    /// A sweep that a crash cuts behind its commit, or before: nothing is sent, and the master is gone.
+    CutSweep(Commit),
+    /// The same of a master that comes up at this moment.
+    CutUp(u64, Commit),
 }

@@ -54,9 +54,9 @@ impl<R: Records + Drop> World<R> {
     /// up by the rows that are read, which are those that stood where nothing is in doubt.
     ///
     /// Refused, and nothing changed but perhaps the store's count of its refusals, or what was read: a master that would come up while
-    /// one is up; a message for a master, or one that would go down, while none is up; a number that a client joined with
-    /// before; a client that hasn't joined; a message that was never sent, or of the other direction; a moment or a number
-    /// at its end; where the store refuses or its rows aren't sound; and for want of memory.
+    /// one is up; a message for a master, or one that would sweep or go down, while none is up; a number that a client
+    /// joined with before; a client that hasn't joined; a message that was never sent, or of the other direction; a
+    /// moment or a number at its end; where the store refuses or its rows aren't sound; and for want of memory.
     pub fn step(&mut self, step: &Step) -> Result<Items<Line>, Fault>
         ensures made { IfOk result (λ lines. WasMade self.old step.now self.new lines) }
         ensures refused { IfErr result (λ e. WasRefused self.old step.now self.new (Line.Refused e ∷ [])) }

@@ -5,7 +5,7 @@ use Rattle.world_cell.proofs.CallsByRuns.{run_calls}
 use Rattle.world_cell.proofs.PartsOfRuns.{run_more, run_part, began_consistent, whole_sure}
 use Rattle.world_cell.proofs.SessionsByRuns.{run_lives}
 use Rattle.world_cell.proofs.RightsByRuns.{run_records}
-use Rattle.world_cell.proofs.SliceLeases.{leases_keep_sessions}
+use Rattle.world_cell.proofs.SliceLeases.{leases_keep_sessions, joint_everywhere}
 use Rattle.world_cell.proofs.ServedLines.{run_serves}
 use Rattle.world_cell.proofs.ClocksByRuns.{run_consistent, run_fair}
 use Rattle.world_cell.proofs.worlds.World.run.Goals as goal
@@ -63,11 +63,22 @@ returns-clause-leases g c = λ none.
     let run = whole_sure c.args.self.now c.loop-step.self c.args.steps.now c.loop-step.step-index c.loop-step.lines (omega arith) c.consistent.ensures c.loop-step.invariant none in
     leases_keep_sessions c.loop-step.self.world (run_consistent c.args.self.now c.args.steps.now c.loop-step.lines c.loop-step.self run.0 run.1)
 
+pub returns-clause-joint : goal.returns-clause-joint
+returns-clause-joint g c = λ none.
+    let run = whole_sure c.args.self.now c.loop-step.self c.args.steps.now c.loop-step.step-index c.loop-step.lines (omega arith) c.consistent.ensures c.loop-step.invariant none in
+    joint_everywhere c.loop-step.self.world (run_consistent c.args.self.now c.args.steps.now c.loop-step.lines c.loop-step.self run.0 run.1)
+
 pub returns-in_err-here-clause-leases : goal.returns-in_err-here-clause-leases
 returns-in_err-here-clause-leases g c = λ none. leases_keep_sessions c.line_step.new.self.world (c.line_step.ensures.consistent none)
 
+pub returns-in_err-here-clause-joint : goal.returns-in_err-here-clause-joint
+returns-in_err-here-clause-joint g c = λ none. joint_everywhere c.line_step.new.self.world (c.line_step.ensures.consistent none)
+
 pub returns-in_err-append-clause-leases : goal.returns-in_err-append-clause-leases
 returns-in_err-append-clause-leases g c = λ none. leases_keep_sessions c.line_step.new.self.world (c.line_step.ensures.consistent none)
+
+pub returns-in_err-append-clause-joint : goal.returns-in_err-append-clause-joint
+returns-in_err-append-clause-joint g c = λ none. joint_everywhere c.line_step.new.self.world (c.line_step.ensures.consistent none)
 
 pub returns-clause-clocks : goal.returns-clause-clocks
 returns-clause-clocks g c = λ none.
