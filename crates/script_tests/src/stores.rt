@@ -5,7 +5,7 @@ use rows_cell::Settings;
 use rows_file::{inspect_file, verdict};
 use rows_sql::SqlRecords;
 use sqlite::{Connection, FileStore, Files, Options};
-use sqlite_disk::Memory;
+use sqlite_disk::{Disk, Memory};
 use std::alloc::Global;
 use std::test::Fail;
 use world_cell::World;
@@ -27,6 +27,9 @@ fn no_files(alloc: Global) -> Files<Memory> {
 }
 
 fn opened(alloc: Global, files: Files<Memory>) -> Result<Connection<Store>, Fail> {
+    if !files.log.may_be_used() || !files.db.may_be_used() {
+        return Err(Fail::from("usable"));
+    }
     Ok(
         Connection::open_files(alloc, files, Options::new(7))
             .ok()
