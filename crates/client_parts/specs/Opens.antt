@@ -23,11 +23,15 @@ abbrev pub is_permanent : Life → Bool
 is_permanent lives.Permanent = true
 is_permanent lives.Ephemeral = false
 
--- such handles are kept and shared: of a plain Open to read, on a permanent node
-abbrev pub is_shareable : NewHandle → Open → Bool
-is_shareable handle opening = is_plain opening && (is_read_only opening.mode && is_permanent handle.life)
+-- an Open to read alone, without a lock-delay
+abbrev pub only_reads : Open → Bool
+only_reads opening = is_read_only opening.mode && opening.delay == 0
 
--- what is kept of a handle: name and mode are those that were asked for
+-- the handles that are kept and shared: of such a plain Open, on a permanent node
+abbrev pub is_shareable : NewHandle → Open → Bool
+is_shareable handle opening = is_plain opening && (only_reads opening && is_permanent handle.life)
+
+-- what is kept of a handle: name and mode are those that were asked for, and it has no sequencer
 abbrev pub kept_handle : NewHandle → Open → Bool → ClientHandle
 kept_handle handle opening shared = record {
   bytes = handle.bytes;
@@ -37,6 +41,7 @@ kept_handle handle opening shared = record {
   life = handle.life;
   poisoned = false;
   shared = shared;
+  sequencer = None;
 }
 
 -- the node that the handle is on, if it is the one that is cached
