@@ -11,3 +11,5 @@ pub mod StoreLemmas
 pub mod InstanceTables
 pub mod WholeTest
 pub mod LiveCounts
+pub mod SortedLookups
+pub mod RowEdits
