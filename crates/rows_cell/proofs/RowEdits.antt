@@ -111,3 +111,113 @@ chosen_here (Some v) (Some o) =
       | true ↦ (λ c. ap Some (same_row o v c))
       | false ↦ (λ c. refl)
     ]) refl
+
+-- ---- what the edits leave
+
+-- the locks after, beside those before: of one node these rows, of all others what was there
+pub record HasRowsAt (instance : ℕ) (new before after : StoredLocks) : Type 0 where
+  pub in_order : IsStrictlySortedBy lock_order (keys_of after)
+  pub here : rows_at after instance ≡ new
+  pub others : rows_off after instance ≡ rows_off before instance
+
+opposite : (b : Bool) → b ≡ true → b ≡ false → ⊥
+opposite b h k = absurd (cc)
+
+-- what is found among the rows of one lock, and among those of all others
+find_at : (locks : StoredLocks) (instance : ℕ) (q : LockKey) → find q (rows_at locks instance) ≡ cond (q.instance == instance) (find q locks) None
+find_at locks instance q =
+    lookup-filter-keys (is_at (lock_order q)) (λ k. k.instance == instance) (q.instance == instance)
+    (λ k h. ap (λ (x : LockKey). x.instance == instance) (sym (exact_lock q k (eq_at (lock_order q k) h)))) locks
+
+find_off : (locks : StoredLocks) (instance : ℕ) (q : LockKey) → find q (rows_off locks instance) ≡ cond (not (q.instance == instance)) (find q locks) None
+find_off locks instance q =
+    lookup-filter-keys (is_at (lock_order q)) (λ k. not (k.instance == instance)) (not (q.instance == instance))
+    (λ k h. ap (λ (x : LockKey). not (x.instance == instance)) (sym (exact_lock q k (eq_at (lock_order q k) h)))) locks
+
+-- rows of one lock have no keys of others
+find_own : (new : StoredLocks) (instance : ℕ) (q : LockKey) → list_all (λ e. e.0.instance == instance) new ≡ true → (q.instance == instance) ≡ false → find q new ≡ None
+find_own new instance q own other =
+    (elim (find q new) as (λ o. find q new ≡ o → find q new ≡ None) [
+      | None ↦ (λ c. c)
+      | Some v ↦ (λ c. absurd (opposite (q.instance == instance) (all_found lock_order exact_lock (λ e. e.0.instance == instance) new q v own c) other))
+    ]) refl
+
+module _ (locks old new : StoredLocks) (instance : ℕ) (sorted : IsStrictlySortedBy lock_order (keys_of locks)) (are : rows_at locks instance ≡ old) (new_sorted : IsStrictlySortedBy lock_order (keys_of new)) (own : list_all (λ e. e.0.instance == instance) new ≡ true) where
+  old_sorted : IsStrictlySortedBy lock_order (keys_of old)
+  old_sorted = let P : StoredLocks → Type 0 = λ es. IsStrictlySortedBy lock_order (keys_of es) in subst P are (sorted_kept lock_order (λ e. e.0.instance == instance) locks sorted)
+
+  find_old : (q : LockKey) → find q old ≡ cond (q.instance == instance) (find q locks) None
+  find_old q = ap (λ es. find q es) (sym are) ∙ find_at locks instance q
+
+  find_relocked : (q : LockKey) → find q (relocked old new locks) ≡ chosen (find q new) (find q old) (find q locks)
+  find_relocked q =
+      let left : StoredLocks = unlocked_by (gone_keys old new) locks in
+      let none : Option LockRow = None in
+      let gone : list_any (is_at (lock_order q)) (gone_keys old new) ≡ is_some (option_filter (λ v. not (is_some (find q new))) (find q old)) =
+      any_key (is_at (lock_order q)) (filter (λ e. not (has_key new e.0)) old)
+      ∙ ap is_some (lookup_kept lock_order locks_total exact_lock (λ e. not (has_key new e.0)) old q old_sorted) in
+      find_put_all (put_rows old new) left q (sorted_kept lock_order (λ e. not (has_entry old e)) new new_sorted)
+      ∙ ap (λ o. option_or o (find q left)) (lookup_kept lock_order locks_total exact_lock (λ e. not (has_entry old e)) new q new_sorted)
+      ∙ ap (λ o. option_or (option_filter (λ v. not (has_entry old (q, v))) (find q new)) o) (find_unlocked (gone_keys old new) locks q sorted)
+      ∙ ap (λ b. option_or (option_filter (λ v. not (has_entry old (q, v))) (find q new)) (cond b none (find q locks))) gone
+
+  -- at the instance what is new, elsewhere what was there
+  find_after : (q : LockKey) → find q (relocked old new locks) ≡ cond (q.instance == instance) (find q new) (find q locks)
+  find_after q =
+      let was = find_old q in
+      let is = find_relocked q in
+      (elim (q.instance == instance) as (λ b. (q.instance == instance) ≡ b → find q old ≡ cond b (find q locks) None → find q (relocked old new locks) ≡ cond b (find q new) (find q locks)) [
+        | true ↦ (λ c k. is ∙ ap (λ o. chosen (find q new) o (find q locks)) k ∙ chosen_here (find q new) (find q locks))
+        | false ↦ (λ c k. is ∙ ap (λ o. chosen (find q new) o (find q locks)) k ∙ ap (λ o. chosen o None (find q locks)) (find_own new instance q own c))
+      ]) refl was
+
+  after_sorted : IsStrictlySortedBy lock_order (keys_of (relocked old new locks))
+  after_sorted = all_put_sorted (put_rows old new) (unlocked_by (gone_keys old new) locks) (unlocked_sorted (gone_keys old new) locks sorted)
+
+  find_here : (q : LockKey) → find q (rows_at (relocked old new locks) instance) ≡ find q new
+  find_here q =
+      let none : Option LockRow = None in
+      find_at (relocked old new locks) instance q ∙ ap (λ o. cond (q.instance == instance) o none) (find_after q)
+      ∙ (elim (q.instance == instance) as (λ b. (q.instance == instance) ≡ b → cond b (cond b (find q new) (find q locks)) none ≡ find q new) [
+        | true ↦ (λ c. refl)
+        | false ↦ (λ c. sym (find_own new instance q own c))
+      ]) refl
+
+  find_elsewhere : (q : LockKey) → find q (rows_off (relocked old new locks) instance) ≡ find q (rows_off locks instance)
+  find_elsewhere q =
+      let none : Option LockRow = None in
+      find_off (relocked old new locks) instance q ∙ ap (λ o. cond (not (q.instance == instance)) o none) (find_after q)
+      ∙ (elim (q.instance == instance) as (λ b. cond (not b) (cond b (find q new) (find q locks)) none ≡ cond (not b) (find q locks) none) [ true ↦ refl | false ↦ refl ])
+      ∙ sym (find_off locks instance q)
+
+  -- the edits of one lock's rows do what they say
+  pub relocked_rows : HasRowsAt instance new locks (relocked old new locks)
+  relocked_rows =
+      let after : StoredLocks = relocked old new locks in
+      record {
+        in_order = after_sorted;
+        here = same_lookups lock_order locks_total exact_lock (rows_at after instance) new (sorted_kept lock_order (λ e. e.0.instance == instance) after after_sorted) new_sorted find_here;
+        others = same_lookups lock_order locks_total exact_lock (rows_off after instance) (rows_off locks instance)
+            (sorted_kept lock_order (λ e. not (e.0.instance == instance)) after after_sorted)
+            (sorted_kept lock_order (λ e. not (e.0.instance == instance)) locks sorted) find_elsewhere;
+      }
+
+-- ---- the rows of another lock
+
+between : (a i j : ℕ) → (a == j) ≡ true → (j == i) ≡ false → (a == i) ≡ false
+between a i j e o = grind (arith, nat_tests)
+
+-- the rows of one lock are among those of all others
+at_of_off : (locks : StoredLocks) (instance other : ℕ) → (other == instance) ≡ false → rows_at (rows_off locks instance) other ≡ rows_at locks other
+at_of_off [] instance other h = refl
+at_of_off (e ∷ es) instance other h =
+    let off : StoredLocks = rows_off es instance in
+    let rest = at_of_off es instance other h in
+    (elim (e.0.instance == other) as (λ b. (e.0.instance == other) ≡ b → rows_at (cond (not (e.0.instance == instance)) (e ∷ off) off) other ≡ cond b (e ∷ rows_at es other) (rows_at es other)) [
+      | true ↦ (λ c. rw (between e.0.instance instance other c h, c) (ap (λ xs. e ∷ xs) rest))
+      | false ↦ (λ c. elim (e.0.instance == instance) as (λ b. rows_at (cond (not b) (e ∷ off) off) other ≡ rows_at es other) [ true ↦ rest | false ↦ rw c rest ])
+    ]) refl
+
+pub rows_elsewhere : (before after : StoredLocks) (instance other : ℕ) → rows_off after instance ≡ rows_off before instance → (other == instance) ≡ false → rows_at after other ≡ rows_at before other
+rows_elsewhere before after instance other same h =
+    sym (at_of_off after instance other h) ∙ ap (λ es. rows_at es other) same ∙ at_of_off before instance other h
