@@ -13,3 +13,5 @@ pub mod WholeTest
 pub mod LiveCounts
 pub mod SortedLookups
 pub mod RowEdits
+pub mod SoundLocks
+pub mod SoundGenerations

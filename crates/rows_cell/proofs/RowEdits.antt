@@ -21,7 +21,8 @@ use Rattle.rows_cell.specs.declared.tables.Edit.{Edit}
 use Rattle.rows_cell.specs.declared.tables.Edit.TheVariants.{PutLock, RemoveLock}
 use Rattle.rows_cell.specs.Keys.{lock_order}
 use Rattle.rows_cell.specs.Rows.{StoredLocks, edited, changed_rows}
-use Rattle.rows_cell.specs.LockRows.{rows_at, rows_off, is_state, is_row, has_key, has_entry, gone_keys, put_rows, row_edits}
+use Rattle.rows_cell.specs.Indexes.{locks_at}
+use Rattle.rows_cell.specs.LockRows.{locks_off, is_state, is_row, has_key, has_entry, gone_keys, put_rows, row_edits}
 use Rattle.rows_cell.proofs.EntriesInOrder.{sorted_put, sorted_kept}
 use Rattle.rows_cell.proofs.PutEntries.{all_found}
 use Rattle.rows_cell.proofs.SoundEnds.{changed_more, unlocked_by, unlocks, unlocked_sorted, locks_total}
@@ -117,19 +118,19 @@ chosen_here (Some v) (Some o) =
 -- the locks after, beside those before: of one node these rows, of all others what was there
 pub record HasRowsAt (instance : ℕ) (new before after : StoredLocks) : Type 0 where
   pub in_order : IsStrictlySortedBy lock_order (keys_of after)
-  pub here : rows_at after instance ≡ new
-  pub others : rows_off after instance ≡ rows_off before instance
+  pub here : locks_at after instance ≡ new
+  pub others : locks_off after instance ≡ locks_off before instance
 
 opposite : (b : Bool) → b ≡ true → b ≡ false → ⊥
 opposite b h k = absurd (cc)
 
 -- what is found among the rows of one lock, and among those of all others
-find_at : (locks : StoredLocks) (instance : ℕ) (q : LockKey) → find q (rows_at locks instance) ≡ cond (q.instance == instance) (find q locks) None
+find_at : (locks : StoredLocks) (instance : ℕ) (q : LockKey) → find q (locks_at locks instance) ≡ cond (q.instance == instance) (find q locks) None
 find_at locks instance q =
     lookup-filter-keys (is_at (lock_order q)) (λ k. k.instance == instance) (q.instance == instance)
     (λ k h. ap (λ (x : LockKey). x.instance == instance) (sym (exact_lock q k (eq_at (lock_order q k) h)))) locks
 
-find_off : (locks : StoredLocks) (instance : ℕ) (q : LockKey) → find q (rows_off locks instance) ≡ cond (not (q.instance == instance)) (find q locks) None
+find_off : (locks : StoredLocks) (instance : ℕ) (q : LockKey) → find q (locks_off locks instance) ≡ cond (not (q.instance == instance)) (find q locks) None
 find_off locks instance q =
     lookup-filter-keys (is_at (lock_order q)) (λ k. not (k.instance == instance)) (not (q.instance == instance))
     (λ k h. ap (λ (x : LockKey). not (x.instance == instance)) (sym (exact_lock q k (eq_at (lock_order q k) h)))) locks
@@ -142,7 +143,7 @@ find_own new instance q own other =
       | Some v ↦ (λ c. absurd (opposite (q.instance == instance) (all_found lock_order exact_lock (λ e. e.0.instance == instance) new q v own c) other))
     ]) refl
 
-module _ (locks old new : StoredLocks) (instance : ℕ) (sorted : IsStrictlySortedBy lock_order (keys_of locks)) (are : rows_at locks instance ≡ old) (new_sorted : IsStrictlySortedBy lock_order (keys_of new)) (own : list_all (λ e. e.0.instance == instance) new ≡ true) where
+module _ (locks old new : StoredLocks) (instance : ℕ) (sorted : IsStrictlySortedBy lock_order (keys_of locks)) (are : locks_at locks instance ≡ old) (new_sorted : IsStrictlySortedBy lock_order (keys_of new)) (own : list_all (λ e. e.0.instance == instance) new ≡ true) where
   old_sorted : IsStrictlySortedBy lock_order (keys_of old)
   old_sorted = let P : StoredLocks → Type 0 = λ es. IsStrictlySortedBy lock_order (keys_of es) in subst P are (sorted_kept lock_order (λ e. e.0.instance == instance) locks sorted)
 
@@ -174,7 +175,7 @@ module _ (locks old new : StoredLocks) (instance : ℕ) (sorted : IsStrictlySort
   after_sorted : IsStrictlySortedBy lock_order (keys_of (relocked old new locks))
   after_sorted = all_put_sorted (put_rows old new) (unlocked_by (gone_keys old new) locks) (unlocked_sorted (gone_keys old new) locks sorted)
 
-  find_here : (q : LockKey) → find q (rows_at (relocked old new locks) instance) ≡ find q new
+  find_here : (q : LockKey) → find q (locks_at (relocked old new locks) instance) ≡ find q new
   find_here q =
       let none : Option LockRow = None in
       find_at (relocked old new locks) instance q ∙ ap (λ o. cond (q.instance == instance) o none) (find_after q)
@@ -183,7 +184,7 @@ module _ (locks old new : StoredLocks) (instance : ℕ) (sorted : IsStrictlySort
         | false ↦ (λ c. sym (find_own new instance q own c))
       ]) refl
 
-  find_elsewhere : (q : LockKey) → find q (rows_off (relocked old new locks) instance) ≡ find q (rows_off locks instance)
+  find_elsewhere : (q : LockKey) → find q (locks_off (relocked old new locks) instance) ≡ find q (locks_off locks instance)
   find_elsewhere q =
       let none : Option LockRow = None in
       find_off (relocked old new locks) instance q ∙ ap (λ o. cond (not (q.instance == instance)) o none) (find_after q)
@@ -196,8 +197,8 @@ module _ (locks old new : StoredLocks) (instance : ℕ) (sorted : IsStrictlySort
       let after : StoredLocks = relocked old new locks in
       record {
         in_order = after_sorted;
-        here = same_lookups lock_order locks_total exact_lock (rows_at after instance) new (sorted_kept lock_order (λ e. e.0.instance == instance) after after_sorted) new_sorted find_here;
-        others = same_lookups lock_order locks_total exact_lock (rows_off after instance) (rows_off locks instance)
+        here = same_lookups lock_order locks_total exact_lock (locks_at after instance) new (sorted_kept lock_order (λ e. e.0.instance == instance) after after_sorted) new_sorted find_here;
+        others = same_lookups lock_order locks_total exact_lock (locks_off after instance) (locks_off locks instance)
             (sorted_kept lock_order (λ e. not (e.0.instance == instance)) after after_sorted)
             (sorted_kept lock_order (λ e. not (e.0.instance == instance)) locks sorted) find_elsewhere;
       }
@@ -208,16 +209,16 @@ between : (a i j : ℕ) → (a == j) ≡ true → (j == i) ≡ false → (a == i
 between a i j e o = grind (arith, nat_tests)
 
 -- the rows of one lock are among those of all others
-at_of_off : (locks : StoredLocks) (instance other : ℕ) → (other == instance) ≡ false → rows_at (rows_off locks instance) other ≡ rows_at locks other
+at_of_off : (locks : StoredLocks) (instance other : ℕ) → (other == instance) ≡ false → locks_at (locks_off locks instance) other ≡ locks_at locks other
 at_of_off [] instance other h = refl
 at_of_off (e ∷ es) instance other h =
-    let off : StoredLocks = rows_off es instance in
+    let off : StoredLocks = locks_off es instance in
     let rest = at_of_off es instance other h in
-    (elim (e.0.instance == other) as (λ b. (e.0.instance == other) ≡ b → rows_at (cond (not (e.0.instance == instance)) (e ∷ off) off) other ≡ cond b (e ∷ rows_at es other) (rows_at es other)) [
+    (elim (e.0.instance == other) as (λ b. (e.0.instance == other) ≡ b → locks_at (cond (not (e.0.instance == instance)) (e ∷ off) off) other ≡ cond b (e ∷ locks_at es other) (locks_at es other)) [
       | true ↦ (λ c. rw (between e.0.instance instance other c h, c) (ap (λ xs. e ∷ xs) rest))
-      | false ↦ (λ c. elim (e.0.instance == instance) as (λ b. rows_at (cond (not b) (e ∷ off) off) other ≡ rows_at es other) [ true ↦ rest | false ↦ rw c rest ])
+      | false ↦ (λ c. elim (e.0.instance == instance) as (λ b. locks_at (cond (not b) (e ∷ off) off) other ≡ locks_at es other) [ true ↦ rest | false ↦ rw c rest ])
     ]) refl
 
-pub rows_elsewhere : (before after : StoredLocks) (instance other : ℕ) → rows_off after instance ≡ rows_off before instance → (other == instance) ≡ false → rows_at after other ≡ rows_at before other
-rows_elsewhere before after instance other same h =
-    sym (at_of_off after instance other h) ∙ ap (λ es. rows_at es other) same ∙ at_of_off before instance other h
+pub locks_elsewhere : (before after : StoredLocks) (instance other : ℕ) → locks_off after instance ≡ locks_off before instance → (other == instance) ≡ false → locks_at after other ≡ locks_at before other
+locks_elsewhere before after instance other same h =
+    sym (at_of_off after instance other h) ∙ ap (λ es. locks_at es other) same ∙ at_of_off before instance other h

@@ -16,13 +16,9 @@ use Rattle.rows_cell.specs.Keys.{lock_order}
 use Rattle.rows_cell.specs.Rows.{StoredNodes, StoredLocks}
 use Rattle.rows_cell.specs.Sound.{is_number, is_live_in, is_shared}
 
--- the rows of the lock of one node
-abbrev pub rows_at : StoredLocks → ℕ → StoredLocks
-rows_at locks instance = filter (λ e. e.0.instance == instance) locks
-
--- those of all others
-abbrev pub rows_off : StoredLocks → ℕ → StoredLocks
-rows_off locks instance = filter (λ e. not (e.0.instance == instance)) locks
+-- the rows of the locks of all other nodes
+abbrev pub locks_off : StoredLocks → ℕ → StoredLocks
+locks_off locks instance = filter (λ e. not (e.0.instance == instance)) locks
 
 -- ---- what the rows of one lock may be
 
@@ -88,7 +84,23 @@ put_rows old new = filter (λ e. not (has_entry old e)) new
 abbrev pub row_edits : StoredLocks → StoredLocks → List Edit
 row_edits old new = map RemoveLock (gone_keys old new) ++ map (λ e. PutLock e.0 e.1) (put_rows old new)
 
--- the edits of one lock: its generation where that changes, then its rows
-abbrev pub lock_edits : List ℕ → Option ℕ → StoredLocks → StoredLocks → List Edit
-lock_edits name None old new = row_edits old new
-lock_edits name (Some generation) old new = LockGeneration name generation ∷ row_edits old new
+-- what becomes of one lock: the name and the instance of its node, its new generation where that changes, its rows before and after
+pub record LockChange : Type 0 where
+  pub name : List ℕ
+  pub instance : ℕ
+  pub generation : Option ℕ
+  pub old : StoredLocks
+  pub new : StoredLocks
+
+abbrev pub generation_edits : List ℕ → Option ℕ → List Edit
+generation_edits name None = []
+generation_edits name (Some generation) = LockGeneration name generation ∷ []
+
+-- first the generation, then the rows
+abbrev pub lock_edits : LockChange → List Edit
+lock_edits change = generation_edits change.name change.generation ++ row_edits change.old change.new
+
+-- one lock behind the other
+abbrev pub locks_edits : List LockChange → List Edit
+locks_edits [] = []
+locks_edits (change ∷ changes) = lock_edits change ++ locks_edits changes
