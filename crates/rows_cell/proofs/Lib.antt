@@ -15,3 +15,4 @@ pub mod SortedLookups
 pub mod RowEdits
 pub mod SoundLocks
 pub mod SoundGenerations
+pub mod LockChanges

@@ -23,7 +23,7 @@ use Rattle.rows_cell.proofs.RowEdits.{HasRowsAt, relocked, relocks, relocked_row
 -- ---- tests of all entries
 
 -- a test that those pass that a filter lets through, and the others
-all_from_halves : {X : Type 0} (keep p : X → Bool) (xs : List X) → list_all p (filter keep xs) ≡ true → list_all p (filter (λ x. not (keep x)) xs) ≡ true → list_all p xs ≡ true
+pub all_from_halves : {X : Type 0} (keep p : X → Bool) (xs : List X) → list_all p (filter keep xs) ≡ true → list_all p (filter (λ x. not (keep x)) xs) ≡ true → list_all p xs ≡ true
 all_from_halves keep p [] h k = refl
 all_from_halves {X} keep p (x ∷ xs) h k =
     (elim (keep x) as (λ b. list_all p (cond b (x ∷ filter keep xs) (filter keep xs)) ≡ true → list_all p (cond (not b) (x ∷ filter (λ y. not (keep y)) xs) (filter (λ y. not (keep y)) xs)) ≡ true → (p x && list_all p xs) ≡ true) [
