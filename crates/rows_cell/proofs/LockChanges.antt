@@ -121,3 +121,142 @@ module _ (rows : Rows) (change : LockChange) (fits : ChangeFits rows change) whe
         before = k.before;
         after = k.after;
       }
+
+-- ---- some locks, one behind the other
+
+abbrev pub nodes_behind : StoredNodes → List LockChange → StoredNodes
+nodes_behind nodes [] = nodes
+nodes_behind nodes (change ∷ changes) = nodes_behind (with_generation nodes change.name change.generation) changes
+
+abbrev pub locks_behind : StoredLocks → List LockChange → StoredLocks
+locks_behind locks [] = locks
+locks_behind locks (change ∷ changes) = locks_behind (relocked change.old change.new locks) changes
+
+-- their edits change nothing else
+pub locks_edits_done : (rows : Rows) (changes : List LockChange) → changed_rows rows (locks_edits changes) ≡ record rows { nodes = nodes_behind rows.nodes changes; locks = locks_behind rows.locks changes }
+locks_edits_done rows [] = refl
+locks_edits_done rows (change ∷ changes) =
+    changed_more rows (lock_edits change) (locks_edits changes) ∙ ap (λ (r : Rows). changed_rows r (locks_edits changes)) (lock_edits_done rows change) ∙ locks_edits_done (relocked_by rows change) changes
+
+-- what changes of some locks need: each fits, and no two are of the same lock
+pub record ChangesFit (rows : Rows) (changes : List LockChange) : Type 0 where
+  pub each : AllByRecursion (ChangeFits rows) changes
+  pub distinct : are_distinct (map (λ change. change.instance) changes) ≡ true
+
+each_behind : (rows : Rows) (change : LockChange) (changes : List LockChange) → ChangeFits rows change → IsStrictlySortedBy lock_order (keys_of rows.locks) → list_any (λ m. m == change.instance) (map (λ c. c.instance) changes) ≡ false → AllByRecursion (ChangeFits rows) changes → AllByRecursion (ChangeFits (relocked_by rows change)) changes
+each_behind rows change [] fits sorted apart each = tt
+each_behind rows change (other ∷ changes) fits sorted apart each =
+    let t = or_parts (other.instance == change.instance) (list_any (λ m. m == change.instance) (map (λ c. c.instance) changes)) apart in
+    (fits_behind rows change fits sorted other (turned other.instance change.instance t.0) each.0, each_behind rows change changes fits sorted t.1 each.1)
+
+-- once the first has changed, the others still fit
+pub others_fit : (rows : Rows) (change : LockChange) (changes : List LockChange) → ChangesFit rows (change ∷ changes) → IsStrictlySortedBy lock_order (keys_of rows.locks) → ChangesFit (relocked_by rows change) changes
+others_fit rows change changes fits sorted =
+    let among : Bool = list_any (λ m. m == change.instance) (map (λ (c : LockChange). c.instance) changes) in
+    let t = and_parts (not among) (are_distinct (map (λ (c : LockChange). c.instance) changes)) fits.distinct in
+    record { each = each_behind rows change changes fits.each.0 sorted (not-true among t.0) fits.each.1; distinct = t.1 }
+
+-- they leave the rows sound
+pub changes_sound : (cell : List ℕ) (rows : Rows) (changes : List LockChange) → sound cell rows ≡ true → IsStrictlySortedBy lock_order (keys_of rows.locks) → ChangesFit rows changes → sound cell (changed_rows rows (locks_edits changes)) ≡ true
+changes_sound cell rows [] h sorted fits = h
+changes_sound cell rows (change ∷ changes) h sorted fits =
+    let P : Rows → Type 0 = λ r. sound cell r ≡ true in
+    let Q : Rows → Type 0 = λ r. sound cell (changed_rows r (locks_edits changes)) ≡ true in
+    let first = subst P (lock_edits_done rows change) (change_sound rows change fits.each.0 cell h sorted) in
+    let after = (change_locks rows change fits.each.0 sorted).in_order in
+    let done = changes_sound cell (relocked_by rows change) changes first after (others_fit rows change changes fits sorted) in
+    subst P (sym (changed_more rows (lock_edits change) (locks_edits changes))) (subst Q (sym (lock_edits_done rows change)) done)
+
+-- the locks stay in order
+pub changes_in_order : (rows : Rows) (changes : List LockChange) → IsStrictlySortedBy lock_order (keys_of rows.locks) → ChangesFit rows changes → IsStrictlySortedBy lock_order (keys_of (locks_behind rows.locks changes))
+changes_in_order rows [] sorted fits = sorted
+changes_in_order rows (change ∷ changes) sorted fits =
+    changes_in_order (relocked_by rows change) changes (change_locks rows change fits.each.0 sorted).in_order (others_fit rows change changes fits sorted)
+
+-- the map stays
+pub changes_map : (nodes : StoredNodes) (changes : List LockChange) → views_of (nodes_behind nodes changes) ≡ views_of nodes
+changes_map nodes [] = refl
+changes_map nodes (change ∷ changes) = changes_map (with_generation nodes change.name change.generation) changes ∙ same_map nodes change.name change.generation
+
+-- the rows of a node's lock: the new ones where it is among the changes, else what was there
+abbrev pub new_rows_of : List LockChange → StoredLocks → ℕ → StoredLocks
+new_rows_of [] locks n = locks_at locks n
+new_rows_of (change ∷ changes) locks n = cond (change.instance == n) change.new (new_rows_of changes locks n)
+
+among_none : (changes : List LockChange) (locks : StoredLocks) (n : ℕ) → list_any (λ m. m == n) (map (λ (c : LockChange). c.instance) changes) ≡ false → new_rows_of changes locks n ≡ locks_at locks n
+among_none [] locks n h = refl
+among_none (change ∷ changes) locks n h =
+    let t = or_parts (change.instance == n) (list_any (λ m. m == n) (map (λ (c : LockChange). c.instance) changes)) h in
+    ap (λ b. cond b change.new (new_rows_of changes locks n)) t.0 ∙ among_none changes locks n t.1
+
+same_new_rows : (changes : List LockChange) (locks others : StoredLocks) (n : ℕ) → locks_at locks n ≡ locks_at others n → new_rows_of changes locks n ≡ new_rows_of changes others n
+same_new_rows [] locks others n h = h
+same_new_rows (change ∷ changes) locks others n h = ap (λ es. cond (change.instance == n) change.new es) (same_new_rows changes locks others n h)
+
+pub changes_locks : (rows : Rows) (changes : List LockChange) (n : ℕ) → IsStrictlySortedBy lock_order (keys_of rows.locks) → ChangesFit rows changes → locks_at (locks_behind rows.locks changes) n ≡ new_rows_of changes rows.locks n
+changes_locks rows [] n sorted fits = refl
+changes_locks rows (change ∷ changes) n sorted fits =
+    let after : StoredLocks = (relocked_by rows change).locks in
+    let locks = change_locks rows change fits.each.0 sorted in
+    let rest = changes_locks (relocked_by rows change) changes n locks.in_order (others_fit rows change changes fits sorted) in
+    let among : ℕ → Bool = λ i. list_any (λ m. m == i) (map (λ (c : LockChange). c.instance) changes) in
+    let none : among change.instance ≡ false = not-true (among change.instance) (and_parts (not (among change.instance)) (are_distinct (map (λ (c : LockChange). c.instance) changes)) fits.distinct).0 in
+    (elim (change.instance == n) as (λ b. (change.instance == n) ≡ b → locks_at (locks_behind after changes) n ≡ cond b change.new (new_rows_of changes rows.locks n)) [
+      | true ↦ (λ c.
+          let is : change.instance ≡ n = eqb-true change.instance n c in
+          let P : ℕ → Type 0 = λ i. among i ≡ false in
+          rest ∙ among_none changes after n (subst P is none) ∙ ap (λ i. locks_at after i) (sym is) ∙ locks.here)
+      | false ↦ (λ c. rest ∙ same_new_rows changes after rows.locks n (locks_elsewhere rows.locks after change.instance n locks.others (turned change.instance n c)))
+    ]) refl
+
+-- ---- with the end of a session
+
+-- each lock that the client's session holds is among the changes
+abbrev pub are_among : ℕ → List LockChange → StoredLocks → Bool
+are_among client changes locks = list_all (λ e. not (holds is_holding client e) || list_any (λ change. change.instance == e.0.instance) changes) locks
+
+-- it holds none of them behind its change
+abbrev pub are_free : ℕ → List LockChange → Bool
+are_free client changes = list_all (λ change. list_all (λ e. not (holds is_holding client e)) change.new) changes
+
+without_middle : (a b c : Bool) → b ≡ false → (a || (b || c)) ≡ true → (a || c) ≡ true
+without_middle true b c e h = refl
+without_middle false true c e h = absurd cc
+without_middle false false c e h = h
+
+or_nothing : (a : Bool) → (a || false) ≡ true → a ≡ true
+or_nothing true h = refl
+or_nothing false h = h
+
+pub changes_free : (rows : Rows) (client : ℕ) (changes : List LockChange) → IsStrictlySortedBy lock_order (keys_of rows.locks) → ChangesFit rows changes → are_free client changes ≡ true → are_among client changes rows.locks ≡ true → list_all (λ e. not (holds is_holding client e)) (locks_behind rows.locks changes) ≡ true
+changes_free rows client [] sorted fits free among = all_more (λ e. not (holds is_holding client e) || false) (λ e. not (holds is_holding client e)) rows.locks (λ e h. or_nothing (not (holds is_holding client e)) h) among
+changes_free rows client (change ∷ changes) sorted fits free among =
+    let after : StoredLocks = (relocked_by rows change).locks in
+    let locks = change_locks rows change fits.each.0 sorted in
+    let held : LockKey × LockRow → Bool = λ e. not (holds is_holding client e) in
+    let any : LockKey × LockRow → Bool = λ e. list_any (λ (c : LockChange). c.instance == e.0.instance) changes in
+    let t = and_parts (list_all held change.new) (are_free client changes) free in
+    let P : StoredLocks → Type 0 = λ es. list_all (λ e. held e || any e) es ≡ true in
+    let new : P change.new = all_more held (λ e. held e || any e) change.new (λ e h. or_left (held e) (any e) h) t.0 in
+    let old : P (locks_off rows.locks change.instance) =
+    all_let_through (λ e. not (e.0.instance == change.instance)) (λ e. held e || (change.instance == e.0.instance || any e)) (λ e. held e || any e) rows.locks
+    (λ e kept h. without_middle (held e) (change.instance == e.0.instance) (any e) (turned e.0.instance change.instance (not-true (e.0.instance == change.instance) kept)) h) among in
+    let left : P after = all_from_halves (λ e. e.0.instance == change.instance) (λ e. held e || any e) after (subst P (sym locks.here) new) (subst P (sym locks.others) old) in
+    changes_free (relocked_by rows change) client changes locks.in_order (others_fit rows change changes fits sorted) t.1 left
+
+-- the rows behind an expiry
+pub expiry_done : (rows : Rows) (changes : List LockChange) (client : ℕ) (session : Session)
+    → changed_rows rows (locks_edits changes ++ PutSession client session ∷ []) ≡ record rows { nodes = nodes_behind rows.nodes changes; locks = locks_behind rows.locks changes; sessions = insert_entry nat_cmp rows.sessions client session }
+expiry_done rows changes client session =
+    changed_more rows (locks_edits changes) (PutSession client session ∷ []) ∙ ap (λ (r : Rows). edited r (PutSession client session)) (locks_edits_done rows changes)
+
+-- an expiry leaves the rows sound, where each lock that the session held is among the changes, and it holds none behind them
+pub expiry_sound : (cell : List ℕ) (rows : Rows) (changes : List LockChange) (client : ℕ) (session : Session) → sound cell rows ≡ true → IsStrictlySortedBy lock_order (keys_of rows.locks) → ChangesFit rows changes → is_number client ≡ true → are_free client changes ≡ true → are_among client changes rows.locks ≡ true
+    → sound cell (changed_rows rows (locks_edits changes ++ PutSession client session ∷ [])) ≡ true
+expiry_sound cell rows changes client session h sorted fits number free among =
+    let P : Rows → Type 0 = λ r. sound cell r ≡ true in
+    let Q : Rows → Type 0 = λ r. list_all (λ e. not (holds is_holding client e)) r.locks ≡ true in
+    let after : Rows = changed_rows rows (locks_edits changes) in
+    let none : Q after = subst Q (sym (locks_edits_done rows changes)) (changes_free rows client changes sorted fits free among) in
+    let done = ended_sound cell after client session is_holding refl refl (changes_sound cell rows changes h sorted fits) number none in
+    subst P (sym (changed_more rows (locks_edits changes) (PutSession client session ∷ []))) done
