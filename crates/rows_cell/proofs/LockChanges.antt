@@ -19,14 +19,15 @@ use Rattle.rows_cell.specs.declared.tables.Edit.TheVariants.{LockGeneration, Put
 use Rattle.rows_cell.specs.Keys.{lock_order}
 use Rattle.rows_cell.specs.Rows.{StoredNodes, StoredLocks, stored_node, views_of, map_of, edited, changed_rows}
 use Rattle.rows_cell.specs.Sound.{sound, is_number, are_distinct}
-use Rattle.rows_cell.specs.Indexes.{locks_at}
+use Rattle.rows_cell.specs.Indexes.{locks_at, lock_generation_in}
 use Rattle.rows_cell.specs.LockRows.{locks_off, is_holding, has_holder, are_legal_rows, has_generation, row_edits, LockChange, generation_edits, lock_edits, locks_edits}
 use Rattle.rows_cell.proofs.PutEntries.{all_more}
 use Rattle.rows_cell.proofs.SoundEnds.{changed_more, holds, ended_sound}
+use Rattle.rows_cell.proofs.SoundParts.{parts_of}
 use Rattle.rows_cell.proofs.SoundRemovals.{all_let_through}
 use Rattle.rows_cell.proofs.RowEdits.{HasRowsAt, relocked, relocks, relocked_rows, locks_elsewhere}
 use Rattle.rows_cell.proofs.SoundLocks.{RowsFit, all_from_halves, own_keys, relocked_sound}
-use Rattle.rows_cell.proofs.SoundGenerations.{GenerationFits, generation_sound, found_there, found_generation, with_generation, generation_here, generation_elsewhere, same_map}
+use Rattle.rows_cell.proofs.SoundGenerations.{GenerationFits, generation_sound, found_there, found_generation, with_generation, generation_here, generation_elsewhere, same_map, kept_or_new}
 
 not_equal : (a b : ℕ) → (a == b) ≡ false → a ≡ b → ⊥
 not_equal a b h e = grind (arith, nat_tests)
@@ -78,6 +79,13 @@ module _ (rows : Rows) (change : LockChange) (fits : ChangeFits rows change) whe
       let P : StoredLocks → Type 0 = λ locks. has_holder locks ≡ true → nat_le 1 generation ≡ true in
       let held : P (locks_at rows.locks fits.node.view.instance) = subst P (sym (ap (λ n. locks_at rows.locks n) fits.instance ∙ fits.old)) before in
       generation_sound cell rows change.name fits.node generation (record { found = fits.found; number = number; held = held }) h
+
+  -- the node's lock has the new generation, where there is one, and all others have theirs
+  pub change_generation : (cell : List ℕ) (n : ℕ) → sound cell rows ≡ true
+      → lock_generation_in (relocked_by rows change).nodes n ≡ cond (change.instance == n) (Some (unwrap_or change.generation fits.node.lock_generation)) (lock_generation_in rows.nodes n)
+  change_generation cell n h =
+      kept_or_new rows.nodes change.name fits.node change.generation n fits.found (parts_of cell rows h).distinct
+      ∙ ap (λ i. cond (i == n) (Some (unwrap_or change.generation fits.node.lock_generation)) (lock_generation_in rows.nodes n)) fits.instance
 
   -- it leaves the rows sound
   pub change_sound : (cell : List ℕ) → sound cell rows ≡ true → IsStrictlySortedBy lock_order (keys_of rows.locks) → sound cell (changed_rows rows (lock_edits change)) ≡ true

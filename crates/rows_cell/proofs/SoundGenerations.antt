@@ -331,3 +331,32 @@ pub generation_by_instance : (nodes : StoredNodes) (name : List ℕ) (node : Nod
 generation_by_instance nodes name node generation n found distinct =
     let P : Option Node → Type 0 = λ o. lock_generation_in (at_generation nodes name o generation) n ≡ cond (node.view.instance == n) (Some generation) (lock_generation_in nodes n) in
     subst P (sym found) (set_by_instance nodes name node generation n found distinct)
+
+-- the node's own, which no other node's hides
+pub found_by_instance : (nodes : StoredNodes) (name : List ℕ) (node : Node) → stored_node nodes name ≡ Some node → are_distinct (instances nodes) ≡ true → lock_generation_in nodes node.view.instance ≡ Some node.lock_generation
+found_by_instance [] name node found distinct = absurd cc
+found_by_instance (e ∷ es) name node found distinct =
+    let at : List ℕ → Bool = is_at (slice_cmp nat_cmp name) in
+    let any : Bool = list_any (λ m. m == e.1.view.instance) (instances es) in
+    let t = and_parts (not any) (are_distinct (instances es)) distinct in
+    (elim (at e.0) as (λ b. cond b (Some e.1) (stored_node es name) ≡ Some node → lock_generation_in (e ∷ es) node.view.instance ≡ Some node.lock_generation) [
+      | true ↦ (λ f. let same : e.1 ≡ node = cc in rw (same, same_number node.view.instance) refl)
+      | false ↦ (λ f.
+          (elim (e.1.view.instance == node.view.instance) as (λ b. (e.1.view.instance == node.view.instance) ≡ b → cond b (Some e.1.lock_generation) (lock_generation_in es node.view.instance) ≡ Some node.lock_generation) [
+            | true ↦ (λ c.
+                let both : (node.view.instance == e.1.view.instance) ≡ true = not_both e.1.view.instance node.view.instance node.view.instance c (same_number node.view.instance) in
+                let is : has_instance es e.1.view.instance ≡ true = any_found at (λ (x : Node). x.view.instance == e.1.view.instance) es node f both in
+                absurd (opposite any (sym (has_by es e.1.view.instance) ∙ is) t.0))
+            | false ↦ (λ c. found_by_instance es name node f t.1)
+          ]) refl)
+    ]) found
+
+-- the same where the generation may stay
+pub kept_or_new : (nodes : StoredNodes) (name : List ℕ) (node : Node) (generation : Option ℕ) (n : ℕ) → stored_node nodes name ≡ Some node → are_distinct (instances nodes) ≡ true
+    → lock_generation_in (with_generation nodes name generation) n ≡ cond (node.view.instance == n) (Some (unwrap_or generation node.lock_generation)) (lock_generation_in nodes n)
+kept_or_new nodes name node (Some generation) n found distinct = generation_by_instance nodes name node generation n found distinct
+kept_or_new nodes name node None n found distinct =
+    (elim (node.view.instance == n) as (λ b. (node.view.instance == n) ≡ b → lock_generation_in nodes n ≡ cond b (Some node.lock_generation) (lock_generation_in nodes n)) [
+      | true ↦ (λ c. let is : node.view.instance ≡ n = eqb-true node.view.instance n c in ap (λ m. lock_generation_in nodes m) (sym is) ∙ found_by_instance nodes name node found distinct)
+      | false ↦ (λ c. refl)
+    ]) refl

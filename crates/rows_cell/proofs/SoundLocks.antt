@@ -4,6 +4,7 @@ use Rattle.std.specs.Prelude.{◌&&◌, ◌||◌, ◌==◌, not, nat_le, filter}
 use Rattle.std.specs.List.{list_all, list_any}
 use Rattle.std.specs.List.Sorted.{IsStrictlySortedBy}
 use Rattle.std.specs.Map.{keys_of}
+use Rattle.std.proofs.lemmas.Bool.Decides.{nat_tests}
 use Rattle.std.proofs.lemmas.Bool.{and_parts, and_from, or_parts, eqb-true, not-true, not_from_false}
 use Rattle.rows_cell.specs.declared.tables.LockRow.{LockRow}
 use Rattle.rows_cell.specs.declared.tables.LockState.{LockState}
@@ -40,6 +41,16 @@ none_pass p [] h = refl
 none_pass p (x ∷ xs) h =
     let t = or_parts (p x) (list_any p xs) h in
     and_from (not (p x)) (list_all (λ y. not (p y)) xs) (not_from_false (p x) t.0) (none_pass p xs t.1)
+
+-- what follows from a test that some entry passes
+some_of : {X : Type 0} (p : X → Bool) (b : Bool) (xs : List X) → list_any p xs ≡ true → list_all (λ x. not (p x) || b) xs ≡ true → b ≡ true
+some_of p b [] some all = absurd cc
+some_of {X} p b (x ∷ xs) some all =
+    let t = and_parts (not (p x) || b) (list_all (λ y. not (p y) || b) xs) all in
+    (elim (p x) as (λ v. (v || list_any p xs) ≡ true → (not v || b) ≡ true → b ≡ true) [
+      | true ↦ (λ s a. a)
+      | false ↦ (λ s a. some_of p b xs s t.1)
+    ]) some t.0
 
 -- ---- each of the rows beside all of them
 
@@ -158,3 +169,78 @@ relocked_sound cell rows instance old new h sorted are new_sorted fits =
     let t = relocked_rows rows.locks old new instance sorted are new_sorted (own_keys rows instance new fits.legal) in
     let P : Rows → Type 0 = λ r. sound cell r ≡ true in
     subst P (sym (relocks rows old new)) (new_rows_sound cell rows instance new (relocked old new rows.locks) fits t.here t.others h)
+
+-- ---- the other way round: what sound rows hold
+
+legal_by : (rows : Rows) (key : LockKey) (state : LockState) → state_fits rows key state ≡ true → client_fits rows key state ≡ true
+legal_by rows key Lapsed h =
+    let t = and_parts (length (beside rows.locks key) == 1 && key.client == 0) (key.handle == 0) h in
+    and_from (key.client == 0) (key.handle == 0) (and_parts (length (beside rows.locks key) == 1) (key.client == 0) t.0).1 t.1
+legal_by rows key Exclusive h =
+    let t = and_parts (length (beside rows.locks key) == 1) (holder_fits rows key) h in
+    (and_parts (has_generation rows.nodes key.instance) (is_live_in rows key.client) t.1).1
+legal_by rows key Shared h =
+    let t = and_parts (list_all (λ e. is_shared e.1.state) (beside rows.locks key)) (holder_fits rows key) h in
+    (and_parts (has_generation rows.nodes key.instance) (is_live_in rows key.client) t.1).1
+
+stands_by : (rows : Rows) (key : LockKey) (state : LockState) → state_fits rows key state ≡ true → stands (beside rows.locks key) state ≡ true
+stands_by rows key Lapsed h =
+    let t = and_parts (length (beside rows.locks key) == 1 && key.client == 0) (key.handle == 0) h in
+    (and_parts (length (beside rows.locks key) == 1) (key.client == 0) t.0).0
+stands_by rows key Exclusive h = (and_parts (length (beside rows.locks key) == 1) (holder_fits rows key) h).0
+stands_by rows key Shared h = (and_parts (list_all (λ e. is_shared e.1.state) (beside rows.locks key)) (holder_fits rows key) h).0
+
+generation_by : (rows : Rows) (key : LockKey) (state : LockState) → state_fits rows key state ≡ true → (not (is_holding state) || has_generation rows.nodes key.instance) ≡ true
+generation_by rows key Lapsed h = refl
+generation_by rows key Exclusive h =
+    let t = and_parts (length (beside rows.locks key) == 1) (holder_fits rows key) h in
+    (and_parts (has_generation rows.nodes key.instance) (is_live_in rows key.client) t.1).0
+generation_by rows key Shared h =
+    let t = and_parts (list_all (λ e. is_shared e.1.state) (beside rows.locks key)) (holder_fits rows key) h in
+    (and_parts (has_generation rows.nodes key.instance) (is_live_in rows key.client) t.1).0
+
+two_apart : (x y : LockKey × LockRow) (rest : StoredLocks) → (length (x ∷ y ∷ rest) == 1) ≡ true → ⊥
+two_apart x y rest h = grind (arith, nat_tests)
+
+two_together : (x y : LockKey × LockRow) (rest : StoredLocks) (state : LockState) → stands (x ∷ y ∷ rest) state ≡ true → list_all (λ e. is_shared e.1.state) (x ∷ y ∷ rest) ≡ true
+two_together x y rest Lapsed h = absurd (two_apart x y rest h)
+two_together x y rest Exclusive h = absurd (two_apart x y rest h)
+two_together x y rest Shared h = h
+
+together_by : (whole : StoredLocks) → list_all (λ e. stands whole e.1.state) whole ≡ true → are_together whole ≡ true
+together_by [] h = refl
+together_by (x ∷ []) h = refl
+together_by (x ∷ y ∷ rest) h = two_together x y rest x.1.state (and_parts (stands (x ∷ y ∷ rest) x.1.state) (list_all (λ e. stands (x ∷ y ∷ rest) e.1.state) (y ∷ rest)) h).0
+
+module _ (cell : List ℕ) (rows : Rows) (instance : ℕ) (h : sound cell rows ≡ true) where
+  here_fit : (p : LockKey × LockRow → Bool) → ((e : LockKey × LockRow) → (e.0.instance == instance) ≡ true → lock_fits rows e ≡ true → p e ≡ true) → list_all p (locks_at rows.locks instance) ≡ true
+  here_fit p f = all_let_through (λ e. e.0.instance == instance) (lock_fits rows) p rows.locks f (parts_of cell rows h).locks
+
+  fit_parts : (e : LockKey × LockRow) → lock_fits rows e ≡ true → (is_number e.0.client ≡ true) × (is_number e.0.handle ≡ true) × (nat_le e.1.delay 60000 ≡ true) × (state_fits rows e.0 e.1.state ≡ true)
+  fit_parts e k =
+      let t = five_parts (has_instance rows.nodes e.0.instance) (is_number e.0.client) (is_number e.0.handle) (nat_le e.1.delay 60000) (state_fits rows e.0 e.1.state) k in
+      (t.1, t.2, t.3, t.4)
+
+  -- the rows of each lock of sound rows are legal
+  pub sound_legal : are_legal_rows rows instance (locks_at rows.locks instance) ≡ true
+  sound_legal =
+      let whole : StoredLocks = locks_at rows.locks instance in
+      let each : list_all (row_fits rows instance) whole ≡ true = here_fit (row_fits rows instance) (λ e own k.
+      let t = fit_parts e k in
+      rw (own, t.0, t.1, t.2) (legal_by rows e.0 e.1.state t.3)) in
+      let standing : list_all (λ e. stands whole e.1.state) whole ≡ true = here_fit (λ e. stands whole e.1.state) (λ e own k.
+      let is : e.0.instance ≡ instance = eqb-true e.0.instance instance own in
+      let P : ℕ → Type 0 = λ n. stands (locks_at rows.locks n) e.1.state ≡ true in
+      subst P is (stands_by rows e.0 e.1.state (fit_parts e k).3)) in
+      and_from (list_all (row_fits rows instance) whole) (are_together whole) each (together_by whole standing)
+
+  -- and where somebody holds it, it had a first generation
+  pub sound_generation : has_holder (locks_at rows.locks instance) ≡ true → has_generation rows.nodes instance ≡ true
+  sound_generation held =
+      let whole : StoredLocks = locks_at rows.locks instance in
+      let first : list_all (λ e. not (is_holding e.1.state) || has_generation rows.nodes instance) whole ≡ true =
+      here_fit (λ e. not (is_holding e.1.state) || has_generation rows.nodes instance) (λ e own k.
+      let is : e.0.instance ≡ instance = eqb-true e.0.instance instance own in
+      let P : ℕ → Type 0 = λ n. (not (is_holding e.1.state) || has_generation rows.nodes n) ≡ true in
+      subst P is (generation_by rows e.0 e.1.state (fit_parts e k).3)) in
+      some_of (λ e. is_holding e.1.state) (has_generation rows.nodes instance) whole held first
