@@ -1,6 +1,6 @@
 -- What becomes of some locks at once leaves the rows sound, also where a session ends with it.
 use Rattle.std.proofs.Common.{◌≡◌, ℕ, List, [], ◌∷◌, ◌++◌, Bool, true, false, cond, Option, Some, None, refl, sym, ap, subst, ◌∙◌, arith}
-use Rattle.std.specs.Prelude.{◌&&◌, ◌||◌, ◌==◌, not, nat_le, map, filter}
+use Rattle.std.specs.Prelude.{◌+◌, ◌&&◌, ◌||◌, ◌==◌, not, nat_lt, nat_le, map, filter}
 use Rattle.std.specs.Option.{option_map_or, unwrap_or}
 use Rattle.std.specs.Ordering.{nat_cmp}
 use Rattle.std.specs.List.{AllByRecursion, list_all, list_any}
@@ -9,6 +9,7 @@ use Rattle.std.specs.Map.{keys_of}
 use Rattle.std.specs.BTreeMap.{insert_entry}
 use Rattle.std.proofs.lemmas.Bool.{and_parts, and_from, or_left, or_right, or_parts, eqb-true, not-true}
 use Rattle.std.proofs.lemmas.Bool.Decides.{nat_tests}
+use Rattle.node_core.specs.Limits.{number_limit}
 use Rattle.rows_cell.specs.declared.tables.Node.{Node}
 use Rattle.rows_cell.specs.declared.tables.Session.{Session}
 use Rattle.rows_cell.specs.declared.tables.LockRow.{LockRow}
@@ -21,13 +22,14 @@ use Rattle.rows_cell.specs.Rows.{StoredNodes, StoredLocks, stored_node, views_of
 use Rattle.rows_cell.specs.Sound.{sound, is_number, are_distinct}
 use Rattle.rows_cell.specs.Indexes.{locks_at, lock_generation_in}
 use Rattle.rows_cell.specs.LockRows.{locks_off, is_holding, has_holder, are_legal_rows, has_generation, row_edits, LockChange, generation_edits, lock_edits, locks_edits}
+use Rattle.rows_cell.proofs.InstanceTables.{held_is}
 use Rattle.rows_cell.proofs.PutEntries.{all_more}
 use Rattle.rows_cell.proofs.SoundEnds.{changed_more, holds, ended_sound}
 use Rattle.rows_cell.proofs.SoundParts.{parts_of}
 use Rattle.rows_cell.proofs.SoundRemovals.{all_let_through}
 use Rattle.rows_cell.proofs.RowEdits.{HasRowsAt, relocked, relocks, relocked_rows, locks_elsewhere}
-use Rattle.rows_cell.proofs.SoundLocks.{RowsFit, all_from_halves, own_keys, relocked_sound}
-use Rattle.rows_cell.proofs.SoundGenerations.{GenerationFits, generation_sound, found_there, found_generation, with_generation, generation_here, generation_elsewhere, same_map, kept_or_new}
+use Rattle.rows_cell.proofs.SoundLocks.{RowsFit, all_from_halves, own_keys, relocked_sound, sound_generation}
+use Rattle.rows_cell.proofs.SoundGenerations.{GenerationFits, generation_sound, found_there, found_generation, with_generation, generation_here, generation_elsewhere, same_map, found_by_instance, kept_or_new}
 
 not_equal : (a b : ℕ) → (a == b) ≡ false → a ≡ b → ⊥
 not_equal a b h e = grind (arith, nat_tests)
@@ -129,6 +131,57 @@ module _ (rows : Rows) (change : LockChange) (fits : ChangeFits rows change) whe
         before = k.before;
         after = k.after;
       }
+
+-- ---- the two kinds of changes
+
+next_number : (n limit : ℕ) → nat_lt n limit ≡ true → nat_le (n + 1) limit ≡ true
+next_number n limit h = grind (arith, nat_tests)
+
+one_more : (n : ℕ) → nat_le 1 (n + 1) ≡ true
+one_more n = grind (arith, nat_tests)
+
+-- the rows of the lock of the node at a name, before and after
+pub record NewRows (rows : Rows) (name : List ℕ) (node : Node) (old new : StoredLocks) : Type 0 where
+  pub found : stored_node rows.nodes name ≡ Some node
+  pub was : locks_at rows.locks node.view.instance ≡ old
+  pub in_order : IsStrictlySortedBy lock_order (keys_of new)
+  pub legal : are_legal_rows rows node.view.instance new ≡ true
+
+-- from free to held: the generation rises by 1
+pub risen_fits : (rows : Rows) (name : List ℕ) (node : Node) (old new : StoredLocks) → NewRows rows name node old new → nat_lt node.lock_generation number_limit ≡ true
+    → ChangeFits rows (record { name = name; instance = node.view.instance; generation = Some (node.lock_generation + 1); old = old; new = new })
+risen_fits rows name node old new h below = record {
+  node = node;
+  found = h.found;
+  instance = refl;
+  old = h.was;
+  in_order = h.in_order;
+  legal = h.legal;
+  number = next_number node.lock_generation number_limit below;
+  before = λ held. one_more node.lock_generation;
+  after = λ held. one_more node.lock_generation;
+}
+
+-- else the generation stays
+pub kept_fits : (cell : List ℕ) (rows : Rows) (name : List ℕ) (node : Node) (old new : StoredLocks) → sound cell rows ≡ true → NewRows rows name node old new → (has_holder new ≡ true → has_holder old ≡ true)
+    → ChangeFits rows (record { name = name; instance = node.view.instance; generation = None; old = old; new = new })
+kept_fits cell rows name node old new sound_rows h still =
+    let distinct = (parts_of cell rows sound_rows).distinct in
+    let P : StoredLocks → Type 0 = λ es. has_holder es ≡ true → has_generation rows.nodes node.view.instance ≡ true in
+    let first : P old = subst P h.was (sound_generation cell rows node.view.instance sound_rows) in
+    let own : nat_le 1 node.lock_generation ≡ has_generation rows.nodes node.view.instance =
+    ap (λ o. option_map_or (λ generation. nat_le 1 generation) o false) (sym (found_by_instance rows.nodes name node h.found distinct)) ∙ held_is rows.nodes node.view.instance distinct in
+    record {
+      node = node;
+      found = h.found;
+      instance = refl;
+      old = h.was;
+      in_order = h.in_order;
+      legal = h.legal;
+      number = refl;
+      before = λ held. refl;
+      after = λ held. own ∙ first (still held);
+    }
 
 -- ---- some locks, one behind the other
 

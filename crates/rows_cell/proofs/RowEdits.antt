@@ -1,11 +1,11 @@
 -- The edits of one lock's rows do what they say.
-use Rattle.std.proofs.Common.{◌≡◌, ℕ, List, [], ◌∷◌, ◌++◌, Bool, true, false, cond, Option, Some, None, refl, sym, ap, subst, ◌∙◌, arith}
+use Rattle.std.proofs.Common.{◌≡◌, ℕ, List, [], ◌∷◌, ◌++◌, Bool, true, false, cond, Option, Some, None, Ordering, Less, refl, sym, ap, subst, ◌∙◌, arith}
 use Rattle.std.specs.Prelude.{◌&&◌, ◌||◌, ◌==◌, not, filter, map, is_some}
 use Rattle.std.specs.Option.{option_map_or, option_or}
-use Rattle.std.specs.Ordering.{nat_cmp}
-use Rattle.std.specs.List.{list_all, list_any}
+use Rattle.std.specs.Ordering.{nat_cmp, ordering_then}
+use Rattle.std.specs.List.{AllByRecursion, list_all, list_any}
 use Rattle.std.specs.List.Sorted.{IsStrictlySortedBy}
-use Rattle.std.specs.Cmp.{tied_itself}
+use Rattle.std.specs.Cmp.{nat_cmp_total, tied_itself}
 use Rattle.std.specs.Map.{keys_of, lookup, remove_entry}
 use Rattle.std.specs.BTreeMap.{is_at, insert_entry}
 use Rattle.std.proofs.lemmas.Bool.{and_parts, and_from, eqb-true}
@@ -222,3 +222,28 @@ at_of_off (e ∷ es) instance other h =
 pub locks_elsewhere : (before after : StoredLocks) (instance other : ℕ) → locks_off after instance ≡ locks_off before instance → (other == instance) ≡ false → locks_at after other ≡ locks_at before other
 locks_elsewhere before after instance other same h =
     sym (at_of_off after instance other h) ∙ ap (λ es. locks_at es other) same ∙ at_of_off before instance other h
+
+-- ---- rows that are made of holders in the order of their clients and handles
+
+module _ {H V : Type 0} (instance : ℕ) (client handle : H → ℕ) (row : V → LockRow) where
+  abbrev key_of : H → LockKey
+  key_of h = record { instance = instance; client = client h; handle = handle h }
+
+  abbrev order : H → H → Ordering
+  order a b = ordering_then (nat_cmp (client a) (client b)) (nat_cmp (handle a) (handle b))
+
+  abbrev made_rows : List (H × V) → StoredLocks
+  made_rows es = map (λ e. (key_of e.0, row e.1)) es
+
+  order_of_keys : (a b : H) → lock_order (key_of a) (key_of b) ≡ order a b
+  order_of_keys a b = ap (λ o. ordering_then (ordering_then o (nat_cmp (client a) (client b))) (nat_cmp (handle a) (handle b))) (tied_itself nat_cmp_total instance)
+
+  behind_made : (a : H) (es : List (H × V)) → AllByRecursion (λ b. order a b ≡ Less) (keys_of es) → AllByRecursion (λ k. lock_order (key_of a) k ≡ Less) (keys_of (made_rows es))
+  behind_made a [] h = tt
+  behind_made a (e ∷ es) h = (order_of_keys a e.0 ∙ h.0, behind_made a es h.1)
+
+  pub made_in_order : (es : List (H × V)) → IsStrictlySortedBy (λ a b. ordering_then (nat_cmp (client a) (client b)) (nat_cmp (handle a) (handle b))) (keys_of es)
+      → IsStrictlySortedBy lock_order (keys_of (map (λ e. (record { instance = instance; client = client e.0; handle = handle e.0 }, row e.1)) es))
+  unfolding IsStrictlySortedBy
+  made_in_order [] h = tt
+  made_in_order (e ∷ es) h = (behind_made e.0 es h.0, made_in_order es h.1)
