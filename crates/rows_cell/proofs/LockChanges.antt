@@ -1,13 +1,13 @@
 -- What becomes of some locks at once leaves the rows sound, also where a session ends with it.
 use Rattle.std.proofs.Common.{◌≡◌, ℕ, List, [], ◌∷◌, ◌++◌, Bool, true, false, cond, Option, Some, None, refl, sym, ap, subst, ◌∙◌, arith}
-use Rattle.std.specs.Prelude.{◌+◌, ◌&&◌, ◌||◌, ◌==◌, not, nat_lt, nat_le, map, filter}
+use Rattle.std.specs.Prelude.{◌+◌, ◌||◌, ◌==◌, not, nat_lt, nat_le, map}
 use Rattle.std.specs.Option.{option_map_or, unwrap_or}
 use Rattle.std.specs.Ordering.{nat_cmp}
 use Rattle.std.specs.List.{AllByRecursion, list_all, list_any}
 use Rattle.std.specs.List.Sorted.{IsStrictlySortedBy}
 use Rattle.std.specs.Map.{keys_of}
 use Rattle.std.specs.BTreeMap.{insert_entry}
-use Rattle.std.proofs.lemmas.Bool.{and_parts, and_from, or_left, or_right, or_parts, eqb-true, not-true}
+use Rattle.std.proofs.lemmas.Bool.{and_parts, or_left, or_parts, eqb-true, not-true}
 use Rattle.std.proofs.lemmas.Bool.Decides.{nat_tests}
 use Rattle.node_core.specs.Limits.{number_limit}
 use Rattle.rows_cell.specs.declared.tables.Node.{Node}
@@ -15,8 +15,7 @@ use Rattle.rows_cell.specs.declared.tables.Session.{Session}
 use Rattle.rows_cell.specs.declared.tables.LockRow.{LockRow}
 use Rattle.rows_cell.specs.declared.keys.LockKey.{LockKey}
 use Rattle.rows_cell.specs.declared.tables.Rows.{Rows}
-use Rattle.rows_cell.specs.declared.tables.Edit.{Edit}
-use Rattle.rows_cell.specs.declared.tables.Edit.TheVariants.{LockGeneration, PutSession}
+use Rattle.rows_cell.specs.declared.tables.Edit.TheVariants.{PutSession}
 use Rattle.rows_cell.specs.Keys.{lock_order}
 use Rattle.rows_cell.specs.Rows.{StoredNodes, StoredLocks, stored_node, views_of, map_of, edited, changed_rows}
 use Rattle.rows_cell.specs.Sound.{sound, is_number, are_distinct}
@@ -29,7 +28,7 @@ use Rattle.rows_cell.proofs.SoundParts.{parts_of}
 use Rattle.rows_cell.proofs.SoundRemovals.{all_let_through}
 use Rattle.rows_cell.proofs.RowEdits.{HasRowsAt, relocked, relocks, relocked_rows, locks_elsewhere}
 use Rattle.rows_cell.proofs.SoundLocks.{RowsFit, all_from_halves, own_keys, relocked_sound, sound_generation}
-use Rattle.rows_cell.proofs.SoundGenerations.{GenerationFits, generation_sound, found_there, found_generation, with_generation, generation_here, generation_elsewhere, same_map, found_by_instance, kept_or_new}
+use Rattle.rows_cell.proofs.SoundGenerations.{generation_sound, found_there, found_generation, with_generation, generation_here, generation_elsewhere, same_map, found_by_instance, kept_or_new}
 
 not_equal : (a b : ℕ) → (a == b) ≡ false → a ≡ b → ⊥
 not_equal a b h e = grind (arith, nat_tests)

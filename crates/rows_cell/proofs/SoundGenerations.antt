@@ -1,9 +1,9 @@
 -- Another generation of a node's lock leaves the rows sound.
 use Rattle.std.proofs.Common.{◌≡◌, ℕ, ◌≤◌, List, [], ◌∷◌, length, Bool, true, false, cond, Option, Some, None, Ordering, refl, sym, ap, subst, ◌∙◌, arith}
-use Rattle.std.specs.Prelude.{◌&&◌, ◌||◌, ◌==◌, not, nat_lt, nat_le, map, filter}
+use Rattle.std.specs.Prelude.{◌&&◌, ◌||◌, ◌==◌, not, nat_lt, nat_le, map}
 use Rattle.std.specs.Option.{option_map, option_map_or, unwrap_or}
 use Rattle.std.specs.Ordering.{nat_cmp}
-use Rattle.std.specs.Cmp.Lexicographic.{slice_cmp, nat_list_cmp_total}
+use Rattle.std.specs.Cmp.Lexicographic.{slice_cmp}
 use Rattle.std.specs.List.{list_all, list_any}
 use Rattle.std.specs.Map.{lookup, set_value}
 use Rattle.std.specs.BTreeMap.{is_at}
@@ -23,12 +23,12 @@ use Rattle.rows_cell.specs.declared.keys.LockKey.{LockKey}
 use Rattle.rows_cell.specs.declared.tables.Rows.{Rows}
 use Rattle.rows_cell.specs.declared.tables.Edit.TheVariants.{LockGeneration}
 use Rattle.rows_cell.specs.Rows.{StoredNodes, StoredLocks, stored_node, views_of, map_of, at_generation, edited}
-use Rattle.rows_cell.specs.Sound.{sound, is_number, is_directory, is_directory_at, numbers_fit, content_fits, parent_fits, node_fits, are_distinct, is_live_in, holder_fits, is_shared, beside, state_fits, lock_fits}
+use Rattle.rows_cell.specs.Sound.{sound, is_number, is_directory, is_directory_at, content_fits, parent_fits, node_fits, are_distinct, is_live_in, holder_fits, is_shared, beside, state_fits, lock_fits}
 use Rattle.rows_cell.specs.Indexes.{locks_at, lock_generation_in}
 use Rattle.rows_cell.specs.LockRows.{is_holding, has_holder, has_generation}
 use Rattle.rows_cell.proofs.PutEntries.{all_more, all_found}
 use Rattle.rows_cell.proofs.RowViews.{views_get}
-use Rattle.rows_cell.proofs.SoundParts.{SoundParts, five_parts, instances, has_instance, parts_of, sound_of, node_stays}
+use Rattle.rows_cell.proofs.SoundParts.{five_parts, instances, has_instance, parts_of, sound_of, node_stays}
 use Rattle.rows_cell.proofs.SoundRemovals.{all_from_both}
 
 -- ---- a value that is set

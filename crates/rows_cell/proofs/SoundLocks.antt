@@ -19,7 +19,7 @@ use Rattle.rows_cell.specs.LockRows.{locks_off, is_holding, has_holder, client_f
 use Rattle.rows_cell.proofs.PutEntries.{all_more}
 use Rattle.rows_cell.proofs.SoundParts.{five_parts, has_instance, parts_of, sound_of}
 use Rattle.rows_cell.proofs.SoundRemovals.{all_from_both, all_let_through, lock_left}
-use Rattle.rows_cell.proofs.RowEdits.{HasRowsAt, relocked, relocks, relocked_rows, locks_elsewhere}
+use Rattle.rows_cell.proofs.RowEdits.{relocked, relocks, relocked_rows, locks_elsewhere}
 
 -- ---- tests of all entries
 
