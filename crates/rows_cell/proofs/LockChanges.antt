@@ -1,7 +1,7 @@
 -- What becomes of some locks at once leaves the rows sound, also where a session ends with it.
 use Rattle.std.proofs.Common.{◌≡◌, ℕ, List, [], ◌∷◌, ◌++◌, Bool, true, false, cond, Option, Some, None, refl, sym, ap, subst, ◌∙◌, arith}
 use Rattle.std.specs.Prelude.{◌+◌, ◌||◌, ◌==◌, not, nat_lt, nat_le, map}
-use Rattle.std.specs.Option.{option_map_or, unwrap_or}
+use Rattle.std.specs.Option.{option_map_or, option_or, unwrap_or}
 use Rattle.std.specs.Ordering.{nat_cmp}
 use Rattle.std.specs.List.{AllByRecursion, list_all, list_any}
 use Rattle.std.specs.List.Sorted.{IsStrictlySortedBy}
@@ -268,6 +268,49 @@ changes_locks rows (change ∷ changes) n sorted fits =
           rest ∙ among_none changes after n (subst P is none) ∙ ap (λ i. locks_at after i) (sym is) ∙ locks.here)
       | false ↦ (λ c. rest ∙ same_new_rows changes after rows.locks n (locks_elsewhere rows.locks after change.instance n locks.others (turned change.instance n c)))
     ]) refl
+
+-- the generation of a node's lock: the new one where it is among the changes and has one, else what was there
+abbrev pub new_generation_of : List LockChange → StoredNodes → ℕ → Option ℕ
+new_generation_of [] nodes n = lock_generation_in nodes n
+new_generation_of (change ∷ changes) nodes n = cond (change.instance == n) (option_or change.generation (lock_generation_in nodes n)) (new_generation_of changes nodes n)
+
+no_generation : (changes : List LockChange) (nodes : StoredNodes) (n : ℕ) → list_any (λ m. m == n) (map (λ (c : LockChange). c.instance) changes) ≡ false → new_generation_of changes nodes n ≡ lock_generation_in nodes n
+no_generation [] nodes n h = refl
+no_generation (change ∷ changes) nodes n h =
+    let t = or_parts (change.instance == n) (list_any (λ m. m == n) (map (λ (c : LockChange). c.instance) changes)) h in
+    ap (λ b. cond b (option_or change.generation (lock_generation_in nodes n)) (new_generation_of changes nodes n)) t.0 ∙ no_generation changes nodes n t.1
+
+same_generations : (changes : List LockChange) (nodes others : StoredNodes) (n : ℕ) → lock_generation_in nodes n ≡ lock_generation_in others n → new_generation_of changes nodes n ≡ new_generation_of changes others n
+same_generations [] nodes others n h = h
+same_generations (change ∷ changes) nodes others n h =
+    ap (λ o. cond (change.instance == n) (option_or change.generation o) (new_generation_of changes nodes n)) h
+    ∙ ap (λ o. cond (change.instance == n) (option_or change.generation (lock_generation_in others n)) o) (same_generations changes nodes others n h)
+
+or_known : (generation : Option ℕ) (n : ℕ) → Some (unwrap_or generation n) ≡ option_or generation (Some n)
+or_known None n = refl
+or_known (Some generation) n = refl
+
+pub changes_generations : (cell : List ℕ) (rows : Rows) (changes : List LockChange) (n : ℕ) → sound cell rows ≡ true → IsStrictlySortedBy lock_order (keys_of rows.locks) → ChangesFit rows changes
+    → lock_generation_in (nodes_behind rows.nodes changes) n ≡ new_generation_of changes rows.nodes n
+changes_generations cell rows [] n h sorted fits = refl
+changes_generations cell rows (change ∷ changes) n h sorted fits =
+    let fit = fits.each.0 in
+    let nodes : StoredNodes = (relocked_by rows change).nodes in
+    let P : Rows → Type 0 = λ r. sound cell r ≡ true in
+    let first : P (relocked_by rows change) = subst P (lock_edits_done rows change) (change_sound rows change fit cell h sorted) in
+    let rest = changes_generations cell (relocked_by rows change) changes n first (change_locks rows change fit sorted).in_order (others_fit rows change changes fits sorted) in
+    let new = change_generation rows change fit cell n h in
+    let among : ℕ → Bool = λ i. list_any (λ m. m == i) (map (λ (c : LockChange). c.instance) changes) in
+    let none : among change.instance ≡ false = not-true (among change.instance) (and_parts (not (among change.instance)) (are_distinct (map (λ (c : LockChange). c.instance) changes)) fits.distinct).0 in
+    let old : Option ℕ = lock_generation_in rows.nodes n in
+    (elim (change.instance == n) as (λ b. (change.instance == n) ≡ b → lock_generation_in nodes n ≡ cond b (Some (unwrap_or change.generation fit.node.lock_generation)) old → lock_generation_in (nodes_behind nodes changes) n ≡ cond b (option_or change.generation old) (new_generation_of changes rows.nodes n)) [
+      | true ↦ (λ c k.
+          let is : change.instance ≡ n = eqb-true change.instance n c in
+          let Q : ℕ → Type 0 = λ i. among i ≡ false in
+          let was : old ≡ Some fit.node.lock_generation = ap (λ i. lock_generation_in rows.nodes i) (sym (fit.instance ∙ is)) ∙ found_by_instance rows.nodes change.name fit.node fit.found (parts_of cell rows h).distinct in
+          rest ∙ no_generation changes nodes n (subst Q is none) ∙ k ∙ or_known change.generation fit.node.lock_generation ∙ ap (λ o. option_or change.generation o) (sym was))
+      | false ↦ (λ c k. rest ∙ same_generations changes nodes rows.nodes n k)
+    ]) refl new
 
 -- ---- with the end of a session
 
