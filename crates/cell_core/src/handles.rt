@@ -4,7 +4,10 @@ ghost use Rattle.std.specs.Option.{option_copied};
 ghost use Rattle.tags_cell.specs.Handles.{handle_bytes, read_handle};
 ghost use Rattle.tags_cell.specs.declared.handles.Handle.{Handle as HandleValue};
 ghost use Rattle.cell_core.specs.Step.{key_of, open_note};
+ghost use Rattle.cell_core.specs.Locks.{owner_of, claim_of};
 
+use lock_core::{Claim, Hold, Owner};
+use node_core::LockMode;
 use plain::{Same, Secret};
 use std::alloc::{AllocError, Global};
 use std::marker::Model;
@@ -25,6 +28,29 @@ impl HandleKey {
             client: handle.client,
             number: handle.number,
         }
+    }
+}
+
+/// Who a handle is to a lock.
+pub fn owner_of(handle: &Handle) -> Owner
+    ensures { result ≡ owner_of handle.now }
+{
+    Owner {
+        client: handle.client.get(),
+        handle: handle.number.get(),
+    }
+}
+
+/// How a handle asks for a lock: with its lock-delay.
+pub fn claim_of(handle: &Handle, mode: LockMode) -> Claim
+    ensures { result ≡ claim_of handle.now mode }
+{
+    Claim {
+        owner: owner_of(handle),
+        hold: Hold {
+            mode,
+            delay: u64::from(handle.delay.get()),
+        },
     }
 }
 
