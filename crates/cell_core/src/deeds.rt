@@ -367,7 +367,8 @@ impl Cell {
     fn restore_locks(&mut self, formers: Items<(u64, Option<Lock>)>)
         ensures { self.new ≡ without_locks self.old formers }
     {
-        for (instance, former) in formers.into_vec().into_iter().rev() {
+        let mut formers = formers;
+        while let Some((instance, former)) = formers.pop() {
             self.locks.restore(instance, former);
         }
     }
