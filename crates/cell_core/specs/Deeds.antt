@@ -14,8 +14,9 @@ use Rattle.rows_cell.specs.LockRows.{LockChange, locks_edits}
 use Rattle.rights_core.specs.declared.endings.Ending.TheVariants as endings
 use Rattle.rights_core.specs.Rights as of_rights
 use Rattle.gate_core.specs.Gate as of_gate
-use Rattle.session_core.specs.Session.{session_until, prolonged, ended, answered}
-use Rattle.session_core.specs.Sessions.{with_session, with_new, without}
+use Rattle.session_core.specs.Session.{session_until, prolonged, ended, answered, keeping}
+use Rattle.session_core.specs.Sessions.{SessionTable, with_session, with_new, without}
+use Rattle.tags_cell.specs.declared.outs.Reply.{Reply}
 use Rattle.lock_core.specs.State.{LockState}
 use Rattle.lock_core.specs.Locks.{LockTable, lock_at, with_lock}
 use Rattle.cell_core.specs.declared.deeds.Change.{Change}
@@ -32,7 +33,7 @@ use Rattle.cell_core.specs.declared.deeds.Rest.{Rest}
 use Rattle.cell_core.specs.Keys.{handle_order}
 use Rattle.cell_core.specs.Locks.{lock_rows}
 use Rattle.cell_core.specs.State.{MasterState}
-use Rattle.cell_core.specs.Step.{session_of, recorded, with_note}
+use Rattle.cell_core.specs.Step.{session_of, with_note}
 
 -- ---- what may want memory
 
@@ -117,12 +118,12 @@ with_session_rest s (Some (Answers client)) = record s { sessions = with_session
 with_session_rest s _ = s
 
 -- the reply to a call
-abbrev pub with_kept_put : MasterState → KeptPut → MasterState
-with_kept_put s put = recorded s put.client put.kept
+abbrev pub with_kept_put : SessionTable Reply → KeptPut → SessionTable Reply
+with_kept_put table put = with_session table put.client (keeping put.kept)
 
 -- that of the call, and of each that waited for a lock
 abbrev pub with_kept : MasterState → List KeptPut → MasterState
-with_kept s puts = fold with_kept_put s puts
+with_kept s puts = record s { sessions = fold with_kept_put s.sessions puts }
 
 abbrev pub without_gone : MasterState → Option (List ℕ) → MasterState
 without_gone s None = s

@@ -6,8 +6,6 @@ pub use Rattle.gate_core.specs.Gate
 pub use Rattle.lease_core.specs.Lease
 pub use Rattle.session_core.specs.Session
 pub use Rattle.session_core.specs.Sessions
-pub use Rattle.lock_core.specs.State
-pub use Rattle.lock_core.specs.Locks
 pub mod Handles
 pub mod Keys
 pub mod Locks

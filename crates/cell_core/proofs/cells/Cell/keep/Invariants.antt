@@ -1,7 +1,7 @@
 use Rattle.std.proofs.Common.{◌≡◌}
 use Rattle.std.specs.Vec.Iter.{into_iter_items}
 use Rattle.cell_core.specs.Deeds.{with_kept}
-use Rattle.cell_core.proofs.deeds.Cell.keep.Given as goal
+use Rattle.cell_core.proofs.cells.Cell.keep.Given as goal
 
 abbrev pub invariant-loop-put : goal.invariant-loop-put
 invariant-loop-put l =
