@@ -1,3 +1,4 @@
+mod LocksPut
 mod MissingRights
 mod Notes
 mod Filtered

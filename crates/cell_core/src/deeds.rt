@@ -6,7 +6,7 @@ ghost use Rattle.std.specs.Ordering.{nat_cmp};
 ghost use Rattle.plain.specs.Tables.{with_former};
 ghost use Rattle.lock_core.specs.Locks.{with_lock};
 ghost use Rattle.cell_core.specs.Step.{with_note};
-ghost use Rattle.cell_core.specs.Deeds.{BeginsNew, with_begun, with_put, with_node, with_locks, grown, without_begun, without_note, without_node, without_locks, undone, session_rest, map_rest, rest_of, with_session_rest, with_kept, with_map, with_rest};
+ghost use Rattle.cell_core.specs.Deeds.{BeginsNew, with_begun, with_put, with_node, with_locks, grown, without_begun, without_note, without_node, without_locks, undone, session_rest, map_rest, rest_of, with_session_rest, with_kept_put, with_kept, with_map, with_rest};
 
 use crate::cells::Cell;
 use crate::handles::{HandleKey, HandleState, Note};
@@ -271,9 +271,15 @@ impl Cell {
         ensures { self.new ≡ with_kept self.old puts }
     {
         for put in puts.into_vec() {
-            let KeptPut { client, kept } = put;
-            self.sessions.keep(client, kept);
+            self.keep_one(put);
         }
+    }
+
+    fn keep_one(&mut self, put: KeptPut)
+        ensures { self.new ≡ record self.old { sessions = with_kept_put self.old.sessions put } }
+    {
+        let KeptPut { client, kept } = put;
+        self.sessions.keep(client, kept);
     }
 
     fn finish_map(&mut self, rest: Option<MapRest>)
@@ -369,8 +375,14 @@ impl Cell {
     {
         let mut formers = formers;
         while let Some((instance, former)) = formers.pop() {
-            self.locks.restore(instance, former);
+            self.restore_lock(instance, former);
         }
+    }
+
+    fn restore_lock(&mut self, instance: u64, former: Option<Lock>)
+        ensures { self.new ≡ record self.old { locks = with_former nat_cmp self.old.locks instance former } }
+    {
+        self.locks.restore(instance, former);
     }
 
     // The note and the node.
