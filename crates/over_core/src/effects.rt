@@ -10,14 +10,41 @@ use node_core::{Fault, Mod};
 use std::alloc::AllocError;
 use tags_cell::{Call, CallResult, ClientNumber, Create, Handle, MessageNumber, Open};
 
+/// What becomes of a lock that the caller left.
+#[derive(Drop)]
+pub struct Leave {
+    /// The name of its node.
+    pub name: Name,
+    pub instance: u64,
+    /// Whether the caller held it.
+    pub held: bool,
+    pub turn: Turn,
+}
+
+/// What a call does to a lock.
+#[derive(Drop)]
+pub enum Locking {
+    Nothing,
+    /// The caller holds it.
+    Takes(LockPut, Claim),
+    /// The caller waits for it.
+    Waits(LockPut),
+    /// The caller let it go, or waits for it no longer.
+    Leaves(Leave),
+    /// The lock of this instance goes with its node; these waited for it.
+    Goes(u64, Items<Claim>),
+}
+
 /// What a call does.
-#[derive(Debug, Drop)]
+#[derive(Drop)]
 pub struct Effect {
     /// What is noted of a handle.
     pub note: Option<Note>,
     /// None where the call is refused, or there is nothing to change.
     pub change: Option<Change>,
-    pub answer: CallResult,
+    pub locking: Locking,
+    /// None where the call waits for a lock.
+    pub answer: Option<CallResult>,
 }
 
 impl Effect {
