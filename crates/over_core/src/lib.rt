@@ -5,12 +5,13 @@ mod actions;
 mod cells;
 mod creates;
 mod effects;
+mod locks;
 mod plans;
 mod sweeps;
 mod writes;
 
 pub use actions::Action;
 pub use cells::Cell;
-pub use effects::Effect;
+pub use effects::{Effect, Leave, Locking};
 pub use plans::Plan;
 pub use sweeps::Swept;
