@@ -4,9 +4,12 @@
 mod actions;
 mod cells;
 mod creates;
+mod edits;
 mod effects;
+mod lapses;
 mod locks;
 mod plans;
+mod replies;
 mod sweeps;
 mod writes;
 
