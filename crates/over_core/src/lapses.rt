@@ -24,7 +24,7 @@ pub(crate) fn expiry_plan(
 {
     let ended = master.locks().lapse(client, master.clock())?;
     let replies = lapses_replies(master, ended.as_slice())?;
-    let mut plan = Plan::of(Some(SessionDeed::Ends(client, principal)), master.nothing());
+    let mut plan = Plan::of(master.alloc(), Some(SessionDeed::Ends(client, principal)), master.nothing());
     plan.taken.lines = expiry_lines(master, client, ended.as_slice())?;
     plan.taken.outs = sent(master.alloc(), replies.as_slice())?;
     plan.deed.kept = kept_puts(master.alloc(), replies)?;
@@ -38,7 +38,7 @@ pub(crate) fn plan_reopen(master: &Master, instance: u64) -> Result<Plan, AllocE
 {
     let turn = master.locks().reopen(instance)?;
     let replies = turn_replies(master, &turn)?;
-    let mut plan = Plan::of(None, master.nothing());
+    let mut plan = Plan::of(master.alloc(), None, master.nothing());
     plan.taken.lines.push(Line::Reopened(instance))?;
     plan.taken.lines.append(locked_lines(master.alloc(), instance, &turn)?)?;
     plan.taken.outs = sent(master.alloc(), replies.as_slice())?;

@@ -31,16 +31,16 @@ pub struct Plan {
 
 impl Plan {
     // What becomes of a session, if anything.
-    pub(crate) fn of(session: Option<SessionDeed>, taken: Taken) -> Plan
+    pub(crate) fn of(alloc: Global, session: Option<SessionDeed>, taken: Taken) -> Plan
         ensures { result ≡ record { deed = record no_deed { session = session }; taken = taken } }
     {
         Plan {
             deed: Deed {
                 session,
-                kept: Items::from_vec(Vec::new(Global)),
+                kept: Items::new(alloc),
                 note: None,
                 change: None,
-                locks: Items::from_vec(Vec::new(Global)),
+                locks: Items::new(alloc),
                 ends_lock: None,
                 recovers: false,
                 leaves: None,
@@ -60,7 +60,7 @@ pub(crate) fn plan_of(master: &Master, action: &Action) -> Result<Plan, AllocErr
         Action::Apply(number) => plan_apply(master, *number),
         Action::Reopen(instance) => plan_reopen(master, *instance),
         Action::Answer(client) => plan_answer(master, *client),
-        Action::Quiet => Ok(Plan::of(None, master.nothing())),
+        Action::Quiet => Ok(Plan::of(master.alloc(), None, master.nothing())),
     }
 }
 
@@ -68,7 +68,7 @@ fn plan_recovery(master: &Master) -> Result<Plan, AllocError>
     ensures { IfOk result (λ plan. plan ≡ plan_of master.now actions.Recover) }
 {
     let taken = printed(master, Line::Recovered)?;
-    let mut plan = Plan::of(None, taken);
+    let mut plan = Plan::of(master.alloc(), None, taken);
     plan.deed.recovers = true;
     Ok(plan)
 }
@@ -78,7 +78,7 @@ fn plan_expiry(master: &Master, client: u64) -> Result<Plan, AllocError>
     ensures { IfOk result (λ plan. plan ≡ plan_expiry master.now client) }
 {
     let Some(session) = master.sessions().get(client) else {
-        return Ok(Plan::of(None, master.nothing()));
+        return Ok(Plan::of(master.alloc(), None, master.nothing()));
     };
     let principal = session.principal.clone()?;
     expiry_plan(master, client, principal)
@@ -100,7 +100,7 @@ fn plan_apply(master: &Master, number: u64) -> Result<Plan, AllocError>
     ensures { IfOk result (λ plan. plan ≡ plan_of master.now (actions.Apply number)) }
 {
     let Some(task) = master.task(number) else {
-        return Ok(Plan::of(None, master.nothing()));
+        return Ok(Plan::of(master.alloc(), None, master.nothing()));
     };
     let mut plan = plan_task(master, task)?;
     plan.deed.leaves = Some(number);
@@ -135,7 +135,7 @@ fn plan_start(
         return plan_session(master, client, number, principal, received);
     }
     let taken = master.turned_away(client, number, Fault::NoSession)?;
-    Ok(Plan::of(None, taken))
+    Ok(Plan::of(master.alloc(), None, taken))
 }
 
 fn plan_session(
@@ -149,11 +149,11 @@ fn plan_session(
 {
     if master.is_live(client) {
         let taken = started_out(master, client, number, received)?;
-        return Ok(Plan::of(Some(SessionDeed::Prolongs(client)), taken));
+        return Ok(Plan::of(master.alloc(), Some(SessionDeed::Prolongs(client)), taken));
     }
     let taken = started(master, client, number, received)?;
     let principal = principal.clone()?;
-    Ok(Plan::of(Some(SessionDeed::Begins(client, principal)), taken))
+    Ok(Plan::of(master.alloc(), Some(SessionDeed::Begins(client, principal)), taken))
 }
 
 // The client's new session is printed too.
@@ -200,7 +200,7 @@ fn plan_call(
     ensures { IfOk result (λ plan. plan ≡ plan_call master.now client number call.now sequencer.now) }
 {
     if !master.is_live(client) {
-        return Ok(Plan::of(None, master.nothing()));
+        return Ok(Plan::of(master.alloc(), None, master.nothing()));
     }
     let effect = effect_of(master, client, number, call, sequencer)?;
     plan_effect(master, client, number, effect)
@@ -223,7 +223,7 @@ fn plan_effect(
     let alloc = master.alloc();
     let mut replies = own_replies(master, client, number, answer)?;
     replies.append(locking_replies(master, &locking)?)?;
-    let mut plan = Plan::of(None, master.nothing());
+    let mut plan = Plan::of(master.alloc(), None, master.nothing());
     plan.taken.lines = effect_lines(alloc, client, number, &change, &locking)?;
     plan.taken.outs = sent(alloc, replies.as_slice())?;
     plan.deed.kept = kept_puts(alloc, replies)?;
@@ -321,10 +321,10 @@ fn plan_answer(master: &Master, client: ClientNumber) -> Result<Plan, AllocError
     ensures { IfOk result (λ plan. plan ≡ plan_answer master.now client) }
 {
     let Some(offer) = master.sessions().offer(client, master.clock()) else {
-        return Ok(Plan::of(None, master.nothing()));
+        return Ok(Plan::of(master.alloc(), None, master.nothing()));
     };
     let taken = alive_out(master, client, offer)?;
-    Ok(Plan::of(Some(SessionDeed::Answers(client)), taken))
+    Ok(Plan::of(master.alloc(), Some(SessionDeed::Answers(client)), taken))
 }
 
 fn alive_out(master: &Master, client: ClientNumber, offer: Offer) -> Result<Taken, AllocError>
