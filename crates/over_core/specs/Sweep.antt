@@ -20,7 +20,6 @@ use Rattle.tags_cell.specs.declared.calls.Call.{Call}
 use Rattle.rights_core.specs.declared.endings.Ending.TheVariants as endings
 use Rattle.rights_core.specs.Rights.{numbers_ending, unacked_of}
 use Rattle.session_core.specs.declared.records.Offer.{Offer}
-use Rattle.session_core.specs.declared.records.Session.{Session}
 use Rattle.session_core.specs.Session.{is_client_expired, is_client_due, offered_span}
 use Rattle.session_core.specs.Sessions.{owes_event, all_heard, lowest, offer_of}
 use Rattle.lock_core.specs.declared.claims.Claim.{Claim}
@@ -250,11 +249,11 @@ abbrev pub expiry_lines : MasterState → ℕ → List Lapse → List Line
 expiry_lines s client ended =
     map lines.Expired (numbers_ending client endings.Expiry s.rights) ++ lapses_lines client ended ++ lines.Ended client ∷ []
 
-abbrev pub expiry_plan : MasterState → ℕ → Session Reply → List Lapse → Plan
-expiry_plan s client session ended = record {
+abbrev pub expiry_plan : MasterState → ℕ → List ℕ → List Lapse → Plan
+expiry_plan s client principal ended = record {
   deed =
       record no_deed {
-        session = Some (Ends client session.principal);
+        session = Some (Ends client principal);
         kept = kept_puts (lapses_replies s ended);
         locks = lapses_puts s ended;
       };
@@ -263,7 +262,7 @@ expiry_plan s client session ended = record {
 
 -- it is put as ended
 abbrev pub plan_expiry : MasterState → ℕ → Plan
-plan_expiry s client = option_map_or (λ session. expiry_plan s client session (lapses_of s client)) (session_of s client) no_plan
+plan_expiry s client = option_map_or (λ session. expiry_plan s client session.principal (lapses_of s client)) (session_of s client) no_plan
 
 abbrev pub reopen_plan : MasterState → ℕ → Turn → Plan
 reopen_plan s instance turn = record {

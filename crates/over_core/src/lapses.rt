@@ -20,7 +20,7 @@ pub(crate) fn expiry_plan(
     client: u64,
     principal: Principal,
 ) -> Result<Plan, AllocError>
-    ensures { IfOk result (λ plan. plan.deed.locks ≡ lapses_puts master.now (lapses_of master.now client)) }
+    ensures { IfOk result (λ plan. plan ≡ expiry_plan master.now client principal (lapses_of master.now client)) }
 {
     let ended = master.locks().lapse(client, master.clock())?;
     let replies = lapses_replies(master, ended.as_slice())?;

@@ -1,6 +1,6 @@
 //! Who is told of a lock, and what is printed of it.
 ghost use Rattle.std.specs.Prelude.{◌≡◌, Some, None, map, IfOk};
-ghost use Rattle.over_core.specs.Sweep.{kept_puts, sent, reply_to, replies_to, turn_replies, locked_lines, leave_lines, locking_lines, locking_replies, puts_of, name_of, line_if};
+ghost use Rattle.over_core.specs.Sweep.{kept_puts, sent, reply_to, replies_to, turn_replies, locked_line, locked_lines, leave_lines, locking_lines, locking_replies, puts_of, name_of, line_if};
 
 use crate::effects::{Leave, Locking};
 use cell_core::{Cell as Master, KeptPut, LockPut, answered_by};
@@ -103,7 +103,9 @@ pub(crate) fn locking_replies(
 
 // ---- lines
 
-fn locked_line(instance: u64, generation: u64, claim: Claim) -> Line {
+fn locked_line(instance: u64, generation: u64, claim: Claim) -> Line
+    ensures { result ≡ locked_line instance generation claim }
+{
     Line::Locked(claim.owner.client, instance, claim.hold.mode, generation)
 }
 
