@@ -24,7 +24,11 @@ pub(crate) fn expiry_plan(
 {
     let ended = master.locks().lapse(client, master.clock())?;
     let replies = lapses_replies(master, ended.as_slice())?;
-    let mut plan = Plan::of(master.alloc(), Some(SessionDeed::Ends(client, principal)), master.nothing());
+    let mut plan = Plan::of(
+        master.alloc(),
+        Some(SessionDeed::Ends(client, principal)),
+        master.nothing(),
+    );
     plan.taken.lines = expiry_lines(master, client, ended.as_slice())?;
     plan.taken.outs = sent(master.alloc(), replies.as_slice())?;
     plan.deed.kept = kept_puts(master.alloc(), replies)?;
@@ -40,7 +44,9 @@ pub(crate) fn plan_reopen(master: &Master, instance: u64) -> Result<Plan, AllocE
     let replies = turn_replies(master, &turn)?;
     let mut plan = Plan::of(master.alloc(), None, master.nothing());
     plan.taken.lines.push(Line::Reopened(instance))?;
-    plan.taken.lines.append(locked_lines(master.alloc(), instance, &turn)?)?;
+    plan.taken
+        .lines
+        .append(locked_lines(master.alloc(), instance, &turn)?)?;
     plan.taken.outs = sent(master.alloc(), replies.as_slice())?;
     plan.deed.kept = kept_puts(master.alloc(), replies)?;
     let Turn { lock, .. } = turn;
@@ -49,11 +55,7 @@ pub(crate) fn plan_reopen(master: &Master, instance: u64) -> Result<Plan, AllocE
 }
 
 // What is printed of a session that ends.
-fn expiry_lines(
-    master: &Master,
-    client: u64,
-    ended: &[Lapse],
-) -> Result<Items<Line>, AllocError>
+fn expiry_lines(master: &Master, client: u64, ended: &[Lapse]) -> Result<Items<Line>, AllocError>
     ensures { IfOk result (λ printed. printed ≡ expiry_lines master.now client ended.now) }
 {
     let expired = master.rights().ending(client, Ending::Expiry)?;

@@ -7,14 +7,20 @@ ghost use Rattle.cell_core.specs.Step.{lock_under};
 ghost use Rattle.over_core.specs.Effect.{lock_put, lock_taken, lock_awaited, leaving_by, acquire_at, try_at, release_at, holds_lock, close_by, close_at, deleted};
 
 use crate::effects::{Effect, Leave, Locking};
-use cell_core::{Cell as Master, Change, HandleKey, HandleState, LockPut, Note, claim_of, owner_of};
+use cell_core::{
+    Cell as Master, Change, HandleKey, HandleState, LockPut, Note, claim_of, owner_of,
+};
 use lock_core::{Acquired, Claim, Lock, Turn};
 use node_core::{Fault, LockMode, Mod};
 use plain::Items;
 use std::alloc::AllocError;
 use tags_cell::{CallResult, Handle};
 
-pub(crate) fn acquire_at(master: &Master, handle: &Handle, mode: LockMode) -> Result<Effect, AllocError>
+pub(crate) fn acquire_at(
+    master: &Master,
+    handle: &Handle,
+    mode: LockMode,
+) -> Result<Effect, AllocError>
     ensures { IfOk result (λ done. done ≡ acquire_at master.now handle.now mode) }
 {
     let claim = claim_of(handle, mode);
@@ -31,7 +37,10 @@ pub(crate) fn try_at(master: &Master, handle: &Handle, mode: LockMode) -> Result
     ensures { IfOk result (λ done. done ≡ try_at master.now handle.now mode) }
 {
     let claim = claim_of(handle, mode);
-    match master.locks().try_acquire(handle.instance.get(), claim, master.clock()) {
+    match master
+        .locks()
+        .try_acquire(handle.instance.get(), claim, master.clock())
+    {
         Ok(lock) => lock_taken(handle, claim, lock),
         Err(Fault::NoMemory) => Err(AllocError),
         Err(fault) => Ok(Effect::refused(fault)),
@@ -41,7 +50,10 @@ pub(crate) fn try_at(master: &Master, handle: &Handle, mode: LockMode) -> Result
 pub(crate) fn release_at(master: &Master, handle: &Handle) -> Result<Effect, AllocError>
     ensures { IfOk result (λ done. done ≡ release_at master.now handle.now) }
 {
-    match master.locks().release(handle.instance.get(), owner_of(handle)) {
+    match master
+        .locks()
+        .release(handle.instance.get(), owner_of(handle))
+    {
         Ok(turn) => Ok(Effect {
             note: None,
             change: None,
@@ -72,7 +84,10 @@ pub(crate) fn close_at(master: &Master, handle: &Handle) -> Result<Effect, Alloc
 fn close_by(master: &Master, handle: &Handle) -> Result<Locking, AllocError>
     ensures { IfOk result (λ locking. locking ≡ close_by master.now handle.now (closed_by (lock_under master.now handle.now) (owner_of handle.now))) }
 {
-    match master.locks().close_handle(handle.instance.get(), owner_of(handle))? {
+    match master
+        .locks()
+        .close_handle(handle.instance.get(), owner_of(handle))?
+    {
         None => Ok(Locking::Nothing),
         Some(turn) => leaving_by(handle, holds_lock(master, handle), turn),
     }

@@ -8,17 +8,16 @@ use crate::actions::Action;
 use crate::effects::{Effect, Leave, Locking, effect_of};
 use crate::lapses::{expiry_plan, plan_reopen};
 use crate::replies::{kept_puts, locking_lines, locking_replies, sent};
-use cell_core::{
-    Cell as Master, Change, Deed, LockPut, SessionDeed, Taken, Task, Work,
-};
+use cell_core::{Cell as Master, Change, Deed, LockPut, SessionDeed, Taken, Task, Work};
+use lock_core::Turn;
 use names_cell::{Name, Principal};
 use node_core::{Event, Fault, Line, Mod};
-use lock_core::Turn;
 use plain::{Bytes, Items, Table};
 use session_core::Offer;
 use std::alloc::{AllocError, Global};
 use tags_cell::{
-    Alive, Call, CallResult, ClientNumber, Invalidation, MessageNumber, NumberedEvent, Out, Reply, Started,
+    Alive, Call, CallResult, ClientNumber, Invalidation, MessageNumber, NumberedEvent, Out, Reply,
+    Started,
 };
 
 /// What is done for an action. It is made before anything changes.
@@ -153,7 +152,11 @@ fn plan_session(
     }
     let taken = started(master, client, number, received)?;
     let principal = principal.clone()?;
-    Ok(Plan::of(master.alloc(), Some(SessionDeed::Begins(client, principal)), taken))
+    Ok(Plan::of(
+        master.alloc(),
+        Some(SessionDeed::Begins(client, principal)),
+        taken,
+    ))
 }
 
 // The client's new session is printed too.

@@ -54,11 +54,7 @@ pub(crate) fn replies_to(
 }
 
 // The answer to the call of a client that waits for a lock.
-fn reply_to(
-    master: &Master,
-    answer: &CallResult,
-    client: u64,
-) -> Result<Items<Reply>, AllocError>
+fn reply_to(master: &Master, answer: &CallResult, client: u64) -> Result<Items<Reply>, AllocError>
     ensures { IfOk result (λ replies. replies ≡ reply_to master.now answer.now client) }
 {
     let mut replies = Items::new(master.alloc());
