@@ -4,6 +4,12 @@ pub use Rattle.node_core.specs.Nodes
 pub use Rattle.rows_cell.specs.Rows
 pub use Rattle.rows_cell.specs.Sound
 pub use Rattle.rows_cell.specs.Stores
+pub use Rattle.rows_cell.specs.LockRows
+pub use Rattle.rows_cell.specs.Indexes
+pub use Rattle.lock_core.specs.State
+pub use Rattle.lock_core.specs.Turns
+pub use Rattle.lock_core.specs.Locks
+pub use Rattle.cell_core.specs.Locks
 pub use Rattle.cell_core.specs.State
 pub use Rattle.cell_core.specs.Step
 pub use Rattle.cell_core.specs.Cases

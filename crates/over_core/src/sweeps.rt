@@ -1,21 +1,19 @@
 //! What a master does by itself.
-ghost use Rattle.std.specs.Prelude.{◌≡◌, ◌⊎◌, true, Ok, Err, map, IfOk, IfErr, OnOk, OnErr};
+ghost use Rattle.std.specs.Prelude.{◌≡◌, ◌⊎◌, true, Ok, Err, IfOk, IfErr, OnOk, OnErr};
 ghost use Rattle.rows_cell.specs.Rows.{changed_rows};
 ghost use Rattle.rows_cell.specs.Sound.{sound};
 ghost use Rattle.rows_cell.specs.Stores.{Commits, IsCommitted, IsRefused};
-ghost use Rattle.rows_cell.specs.declared.tables.Edit.TheVariants.{PutNode, PutSession, RemoveLock};
-ghost use Rattle.cell_core.specs.Deeds.{BeginsNew, session_edits, edit_of, change_edits, edits_of, done};
+ghost use Rattle.cell_core.specs.Deeds.{BeginsNew, edits_of, done};
 ghost use Rattle.over_core.specs.Sweep.{first_action, is_quiet, swept, action_edits, sweep_edits, sweep_step};
 
 use crate::actions::{Action, first_action};
+use crate::edits::edits_of;
 use crate::plans::{Plan, plan_of};
-use cell_core::{Cell as Master, Change, Deed, Grown, SessionDeed, Taken};
+use cell_core::{Cell as Master, Deed, Grown, Taken};
 use lease_core::MOMENT_LIMIT;
-use names_cell::{Name, Principal};
-use node_core::{Fault, Line, Mod, View};
+use node_core::{Fault, Line};
 use plain::Items;
-use rows_cell::{Edit, LockKey, Records, Session};
-use std::alloc::{AllocError, Global};
+use rows_cell::{Edit, Records};
 use tags_cell::Out;
 
 /// What a sweep prints and sends, and whether it found nothing to do.
@@ -92,11 +90,11 @@ fn carry_out<R: Records>(
     plan: Plan,
     quiet: bool,
 ) -> Result<Swept, Fault>
-    requires sound { sound (R.store records.old).cell (changed_rows (R.store records.old).rows (edits_of plan.deed)) ≡ true }
+    requires sound { sound (R.store records.old).cell (changed_rows (R.store records.old).rows (edits_of master.old plan.deed)) ≡ true }
     requires begins { BeginsNew master.old plan.deed.session }
     ensures ok { IfOk result (λ swept. swept ≡ record { lines = plan.taken.lines; outs = plan.taken.outs; quiet = quiet }) }
     ensures done { OnOk result (master.new ≡ done master.old plan.deed) }
-    ensures store { Commits (edits_of plan.deed) (R.store records.old) (R.store records.new) result }
+    ensures store { Commits (edits_of master.old plan.deed) (R.store records.old) (R.store records.new) result }
     ensures err { OnErr result (master.new ≡ master.old) }
 {
     let Plan { deed, taken } = plan;
@@ -111,13 +109,13 @@ fn carry_out<R: Records>(
 
 // The deed is done, with its edits committed.
 fn commit_edits<R: Records>(master: &mut Master, records: &mut R, deed: Deed) -> Result<(), Fault>
-    requires sound { sound (R.store records.old).cell (changed_rows (R.store records.old).rows (edits_of deed)) ≡ true }
+    requires sound { sound (R.store records.old).cell (changed_rows (R.store records.old).rows (edits_of master.old deed)) ≡ true }
     requires begins { BeginsNew master.old deed.session }
     ensures ok { OnOk result (master.new ≡ done master.old deed) }
-    ensures store { Commits (edits_of deed) (R.store records.old) (R.store records.new) result }
+    ensures store { Commits (edits_of master.old deed) (R.store records.old) (R.store records.new) result }
     ensures err { OnErr result (master.new ≡ master.old) }
 {
-    match edits_of(master.alloc(), &deed) {
+    match edits_of(master, &deed) {
         Ok(edits) => {
             let done = commit_deed(master, records, deed, &edits);
             drop(edits);
@@ -156,76 +154,4 @@ fn commit_deed<R: Records>(
             Err(fault.into())
         }
     }
-}
-
-// What is committed for a deed.
-fn edits_of(alloc: Global, deed: &Deed) -> Result<Items<Edit>, AllocError>
-    ensures { IfOk result (λ edits. edits ≡ edits_of deed.now) }
-{
-    let mut edits = session_edits(alloc, &deed.session)?;
-    edits.append(change_edits(alloc, &deed.change)?)?;
-    Ok(edits)
-}
-
-fn session_edits(alloc: Global, deed: &Option<SessionDeed>) -> Result<Items<Edit>, AllocError>
-    ensures { IfOk result (λ edits. edits ≡ session_edits deed.now) }
-{
-    match deed {
-        Some(SessionDeed::Begins(client, principal)) => {
-            let mut edits = Items::new(alloc);
-            edits.push(put_session(client.get(), principal, true)?)?;
-            Ok(edits)
-        }
-        Some(SessionDeed::Ends(client, principal, locks)) => {
-            let mut edits = unlocks(alloc, locks.as_slice())?;
-            edits.push(put_session(*client, principal, false)?)?;
-            Ok(edits)
-        }
-        _ => Ok(Items::new(alloc)),
-    }
-}
-
-// These locks are let go.
-fn unlocks(alloc: Global, locks: &[LockKey]) -> Result<Items<Edit>, AllocError>
-    ensures { IfOk result (λ edits. edits ≡ map RemoveLock locks.now) }
-{
-    let mut edits = Items::new(alloc);
-    for key in locks {
-        edits.push(Edit::RemoveLock(*key))?;
-    }
-    Ok(edits)
-}
-
-fn put_session(client: u64, principal: &Principal, live: bool) -> Result<Edit, AllocError>
-    ensures { IfOk result (λ edit. edit ≡ PutSession client (record { principal = principal.now; live = live })) }
-{
-    let principal = principal.clone()?;
-    Ok(Edit::PutSession(client, Session { principal, live }))
-}
-
-fn change_edits(alloc: Global, change: &Option<Change>) -> Result<Items<Edit>, AllocError>
-    ensures { IfOk result (λ edits. edits ≡ change_edits change.now) }
-{
-    let mut edits = Items::new(alloc);
-    if let Some(change) = change {
-        edits.push(edit_of(&change.change)?)?;
-        edits.push(Edit::NextInstance(change.next_instance))?;
-    }
-    Ok(edits)
-}
-
-fn edit_of(change: &Mod) -> Result<Edit, AllocError>
-    ensures { IfOk result (λ edit. edit ≡ edit_of change.now) }
-{
-    match change {
-        Mod::Put(name, view) => put_edit(name, view),
-        Mod::Gone(name) => Ok(Edit::RemoveNode(name.clone()?)),
-    }
-}
-
-fn put_edit(name: &Name, view: &View) -> Result<Edit, AllocError>
-    ensures { IfOk result (λ edit. edit ≡ PutNode name.now view.now) }
-{
-    let name = name.clone()?;
-    Ok(Edit::PutNode(name, view.clone()?))
 }
