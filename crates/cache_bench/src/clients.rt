@@ -5,8 +5,8 @@ use node_core::{Fault, Kind, Life, View};
 use plain::Bytes;
 use std::alloc::Global;
 use tags_cell::{
-    CallResult, ClientNumber, HandleBytes, MessageNumber, Mode, NewHandle, Open, Ordinal, Out,
-    Reply, Started,
+    CallResult, ClientNumber, Events, HandleBytes, MessageNumber, Mode, NewHandle, Open, Ordinal,
+    Out, Reply, Started,
 };
 
 /// The client with the number 1, in the session of a first master, under a lease of a minute. Its handle 1 is to read, and
@@ -69,6 +69,8 @@ fn opening(alloc: Global) -> Result<Open, Fault> {
         name,
         mode,
         create: None,
+        delay: 0,
+        events: Events::none(),
     })
 }
 

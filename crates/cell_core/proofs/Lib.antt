@@ -1,6 +1,8 @@
+mod LocksPut
 mod MissingRights
 mod Notes
-mod Filtered
+pub mod PlacedHandles
+mod ToldHandles
 mod TakenOver
 pub mod TakeCases
 pub mod Told

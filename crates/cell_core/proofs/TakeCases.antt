@@ -18,7 +18,7 @@ use Rattle.session_core.specs.declared.records.Kept.{Kept}
 use Rattle.session_core.specs.Session.{beat_fault, kept_answer}
 use Rattle.cell_core.specs.declared.pending.Work.TheVariants as works
 use Rattle.cell_core.specs.State.{MasterState}
-use Rattle.cell_core.specs.Step.{session_of, kept_of, is_live, is_full, may_start, turned_away, refusal, queued, replied, is_cachable, granting, telling, waits, nothing, with_note, admission_of, admit_step, new_call_by, new_call, kept_step, call_step, start_step, beat_by, beat_step, take_at, take_step, is_past_end, is_spent, noted}
+use Rattle.cell_core.specs.Step.{session_of, kept_of, is_live, is_full, may_start, turned_away, refusal, queued, replied, is_cachable, granting, telling, waits, nothing, with_note, admission_for, admit_step, new_call_by, new_call, kept_step, call_step, start_step, beat_by, beat_step, take_at, take_step, is_past_end, is_spent, noted}
 use Rattle.cell_core.specs.Cases.{IsHeard, IsNew, TakeCase, taken_by}
 use Rattle.cell_core.specs.Cases.TakeCase.{StartRefused, StartRecovering, StartFull, StartQueued, OldBeat, BeatRefused, BeatParked, OldEpoch, NoSession, Repeated, OlderCall, Outstanding, Recovering, Answered, Granted, Waits}
 
@@ -53,7 +53,7 @@ some_reply (Some reply) h = (reply, refl)
 -- ---- a new call
 
 -- an answer, by the name of which it tells
-told_case : (s : MasterState) (request : Request) (message : CallMessage) (admission : Admission) (answer : CallResult) (o : Option (List ℕ)) → IsNew s request message → s.recovering ≡ false → admission_of s message.client message.number message.call ≡ admission → admission.answer ≡ Some answer → admission.told ≡ o → IsCase s request (telling (with_note s admission.note) message.client message.number answer o)
+told_case : (s : MasterState) (request : Request) (message : CallMessage) (admission : Admission) (answer : CallResult) (o : Option (List ℕ)) → IsNew s request message → s.recovering ≡ false → admission_for s message ≡ admission → admission.answer ≡ Some answer → admission.told ≡ o → IsCase s request (telling (with_note s admission.note) message.client message.number answer o)
 told_case s request message admission answer None new serving is some none =
     (Answered message admission.note answer new serving (record { is_noted = rw is refl; is_answer = inl (rw is some, rw (is, none) tt) }), refl)
 told_case s request message admission answer (Some name) new serving is some told =
@@ -63,29 +63,29 @@ told_case s request message admission answer (Some name) new serving is some tol
     (λ kept. (Answered message admission.note answer new serving (record { is_noted = rw is refl; is_answer = inl (rw is some, rw (is, told) kept) }), refl))
 
 -- by what it is answered at once, and whether there is room
-admit_case : (s : MasterState) (request : Request) (message : CallMessage) (admission : Admission) (o : Option CallResult) → IsNew s request message → s.recovering ≡ false → admission_of s message.client message.number message.call ≡ admission → admission.answer ≡ o → IsCase s request (admit_step (with_note s admission.note) message.client message.number message.call admission.touched admission.told o)
+admit_case : (s : MasterState) (request : Request) (message : CallMessage) (admission : Admission) (o : Option CallResult) → IsNew s request message → s.recovering ≡ false → admission_for s message ≡ admission → admission.answer ≡ o → IsCase s request (admit_step (with_note s admission.note) message admission.touched admission.told o)
 admit_case s request message admission None new serving is none =
     let t : MasterState = with_note s admission.note in
-    either s request (is_full t) (replied t message.client message.number (results.Refused faults.Busy)) (waits t message.client message.number message.call admission.touched)
+    either s request (is_full t) (replied t message.client message.number (results.Refused faults.Busy)) (waits t message admission.touched)
     (λ full. (Answered message admission.note (results.Refused faults.Busy) new serving (record { is_noted = rw is refl; is_answer = inr (rw is none, full, refl) }), refl))
     (λ room. (Waits message admission.note admission.touched new serving (record { is_touched = rw is refl; is_noted = rw is refl; passes = rw is none; room = room }), refl))
 admit_case s request message admission (Some answer) new serving is some = told_case s request message admission answer admission.told new serving is some refl
 
-new_case : (s : MasterState) (request : Request) (message : CallMessage) → IsNew s request message → IsCase s request (new_call s message.client message.number message.call)
+new_case : (s : MasterState) (request : Request) (message : CallMessage) → IsNew s request message → IsCase s request (new_call s message)
 new_case s request message new =
-    let admission : Admission = admission_of s message.client message.number message.call in
-    either s request s.recovering (replied s message.client message.number (results.Refused faults.Recovering)) (new_call_by s message.client message.number message.call admission)
+    let admission : Admission = admission_for s message in
+    either s request s.recovering (replied s message.client message.number (results.Refused faults.Recovering)) (new_call_by s message admission)
     (λ recovering. (Recovering message new recovering, refl))
     (λ serving. admit_case s request message admission admission.answer new serving refl refl)
 
 -- ---- a call, by the client's last one
 
 -- how it stands to the last one, by a test
-by_test : (s : MasterState) (request : Request) (message : CallMessage) (b : Bool) (x y : Result (Option (Kept Reply)) Fault) → (b ≡ true → IsCase s request (kept_step s message.client message.number message.call x)) → (b ≡ false → IsCase s request (kept_step s message.client message.number message.call y)) → IsCase s request (kept_step s message.client message.number message.call (cond b x y))
+by_test : (s : MasterState) (request : Request) (message : CallMessage) (b : Bool) (x y : Result (Option (Kept Reply)) Fault) → (b ≡ true → IsCase s request (kept_step s message x)) → (b ≡ false → IsCase s request (kept_step s message y)) → IsCase s request (kept_step s message (cond b x y))
 by_test s request message true x y h k = h refl
 by_test s request message false x y h k = k refl
 
-kept_case : (s : MasterState) (request : Request) (message : CallMessage) (o : Option (Kept Reply)) → IsHeard s request message → kept_of s message.client ≡ o → IsCase s request (kept_step s message.client message.number message.call (kept_answer o message.number))
+kept_case : (s : MasterState) (request : Request) (message : CallMessage) (o : Option (Kept Reply)) → IsHeard s request message → kept_of s message.client ≡ o → IsCase s request (kept_step s message (kept_answer o message.number))
 kept_case s request message None heard is = new_case s request message (record { heard = heard; behind = rw is tt })
 kept_case s request message (Some kept) heard is =
     let waiting : Result (Option (Kept Reply)) Fault = cond (is_none kept.reply) (Err faults.CallOutstanding) (Ok None) in
@@ -99,7 +99,7 @@ kept_case s request message (Some kept) heard is =
 
 call_case : (s : MasterState) (request : Request) (message : CallMessage) → request ≡ requests.Call message → IsCase s request (call_step s message)
 call_case s request message is =
-    let kept = kept_step s message.client message.number message.call (kept_answer (kept_of s message.client) message.number) in
+    let kept = kept_step s message (kept_answer (kept_of s message.client) message.number) in
     let live = cond (is_live s message.client) kept (s, refusal s message.client message.number faults.NoSession) in
     either s request (message.epoch == s.epoch) live (s, refusal s message.client message.number (faults.OldEpoch s.epoch)) (λ e.
     let epoch = same message.epoch s.epoch e in

@@ -22,7 +22,11 @@ use Rattle.tags_cell.specs.declared.outs.CallResult.{CallResult}
 use Rattle.tags_cell.specs.declared.outs.CallResult.TheVariants as results
 use Rattle.cell_core.specs.declared.admissions.Admission.{Admission}
 use Rattle.cell_core.specs.State.{MasterState}
-use Rattle.cell_core.specs.Step.{own_handle, shown_handle, node_of_handle, is_usable, handle_state_of, key_of, touched_by, viewed_name, told_by_open, needing, write_fault, list_answer, answer_on, answer_on_node, missing_right, open_present, plain_open, opened_answer, handle_admission, admission_of_open, admission_of, is_of_cell}
+use Rattle.cell_core.specs.Step.{own_handle, shown_handle, node_of_handle, is_usable, handle_state_of, key_of, touched_by, viewed_name, told_by_open, needing, write_fault, list_answer, answer_on, answer_on_node, answer_under, missing_right, open_present, plain_open, opened_answer, handle_admission, admission_of_open, admission_of, admission_under, check_admission, answering, is_of_cell, is_too_long, sequencer_fault, sequencer_result, release_fault, lock_under}
+use Rattle.tags_cell.specs.declared.sequencers.Sequencer.{Sequencer}
+use Rattle.lock_core.specs.State.{hold_of}
+use Rattle.lock_core.specs.Locks.{sequencer_of}
+use Rattle.cell_core.specs.Locks.{owner_of}
 use Rattle.cell_core.specs.Names.{name_changed, name_asked, shown_by}
 
 -- a handle that is shown is the one whose bytes are shown
@@ -31,32 +35,49 @@ shown_read s client None handle h = cc
 shown_read s client (Some own) handle h =
     elim (own.client == client && is_usable s own (handle_state_of s (key_of own))) as (λ b. cond {A = Option Handle} b (Some own) None ≡ Some handle → Some own ≡ Some handle) [ true ↦ (λ k. k) | false ↦ (λ k. cc) ] h
 
-handle_touched : (s : MasterState) (call : Call) (o : Option Handle) → (handle_admission s call o).answer ≡ None → (handle_admission s call o).touched ≡ option_and_then (λ handle. touched_by handle call) o
-handle_touched s call None h = cc
-handle_touched s call (Some handle) h = refl
+handle_touched : (s : MasterState) (call : Call) (sequencer : Option (List ℕ)) (o : Option Handle) → (handle_admission s call sequencer o).answer ≡ None → (handle_admission s call sequencer o).touched ≡ option_and_then (λ handle. touched_by handle call) o
+handle_touched s call sequencer None h = cc
+handle_touched s call sequencer (Some handle) h = refl
 
-read_touched : (s : MasterState) (client : ℕ) (call : Call) (bytes : List ℕ) (o : Option Handle) → shown_handle s client bytes ≡ o → (handle_admission s call o).answer ≡ None → (handle_admission s call o).touched ≡ option_and_then (λ handle. touched_by handle call) (read_handle s.secret bytes)
-read_touched s client call bytes None is h = cc
-read_touched s client call bytes (Some handle) is h = ap (option_and_then (λ handle. touched_by handle call)) (sym (shown_read s client (read_handle s.secret bytes) handle is))
+read_touched : (s : MasterState) (client : ℕ) (call : Call) (sequencer : Option (List ℕ)) (bytes : List ℕ) (o : Option Handle) → shown_handle s client bytes ≡ o → (handle_admission s call sequencer o).answer ≡ None → (handle_admission s call sequencer o).touched ≡ option_and_then (λ handle. touched_by handle call) (read_handle s.secret bytes)
+read_touched s client call sequencer bytes None is h = cc
+read_touched s client call sequencer bytes (Some handle) is h = ap (option_and_then (λ handle. touched_by handle call)) (sym (shown_read s client (read_handle s.secret bytes) handle is))
 
 open_touched : (s : MasterState) (client number : ℕ) (opening : Open) (o : Option Create) → (admission_of_open s client number opening o).answer ≡ None → (admission_of_open s client number opening o).touched ≡ option_map (λ create. opening.name) o
 open_touched s client number opening None h = cc
 open_touched s client number opening (Some create) h = refl
 
-named_touched : (s : MasterState) (client number : ℕ) (opening : Open) (b : Bool) (x : Admission) → (cond b x (record { note = None; touched = None; told = None; answer = Some (results.Refused faults.OtherCell) })).answer ≡ None → (x.answer ≡ None → x.touched ≡ option_map (λ create. opening.name) opening.create) → (cond b x (record { note = None; touched = None; told = None; answer = Some (results.Refused faults.OtherCell) })).touched ≡ option_map (λ create. opening.name) opening.create
-named_touched s client number opening true x h k = k h
-named_touched s client number opening false x h k = cc
+-- an Open whose sequencer was tested
+under_touched : (s : MasterState) (client number : ℕ) (opening : Open) (o : Option Fault) → (admission_under s client number opening o).answer ≡ None → (admission_under s client number opening o).touched ≡ option_map (λ create. opening.name) opening.create
+under_touched s client number opening (Some fault) h = cc
+under_touched s client number opening None h = open_touched s client number opening opening.create h
+
+named_touched : (name : Option (List ℕ)) (b : Bool) (x : Admission) (other : CallResult) → (cond b x (answering other)).answer ≡ None → (x.answer ≡ None → x.touched ≡ name) → (cond b x (answering other)).touched ≡ name
+named_touched name true x other h k = k h
+named_touched name false x other h k = cc
+
+check_waits_never : (s : MasterState) (bytes : List ℕ) (o : Option Fault) → (check_admission s bytes o).answer ≡ None → ⊥
+check_waits_never s bytes None h = cc
+check_waits_never s bytes (Some fault) h = cc
 
 -- a call that waits touches the name that it may change
-pub touched_is_changed : (s : MasterState) (client number : ℕ) (call : Call) → (admission_of s client number call).answer ≡ None → (admission_of s client number call).touched ≡ name_changed s.secret call
-touched_is_changed s client number (calls.Open opening) h = named_touched s client number opening (is_of_cell s opening.name) (admission_of_open s client number opening opening.create) h (open_touched s client number opening opening.create)
-touched_is_changed s client number (calls.Close bytes) h = read_touched s client (calls.Close bytes) bytes (shown_handle s client bytes) refl h
-touched_is_changed s client number (calls.Read bytes) h = read_touched s client (calls.Read bytes) bytes (shown_handle s client bytes) refl h
-touched_is_changed s client number (calls.Stat bytes) h = read_touched s client (calls.Stat bytes) bytes (shown_handle s client bytes) refl h
-touched_is_changed s client number (calls.List bytes) h = read_touched s client (calls.List bytes) bytes (shown_handle s client bytes) refl h
-touched_is_changed s client number (calls.Set bytes content generation) h = read_touched s client (calls.Set bytes content generation) bytes (shown_handle s client bytes) refl h
-touched_is_changed s client number (calls.SetAcl bytes acls generation) h = read_touched s client (calls.SetAcl bytes acls generation) bytes (shown_handle s client bytes) refl h
-touched_is_changed s client number (calls.Delete bytes) h = read_touched s client (calls.Delete bytes) bytes (shown_handle s client bytes) refl h
+pub touched_is_changed : (s : MasterState) (client number : ℕ) (call : Call) (sequencer : Option (List ℕ)) → (admission_of s client number call sequencer).answer ≡ None → (admission_of s client number call sequencer).touched ≡ name_changed s.secret call
+touched_is_changed s client number (calls.Open opening) sequencer h =
+    let under : Admission = admission_under s client number opening (sequencer_fault s sequencer) in
+    named_touched (option_map (λ create. opening.name) opening.create) (is_of_cell s opening.name) under (results.Refused faults.OtherCell) h (under_touched s client number opening (sequencer_fault s sequencer))
+touched_is_changed s client number (calls.CheckSequencer bytes) sequencer h = absurd (check_waits_never s bytes (sequencer_fault s sequencer) h)
+touched_is_changed s client number (calls.Close bytes) sequencer h = read_touched s client (calls.Close bytes) sequencer bytes (shown_handle s client bytes) refl h
+touched_is_changed s client number (calls.Read bytes) sequencer h = read_touched s client (calls.Read bytes) sequencer bytes (shown_handle s client bytes) refl h
+touched_is_changed s client number (calls.Stat bytes) sequencer h = read_touched s client (calls.Stat bytes) sequencer bytes (shown_handle s client bytes) refl h
+touched_is_changed s client number (calls.List bytes) sequencer h = read_touched s client (calls.List bytes) sequencer bytes (shown_handle s client bytes) refl h
+touched_is_changed s client number (calls.Set bytes content generation) sequencer h = read_touched s client (calls.Set bytes content generation) sequencer bytes (shown_handle s client bytes) refl h
+touched_is_changed s client number (calls.SetAcl bytes acls generation) sequencer h = read_touched s client (calls.SetAcl bytes acls generation) sequencer bytes (shown_handle s client bytes) refl h
+touched_is_changed s client number (calls.Delete bytes) sequencer h = read_touched s client (calls.Delete bytes) sequencer bytes (shown_handle s client bytes) refl h
+touched_is_changed s client number (calls.Acquire bytes mode) sequencer h = read_touched s client (calls.Acquire bytes mode) sequencer bytes (shown_handle s client bytes) refl h
+touched_is_changed s client number (calls.TryAcquire bytes mode) sequencer h = read_touched s client (calls.TryAcquire bytes mode) sequencer bytes (shown_handle s client bytes) refl h
+touched_is_changed s client number (calls.Release bytes) sequencer h = read_touched s client (calls.Release bytes) sequencer bytes (shown_handle s client bytes) refl h
+touched_is_changed s client number (calls.GetSequencer bytes) sequencer h = read_touched s client (calls.GetSequencer bytes) sequencer bytes (shown_handle s client bytes) refl h
+touched_is_changed s client number (calls.SetSequencer bytes) sequencer h = read_touched s client (calls.SetSequencer bytes) sequencer bytes (shown_handle s client bytes) refl h
 
 -- ---- what an answer tells of a name
 
@@ -79,10 +100,15 @@ view_tells s own name answer view here told is =
     let shown : results.Viewed view ≡ answer = cc in
     (same, sym (ap shown_by shown) ∙ sym here ∙ ap (get_node s.nodes) same)
 
-read_tells : (s : MasterState) (handle : Handle) (bytes name : List ℕ) (answer : CallResult) → Tells s handle.name name answer (answer_on s handle (calls.Read bytes))
-read_tells s handle bytes name answer =
-    at_node (λ view. answer_on_node s handle (calls.Read bytes) view) (Some (results.Refused faults.StaleInstance)) (get_node s.nodes handle.name) handle.instance (λ given. Tells s handle.name name answer given)
-    (λ view here. either_result (has_right handle.mode rights.Read) (λ given. Tells s handle.name name answer given) (Some (results.Viewed view)) (Some (results.Refused (faults.Denied rights.Read))) (view_tells s handle.name name answer view here) (λ told is. cc))
+under_tells : (s : MasterState) (handle : Handle) (bytes name : List ℕ) (answer : CallResult) (view : View) → get_node s.nodes handle.name ≡ Some view → (o : Option Fault) → Tells s handle.name name answer (answer_under s handle (calls.Read bytes) view o)
+under_tells s handle bytes name answer view here (Some fault) = λ told is. cc
+under_tells s handle bytes name answer view here None =
+    either_result (has_right handle.mode rights.Read) (λ given. Tells s handle.name name answer given) (Some (results.Viewed view)) (Some (results.Refused (faults.Denied rights.Read))) (view_tells s handle.name name answer view here) (λ told is. cc)
+
+read_tells : (s : MasterState) (handle : Handle) (bytes name : List ℕ) (answer : CallResult) (sequencer : Option (List ℕ)) → Tells s handle.name name answer (answer_on s handle (calls.Read bytes) sequencer)
+read_tells s handle bytes name answer sequencer =
+    at_node (λ view. answer_under s handle (calls.Read bytes) view (sequencer_fault s sequencer)) (Some (results.Refused faults.StaleInstance)) (get_node s.nodes handle.name) handle.instance (λ given. Tells s handle.name name answer given)
+    (λ view here. under_tells s handle bytes name answer view here (sequencer_fault s sequencer))
     (λ told is. cc)
 
 -- an answer that tells nothing of a handle's name
@@ -101,21 +127,34 @@ silent_write own content kinds.File = either_result (nat_lt content_limit (lengt
 silent_without : (own : List ℕ) (handle : Handle) (right : Right) (given : Option CallResult) → IsSilent own given → IsSilent own (needing handle right given)
 silent_without own handle right given h = either_result (has_right handle.mode right) (λ o. IsSilent own o) given (Some (results.Refused (faults.Denied right))) h refl
 
-silent_on : (s : MasterState) (handle : Handle) (call : Call) → ((view : View) → IsSilent handle.name (answer_on_node s handle call view)) → IsSilent handle.name (option_map_or (λ view. answer_on_node s handle call view) (node_of_handle s handle) (Some (results.Refused faults.StaleInstance)))
-silent_on s handle call h = at_node (λ view. answer_on_node s handle call view) (Some (results.Refused faults.StaleInstance)) (get_node s.nodes handle.name) handle.instance (λ given. IsSilent handle.name given) (λ view here. h view) refl
+silent_under : (s : MasterState) (handle : Handle) (call : Call) (view : View) (o : Option Fault) → IsSilent handle.name (answer_on_node s handle call view) → IsSilent handle.name (answer_under s handle call view o)
+silent_under s handle call view None h = h
+silent_under s handle call view (Some fault) h = refl
+
+silent_release : (s : MasterState) (own : List ℕ) (handle : Handle) → IsSilent own (release_fault s handle)
+silent_release s own handle = either_result (is_none (hold_of (lock_under s handle) (owner_of handle))) (λ o. IsSilent own o) (Some (results.Refused faults.NotHolder)) None refl refl
+
+silent_result : (own : List ℕ) (given : Result Sequencer Fault) → IsSilent own (Some (sequencer_result given))
+silent_result own (Ok sequencer) = refl
+silent_result own (Err fault) = refl
+
+silent_on : (s : MasterState) (handle : Handle) (call : Call) (sequencer : Option (List ℕ)) → ((view : View) → IsSilent handle.name (answer_on_node s handle call view)) → IsSilent handle.name (option_map_or (λ view. answer_under s handle call view (sequencer_fault s sequencer)) (node_of_handle s handle) (Some (results.Refused faults.StaleInstance)))
+silent_on s handle call sequencer h =
+    at_node (λ view. answer_under s handle call view (sequencer_fault s sequencer)) (Some (results.Refused faults.StaleInstance)) (get_node s.nodes handle.name) handle.instance (λ given. IsSilent handle.name given)
+    (λ view here. silent_under s handle call view (sequencer_fault s sequencer) (h view)) refl
 
 -- the goal, by what a call asks
 abbrev IsShown : MasterState → Call → List ℕ → CallResult → Type 0
 IsShown s call name answer = (name_asked s.secret call ≡ Some name) × (shown_by answer ≡ get_node s.nodes name)
 
-silent_shown : (s : MasterState) (call : Call) (name : List ℕ) (answer : CallResult) (o : Option Handle) → ((handle : Handle) → IsSilent handle.name (answer_on s handle call)) → (handle_admission s call o).told ≡ Some name → IsShown s call name answer
-silent_shown s call name answer None h told = cc
-silent_shown s call name answer (Some handle) h told = let none = h handle in cc
+silent_shown : (s : MasterState) (call : Call) (sequencer : Option (List ℕ)) (name : List ℕ) (answer : CallResult) (o : Option Handle) → ((handle : Handle) → IsSilent handle.name (answer_on s handle call sequencer)) → (handle_admission s call sequencer o).told ≡ Some name → IsShown s call name answer
+silent_shown s call sequencer name answer None h told = cc
+silent_shown s call sequencer name answer (Some handle) h told = let none = h handle in cc
 
-read_shown : (s : MasterState) (client : ℕ) (bytes name : List ℕ) (answer : CallResult) (o : Option Handle) → shown_handle s client bytes ≡ o → (handle_admission s (calls.Read bytes) o).told ≡ Some name → (handle_admission s (calls.Read bytes) o).answer ≡ Some answer → IsShown s (calls.Read bytes) name answer
-read_shown s client bytes name answer None is told answers = cc
-read_shown s client bytes name answer (Some handle) is told answers =
-    let tells = read_tells s handle bytes name answer told answers in
+read_shown : (s : MasterState) (client : ℕ) (sequencer : Option (List ℕ)) (bytes name : List ℕ) (answer : CallResult) (o : Option Handle) → shown_handle s client bytes ≡ o → (handle_admission s (calls.Read bytes) sequencer o).told ≡ Some name → (handle_admission s (calls.Read bytes) sequencer o).answer ≡ Some answer → IsShown s (calls.Read bytes) name answer
+read_shown s client sequencer bytes name answer None is told answers = cc
+read_shown s client sequencer bytes name answer (Some handle) is told answers =
+    let tells = read_tells s handle bytes name answer sequencer told answers in
     (ap (option_map (λ h. h.name)) (shown_read s client (read_handle s.secret bytes) handle is) ∙ ap Some tells.0, tells.1)
 
 -- ---- an Open that makes nothing
@@ -124,10 +163,11 @@ read_shown s client bytes name answer (Some handle) is told answers =
 abbrev TellsAbsence : MasterState → Open → List ℕ → CallResult → Result Handle Fault → Type 0
 TellsAbsence s opening name answer opened = told_by_open opening.name opened ≡ Some name → opened_answer s opened ≡ answer → (opening.name ≡ name) × (shown_by answer ≡ get_node s.nodes name)
 
-present_tells : (s : MasterState) (opening : Open) (name : List ℕ) (answer : CallResult) (missing : Option Right) (b : Bool) (handle : Handle) → TellsAbsence s opening name answer (option_map_or (λ right. Err (faults.Denied right)) missing (cond b (Ok handle) (Err faults.Exhausted)))
-present_tells s opening name answer (Some right) b handle told is = cc
-present_tells s opening name answer None true handle told is = cc
-present_tells s opening name answer None false handle told is = cc
+present_tells : (s : MasterState) (opening : Open) (name : List ℕ) (answer : CallResult) (missing : Option Right) (long numbered : Bool) (handle : Handle) → TellsAbsence s opening name answer (option_map_or (λ right. Err (faults.Denied right)) missing (cond long (Err faults.DelayTooLong) (cond numbered (Ok handle) (Err faults.Exhausted))))
+present_tells s opening name answer (Some right) long numbered handle told is = cc
+present_tells s opening name answer None true numbered handle told is = cc
+present_tells s opening name answer None false true handle told is = cc
+present_tells s opening name answer None false false handle told is = cc
 
 inner : {A : Type 0} (x y : A) → Some x ≡ Some y → x ≡ y
 inner x y h = cc
@@ -137,7 +177,7 @@ open_tells s client number opening name answer None here told is =
     let same : opening.name ≡ name = cc in
     (same, ap shown_by (sym is) ∙ sym here ∙ ap (get_node s.nodes) same)
 open_tells s client number opening name answer (Some view) here told is =
-    present_tells s opening name answer (missing_right s client opening.mode view) (is_ordinal s.epoch && is_ordinal view.instance) _ told is
+    present_tells s opening name answer (missing_right s client opening.mode view) (is_too_long opening.delay) (is_ordinal s.epoch && is_ordinal view.instance) _ told is
 
 absence_shown : (s : MasterState) (client number : ℕ) (opening : Open) (name : List ℕ) (answer : CallResult) (o : Option Create) → opening.create ≡ o → (admission_of_open s client number opening o).told ≡ Some name → (admission_of_open s client number opening o).answer ≡ Some answer → IsShown s (calls.Open opening) name answer
 absence_shown s client number opening name answer (Some create) is told answers = cc
@@ -145,23 +185,46 @@ absence_shown s client number opening name answer None is told answers =
     let tells = open_tells s client number opening name answer (get_node s.nodes opening.name) refl told (inner (opened_answer s (plain_open s client number opening)) answer answers) in
     (ap (λ (create : Option Create). cond (is_none create) (Some opening.name) None) is ∙ ap Some tells.0, tells.1)
 
-open_shown : (s : MasterState) (client number : ℕ) (opening : Open) (name : List ℕ) (answer : CallResult) (b : Bool) → (cond b (admission_of_open s client number opening opening.create) (record { note = None; touched = None; told = None; answer = Some (results.Refused faults.OtherCell) })).told ≡ Some name → (cond b (admission_of_open s client number opening opening.create) (record { note = None; touched = None; told = None; answer = Some (results.Refused faults.OtherCell) })).answer ≡ Some answer → IsShown s (calls.Open opening) name answer
-open_shown s client number opening name answer true told answers = absence_shown s client number opening name answer opening.create refl told answers
-open_shown s client number opening name answer false told answers = cc
+under_shown : (s : MasterState) (client number : ℕ) (opening : Open) (name : List ℕ) (answer : CallResult) (o : Option Fault) → (admission_under s client number opening o).told ≡ Some name → (admission_under s client number opening o).answer ≡ Some answer → IsShown s (calls.Open opening) name answer
+under_shown s client number opening name answer (Some fault) told answers = cc
+under_shown s client number opening name answer None told answers = absence_shown s client number opening name answer opening.create refl told answers
+
+open_shown : (P : Type 0) (b : Bool) (x : Admission) (name : List ℕ) (answer other : CallResult) → (x.told ≡ Some name → x.answer ≡ Some answer → P) → (cond b x (answering other)).told ≡ Some name → (cond b x (answering other)).answer ≡ Some answer → P
+open_shown P true x name answer other h told answers = h told answers
+open_shown P false x name answer other h told answers = absurd cc
+
+check_tells_nothing : (s : MasterState) (bytes name : List ℕ) (o : Option Fault) → (check_admission s bytes o).told ≡ Some name → ⊥
+check_tells_nothing s bytes name None told = cc
+check_tells_nothing s bytes name (Some fault) told = cc
 
 -- ---- the lemma
 
 -- an answer that tells of a name answers a call that asks for it, and tells what it shows
-pub told_is_shown : (s : MasterState) (client number : ℕ) (call : Call) (name : List ℕ) (answer : CallResult) → (admission_of s client number call).told ≡ Some name → (admission_of s client number call).answer ≡ Some answer → (name_asked s.secret call ≡ Some name) × (shown_by answer ≡ get_node s.nodes name)
-told_is_shown s client number (calls.Open opening) name answer told answers = open_shown s client number opening name answer (is_of_cell s opening.name) told answers
-told_is_shown s client number (calls.Close bytes) name answer told answers = silent_shown s (calls.Close bytes) name answer (shown_handle s client bytes) (λ handle. refl) told
-told_is_shown s client number (calls.Read bytes) name answer told answers = read_shown s client bytes name answer (shown_handle s client bytes) refl told answers
-told_is_shown s client number (calls.Stat bytes) name answer told answers = silent_shown s (calls.Stat bytes) name answer (shown_handle s client bytes) (λ handle. silent_on s handle (calls.Stat bytes) (λ view. refl)) told
-told_is_shown s client number (calls.List bytes) name answer told answers =
-    silent_shown s (calls.List bytes) name answer (shown_handle s client bytes) (λ handle. silent_on s handle (calls.List bytes) (λ view. silent_without handle.name handle rights.Read (Some (list_answer s handle.name view.kind)) (silent_list s handle.name view.kind))) told
-told_is_shown s client number (calls.Set bytes content generation) name answer told answers =
-    silent_shown s (calls.Set bytes content generation) name answer (shown_handle s client bytes) (λ handle. silent_on s handle (calls.Set bytes content generation) (λ view. silent_without handle.name handle rights.Write (write_fault view.kind content) (silent_write handle.name content view.kind))) told
-told_is_shown s client number (calls.SetAcl bytes acls generation) name answer told answers =
-    silent_shown s (calls.SetAcl bytes acls generation) name answer (shown_handle s client bytes) (λ handle. silent_on s handle (calls.SetAcl bytes acls generation) (λ view. silent_without handle.name handle rights.Change None refl)) told
-told_is_shown s client number (calls.Delete bytes) name answer told answers =
-    silent_shown s (calls.Delete bytes) name answer (shown_handle s client bytes) (λ handle. silent_on s handle (calls.Delete bytes) (λ view. silent_without handle.name handle rights.Write None refl)) told
+pub told_is_shown : (s : MasterState) (client number : ℕ) (call : Call) (sequencer : Option (List ℕ)) (name : List ℕ) (answer : CallResult) → (admission_of s client number call sequencer).told ≡ Some name → (admission_of s client number call sequencer).answer ≡ Some answer → (name_asked s.secret call ≡ Some name) × (shown_by answer ≡ get_node s.nodes name)
+told_is_shown s client number (calls.Open opening) sequencer name answer told answers =
+    let under : Admission = admission_under s client number opening (sequencer_fault s sequencer) in
+    open_shown (IsShown s (calls.Open opening) name answer) (is_of_cell s opening.name) under name answer (results.Refused faults.OtherCell) (under_shown s client number opening name answer (sequencer_fault s sequencer)) told answers
+told_is_shown s client number (calls.Read bytes) sequencer name answer told answers = read_shown s client sequencer bytes name answer (shown_handle s client bytes) refl told answers
+told_is_shown s client number (calls.CheckSequencer bytes) sequencer name answer told answers = absurd (check_tells_nothing s bytes name (sequencer_fault s sequencer) told)
+told_is_shown s client number (calls.Close bytes) sequencer name answer told answers =
+    silent_shown s (calls.Close bytes) sequencer name answer (shown_handle s client bytes) (λ handle. refl) told
+told_is_shown s client number (calls.Stat bytes) sequencer name answer told answers =
+    silent_shown s (calls.Stat bytes) sequencer name answer (shown_handle s client bytes) (λ handle. silent_on s handle (calls.Stat bytes) sequencer (λ view. refl)) told
+told_is_shown s client number (calls.List bytes) sequencer name answer told answers =
+    silent_shown s (calls.List bytes) sequencer name answer (shown_handle s client bytes) (λ handle. silent_on s handle (calls.List bytes) sequencer (λ view. silent_without handle.name handle rights.Read (Some (list_answer s handle.name view.kind)) (silent_list s handle.name view.kind))) told
+told_is_shown s client number (calls.Set bytes content generation) sequencer name answer told answers =
+    silent_shown s (calls.Set bytes content generation) sequencer name answer (shown_handle s client bytes) (λ handle. silent_on s handle (calls.Set bytes content generation) sequencer (λ view. silent_without handle.name handle rights.Write (write_fault view.kind content) (silent_write handle.name content view.kind))) told
+told_is_shown s client number (calls.SetAcl bytes acls generation) sequencer name answer told answers =
+    silent_shown s (calls.SetAcl bytes acls generation) sequencer name answer (shown_handle s client bytes) (λ handle. silent_on s handle (calls.SetAcl bytes acls generation) sequencer (λ view. silent_without handle.name handle rights.Change None refl)) told
+told_is_shown s client number (calls.Delete bytes) sequencer name answer told answers =
+    silent_shown s (calls.Delete bytes) sequencer name answer (shown_handle s client bytes) (λ handle. silent_on s handle (calls.Delete bytes) sequencer (λ view. silent_without handle.name handle rights.Write None refl)) told
+told_is_shown s client number (calls.Acquire bytes mode) sequencer name answer told answers =
+    silent_shown s (calls.Acquire bytes mode) sequencer name answer (shown_handle s client bytes) (λ handle. silent_on s handle (calls.Acquire bytes mode) sequencer (λ view. silent_without handle.name handle rights.Write None refl)) told
+told_is_shown s client number (calls.TryAcquire bytes mode) sequencer name answer told answers =
+    silent_shown s (calls.TryAcquire bytes mode) sequencer name answer (shown_handle s client bytes) (λ handle. silent_on s handle (calls.TryAcquire bytes mode) sequencer (λ view. silent_without handle.name handle rights.Write None refl)) told
+told_is_shown s client number (calls.Release bytes) sequencer name answer told answers =
+    silent_shown s (calls.Release bytes) sequencer name answer (shown_handle s client bytes) (λ handle. silent_on s handle (calls.Release bytes) sequencer (λ view. silent_without handle.name handle rights.Write (release_fault s handle) (silent_release s handle.name handle))) told
+told_is_shown s client number (calls.GetSequencer bytes) sequencer name answer told answers =
+    silent_shown s (calls.GetSequencer bytes) sequencer name answer (shown_handle s client bytes) (λ handle. silent_on s handle (calls.GetSequencer bytes) sequencer (λ view. silent_result handle.name (sequencer_of (lock_under s handle) handle.instance handle.name (owner_of handle)))) told
+told_is_shown s client number (calls.SetSequencer bytes) sequencer name answer told answers =
+    silent_shown s (calls.SetSequencer bytes) sequencer name answer (shown_handle s client bytes) (λ handle. silent_on s handle (calls.SetSequencer bytes) sequencer (λ view. refl)) told

@@ -16,7 +16,7 @@ use Rattle.session_core.specs.declared.records.Kept.{Kept}
 use Rattle.session_core.specs.Session.{beat_fault}
 use Rattle.cell_core.specs.declared.pending.Work.TheVariants as works
 use Rattle.cell_core.specs.State.{MasterState}
-use Rattle.cell_core.specs.Step.{session_of, kept_of, is_live, is_full, may_start, nothing, turned_away, refusal, repeated, queued, parked, acked, replied, is_cachable, granting, waits, with_note, admission_of}
+use Rattle.cell_core.specs.Step.{session_of, kept_of, is_live, is_full, may_start, nothing, turned_away, refusal, repeated, queued, parked, acked, replied, is_cachable, granting, waits, with_note, admission_for}
 
 -- ---- a message
 
@@ -43,22 +43,22 @@ IsUnkept s client (Some name) = is_cachable s client name ≡ false
 
 -- what is noted of its handle first, and what it is answered at once: by its tests, or as Busy where it would wait and there is no room
 pub record IsAnswered (s : MasterState) (message : CallMessage) (note : Option Note) (answer : CallResult) : Type 0 where
-  pub is_noted : note ≡ (admission_of s message.client message.number message.call).note
-  pub is_answer : (((admission_of s message.client message.number message.call).answer ≡ Some answer) × IsUnkept (with_note s note) message.client (admission_of s message.client message.number message.call).told)
-      ⊎ (((admission_of s message.client message.number message.call).answer ≡ None) × (is_full (with_note s note) ≡ true) × (answer ≡ results.Refused faults.Busy))
+  pub is_noted : note ≡ (admission_for s message).note
+  pub is_answer : (((admission_for s message).answer ≡ Some answer) × IsUnkept (with_note s note) message.client (admission_for s message).told)
+      ⊎ (((admission_for s message).answer ≡ None) × (is_full (with_note s note) ≡ true) × (answer ≡ results.Refused faults.Busy))
 
 -- what is noted of its handle first, and what it is answered at once, which tells what a name shows, and may be kept in the client's cache
 pub record IsGranted (s : MasterState) (message : CallMessage) (note : Option Note) (answer : CallResult) (name : List ℕ) : Type 0 where
-  pub is_noted : note ≡ (admission_of s message.client message.number message.call).note
-  pub is_answer : (admission_of s message.client message.number message.call).answer ≡ Some answer
-  pub is_told : (admission_of s message.client message.number message.call).told ≡ Some name
+  pub is_noted : note ≡ (admission_for s message).note
+  pub is_answer : (admission_for s message).answer ≡ Some answer
+  pub is_told : (admission_for s message).told ≡ Some name
   pub cachable : is_cachable (with_note s note) message.client name ≡ true
 
 -- it passes its tests, and there is room; what name it touches
 pub record IsAdmitted (s : MasterState) (message : CallMessage) (note : Option Note) (touched : Option (List ℕ)) : Type 0 where
-  pub is_touched : touched ≡ (admission_of s message.client message.number message.call).touched
-  pub is_noted : note ≡ (admission_of s message.client message.number message.call).note
-  pub passes : (admission_of s message.client message.number message.call).answer ≡ None
+  pub is_touched : touched ≡ (admission_for s message).touched
+  pub is_noted : note ≡ (admission_for s message).note
+  pub passes : (admission_for s message).answer ≡ None
   pub room : is_full (with_note s note) ≡ false
 
 pub data TakeCase (s : MasterState) (request : Request) : Type 0 where
@@ -100,4 +100,4 @@ taken_by s request (Outstanding message kept heard is more none) = (s, refusal s
 taken_by s request (Recovering message new recovering) = replied s message.client message.number (results.Refused faults.Recovering)
 taken_by s request (Answered message note answer new serving answered) = replied (with_note s note) message.client message.number answer
 taken_by s request (Granted message note answer name new serving granted) = granting (with_note s note) message.client message.number answer name
-taken_by s request (Waits message note touched new serving admitted) = waits (with_note s note) message.client message.number message.call touched
+taken_by s request (Waits message note touched new serving admitted) = waits (with_note s note) message touched

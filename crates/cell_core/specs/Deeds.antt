@@ -1,5 +1,5 @@
 -- What a step of a master changes in it: first what may want memory, then, behind the one commit, the rest.
-use Rattle.std.specs.Prelude.{◌≡◌, ℕ, ◌+◌, Bool, true, false, List, [], ◌∷◌, ◌++◌, map, Option, Some, None}
+use Rattle.std.specs.Prelude.{◌≡◌, ℕ, ◌+◌, Bool, true, false, List, [], ◌∷◌, ◌++◌, ◌==◌, map, fold, if◌then◌else◌, Option, Some, None}
 use Rattle.std.specs.Map.{remove_entry}
 use Rattle.std.specs.BTreeMap.{is_at, insert_entry}
 use Rattle.std.specs.Ordering.{nat_cmp}
@@ -9,12 +9,16 @@ use Rattle.node_core.specs.declared.views.View.{View}
 use Rattle.node_core.specs.declared.views.Mod.{Mod}
 use Rattle.node_core.specs.declared.views.Mod.TheVariants.{Put, Gone}
 use Rattle.rows_cell.specs.declared.tables.Edit.{Edit}
-use Rattle.rows_cell.specs.declared.tables.Edit.TheVariants.{NextInstance, PutNode, RemoveNode, PutSession, RemoveLock}
+use Rattle.rows_cell.specs.declared.tables.Edit.TheVariants.{NextInstance, PutNode, RemoveNode, PutSession}
+use Rattle.rows_cell.specs.LockRows.{LockChange, locks_edits}
 use Rattle.rights_core.specs.declared.endings.Ending.TheVariants as endings
 use Rattle.rights_core.specs.Rights as of_rights
 use Rattle.gate_core.specs.Gate as of_gate
-use Rattle.session_core.specs.Session.{session_until, prolonged, ended, answered}
-use Rattle.session_core.specs.Sessions.{with_session, with_new, without}
+use Rattle.session_core.specs.Session.{session_until, prolonged, ended, answered, keeping}
+use Rattle.session_core.specs.Sessions.{SessionTable, with_session, with_new, without}
+use Rattle.tags_cell.specs.declared.outs.Reply.{Reply}
+use Rattle.lock_core.specs.State.{LockState}
+use Rattle.lock_core.specs.Locks.{LockTable, lock_at, with_lock}
 use Rattle.cell_core.specs.declared.deeds.Change.{Change}
 use Rattle.cell_core.specs.declared.handles.HandleKey.{HandleKey}
 use Rattle.cell_core.specs.declared.handles.HandleState.{HandleState}
@@ -22,12 +26,14 @@ use Rattle.cell_core.specs.declared.deeds.Deed.{Deed}
 use Rattle.cell_core.specs.declared.deeds.SessionDeed.{SessionDeed}
 use Rattle.cell_core.specs.declared.deeds.SessionDeed.TheVariants.{Begins, Prolongs, Ends, Answers}
 use Rattle.cell_core.specs.declared.deeds.KeptPut.{KeptPut}
+use Rattle.cell_core.specs.declared.deeds.LockPut.{LockPut}
 use Rattle.cell_core.specs.declared.deeds.Former.{Former}
 use Rattle.cell_core.specs.declared.deeds.MapRest.{MapRest}
 use Rattle.cell_core.specs.declared.deeds.Rest.{Rest}
 use Rattle.cell_core.specs.Keys.{handle_order}
+use Rattle.cell_core.specs.Locks.{lock_rows}
 use Rattle.cell_core.specs.State.{MasterState}
-use Rattle.cell_core.specs.Step.{session_of, recorded, with_note}
+use Rattle.cell_core.specs.Step.{session_of, with_note}
 
 -- ---- what may want memory
 
@@ -50,8 +56,15 @@ abbrev pub with_node : MasterState → Option Change → MasterState
 with_node s None = s
 with_node s (Some change) = with_put s change.change
 
+-- a lock that changes
+abbrev pub with_lock_put : LockTable → LockPut → LockTable
+with_lock_put locks put = with_lock locks put.instance put.lock
+
+abbrev pub with_locks : MasterState → List LockPut → MasterState
+with_locks s puts = record s { locks = fold with_lock_put s.locks puts }
+
 abbrev pub grown : MasterState → Deed → MasterState
-grown s deed = with_node (with_note (with_begun s deed.session) deed.note) deed.change
+grown s deed = with_locks (with_node (with_note (with_begun s deed.session) deed.note) deed.change) deed.locks
 
 -- ---- how it is taken back
 
@@ -67,8 +80,16 @@ abbrev pub without_node : MasterState → Option (List ℕ × Option View) → M
 without_node s None = s
 without_node s (Some former) = record s { nodes = with_former (slice_cmp nat_cmp) s.nodes former.0 former.1 }
 
+-- the last that was put is taken back first
+abbrev pub with_formers : LockTable → List (ℕ × Option LockState) → LockTable
+with_formers locks [] = locks
+with_formers locks (former ∷ formers) = with_former nat_cmp (with_formers locks formers) former.0 former.1
+
+abbrev pub without_locks : MasterState → List (ℕ × Option LockState) → MasterState
+without_locks s formers = record s { locks = with_formers s.locks formers }
+
 abbrev pub undone : MasterState → Former → MasterState
-undone s former = without_begun (without_note (without_node s former.node) former.note) former.session
+undone s former = without_begun (without_note (without_node (without_locks s former.locks) former.node) former.note) former.session
 
 -- ---- what is done behind the commit
 
@@ -87,19 +108,22 @@ map_rest None = None
 map_rest (Some change) = Some (record { gone = gone_of change.change; next_instance = change.next_instance })
 
 abbrev pub rest_of : Deed → Rest
-rest_of deed = record { session = session_rest deed.session; kept = deed.kept; map = map_rest deed.change; recovers = deed.recovers; leaves = deed.leaves }
+rest_of deed = record { session = session_rest deed.session; kept = deed.kept; map = map_rest deed.change; ends_lock = deed.ends_lock; recovers = deed.recovers; leaves = deed.leaves }
 
 abbrev pub with_session_rest : MasterState → Option SessionDeed → MasterState
 with_session_rest s (Some (Prolongs client)) = record s { sessions = with_session s.sessions client (prolonged (s.clock + s.sessions.lease)) }
-with_session_rest s (Some (Ends client principal locks)) =
+with_session_rest s (Some (Ends client principal)) =
     record s { sessions = with_session s.sessions client ended; rights = of_rights.ended client endings.Expiry s.rights }
 with_session_rest s (Some (Answers client)) = record s { sessions = with_session s.sessions client (answered s.sessions.lease s.clock) }
 with_session_rest s _ = s
 
 -- the reply to a call
-abbrev pub with_kept : MasterState → Option KeptPut → MasterState
-with_kept s None = s
-with_kept s (Some put) = recorded s put.client put.kept
+abbrev pub with_kept_put : SessionTable Reply → KeptPut → SessionTable Reply
+with_kept_put table put = with_session table put.client (keeping put.kept)
+
+-- that of the call, and of each that waited for a lock
+abbrev pub with_kept : MasterState → List KeptPut → MasterState
+with_kept s puts = record s { sessions = fold with_kept_put s.sessions puts }
 
 abbrev pub without_gone : MasterState → Option (List ℕ) → MasterState
 without_gone s None = s
@@ -108,6 +132,11 @@ without_gone s (Some name) = record s { nodes = remove_entry (is_at (slice_cmp n
 abbrev pub with_map : MasterState → Option MapRest → MasterState
 with_map s None = s
 with_map s (Some rest) = record (without_gone s rest.gone) { next_instance = rest.next_instance }
+
+-- the lock of a node that goes
+abbrev pub without_lock : MasterState → Option ℕ → MasterState
+without_lock s None = s
+without_lock s (Some instance) = record s { locks = remove_entry (is_at (nat_cmp instance)) s.locks }
 
 abbrev pub recovered : MasterState → Bool → MasterState
 recovered s false = s
@@ -119,7 +148,7 @@ left s None = s
 left s (Some number) = record s { gate = record s.gate { waiting = of_gate.without number s.gate.waiting } }
 
 abbrev pub with_rest : MasterState → Rest → MasterState
-with_rest s rest = left (recovered (with_map (with_kept (with_session_rest s rest.session) rest.kept) rest.map) rest.recovers) rest.leaves
+with_rest s rest = left (recovered (without_lock (with_map (with_kept (with_session_rest s rest.session) rest.kept) rest.map) rest.ends_lock) rest.recovers) rest.leaves
 
 -- all of it
 abbrev pub done : MasterState → Deed → MasterState
@@ -127,10 +156,28 @@ done s deed = with_rest (grown s deed) (rest_of deed)
 
 -- ---- what of it is committed
 
--- a session that begins is put as live. One that ends lets its locks go, and is put as ended
+-- its generation, where that rises
+abbrev pub new_generation : LockState → LockState → Option ℕ
+new_generation old new = if old.generation == new.generation then None else Some new.generation
+
+-- what becomes of the rows of a lock
+abbrev pub lock_change : LockTable → LockPut → LockChange
+lock_change locks put = record {
+  name = put.name;
+  instance = put.instance;
+  generation = new_generation (lock_at locks put.instance) put.lock;
+  old = lock_rows put.instance (lock_at locks put.instance);
+  new = lock_rows put.instance put.lock;
+}
+
+-- a waiter more or less is no row
+abbrev pub lock_changes : MasterState → List LockPut → List LockChange
+lock_changes s puts = map (lock_change s.locks) puts
+
+-- a session that begins is put as live, and one that ends as ended
 abbrev pub session_edits : Option SessionDeed → List Edit
 session_edits (Some (Begins client principal)) = PutSession client (record { principal = principal; live = true }) ∷ []
-session_edits (Some (Ends client principal locks)) = map RemoveLock locks ++ PutSession client (record { principal = principal; live = false }) ∷ []
+session_edits (Some (Ends client principal)) = PutSession client (record { principal = principal; live = false }) ∷ []
 session_edits _ = []
 
 abbrev pub edit_of : Mod → Edit
@@ -141,5 +188,6 @@ abbrev pub change_edits : Option Change → List Edit
 change_edits None = []
 change_edits (Some change) = edit_of change.change ∷ NextInstance change.next_instance ∷ []
 
-abbrev pub edits_of : Deed → List Edit
-edits_of deed = session_edits deed.session ++ change_edits deed.change
+-- by the master before it
+abbrev pub edits_of : MasterState → Deed → List Edit
+edits_of s deed = locks_edits (lock_changes s deed.locks) ++ session_edits deed.session ++ change_edits deed.change

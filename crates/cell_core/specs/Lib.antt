@@ -8,8 +8,12 @@ pub use Rattle.session_core.specs.Session
 pub use Rattle.session_core.specs.Sessions
 pub mod Handles
 pub mod Keys
+pub mod OpenHandles
+pub mod Locks
 pub mod State
 pub mod Step
 pub mod Names
 pub mod Cases
 pub mod Deeds
+pub mod Notices
+pub mod Concerned

@@ -1,15 +1,8 @@
 -- What a master is.
-use Rattle.std.specs.Prelude.{ℕ, Bool, not, List, [], map, filter, ◌==◌, true, false, fold, Option}
+use Rattle.std.specs.Prelude.{ℕ, Bool, not, List, [], map, Option}
 use Rattle.std.specs.Option.{option_map}
-use Rattle.std.specs.BTreeMap.{insert_entry}
-use Rattle.std.specs.Ordering.{nat_cmp}
 use Rattle.node_core.specs.Nodes.{Nodes}
-use Rattle.rows_cell.specs.declared.tables.Node.{Node}
 use Rattle.rows_cell.specs.declared.tables.Session as stored
-use Rattle.rows_cell.specs.declared.tables.LockRow.{LockRow}
-use Rattle.rows_cell.specs.declared.tables.LockState.{LockState}
-use Rattle.rows_cell.specs.declared.tables.LockState.TheVariants.{Lapsed, Exclusive, Shared}
-use Rattle.rows_cell.specs.declared.keys.LockKey.{LockKey}
 use Rattle.rows_cell.specs.declared.tables.Rows.{Rows}
 use Rattle.rows_cell.specs.Rows.{map_of}
 use Rattle.rights_core.specs.declared.cache_rights.CacheRight.{CacheRight}
@@ -19,35 +12,13 @@ use Rattle.session_core.specs.declared.records.Session.{Session}
 use Rattle.session_core.specs.Session.{recovered_session}
 use Rattle.session_core.specs.Sessions.{SessionTable, all_heard}
 use Rattle.tags_cell.specs.declared.outs.Reply.{Reply}
+use Rattle.lock_core.specs.Locks.{LockTable}
 use Rattle.cell_core.specs.declared.pending.Task.{Task}
 use Rattle.cell_core.specs.declared.handles.HandleKey.{HandleKey}
 use Rattle.cell_core.specs.declared.handles.HandleState.{HandleState}
+use Rattle.cell_core.specs.Locks.{locks_of}
 
--- with the lock generation of one more node
-abbrev pub with_generation : List (ℕ × ℕ) → List ℕ × Node → List (ℕ × ℕ)
-with_generation table entry = insert_entry nat_cmp table entry.1.view.instance entry.1.lock_generation
-
--- the lock generation of each node, by its instance
-abbrev pub lock_generations_of : Rows → List (ℕ × ℕ)
-lock_generations_of rows = fold with_generation [] rows.nodes
-
-abbrev pub is_held_so : LockState → Bool
-is_held_so Lapsed = false
-is_held_so Exclusive = true
-is_held_so Shared = true
-
-abbrev pub is_held : LockKey × LockRow → Bool
-is_held entry = is_held_so entry.1.state
-
--- by whom the rows say that locks are held
-abbrev pub held_locks_of : Rows → List LockKey
-held_locks_of rows = map (λ entry. entry.0) (filter is_held rows.locks)
-
--- those of a client's session
-abbrev pub locks_of : ℕ → List LockKey → List LockKey
-locks_of client keys = filter (λ key. key.client == client) keys
-
--- name: the cell's. secret: what check digits are made over. nodes: the map. lock_generations: by instance, of the nodes that the rows held when it came up. held_locks: those that were held then. sessions: also those
+-- name: the cell's. secret: what check digits are made over. nodes: the map. locks: by instance. sessions: also those
 -- that have ended, each with the last call of its client and the reply to it. recovering: some session of an earlier master has neither been heard from nor expired. handles: those that
 -- were opened, shown or closed in this epoch. rights: those to cache a name that it granted in this epoch, in order of granting, those that have ended included. gate: the changes that wait, in order of their coming. clock: the last moment that the master was told
 pub record MasterState : Type 0 where
@@ -56,8 +27,7 @@ pub record MasterState : Type 0 where
   pub epoch : ℕ
   pub next_instance : ℕ
   pub nodes : Nodes
-  pub lock_generations : List (ℕ × ℕ)
-  pub held_locks : List LockKey
+  pub locks : LockTable
   pub sessions : SessionTable Reply
   pub recovering : Bool
   pub handles : List (HandleKey × HandleState)
@@ -99,8 +69,7 @@ master_of rows lease now = record {
   epoch = rows.epoch;
   next_instance = rows.next_instance;
   nodes = map_of rows;
-  lock_generations = lock_generations_of rows;
-  held_locks = held_locks_of rows;
+  locks = locks_of rows now;
   sessions = sessions_of rows lease now;
   recovering = not (all_heard (sessions_of rows lease now));
   handles = [];

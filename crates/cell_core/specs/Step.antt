@@ -1,9 +1,8 @@
 -- What a master does with a message.
-use Rattle.std.specs.Prelude.{ℕ, Bool, false, not, ◌&&◌, ◌||◌, ◌==◌, nat_lt, nat_le, max, List, [], ◌∷◌, length, map, Option, Some, None, Result, Ok, Err, if◌then◌else◌, is_none}
-use Rattle.std.specs.Option.{option_map_or, option_and_then}
+use Rattle.std.specs.Prelude.{ℕ, Bool, false, not, ◌&&◌, ◌||◌, ◌==◌, nat_lt, nat_le, max, List, [], ◌∷◌, length, map, Option, Some, None, Result, Ok, Err, if◌then◌else◌, is_none, is_some}
+use Rattle.std.specs.Option.{option_map, option_map_or, option_and_then}
 use Rattle.std.specs.Map.{lookup}
 use Rattle.std.specs.BTreeMap.{is_at, insert_entry}
-use Rattle.std.specs.Ordering.{nat_cmp}
 use Rattle.std.specs.Str.{bytes_eq}
 use Rattle.names_cell.specs.Text.{cell_of}
 use Rattle.node_core.specs.declared.refusals.Fault.{Fault}
@@ -17,7 +16,7 @@ use Rattle.node_core.specs.declared.kinds.Right.{Right}
 use Rattle.node_core.specs.declared.kinds.Right.TheVariants as rights
 use Rattle.node_core.specs.declared.stats.Stat.{Stat}
 use Rattle.lease_core.specs.Lease.{moment_limit}
-use Rattle.node_core.specs.Limits.{content_limit, number_limit}
+use Rattle.node_core.specs.Limits.{content_limit, number_limit, lock_delay_limit}
 use Rattle.node_core.specs.Nodes.{get_node, children}
 use Rattle.node_core.specs.Access.{permitted}
 use Rattle.rights_core.specs.declared.endings.Ending.{Ending}
@@ -29,7 +28,8 @@ use Rattle.gate_core.specs.Gate as of_gate
 use Rattle.gate_core.specs.Gate.{pending_limit, with_change}
 use Rattle.tags_cell.specs.Modes.{Rights, has_right}
 use Rattle.tags_cell.specs.Handles.{is_ordinal, handle_bytes, read_handle}
-use Rattle.tags_cell.specs.declared.masks.Events.{Events}
+use Rattle.tags_cell.specs.Sequencers.{sequencer_bytes, read_sequencer}
+use Rattle.tags_cell.specs.declared.sequencers.Sequencer.{Sequencer}
 use Rattle.tags_cell.specs.declared.handles.Handle.{Handle}
 use Rattle.tags_cell.specs.declared.calls.Open.{Open}
 use Rattle.tags_cell.specs.declared.calls.Create.{Create}
@@ -52,7 +52,9 @@ use Rattle.session_core.specs.declared.records.Session.{Session}
 use Rattle.session_core.specs.Session as of_session
 use Rattle.session_core.specs.Session.{beat_fault, beaten, kept_answer, keeping}
 use Rattle.session_core.specs.Sessions as of_sessions
-use Rattle.session_core.specs.Sessions.{with_session, issued_by}
+use Rattle.session_core.specs.Sessions.{with_session, issued_by, has_spent_events}
+use Rattle.lock_core.specs.State.{LockState, hold_of}
+use Rattle.lock_core.specs.Locks.{lock_at, sequencer_of, checked}
 use Rattle.cell_core.specs.declared.pending.Task.{Task}
 use Rattle.cell_core.specs.declared.pending.Work.TheVariants as works
 use Rattle.cell_core.specs.declared.handles.HandleState.{HandleState}
@@ -61,6 +63,7 @@ use Rattle.cell_core.specs.declared.handles.HandleKey.{HandleKey}
 use Rattle.cell_core.specs.declared.handles.Note.{Note}
 use Rattle.cell_core.specs.declared.admissions.Admission.{Admission}
 use Rattle.cell_core.specs.Keys.{handle_order}
+use Rattle.cell_core.specs.Locks.{owner_of}
 use Rattle.cell_core.specs.State.{MasterState}
 
 -- ---- what the master knows of a client
@@ -267,13 +270,12 @@ node_of_handle s handle =
 abbrev pub is_of_cell : MasterState → List ℕ → Bool
 is_of_cell s name = bytes_eq (cell_of name) s.name
 
--- its client is told of nothing
-abbrev pub no_events : Events
-no_events = record { contents = false; children = false; lock = false; conflict = false }
+abbrev pub is_too_long : ℕ → Bool
+is_too_long delay = nat_lt lock_delay_limit delay
 
 -- a handle of a node; its numbers have to be ones that a handle can carry
-abbrev pub new_handle : MasterState → ℕ → ℕ → Open → View → Result Handle Fault
-new_handle s client number opening view =
+abbrev pub numbered_handle : MasterState → ℕ → ℕ → Open → View → Result Handle Fault
+numbered_handle s client number opening view =
     if is_ordinal s.epoch && is_ordinal view.instance
     then Ok (record {
       epoch = s.epoch;
@@ -282,11 +284,15 @@ new_handle s client number opening view =
       instance = view.instance;
       mode = opening.mode;
       life = view.life;
-      events = no_events;
-      delay = 0;
+      events = opening.events;
+      delay = opening.delay;
       name = opening.name;
     })
     else Err faults.Exhausted
+
+-- and so has its lock-delay
+abbrev pub new_handle : MasterState → ℕ → ℕ → Open → View → Result Handle Fault
+new_handle s client number opening view = if is_too_long opening.delay then Err faults.DelayTooLong else numbered_handle s client number opening view
 
 -- an Open of a present node: the rights of the mode are looked up on the node itself
 abbrev pub open_present : MasterState → ℕ → ℕ → Open → View → Result Handle Fault
@@ -315,6 +321,13 @@ abbrev pub node_fault : NewNode → Option CallResult
 node_fault (made.File content) = content_fault content
 node_fault made.Directory = None
 
+abbrev pub delay_fault : ℕ → Option CallResult
+delay_fault delay = if is_too_long delay then Some (results.Refused faults.DelayTooLong) else None
+
+-- why a node isn't made: for its content, and then for the lock-delay of its handle
+abbrev pub create_fault : Open → NewNode → Option CallResult
+create_fault opening node = option_map_or (λ answer. Some answer) (node_fault node) (delay_fault opening.delay)
+
 -- only a file is written
 abbrev pub write_fault : Kind → List ℕ → Option CallResult
 write_fault kinds.Directory content = Some (results.Refused (faults.WrongKind kinds.Directory))
@@ -331,7 +344,7 @@ stat_of s view = record {
   instance = view.instance;
   content_generation = view.content_generation;
   acl_generation = view.acl_generation;
-  lock_generation = option_map_or (λ generation. generation) (lookup (is_at (nat_cmp view.instance)) s.lock_generations) 0;
+  lock_generation = (lock_at s.locks view.instance).generation;
   read = view.read;
   write = view.write;
   change = view.change;
@@ -343,6 +356,53 @@ stat_of s view = record {
 abbrev pub needing : Handle → Right → Option CallResult → Option CallResult
 needing handle right answer = if has_right handle.mode right then answer else Some (results.Refused (faults.Denied right))
 
+-- ---- sequencers
+
+-- the instance that stands at a name now
+abbrev pub instance_at : MasterState → List ℕ → Option ℕ
+instance_at s name = option_map (λ view. view.instance) (get_node s.nodes name)
+
+abbrev pub fault_of : Result (Unit {0}) Fault → Option Fault
+fault_of (Ok done) = None
+fault_of (Err fault) = Some fault
+
+abbrev pub sequencer_test : MasterState → Option Sequencer → Option Fault
+sequencer_test s None = Some faults.BadSequencer
+sequencer_test s (Some sequencer) = fault_of (checked s.locks (instance_at s sequencer.name) sequencer)
+
+-- why a call that carries these bytes of a sequencer isn't done; without any it stands under none
+abbrev pub sequencer_fault : MasterState → Option (List ℕ) → Option Fault
+sequencer_fault s None = None
+sequencer_fault s (Some bytes) = sequencer_test s (read_sequencer bytes)
+
+-- what a CheckSequencer is answered
+abbrev pub check_answer : MasterState → List ℕ → CallResult
+check_answer s bytes = option_map_or (λ fault. results.Refused fault) (sequencer_fault s (Some bytes)) results.Done
+
+-- ---- locks
+
+-- the lock of a handle's node
+abbrev pub lock_under : MasterState → Handle → LockState
+lock_under s handle = lock_at s.locks handle.instance
+
+-- whether it holds that lock
+abbrev pub holds_lock : MasterState → Handle → Bool
+holds_lock s handle = is_some (hold_of (lock_under s handle) (owner_of handle))
+
+-- only a holder releases its lock
+abbrev pub release_fault : MasterState → Handle → Option CallResult
+release_fault s handle = if is_none (hold_of (lock_under s handle) (owner_of handle)) then Some (results.Refused faults.NotHolder) else None
+
+abbrev pub sequencer_result : Result Sequencer Fault → CallResult
+sequencer_result (Ok sequencer) = results.Sequencer (sequencer_bytes sequencer)
+sequencer_result (Err fault) = results.Refused fault
+
+-- what a GetSequencer is answered
+abbrev pub sequencer_answer : MasterState → Handle → CallResult
+sequencer_answer s handle = sequencer_result (sequencer_of (lock_under s handle) handle.instance handle.name (owner_of handle))
+
+-- ---- calls on a node
+
 -- what a call on a present node is answered at once; none where it waits for its turn
 abbrev pub answer_on_node : MasterState → Handle → Call → View → Option CallResult
 answer_on_node s handle (calls.Read bytes) view = needing handle rights.Read (Some (results.Viewed view))
@@ -351,13 +411,23 @@ answer_on_node s handle (calls.List bytes) view = needing handle rights.Read (So
 answer_on_node s handle (calls.Set bytes content generation) view = needing handle rights.Write (write_fault view.kind content)
 answer_on_node s handle (calls.SetAcl bytes acls generation) view = needing handle rights.Change None
 answer_on_node s handle (calls.Delete bytes) view = needing handle rights.Write None
+answer_on_node s handle (calls.Acquire bytes mode) view = needing handle rights.Write None
+answer_on_node s handle (calls.TryAcquire bytes mode) view = needing handle rights.Write None
+answer_on_node s handle (calls.Release bytes) view = needing handle rights.Write (release_fault s handle)
+answer_on_node s handle (calls.GetSequencer bytes) view = Some (sequencer_answer s handle)
+answer_on_node s handle (calls.SetSequencer bytes) view = Some results.Done
 answer_on_node s handle _ view = None
 
--- a Close waits for its turn also where the node is gone
-abbrev pub answer_on : MasterState → Handle → Call → Option CallResult
-answer_on s handle (calls.Close bytes) = None
-answer_on s handle call =
-    option_map_or (λ view. answer_on_node s handle call view) (node_of_handle s handle) (Some (results.Refused faults.StaleInstance))
+-- its sequencer is tested first
+abbrev pub answer_under : MasterState → Handle → Call → View → Option Fault → Option CallResult
+answer_under s handle call view (Some fault) = Some (results.Refused fault)
+answer_under s handle call view None = answer_on_node s handle call view
+
+-- a Close waits for its turn also where the node is gone, and whatever sequencer it carries
+abbrev pub answer_on : MasterState → Handle → Call → Option (List ℕ) → Option CallResult
+answer_on s handle (calls.Close bytes) sequencer = None
+answer_on s handle call sequencer =
+    option_map_or (λ view. answer_under s handle call view (sequencer_fault s sequencer)) (node_of_handle s handle) (Some (results.Refused faults.StaleInstance))
 
 -- ---- the tests of a new call
 
@@ -376,7 +446,8 @@ told_by_open name (Ok handle) = None
 told_by_open name (Err fault) = absent_name name fault
 
 abbrev pub admission_of_open : MasterState → ℕ → ℕ → Open → Option Create → Admission
-admission_of_open s client number opening (Some create) = record { note = None; touched = Some opening.name; told = None; answer = node_fault create.node }
+admission_of_open s client number opening (Some create) =
+    record { note = None; touched = Some opening.name; told = None; answer = create_fault opening create.node }
 admission_of_open s client number opening None = record {
   note = opened_note s (plain_open s client number opening);
   touched = None;
@@ -384,10 +455,23 @@ admission_of_open s client number opening None = record {
   answer = Some (opened_answer s (plain_open s client number opening));
 }
 
-abbrev pub open_admission : MasterState → ℕ → ℕ → Open → Admission
-open_admission s client number opening =
-    if is_of_cell s opening.name then admission_of_open s client number opening opening.create
-    else record { note = None; touched = None; told = None; answer = Some (results.Refused faults.OtherCell) }
+-- a call that changes nothing, notes nothing, and tells of no name
+abbrev pub answering : CallResult → Admission
+answering answer = record { note = None; touched = None; told = None; answer = Some answer }
+
+-- its sequencer is tested first
+abbrev pub admission_under : MasterState → ℕ → ℕ → Open → Option Fault → Admission
+admission_under s client number opening (Some fault) = answering (results.Refused fault)
+admission_under s client number opening None = admission_of_open s client number opening opening.create
+
+abbrev pub open_admission : MasterState → ℕ → ℕ → Open → Option (List ℕ) → Admission
+open_admission s client number opening sequencer =
+    if is_of_cell s opening.name then admission_under s client number opening (sequencer_fault s sequencer) else answering (results.Refused faults.OtherCell)
+
+-- the sequencer that it asks about is tested behind the one that it stands under
+abbrev pub check_admission : MasterState → List ℕ → Option Fault → Admission
+check_admission s bytes (Some fault) = answering (results.Refused fault)
+check_admission s bytes None = answering (check_answer s bytes)
 
 -- the name that a call on a node touches: whose view it may change
 abbrev pub touched_by : Handle → Call → Option (List ℕ)
@@ -406,24 +490,35 @@ bytes_of (calls.List bytes) = bytes
 bytes_of (calls.Set bytes content generation) = bytes
 bytes_of (calls.SetAcl bytes acls generation) = bytes
 bytes_of (calls.Delete bytes) = bytes
+bytes_of (calls.Acquire bytes mode) = bytes
+bytes_of (calls.TryAcquire bytes mode) = bytes
+bytes_of (calls.Release bytes) = bytes
+bytes_of (calls.GetSequencer bytes) = bytes
+bytes_of (calls.SetSequencer bytes) = bytes
+bytes_of (calls.CheckSequencer bytes) = []
 
 -- a handle that is shown is open from then on, where nothing is noted of it yet
 abbrev pub shown_note : MasterState → Handle → List ℕ → Option Note
 shown_note s handle bytes = if is_none (handle_state_of s (key_of handle)) then Some (open_note handle bytes) else None
 
 -- it is noted also where the call is refused
-abbrev pub handle_admission : MasterState → Call → Option Handle → Admission
-handle_admission s call None = record { note = None; touched = None; told = None; answer = Some (results.Refused faults.BadHandle) }
-handle_admission s call (Some handle) = record {
+abbrev pub handle_admission : MasterState → Call → Option (List ℕ) → Option Handle → Admission
+handle_admission s call sequencer None = answering (results.Refused faults.BadHandle)
+handle_admission s call sequencer (Some handle) = record {
   note = shown_note s handle (bytes_of call);
   touched = touched_by handle call;
-  told = option_and_then (viewed_name handle.name) (answer_on s handle call);
-  answer = answer_on s handle call;
+  told = option_and_then (viewed_name handle.name) (answer_on s handle call sequencer);
+  answer = answer_on s handle call sequencer;
 }
 
-abbrev pub admission_of : MasterState → ℕ → ℕ → Call → Admission
-admission_of s client number (calls.Open opening) = open_admission s client number opening
-admission_of s client number call = handle_admission s call (shown_handle s client (bytes_of call))
+-- with the bytes of the sequencer that the message carries, if it carries one
+abbrev pub admission_of : MasterState → ℕ → ℕ → Call → Option (List ℕ) → Admission
+admission_of s client number (calls.Open opening) sequencer = open_admission s client number opening sequencer
+admission_of s client number (calls.CheckSequencer bytes) sequencer = check_admission s bytes (sequencer_fault s sequencer)
+admission_of s client number call sequencer = handle_admission s call sequencer (shown_handle s client (bytes_of call))
+
+abbrev pub admission_for : MasterState → CallMessage → Admission
+admission_for s message = admission_of s message.client message.number message.call message.sequencer
 
 -- ---- calls
 
@@ -431,38 +526,41 @@ abbrev pub names_of : Option (List ℕ) → List (List ℕ)
 names_of None = []
 names_of (Some name) = name ∷ []
 
-abbrev pub with_call : MasterState → ℕ → ℕ → Call → Option (List ℕ) → MasterState
-with_call s client number call touched =
-    queued (recorded s client (record { number = number; reply = None })) (names_of touched) (record { client = client; number = number; work = works.Calls call })
+-- what waits of a call: its sequencer is tested again when its turn comes
+abbrev pub task_of : CallMessage → Task
+task_of message = record { client = message.client; number = message.number; work = works.Calls message.call message.sequencer }
+
+abbrev pub with_call : MasterState → CallMessage → Option (List ℕ) → MasterState
+with_call s message touched = queued (recorded s message.client (record { number = message.number; reply = None })) (names_of touched) (task_of message)
 
 -- who holds the name that it touches is asked for it
-abbrev pub waits : MasterState → ℕ → ℕ → Call → Option (List ℕ) → MasterState × Taken
-waits s client number call touched = (asking_for (with_call s client number call touched) touched, nothing)
+abbrev pub waits : MasterState → CallMessage → Option (List ℕ) → MasterState × Taken
+waits s message touched = (asking_for (with_call s message touched) touched, nothing)
 
 -- a call that is answered at once, or waits where there is room
-abbrev pub admit_step : MasterState → ℕ → ℕ → Call → Option (List ℕ) → Option (List ℕ) → Option CallResult → MasterState × Taken
-admit_step s client number call touched told (Some result) = telling s client number result told
-admit_step s client number call touched told None =
-    if is_full s then replied s client number (results.Refused faults.Busy) else waits s client number call touched
+abbrev pub admit_step : MasterState → CallMessage → Option (List ℕ) → Option (List ℕ) → Option CallResult → MasterState × Taken
+admit_step s message touched told (Some result) = telling s message.client message.number result told
+admit_step s message touched told None =
+    if is_full s then replied s message.client message.number (results.Refused faults.Busy) else waits s message touched
 
-abbrev pub new_call_by : MasterState → ℕ → ℕ → Call → Admission → MasterState × Taken
-new_call_by s client number call admission = admit_step (with_note s admission.note) client number call admission.touched admission.told admission.answer
+abbrev pub new_call_by : MasterState → CallMessage → Admission → MasterState × Taken
+new_call_by s message admission = admit_step (with_note s admission.note) message admission.touched admission.told admission.answer
 
 -- during recovery every new call is refused, and that is its recorded result
-abbrev pub new_call : MasterState → ℕ → ℕ → Call → MasterState × Taken
-new_call s client number call =
-    if s.recovering then replied s client number (results.Refused faults.Recovering) else new_call_by s client number call (admission_of s client number call)
+abbrev pub new_call : MasterState → CallMessage → MasterState × Taken
+new_call s message =
+    if s.recovering then replied s message.client message.number (results.Refused faults.Recovering) else new_call_by s message (admission_for s message)
 
 -- by the last call of the client: it comes again, an older one comes, one comes while it waits, or a new one comes
-abbrev pub kept_step : MasterState → ℕ → ℕ → Call → Result (Option (Kept Reply)) Fault → MasterState × Taken
-kept_step s client number call (Err fault) = (s, refusal s client number fault)
-kept_step s client number call (Ok (Some kept)) = (s, repeated kept)
-kept_step s client number call (Ok None) = new_call s client number call
+abbrev pub kept_step : MasterState → CallMessage → Result (Option (Kept Reply)) Fault → MasterState × Taken
+kept_step s message (Err fault) = (s, refusal s message.client message.number fault)
+kept_step s message (Ok (Some kept)) = (s, repeated kept)
+kept_step s message (Ok None) = new_call s message
 
 abbrev pub call_step : MasterState → CallMessage → MasterState × Taken
 call_step s message =
     if message.epoch == s.epoch
-    then (if is_live s message.client then kept_step s message.client message.number message.call (kept_answer (kept_of s message.client) message.number)
+    then (if is_live s message.client then kept_step s message (kept_answer (kept_of s message.client) message.number)
     else (s, refusal s message.client message.number faults.NoSession))
     else (s, refusal s message.client message.number (faults.OldEpoch s.epoch))
 
@@ -481,9 +579,9 @@ is_past_end now = nat_le moment_limit now
 abbrev pub noted : MasterState → ℕ → MasterState
 noted s now = record s { clock = max s.clock now }
 
--- the count of all changes that ever waited, or of all rights that were ever granted, is at its end
+-- the count of all changes that ever waited, of all rights that were ever granted, or of a session's events is at its end
 abbrev pub is_spent : MasterState → Bool
-is_spent s = nat_le number_limit s.gate.pushed || nat_le number_limit (length s.rights)
+is_spent s = nat_le number_limit s.gate.pushed || nat_le number_limit (length s.rights) || has_spent_events s.sessions
 
 unfoldable pub take_step : MasterState → ℕ → Request → Result (MasterState × Taken) Fault
 take_step s now request = if is_past_end now || is_spent s then Err faults.Exhausted else Ok (take_at (noted s now) request)

@@ -2,16 +2,17 @@
 ghost use Rattle.std.specs.Prelude.{◌≡◌, Some, None, IfOk};
 ghost use Rattle.std.specs.Option.{option_and_then};
 ghost use Rattle.tags_cell.specs.Handles.{read_handle};
-ghost use Rattle.cell_core.specs.Step.{admission_of, admission_of_open, open_admission, handle_admission, shown_note, bytes_of, is_of_cell, touched_by, viewed_name, told_by_open};
+ghost use Rattle.cell_core.specs.Step.{admission_for, admission_of_open, open_admission, handle_admission, check_admission, sequencer_fault, answering, shown_note, bytes_of, is_of_cell, touched_by, viewed_name, told_by_open};
 
-use crate::answers::node_fault;
+use crate::answers::create_fault;
 use crate::cells::Cell;
 use crate::handles::{HandleKey, Note, OpenHandle};
 use crate::shown::bytes_of;
 use names_cell::Name;
 use node_core::Fault;
+use plain::Bytes;
 use std::alloc::AllocError;
-use tags_cell::{Call, CallResult, ClientNumber, Handle, MessageNumber, Open};
+use tags_cell::{Call, CallMessage, CallResult, ClientNumber, Handle, MessageNumber, Open};
 
 /// What the tests of a new call give. It is made before anything changes.
 #[derive(Debug, Drop)]
@@ -27,48 +28,73 @@ pub(crate) struct Admission {
 }
 
 impl Admission {
-    fn refused(fault: Fault) -> Admission
-        ensures { result ≡ record { note = None; touched = None; told = None; answer = Some (CallResult.Refused fault) } }
+    // A call that changes nothing, notes nothing, and tells of no name.
+    fn answering(answer: CallResult) -> Admission
+        ensures { result ≡ answering answer }
     {
         Admission {
             note: None,
             touched: None,
             told: None,
-            answer: Some(CallResult::Refused(fault)),
+            answer: Some(answer),
         }
+    }
+
+    fn refused(fault: Fault) -> Admission
+        ensures { result ≡ answering (CallResult.Refused fault) }
+    {
+        Admission::answering(CallResult::Refused(fault))
     }
 }
 
 impl Cell {
-    pub(crate) fn admission(
-        &self,
-        client: ClientNumber,
-        number: MessageNumber,
-        call: &Call,
-    ) -> Result<Admission, AllocError>
-        ensures { IfOk result (λ admission. admission ≡ admission_of self.now client number call.now) }
+    pub(crate) fn admission(&self, message: &CallMessage) -> Result<Admission, AllocError>
+        ensures { IfOk result (λ admission. admission ≡ admission_for self.now message.now) }
     {
-        match call {
-            Call::Open(opening) => self.open_admission(client, number, opening),
-            _ => match self.shown_handle(client, bytes_of(call))? {
+        let client = message.client;
+        let number = message.number;
+        let sequencer = &message.sequencer;
+        match &message.call {
+            Call::Open(opening) => self.open_admission(client, number, opening, sequencer),
+            Call::CheckSequencer(bytes) => self.check_admission(bytes, sequencer),
+            call => match self.shown_handle(client, bytes_of(call))? {
                 None => Ok(Admission::refused(Fault::BadHandle)),
-                Some(handle) => self.handle_admission(&handle, call),
+                Some(handle) => self.handle_admission(&handle, call, sequencer),
             },
         }
     }
 
     // A handle that is shown is noted also where the call is refused.
-    fn handle_admission(&self, handle: &Handle, call: &Call) -> Result<Admission, AllocError>
+    fn handle_admission(
+        &self,
+        handle: &Handle,
+        call: &Call,
+        sequencer: &Option<Bytes>,
+    ) -> Result<Admission, AllocError>
         requires { read_handle self.now.secret (bytes_of call.now) ≡ Some handle.now }
-        ensures { IfOk result (λ admission. admission ≡ handle_admission self.now call.now (Some handle.now)) }
+        ensures { IfOk result (λ admission. admission ≡ handle_admission self.now call.now sequencer.now (Some handle.now)) }
     {
-        let answer = self.answer_on(handle, call)?;
+        let answer = self.answer_on(handle, call, sequencer)?;
         Ok(Admission {
             note: self.shown_note(handle, bytes_of(call))?,
             touched: touched_by(handle, call)?,
             told: viewed_name(&handle.name, &answer)?,
             answer,
         })
+    }
+
+    // The sequencer that it asks about is tested behind the one that it stands under.
+    fn check_admission(
+        &self,
+        bytes: &Bytes,
+        sequencer: &Option<Bytes>,
+    ) -> Result<Admission, AllocError>
+        ensures { IfOk result (λ admission. admission ≡ check_admission self.now bytes.now (sequencer_fault self.now sequencer.now)) }
+    {
+        match self.sequencer_fault(sequencer)? {
+            Some(fault) => Ok(Admission::refused(fault)),
+            None => Ok(Admission::answering(self.check_answer(bytes)?)),
+        }
     }
 
     // It is open from then on, where nothing is noted of it yet.
@@ -88,19 +114,34 @@ impl Cell {
         client: ClientNumber,
         number: MessageNumber,
         opening: &Open,
+        sequencer: &Option<Bytes>,
     ) -> Result<Admission, AllocError>
-        ensures { IfOk result (λ admission. admission ≡ open_admission self.now client number opening.now) }
+        ensures { IfOk result (λ admission. admission ≡ open_admission self.now client number opening.now sequencer.now) }
     {
         if !self.is_of_cell(&opening.name) {
             return Ok(Admission::refused(Fault::OtherCell));
         }
+        match self.sequencer_fault(sequencer)? {
+            Some(fault) => Ok(Admission::refused(fault)),
+            None => self.admission_of_open(client, number, opening),
+        }
+    }
+
+    fn admission_of_open(
+        &self,
+        client: ClientNumber,
+        number: MessageNumber,
+        opening: &Open,
+    ) -> Result<Admission, AllocError>
+        ensures { IfOk result (λ admission. admission ≡ admission_of_open self.now client number opening.now opening.now.create) }
+    {
         match &opening.create {
             None => self.plain_admission(client, number, opening),
             Some(create) => Ok(Admission {
                 note: None,
                 touched: Some(opening.name.clone()?),
                 told: None,
-                answer: node_fault(&create.node),
+                answer: create_fault(opening, &create.node),
             }),
         }
     }

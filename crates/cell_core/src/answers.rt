@@ -1,24 +1,46 @@
 //! What a master answers to a call at once.
 ghost use Rattle.std.specs.Prelude.{◌≡◌, Some, None, IfOk};
-ghost use Rattle.cell_core.specs.Step.{answer_on, answer_on_node, needing, list_answer, stat_of, content_fault, node_fault, write_fault};
+ghost use Rattle.cell_core.specs.Step.{answer_on, answer_under, answer_on_node, sequencer_fault, needing, create_fault, delay_fault, list_answer, stat_of, content_fault, node_fault, write_fault};
 
 use crate::cells::Cell;
+use crate::opens::delay_of;
 use node_core::{CONTENT_LIMIT, Fault, Kind, Right, Stat, View};
 use plain::Bytes;
 use std::alloc::AllocError;
-use tags_cell::{Call, CallResult, Handle, NewNode};
+use tags_cell::{Call, CallResult, Handle, NewNode, Open};
 
 impl Cell {
     /// What is answered at once, or None where the call waits for its turn.
-    pub fn answer_on(&self, handle: &Handle, call: &Call) -> Result<Option<CallResult>, AllocError>
-        ensures { IfOk result (λ answer. answer ≡ answer_on self.now handle.now call.now) }
+    pub fn answer_on(
+        &self,
+        handle: &Handle,
+        call: &Call,
+        sequencer: &Option<Bytes>,
+    ) -> Result<Option<CallResult>, AllocError>
+        ensures { IfOk result (λ answer. answer ≡ answer_on self.now handle.now call.now sequencer.now) }
     {
         match call {
             Call::Close(_) => Ok(None),
             _ => match self.node_of(handle) {
                 None => Ok(Some(CallResult::Refused(Fault::StaleInstance))),
-                Some(view) => self.answer_on_node(handle, call, view),
+                Some(view) => self.answer_under(handle, call, view, sequencer),
             },
+        }
+    }
+
+    // Its sequencer is tested first.
+    fn answer_under(
+        &self,
+        handle: &Handle,
+        call: &Call,
+        view: &View,
+        sequencer: &Option<Bytes>,
+    ) -> Result<Option<CallResult>, AllocError>
+        ensures { IfOk result (λ answer. answer ≡ answer_under self.now handle.now call.now view.now (sequencer_fault self.now sequencer.now)) }
+    {
+        match self.sequencer_fault(sequencer)? {
+            Some(fault) => Ok(Some(CallResult::Refused(fault))),
+            None => self.answer_on_node(handle, call, view),
         }
     }
 
@@ -36,8 +58,13 @@ impl Cell {
             Call::List(_) => Ok(Some(self.names_answer(handle, view)?)),
             Call::Set { content, .. } => Ok(set_answer(handle, view.kind, content)),
             Call::SetAcl { .. } => Ok(denied_without(handle, Right::Change)),
-            Call::Delete(_) => Ok(denied_without(handle, Right::Write)),
-            Call::Open(_) | Call::Close(_) => Ok(None),
+            Call::Delete(_) | Call::Acquire { .. } | Call::TryAcquire { .. } => {
+                Ok(denied_without(handle, Right::Write))
+            }
+            Call::Release(_) => Ok(self.release_answer(handle)),
+            Call::GetSequencer(_) => Ok(Some(self.sequencer_answer(handle)?)),
+            Call::SetSequencer(_) => Ok(Some(CallResult::Done)),
+            Call::Open(_) | Call::Close(_) | Call::CheckSequencer(_) => Ok(None),
         }
     }
 
@@ -57,16 +84,12 @@ impl Cell {
     fn stat_of(&self, view: &View) -> Result<Stat, AllocError>
         ensures { IfOk result (λ stat. stat ≡ stat_of self.now view.now) }
     {
-        let lock_generation = match self.lock_generations.get(&view.instance) {
-            Some(generation) => *generation,
-            None => 0,
-        };
         Ok(Stat {
             kind: view.kind,
             instance: view.instance,
             content_generation: view.content_generation,
             acl_generation: view.acl_generation,
-            lock_generation,
+            lock_generation: self.locks.generation(view.instance),
             read: view.read.clone()?,
             write: view.write.clone()?,
             change: view.change.clone()?,
@@ -129,6 +152,25 @@ pub fn node_fault(node: &NewNode) -> Option<CallResult>
     match node {
         NewNode::File(content) => content_fault(content),
         NewNode::Directory => None,
+    }
+}
+
+/// Why an Open makes no node: for its content, and then for its lock-delay.
+pub fn create_fault(opening: &Open, node: &NewNode) -> Option<CallResult>
+    ensures { result ≡ create_fault opening.now node.now }
+{
+    match node_fault(node) {
+        Some(answer) => Some(answer),
+        None => delay_fault(opening.delay),
+    }
+}
+
+fn delay_fault(delay: u64) -> Option<CallResult>
+    ensures { result ≡ delay_fault delay }
+{
+    match delay_of(delay) {
+        Some(_) => None,
+        None => Some(CallResult::Refused(Fault::DelayTooLong)),
     }
 }
 

@@ -1,16 +1,18 @@
 //! The master in memory.
-ghost use Rattle.std.specs.Prelude.{◌≡◌, ◌≤◌, IfOk};
+ghost use Rattle.std.specs.Prelude.{◌≡◌, ◌≤◌, IfOk, OnOk};
 ghost use Rattle.lease_core.specs.Lease.{IsMoment, least_lease, longest_lease};
-ghost use Rattle.cell_core.specs.State.{lock_generations_of, held_locks_of, sessions_of};
+ghost use Rattle.cell_core.specs.State.{sessions_of};
+ghost use Rattle.cell_core.specs.Locks.{locks_of, generations_of, with_row, holder_of};
 
-use crate::handles::{HandleKey, HandleState};
+use crate::open_handles::Handles;
 use crate::pending::Task;
 use gate_core::Gate;
+use lock_core::{Claim, Hold, Locks, Owner};
 use names_cell::Component;
-use node_core::Map;
-use plain::{Items, Secret, Table};
+use node_core::{LockMode, Map, NUMBER_LIMIT};
+use plain::Secret;
 use rights_core::Rights;
-use rows_cell::{LockKey, LockState, Rows};
+use rows_cell::{LockKey, LockRow, LockState, Rows};
 use session_core::Sessions;
 use std::alloc::{AllocError, Global};
 use std::marker::Model;
@@ -27,11 +29,10 @@ pub struct Cell {
     pub(crate) epoch: u64,
     pub(crate) next_instance: u64,
     pub(crate) map: Map,
-    pub(crate) lock_generations: Table<u64, u64>,
-    pub(crate) held_locks: Items<LockKey>,
+    pub(crate) locks: Locks,
     pub(crate) sessions: Sessions<Reply>,
     pub(crate) recovering: bool,
-    pub(crate) handles: Table<HandleKey, HandleState>,
+    pub(crate) handles: Handles,
     pub(crate) rights: Rights,
     pub(crate) gate: Gate<Task>,
     pub(crate) clock: u64,
@@ -49,8 +50,7 @@ impl Model for Cell {
       epoch = c.epoch;
       next_instance = c.next_instance;
       nodes = c.map;
-      lock_generations = c.lock_generations;
-      held_locks = c.held_locks;
+      locks = c.locks;
       sessions = c.sessions;
       recovering = c.recovering;
       handles = c.handles;
@@ -65,7 +65,7 @@ impl Model for Cell {
 impl Cell {
     ghost use Rattle.std.specs.Prelude.{◌≡◌, IfOk};
     ghost use Rattle.std.specs.Option.{option_copied};
-    ghost use Rattle.cell_core.specs.State.{master_of, locks_of, next_change, task_at};
+    ghost use Rattle.cell_core.specs.State.{master_of, next_change, task_at};
     ghost use Rattle.cell_core.specs.Step.{noted};
 
     /// A master that comes up with these rows, with its lease and the moment in milliseconds: nothing waits, no right is
@@ -77,8 +77,7 @@ impl Cell {
         ensures { IfOk result (λ cell. cell ≡ master_of rows lease now) }
     {
         let map = rows.map(alloc)?;
-        let lock_generations = lock_generations_of(alloc, &rows)?;
-        let held_locks = held_locks_of(alloc, &rows)?;
+        let locks = locks_of(alloc, &rows, now)?;
         let sessions = sessions_of(alloc, &rows, lease, now)?;
         let recovering = !sessions.all_heard();
         let Rows {
@@ -95,11 +94,10 @@ impl Cell {
             epoch,
             next_instance,
             map,
-            lock_generations,
-            held_locks,
+            locks,
             sessions,
             recovering,
-            handles: Table::new(alloc),
+            handles: Handles::new(alloc),
             rights: Rights::new(alloc),
             gate: Gate::new(alloc),
             clock: now,
@@ -133,18 +131,11 @@ impl Cell {
         self.recovering
     }
 
-    /// The locks that a client's session held when this master came up.
-    pub fn held_locks_of(&self, client: u64) -> Result<Items<LockKey>, AllocError>
-        ensures { IfOk result (λ keys. keys ≡ locks_of client self.now.held_locks) }
+    /// The locks of its nodes, by instance: who holds them and who waits.
+    pub fn locks(&self) -> &Locks
+        ensures { result.now ≡ self.now.locks }
     {
-        let mut keys = Items::new(self.alloc);
-        let held = self.held_locks.as_slice();
-        for key in held {
-            if key.client == client {
-                keys.push(*key)?;
-            }
-        }
-        Ok(keys)
+        &self.locks
     }
 
     pub fn alloc(&self) -> Global {
@@ -220,28 +211,55 @@ impl Cell {
     }
 }
 
-// The lock generation of each node, by its instance.
-fn lock_generations_of(alloc: Global, rows: &Rows) -> Result<Table<u64, u64>, AllocError>
-    ensures { IfOk result (λ generations. generations ≡ lock_generations_of rows.now) }
+// The locks as the rows tell them, with each delay anew from this moment.
+fn locks_of(alloc: Global, rows: &Rows, now: u64) -> Result<Locks, AllocError>
+    ensures { IfOk result (λ locks. locks ≡ locks_of rows.now now) }
 {
-    let mut generations = Table::new(alloc);
-    for (_, node) in rows.nodes.as_map() {
-        generations.put(node.view.instance, node.lock_generation)?;
+    let mut locks = generations_of(alloc, rows)?;
+    for (key, row) in rows.locks.as_map() {
+        put_row(&mut locks, now, *key, *row)?;
     }
-    Ok(generations)
+    Ok(locks)
 }
 
-// By whom the rows say that locks are held.
-fn held_locks_of(alloc: Global, rows: &Rows) -> Result<Items<LockKey>, AllocError>
-    ensures { IfOk result (λ keys. keys ≡ held_locks_of rows.now) }
+// Each node's lock with its generation, and nobody holds it.
+fn generations_of(alloc: Global, rows: &Rows) -> Result<Locks, AllocError>
+    ensures { IfOk result (λ locks. locks ≡ generations_of rows.now) }
 {
-    let mut keys = Items::new(alloc);
-    for (key, row) in rows.locks.as_map() {
-        if row.state != LockState::Lapsed {
-            keys.push(*key)?;
+    let mut locks = Locks::new(alloc);
+    for (_, node) in rows.nodes.as_map() {
+        if node.lock_generation <= NUMBER_LIMIT {
+            locks.put_generation(node.view.instance, node.lock_generation)?;
         }
     }
-    Ok(keys)
+    Ok(locks)
+}
+
+// A holder, or a closed lock.
+fn put_row(locks: &mut Locks, now: u64, key: LockKey, row: LockRow) -> Result<(), AllocError>
+    ensures { OnOk result (locks.new ≡ with_row now locks.old (key, row)) }
+{
+    match row.state {
+        LockState::Lapsed => locks.put_closing(key.instance, now, row.delay),
+        LockState::Exclusive => {
+            locks.put_holder(key.instance, holder_of(key, LockMode::Exclusive, row.delay))
+        }
+        LockState::Shared => {
+            locks.put_holder(key.instance, holder_of(key, LockMode::Shared, row.delay))
+        }
+    }
+}
+
+fn holder_of(key: LockKey, mode: LockMode, delay: u64) -> Claim
+    ensures { result ≡ holder_of key mode delay }
+{
+    Claim {
+        owner: Owner {
+            client: key.client,
+            handle: key.handle,
+        },
+        hold: Hold { mode, delay },
+    }
 }
 
 // The sessions of the rows, each with its time anew.

@@ -1,15 +1,20 @@
 //! What a step of a master changes in it: what may want memory first, which can be taken back, then the rest.
-ghost use Rattle.std.specs.Prelude.{◌≡◌, Some, None, IfOk, OnOk, OnErr};
+ghost use Rattle.std.specs.Prelude.{◌≡◌, [], ◌∷◌, ◌++◌, Some, None, IfOk, OnOk, OnErr};
+ghost use Rattle.std.specs.Map.{lookup};
+ghost use Rattle.std.specs.BTreeMap.{is_at};
+ghost use Rattle.std.specs.Ordering.{nat_cmp};
+ghost use Rattle.plain.specs.Tables.{with_former};
+ghost use Rattle.lock_core.specs.Locks.{with_lock};
 ghost use Rattle.cell_core.specs.Step.{with_note};
-ghost use Rattle.cell_core.specs.Deeds.{BeginsNew, with_begun, with_put, with_node, grown, without_begun, without_note, without_node, undone, session_rest, map_rest, rest_of, with_session_rest, with_kept, with_map, with_rest};
+ghost use Rattle.cell_core.specs.Deeds.{BeginsNew, with_begun, with_put, with_node, with_locks, grown, without_begun, without_note, without_node, without_locks, undone, session_rest, map_rest, rest_of, with_session_rest, with_kept_put, with_kept, with_map, with_rest};
 
 use crate::cells::Cell;
 use crate::handles::{HandleKey, HandleState, Note};
+use lock_core::Lock;
 use names_cell::{Name, Principal};
 use node_core::{Mod, View};
 use plain::Items;
 use rights_core::Ending;
-use rows_cell::LockKey;
 use session_core::Kept;
 use std::alloc::AllocError;
 use tags_cell::{ClientNumber, Reply};
@@ -21,8 +26,8 @@ pub enum SessionDeed {
     Begins(ClientNumber, Principal),
     /// It lives for a lease from now on.
     Prolongs(ClientNumber),
-    /// It has ended, which is committed, and so is that these locks are let go. It holds no right any more.
-    Ends(u64, Principal, Items<LockKey>),
+    /// It has ended, which is committed. It holds no right any more.
+    Ends(u64, Principal),
     /// Its parked Beat is answered.
     Answers(ClientNumber),
 }
@@ -34,6 +39,16 @@ pub struct KeptPut {
     pub kept: Kept<Reply>,
 }
 
+/// A lock that changes: what of it the rows hold is committed.
+#[derive(Drop)]
+pub struct LockPut {
+    /// The name of its node.
+    pub name: Name,
+    pub instance: u64,
+    /// What becomes of it.
+    pub lock: Lock,
+}
+
 /// A change of the map.
 #[derive(Debug, Drop)]
 pub struct Change {
@@ -43,13 +58,18 @@ pub struct Change {
 }
 
 /// What a step changes in the parts of the master.
-#[derive(Debug, Drop)]
+#[derive(Drop)]
 pub struct Deed {
     pub session: Option<SessionDeed>,
-    pub kept: Option<KeptPut>,
+    /// The reply to the call, and those to calls that waited for a lock.
+    pub kept: Items<KeptPut>,
     pub note: Option<Note>,
     /// A change of the map, which is committed.
     pub change: Option<Change>,
+    /// The locks that change.
+    pub locks: Items<LockPut>,
+    /// The instance of a node that goes, and its lock with it.
+    pub ends_lock: Option<u64>,
     /// Whether the recovery is over.
     pub recovers: bool,
     /// The number of the change that leaves the gate.
@@ -57,11 +77,13 @@ pub struct Deed {
 }
 
 /// What takes a deed back that was begun: the client whose session began, and what stood at each key before.
-#[derive(Debug, Drop)]
+#[derive(Drop)]
 pub struct Former {
     pub session: Option<ClientNumber>,
     pub note: Option<(HandleKey, Option<HandleState>)>,
     pub node: Option<(Name, Option<View>)>,
+    /// In the order in which they were put.
+    pub locks: Items<(u64, Option<Lock>)>,
 }
 
 /// What is left of a change of the map.
@@ -76,14 +98,16 @@ pub struct MapRest {
 #[derive(Debug, Drop)]
 pub struct Rest {
     pub session: Option<SessionDeed>,
-    pub kept: Option<KeptPut>,
+    pub kept: Items<KeptPut>,
     pub map: Option<MapRest>,
+    /// The instance of a node that goes.
+    pub ends_lock: Option<u64>,
     pub recovers: bool,
     pub leaves: Option<u64>,
 }
 
 /// A deed that was begun: how it is taken back, and what is left of it.
-#[derive(Debug, Drop)]
+#[derive(Drop)]
 pub struct Grown {
     pub former: Former,
     pub rest: Rest,
@@ -94,6 +118,12 @@ struct GrownMap {
     note: Option<(HandleKey, Option<HandleState>)>,
     node: Option<(Name, Option<View>)>,
     rest: Option<MapRest>,
+}
+
+// The same, and the locks.
+struct GrownParts {
+    map: GrownMap,
+    locks: Items<(u64, Option<Lock>)>,
 }
 
 impl Cell {
@@ -110,26 +140,24 @@ impl Cell {
             kept,
             note,
             change,
+            locks,
+            ends_lock,
             recovers,
             leaves,
         } = deed;
         let (begun, session) = self.begin_session(session)?;
-        match self.grow_map(note, change) {
-            Ok(GrownMap { note, node, rest }) => Ok(Grown {
-                former: Former {
-                    session: begun,
-                    note,
-                    node,
-                },
-                rest: Rest {
-                    session,
-                    kept,
-                    map: rest,
-                    recovers,
-                    leaves,
-                },
-            }),
+        let rest = Rest {
+            session,
+            kept,
+            map: None,
+            ends_lock,
+            recovers,
+            leaves,
+        };
+        match self.grow_parts(note, change, locks) {
+            Ok(parts) => Ok(grown_of(begun, parts, rest)),
             Err(error) => {
+                drop(rest);
                 self.take_back(begun);
                 Err(error)
             }
@@ -144,10 +172,29 @@ impl Cell {
             session,
             note,
             node,
+            locks,
         } = former;
+        self.restore_locks(locks);
         self.restore_node(node);
         self.restore_note(note);
         self.take_back(session);
+    }
+
+    /// What was kept for taking a deed back is forgotten. To be called behind the commit. Takes no memory.
+    pub fn settle(&mut self, former: Former)
+        ensures { self.new ≡ self.old }
+    {
+        let Former { note, .. } = former;
+        if let Some((key, state)) = note {
+            self.settle_note(&key, state);
+        }
+    }
+
+    // How a handle stood before is forgotten.
+    pub(crate) fn settle_note(&mut self, key: &HandleKey, former: Option<HandleState>)
+        ensures { self.new ≡ self.old }
+    {
+        self.handles.settle(key, former);
     }
 
     /// Finishes a deed that was begun. Takes no memory.
@@ -158,12 +205,16 @@ impl Cell {
             session,
             kept,
             map,
+            ends_lock,
             recovers,
             leaves,
         } = rest;
         self.finish_session(session);
         self.keep(kept);
         self.finish_map(map);
+        if let Some(instance) = ends_lock {
+            drop(self.locks.end_of_node(instance));
+        }
         if recovers {
             self.recovering = false;
         }
@@ -193,8 +244,8 @@ impl Cell {
                 Ok((Some(client), None))
             }
             SessionDeed::Prolongs(client) => Ok((None, Some(SessionDeed::Prolongs(client)))),
-            SessionDeed::Ends(client, principal, locks) => {
-                Ok((None, Some(SessionDeed::Ends(client, principal, locks))))
+            SessionDeed::Ends(client, principal) => {
+                Ok((None, Some(SessionDeed::Ends(client, principal))))
             }
             SessionDeed::Answers(client) => Ok((None, Some(SessionDeed::Answers(client)))),
         }
@@ -227,12 +278,19 @@ impl Cell {
         }
     }
 
-    fn keep(&mut self, put: Option<KeptPut>)
-        ensures { self.new ≡ with_kept self.old put }
+    fn keep(&mut self, puts: Items<KeptPut>)
+        ensures { self.new ≡ with_kept self.old puts }
     {
-        if let Some(KeptPut { client, kept }) = put {
-            self.sessions.keep(client, kept);
+        for put in puts.into_vec() {
+            self.keep_one(put);
         }
+    }
+
+    fn keep_one(&mut self, put: KeptPut)
+        ensures { self.new ≡ record self.old { sessions = with_kept_put self.old.sessions put } }
+    {
+        let KeptPut { client, kept } = put;
+        self.sessions.keep(client, kept);
     }
 
     fn finish_map(&mut self, rest: Option<MapRest>)
@@ -248,6 +306,92 @@ impl Cell {
             }
             self.next_instance = next_instance;
         }
+    }
+
+    // The note, the node and the locks.
+    fn grow_parts(
+        &mut self,
+        note: Option<Note>,
+        change: Option<Change>,
+        locks: Items<LockPut>,
+    ) -> Result<GrownParts, AllocError>
+        ensures ok { OnOk result (self.new ≡ with_locks (with_node (with_note self.old note) change) locks) }
+        ensures back { IfOk result (λ begun. without_note (without_node (without_locks self.new begun.locks) begun.map.node) begun.map.note ≡ self.old) }
+        ensures rest { IfOk result (λ begun. begun.map.rest ≡ map_rest change) }
+        ensures err { OnErr result (self.new ≡ self.old) }
+    {
+        let GrownMap { note, node, rest } = self.grow_map(note, change)?;
+        match self.put_locks(locks) {
+            Ok(locks) => Ok(GrownParts {
+                map: GrownMap { note, node, rest },
+                locks,
+            }),
+            Err(error) => {
+                drop(rest);
+                self.restore_node(node);
+                self.restore_note(note);
+                Err(error)
+            }
+        }
+    }
+
+    // One behind the other. Where memory is refused those that were put are taken back.
+    fn put_locks(&mut self, puts: Items<LockPut>) -> Result<Items<(u64, Option<Lock>)>, AllocError>
+        ensures ok { OnOk result (self.new ≡ with_locks self.old puts) }
+        ensures back { IfOk result (λ formers. without_locks self.new formers ≡ self.old) }
+        ensures err { OnErr result (self.new ≡ self.old) }
+    {
+        let mut formers = Vec::new(self.alloc);
+        for put in puts.into_vec() {
+            let LockPut {
+                name: _,
+                instance,
+                lock,
+            } = put;
+            match self.put_lock(instance, lock, &mut formers) {
+                Ok(()) => {}
+                Err(error) => {
+                    self.restore_locks(Items::from_vec(formers));
+                    return Err(error);
+                }
+            }
+        }
+        Ok(Items::from_vec(formers))
+    }
+
+    // What stood there before is noted behind the others.
+    fn put_lock(
+        &mut self,
+        instance: u64,
+        lock: Lock,
+        formers: &mut Vec<(u64, Option<Lock>)>,
+    ) -> Result<(), AllocError>
+        ensures ok { OnOk result (self.new ≡ record self.old { locks = with_lock self.old.locks instance lock }) }
+        ensures noted { OnOk result (formers.new.items ≡ formers.old.items ++ (instance, lookup (is_at (nat_cmp instance)) self.old.locks) ∷ []) }
+        ensures back { OnOk result (with_former nat_cmp self.new.locks instance (lookup (is_at (nat_cmp instance)) self.old.locks) ≡ self.old.locks) }
+        ensures err { OnErr result (self.new ≡ self.old) }
+        ensures kept { OnErr result (formers.new.items ≡ formers.old.items) }
+    {
+        formers.reserve(1)?;
+        let former = self.locks.set(instance, lock)?;
+        formers.push_reserved((instance, former));
+        Ok(())
+    }
+
+    // The last that was put is taken back first.
+    fn restore_locks(&mut self, formers: Items<(u64, Option<Lock>)>)
+        ensures { self.new ≡ without_locks self.old formers }
+    {
+        let mut formers = formers;
+        while let Some((instance, former)) = formers.pop() {
+            self.restore_lock(instance, former);
+        }
+    }
+
+    fn restore_lock(&mut self, instance: u64, former: Option<Lock>)
+        ensures { self.new ≡ record self.old { locks = with_former nat_cmp self.old.locks instance former } }
+    {
+        self.locks.restore(instance, former);
     }
 
     // The note and the node.
@@ -354,5 +498,44 @@ impl Cell {
         if let Some((name, view)) = former {
             self.map.restore(&name, view);
         }
+    }
+}
+
+// What is left of the change of the map comes from the parts.
+fn grown_of(begun: Option<ClientNumber>, parts: GrownParts, rest: Rest) -> Grown
+    ensures former { result.former ≡ record { session = begun; note = parts.map.note; node = parts.map.node; locks = parts.locks } }
+    ensures rest { result.rest ≡ record rest { map = parts.map.rest } }
+{
+    let GrownParts {
+        map: GrownMap {
+            note,
+            node,
+            rest: map,
+        },
+        locks,
+    } = parts;
+    let Rest {
+        session,
+        kept,
+        ends_lock,
+        recovers,
+        leaves,
+        ..
+    } = rest;
+    Grown {
+        former: Former {
+            session: begun,
+            note,
+            node,
+            locks,
+        },
+        rest: Rest {
+            session,
+            kept,
+            map,
+            ends_lock,
+            recovers,
+            leaves,
+        },
     }
 }

@@ -4,7 +4,11 @@ ghost use Rattle.std.specs.Option.{option_copied};
 ghost use Rattle.tags_cell.specs.Handles.{handle_bytes, read_handle};
 ghost use Rattle.tags_cell.specs.declared.handles.Handle.{Handle as HandleValue};
 ghost use Rattle.cell_core.specs.Step.{key_of, open_note};
+ghost use Rattle.cell_core.specs.Locks.{owner_of, claim_of};
+ghost use Rattle.cell_core.specs.Notices.{is_key};
 
+use lock_core::{Claim, Hold, Owner};
+use node_core::LockMode;
 use plain::{Same, Secret};
 use std::alloc::{AllocError, Global};
 use std::marker::Model;
@@ -25,6 +29,36 @@ impl HandleKey {
             client: handle.client,
             number: handle.number,
         }
+    }
+
+    // Whether it is the same handle.
+    pub(crate) fn is(&self, other: &HandleKey) -> bool
+        ensures { result ≡ is_key self.now other.now }
+    {
+        self.client.get() == other.client.get() && self.number.get() == other.number.get()
+    }
+}
+
+/// Who a handle is to a lock.
+pub fn owner_of(handle: &Handle) -> Owner
+    ensures { result ≡ owner_of handle.now }
+{
+    Owner {
+        client: handle.client.get(),
+        handle: handle.number.get(),
+    }
+}
+
+/// How a handle asks for a lock: with its lock-delay.
+pub fn claim_of(handle: &Handle, mode: LockMode) -> Claim
+    ensures { result ≡ claim_of handle.now mode }
+{
+    Claim {
+        owner: owner_of(handle),
+        hold: Hold {
+            mode,
+            delay: u64::from(handle.delay.get()),
+        },
     }
 }
 
@@ -94,6 +128,19 @@ impl OpenHandle {
         ensures { result.now ≡ self.now.bytes }
     {
         &self.bytes
+    }
+
+    pub(crate) fn handle(&self) -> &Handle
+        ensures { result.now ≡ self.now.handle }
+    {
+        &self.handle
+    }
+
+    // The instance of its node.
+    pub(crate) fn instance(&self) -> u64
+        ensures { result ≡ self.now.handle.instance }
+    {
+        self.handle.instance.get()
     }
 
     // The handle, where these are its bytes.

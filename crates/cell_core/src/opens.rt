@@ -1,25 +1,18 @@
 //! What an Open of a present node gives.
-ghost use Rattle.std.specs.Prelude.{◌≡◌, Ok, IfOk};
-ghost use Rattle.cell_core.specs.Step.{new_handle, open_present, plain_open, opened_answer, opened_note};
+ghost use Rattle.std.specs.Prelude.{◌≡◌, false, Ok, IfOk};
+ghost use Rattle.std.specs.Option.{SomeIff};
+ghost use Rattle.cell_core.specs.Step.{new_handle, open_present, plain_open, opened_answer, opened_note, is_too_long};
 
 use crate::cells::Cell;
 use crate::handles::{Note, OpenHandle};
 use node_core::{Fault, View};
 use std::alloc::AllocError;
 use tags_cell::{
-    CallResult, ClientNumber, Events, Handle, LockDelay, MessageNumber, NewHandle, Open, Ordinal,
-};
-
-// Its client is told of nothing.
-const NO_EVENTS: Events = Events {
-    contents: false,
-    children: false,
-    lock: false,
-    conflict: false,
+    CallResult, ClientNumber, Handle, LockDelay, MessageNumber, NewHandle, Open, Ordinal,
 };
 
 impl Cell {
-    /// A handle of a node; its numbers have to be ones that a handle can carry.
+    /// A handle of a node: its lock-delay has to be within its limit, and its numbers ones that a handle can carry.
     pub fn new_handle(
         &self,
         client: ClientNumber,
@@ -29,11 +22,11 @@ impl Cell {
     ) -> Result<Result<Handle, Fault>, AllocError>
         ensures { IfOk result (λ opened. opened ≡ new_handle self.now client number opening.now view.now) }
     {
-        let (Some(epoch), Some(instance), Some(delay)) = (
-            Ordinal::new(self.epoch),
-            Ordinal::new(view.instance),
-            LockDelay::new(0),
-        ) else {
+        let Some(delay) = delay_of(opening.delay) else {
+            return Ok(Err(Fault::DelayTooLong));
+        };
+        let (Some(epoch), Some(instance)) = (Ordinal::new(self.epoch), Ordinal::new(view.instance))
+        else {
             return Ok(Err(Fault::Exhausted));
         };
         Ok(Ok(Handle {
@@ -43,7 +36,7 @@ impl Cell {
             instance,
             mode: opening.mode,
             life: view.life,
-            events: NO_EVENTS,
+            events: opening.events,
             delay,
             name: opening.name.clone()?,
         }))
@@ -109,5 +102,15 @@ impl Cell {
             life,
         });
         Ok((Some(noted.note()), answer))
+    }
+}
+
+// None above its limit.
+pub(crate) fn delay_of(delay: u64) -> Option<LockDelay>
+    ensures { SomeIff result (is_too_long delay ≡ false) delay }
+{
+    match u32::try_from(delay) {
+        Ok(span) => LockDelay::new(span),
+        Err(_) => None,
     }
 }

@@ -4,7 +4,7 @@ ghost use Rattle.cell_core.specs.Step.{answered_by};
 
 use names_cell::Principal;
 use node_core::Line;
-use plain::{Items, Same};
+use plain::{Bytes, Items, Same};
 use session_core::Kept;
 use std::alloc::AllocError;
 use tags_cell::{Call, ClientNumber, MessageNumber, Out, Reply};
@@ -14,8 +14,9 @@ use tags_cell::{Call, ClientNumber, MessageNumber, Out, Reply};
 pub enum Work {
     /// A Start: it commits the client's session, or lets it live longer. When it was received, in milliseconds.
     Starts(Principal, u64),
-    /// A call that may change the map.
-    Calls(Call),
+    /// A call that may change the map or a lock, and the bytes of the sequencer that it carries: that has to be valid
+    /// still when its turn comes.
+    Calls(Call, Option<Bytes>),
 }
 
 impl Clone for Work {
@@ -24,7 +25,10 @@ impl Clone for Work {
     fn clone(&self) -> Result<Work, AllocError> {
         Ok(match self {
             Work::Starts(principal, received) => Work::Starts(principal.clone()?, *received),
-            Work::Calls(call) => Work::Calls(call.clone()?),
+            Work::Calls(call, None) => Work::Calls(call.clone()?, None),
+            Work::Calls(call, Some(sequencer)) => {
+                Work::Calls(call.clone()?, Some(sequencer.clone()?))
+            }
         })
     }
 }

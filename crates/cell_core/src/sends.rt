@@ -171,10 +171,13 @@ impl Cell {
         self.gate.as_slice().len() >= PENDING_LIMIT
     }
 
-    // Whether a count is at its end, of the changes that ever waited or of the rights that were ever granted.
+    // Whether a count is at its end: of the changes that ever waited, of the rights that were ever granted, or of a
+    // session's events.
     pub(crate) fn is_spent(&self) -> bool
         ensures { result ≡ is_spent self.now }
     {
-        self.gate.pushed() >= NUMBER_LIMIT || self.rights.as_slice().len() as u64 >= NUMBER_LIMIT
+        self.gate.pushed() >= NUMBER_LIMIT
+            || self.rights.as_slice().len() as u64 >= NUMBER_LIMIT
+            || self.sessions.has_spent_events()
     }
 }

@@ -11,7 +11,7 @@ use node_core::View;
 use std::alloc::AllocError;
 use tags_cell::{Call, ClientNumber, Handle, HandleFault, Ordinal};
 
-/// The bytes that a call on a node shows; none for an Open.
+/// The bytes of the handle that a call on a node shows; none for an Open and a CheckSequencer.
 pub fn bytes_of(call: &Call) -> &[u8]
     ensures { result.now ≡ bytes_of call.now }
 {
@@ -24,6 +24,12 @@ pub fn bytes_of(call: &Call) -> &[u8]
         Call::Set { handle, .. } => handle.as_slice(),
         Call::SetAcl { handle, .. } => handle.as_slice(),
         Call::Delete(handle) => handle.as_slice(),
+        Call::Acquire { handle, .. } => handle.as_slice(),
+        Call::TryAcquire { handle, .. } => handle.as_slice(),
+        Call::Release(handle) => handle.as_slice(),
+        Call::GetSequencer(handle) => handle.as_slice(),
+        Call::SetSequencer(handle) => handle.as_slice(),
+        Call::CheckSequencer(_) => &[],
     }
 }
 

@@ -1,6 +1,6 @@
 //! What a master does with a message.
 ghost use Rattle.std.specs.Prelude.{◌≡◌, ◌≢◌, true, false, Some, None, Ok, Err, IfOk, IfErr, OnOk, OnErr};
-ghost use Rattle.cell_core.specs.Step.{take_step, take_at, start_step, beat_step, call_step, kept_step, kept_of, new_call, with_note, admit_step, telling, granting, is_cachable, waits, recorded, queued, is_full, is_spent, replied};
+ghost use Rattle.cell_core.specs.Step.{take_step, take_at, start_step, beat_step, call_step, kept_step, kept_of, new_call, with_note, admit_step, telling, granting, is_cachable, waits, recorded, queued, is_full, is_spent, replied, task_of};
 ghost use Rattle.session_core.specs.Session.{kept_answer};
 
 use crate::admissions::Admission;
@@ -19,8 +19,8 @@ use tags_cell::{Beat, CallMessage, CallResult, ClientNumber, MessageNumber, Requ
 
 impl Cell {
     /// One step by a request that came. A moment, in milliseconds, that is earlier than the last one counts as that;
-    /// one of 2^53 or more is refused as Exhausted, and so is every request once 2^63-1 changes have waited or as many
-    /// rights were granted. Nothing is committed.
+    /// one of 2^53 or more is refused as Exhausted, and so is every request once 2^63-1 changes have waited, as many
+    /// rights were granted, or a session has as many events. Nothing is committed.
     #[tactic(auto, unfolding(crate::specs::Step::take_step))]
     pub fn take(&mut self, now: u64, request: &Request) -> Result<Taken, Fault>
         ensures ok { IfOk result (λ taken. take_step self.old now request.now ≡ Ok (self.new, taken)) }
@@ -114,7 +114,7 @@ impl Cell {
     // By the last call of the client.
     fn by_kept(&mut self, message: &CallMessage) -> Result<Taken, AllocError>
         requires { is_spent self.old ≡ false }
-        ensures ok { IfOk result (λ taken. kept_step self.old message.now.client message.now.number message.now.call (kept_answer (kept_of self.old message.now.client) message.now.number) ≡ (self.new, taken)) }
+        ensures ok { IfOk result (λ taken. kept_step self.old message.now (kept_answer (kept_of self.old message.now.client) message.now.number) ≡ (self.new, taken)) }
         ensures err { OnErr result (self.new ≡ self.old) }
     {
         let client = message.client;
@@ -129,7 +129,7 @@ impl Cell {
     // A call that is neither repeated nor too early. During recovery each is refused, and that is recorded.
     fn new_call(&mut self, message: &CallMessage) -> Result<Taken, AllocError>
         requires { is_spent self.old ≡ false }
-        ensures ok { IfOk result (λ taken. new_call self.old message.now.client message.now.number message.now.call ≡ (self.new, taken)) }
+        ensures ok { IfOk result (λ taken. new_call self.old message.now ≡ (self.new, taken)) }
         ensures err { OnErr result (self.new ≡ self.old) }
     {
         let client = message.client;
@@ -142,7 +142,7 @@ impl Cell {
             touched,
             told,
             answer,
-        } = self.admission(client, number, &message.call)?;
+        } = self.admission(message)?;
         match note {
             None => self.admit(message, touched, told, answer),
             Some(note) => self.admit_noted(note, message, touched, told, answer),
@@ -159,14 +159,14 @@ impl Cell {
         answer: Option<CallResult>,
     ) -> Result<Taken, AllocError>
         requires { is_spent self.old ≡ false }
-        ensures ok { IfOk result (λ taken. admit_step (with_note self.old (Some note)) message.now.client message.now.number message.now.call touched told answer ≡ (self.new, taken)) }
+        ensures ok { IfOk result (λ taken. admit_step (with_note self.old (Some note)) message.now touched told answer ≡ (self.new, taken)) }
         ensures err { OnErr result (self.new ≡ self.old) }
     {
         let Note { key, state } = note;
         let former = self.handles.put(key, state)?;
         match self.admit(message, touched, told, answer) {
             Ok(taken) => {
-                drop(former);
+                self.settle_note(&key, former);
                 Ok(taken)
             }
             Err(error) => {
@@ -185,11 +185,11 @@ impl Cell {
         answer: Option<CallResult>,
     ) -> Result<Taken, AllocError>
         requires { is_spent self.old ≡ false }
-        ensures ok { IfOk result (λ taken. admit_step self.old message.now.client message.now.number message.now.call touched told answer ≡ (self.new, taken)) }
+        ensures ok { IfOk result (λ taken. admit_step self.old message.now touched told answer ≡ (self.new, taken)) }
         ensures err { OnErr result (self.new ≡ self.old) }
     {
         match answer {
-            Some(result) => self.tell(message.client, message.number, result, told),
+            Some(result) => self.answer_telling(message.client, message.number, result, told),
             None => {
                 if self.is_full() {
                     let busy = CallResult::Refused(Fault::Busy);
@@ -202,7 +202,7 @@ impl Cell {
     }
 
     // An answer, by the name of which it tells what it shows.
-    fn tell(
+    fn answer_telling(
         &mut self,
         client: ClientNumber,
         number: MessageNumber,
@@ -250,7 +250,7 @@ impl Cell {
     fn wait(&mut self, message: &CallMessage, touched: Option<Name>) -> Result<Taken, AllocError>
         requires room { is_full self.old ≡ false }
         requires more { is_spent self.old ≡ false }
-        ensures ok { IfOk result (λ taken. waits self.old message.now.client message.now.number message.now.call touched ≡ (self.new, taken)) }
+        ensures ok { IfOk result (λ taken. waits self.old message.now touched ≡ (self.new, taken)) }
         ensures err { OnErr result (self.new ≡ self.old) }
     {
         let mut names = Items::new(self.alloc);
@@ -270,12 +270,12 @@ impl Cell {
     fn queue_call(&mut self, message: &CallMessage, touched: Items<Name>) -> Result<(), AllocError>
         requires room { is_full self.old ≡ false }
         requires more { is_spent self.old ≡ false }
-        ensures ok { OnOk result (self.new ≡ queued (recorded self.old message.now.client (record { number = message.now.number; reply = None })) touched (record { client = message.now.client; number = message.now.number; work = Work.Calls message.now.call })) }
+        ensures ok { OnOk result (self.new ≡ queued (recorded self.old message.now.client (record { number = message.now.number; reply = None })) touched (task_of message.now)) }
         ensures err { OnErr result (self.new ≡ self.old) }
     {
         let client = message.client;
         let number = message.number;
-        let work = Work::Calls(message.call.clone()?);
+        let work = work_of(message)?;
         self.queue(client, number, work, touched)?;
         let kept = Kept {
             number,
@@ -323,5 +323,16 @@ impl Cell {
         let taken = self.sends(&reply)?;
         self.sessions.keep(client, answered_by(reply));
         Ok(taken)
+    }
+}
+
+// What waits of a call: also the sequencer that it carries.
+fn work_of(message: &CallMessage) -> Result<Work, AllocError>
+    ensures { IfOk result (λ work. work ≡ Work.Calls message.now.call message.now.sequencer) }
+{
+    let call = message.call.clone()?;
+    match &message.sequencer {
+        None => Ok(Work::Calls(call, None)),
+        Some(sequencer) => Ok(Work::Calls(call, Some(sequencer.clone()?))),
     }
 }

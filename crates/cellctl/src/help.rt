@@ -28,6 +28,7 @@ Calls; H is the client's own handle number, 1, 2, .. in the order in which its O
                     the same, and makes a file where there is none; must is refused where there is one
   open NAME MODE may|must dir permanent [acl R W C]
                     the same with a directory
+  open .. delay N   each of these, with a handle of a lock-delay of N milliseconds
   close H           closes the handle
   poison H          every later call on the handle but close is refused
   read H            the content and the numbers of the node
@@ -36,6 +37,12 @@ Calls; H is the client's own handle number, 1, 2, .. in the order in which its O
   set H CONTENT [G] a new content; with G only at this content generation
   acl H R W C [G]   new ACL names; with G only at this ACL generation
   delete H          deletes the node
+  acquire H x|s     waits for the node's lock: x alone, s beside others that share it
+  try H x|s         takes the lock, or is refused
+  release H         lets the lock go
+  getseq H          the sequencer of the lock that the handle holds
+  setseq H HEX      calls on the handle stand under this sequencer from then on
+  checkseq HEX      whether this sequencer is valid
 CONTENT is hexadecimal in lower case, - for empty, or fill:N:HH for N times one byte.
 
 Limits:
@@ -44,6 +51,7 @@ Limits:
   a number          2^64-1; of a client 1 to 2^53-1
   a name            512 bytes; each component, and a principal, 64
   a content         262,144 bytes; N of fill at most 300,000
+  a lock-delay      60,000 milliseconds
   changes that wait 4,096
   a moment          below 2^53 milliseconds
 

@@ -1,6 +1,6 @@
 -- The arm of the table by which a client is asked for a call, or for a Start.
-use Rattle.std.proofs.Common.{◌≡◌, ◌≢◌, ℕ, ◌+◌, ◌<◌, max, Bool, true, false, cond, [], ◌∷◌, Option, Some, None, Result, Ok, Err, refl, sym, ap, ◌∙◌}
-use Rattle.std.specs.Prelude.{nat_lt, is_some}
+use Rattle.std.proofs.Common.{◌≡◌, ◌≢◌, ℕ, ◌+◌, ◌<◌, max, Bool, true, false, cond, List, [], ◌∷◌, Option, Some, None, Result, Ok, Err, refl, sym, ap, ◌∙◌}
+use Rattle.std.specs.Prelude.{◌&&◌, nat_lt, is_none, is_some}
 use Rattle.std.specs.Option.{option_map}
 use Rattle.lease_core.specs.Lease.{moment_limit}
 use Rattle.cache_core.specs.Caches.{answer}
@@ -35,8 +35,8 @@ use Rattle.client_parts.specs.declared.targets.Outstanding.{Outstanding}
 use Rattle.client_core.specs.State.{ClientState, standing_then, session_behind, session_in, session_then, note_in, note_lines_in, note_lines}
 use Rattle.client_core.specs.Handles.{handle_of}
 use Rattle.client_core.specs.Serves.{serve_read, share, entry_served}
-use Rattle.client_parts.specs.Opens.{is_plain, is_read_only, kept_handle}
-use Rattle.client_core.specs.Asks.{fault_then, usable_handle, send_plan, served_or, close_plan, poison_plan, node_plan, plan_of, asked_for, message_of, with_call, with_shared, ask_by, ask_in, ask_at, ask_step}
+use Rattle.client_parts.specs.Opens.{is_plain, only_reads, kept_handle}
+use Rattle.client_core.specs.Asks.{fault_then, usable_handle, send_plan, served_or, close_plan, poison_plan, node_plan, sequencer_plan, plan_of, asked_for, message_of, with_call, with_shared, ask_by, ask_in, ask_at, ask_step}
 use Rattle.client_parts.specs.Calls.{call_on}
 use Rattle.client_core.specs.Beats.{start_message, beat_message, with_beat, beaten, sends, beat_by, beat_at, beat_step}
 use Rattle.client_core.specs.Cases.{noted_moment, IsSafe, IsUsable, IsShared, AskCase, asked_in, BeatCase, beaten_in}
@@ -54,18 +54,18 @@ IsAsked s now ask p = (c : AskCase s now ask) × (p ≡ asked_in s now ask c)
 abbrev IsDone : (s : ClientState) (now : ℕ) (ask : Ask) → Result Plan Fault → Type 0
 IsDone s now ask plan = plan_of s (noted_moment s now) ask ≡ plan → IsAsked s now ask (ask_by s (noted_moment s now) plan)
 
-send_case : (s : ClientState) (now : ℕ) (ask : Ask) (call : Call) (target : Target) → IsSafe s now → s.outstanding ≡ None → IsDone s now ask (Ok (plans.Send call target))
-send_case s now ask call target safe free is =
-    either (IsAsked s now ask) (nat_lt (s.calls + 1) number_end) (with_call s (noted_moment s now) call target, Ok (asked_for [] (outcomes.Sent (message_of s call)))) (s, Err faults.Exhausted)
-    (λ h. (Sent call target (record { safe = safe; is_plan = is; free = free }) (less (s.calls + 1) number_end h), refl))
-    (λ h. (OutOfCalls call target (record { safe = safe; is_plan = is; free = free }) (not_less (s.calls + 1) number_end h), refl))
+send_case : (s : ClientState) (now : ℕ) (ask : Ask) (call : Call) (sequencer : Option (List ℕ)) (target : Target) → IsSafe s now → s.outstanding ≡ None → IsDone s now ask (Ok (plans.Send call sequencer target))
+send_case s now ask call sequencer target safe free is =
+    either (IsAsked s now ask) (nat_lt (s.calls + 1) number_end) (with_call s (noted_moment s now) call sequencer target, Ok (asked_for [] (outcomes.Sent (message_of s call sequencer)))) (s, Err faults.Exhausted)
+    (λ h. (Sent call sequencer target (record { safe = safe; is_plan = is; free = free }) (less (s.calls + 1) number_end h), refl))
+    (λ h. (OutOfCalls call sequencer target (record { safe = safe; is_plan = is; free = free }) (not_less (s.calls + 1) number_end h), refl))
 
-sends_beside : (s : ClientState) (now : ℕ) (ask : Ask) (call : Call) (target : Target) (o : Option Outstanding) → IsSafe s now → s.outstanding ≡ o → IsDone s now ask (cond (is_some o) (Err faults.CallOutstanding) (Ok (plans.Send call target)))
-sends_beside s now ask call target None safe free is = send_case s now ask call target safe free is
-sends_beside s now ask call target (Some former) safe busy is = (Refused faults.CallOutstanding safe is, refl)
+sends_beside : (s : ClientState) (now : ℕ) (ask : Ask) (call : Call) (sequencer : Option (List ℕ)) (target : Target) (o : Option Outstanding) → IsSafe s now → s.outstanding ≡ o → IsDone s now ask (cond (is_some o) (Err faults.CallOutstanding) (Ok (plans.Send call sequencer target)))
+sends_beside s now ask call sequencer target None safe free is = send_case s now ask call sequencer target safe free is
+sends_beside s now ask call sequencer target (Some former) safe busy is = (Refused faults.CallOutstanding safe is, refl)
 
-sends_case : (s : ClientState) (now : ℕ) (ask : Ask) (call : Call) (target : Target) → IsSafe s now → IsDone s now ask (send_plan s call target)
-sends_case s now ask call target safe is = sends_beside s now ask call target s.outstanding safe refl is
+sends_case : (s : ClientState) (now : ℕ) (ask : Ask) (call : Call) (sequencer : Option (List ℕ)) (target : Target) → IsSafe s now → IsDone s now ask (send_plan s call sequencer target)
+sends_case s now ask call sequencer target safe is = sends_beside s now ask call sequencer target s.outstanding safe refl is
 
 -- ---- an Open
 
@@ -79,30 +79,30 @@ share_case s now opening view handle safe shared =
 
 -- what is sent where the cache doesn't answer
 abbrev sent_open : ClientState → Open → Result Plan Fault
-sent_open s opening = send_plan s (calls.Open opening) targets.NewHandle
+sent_open s opening = send_plan s (calls.Open opening) None targets.NewHandle
 
-kept_case : (s : ClientState) (now : ℕ) (opening : Open) (view : View) (k : Option NewHandle) → IsSafe s now → is_plain opening ≡ true → answer s.cache (noted_moment s now) opening.name ≡ Some (Some view) → is_read_only opening.mode ≡ true → serving s.kept opening.name view.instance ≡ k → IsDone s now (asks.Open opening) (served_or (option_map (share s opening view) k) (sent_open s opening))
-kept_case s now opening view None safe plain cached reads kept is = sends_case s now (asks.Open opening) (calls.Open opening) targets.NewHandle safe is
+kept_case : (s : ClientState) (now : ℕ) (opening : Open) (view : View) (k : Option NewHandle) → IsSafe s now → is_plain opening ≡ true → answer s.cache (noted_moment s now) opening.name ≡ Some (Some view) → only_reads opening ≡ true → serving s.kept opening.name view.instance ≡ k → IsDone s now (asks.Open opening) (served_or (option_map (share s opening view) k) (sent_open s opening))
+kept_case s now opening view None safe plain cached reads kept is = sends_case s now (asks.Open opening) (calls.Open opening) None targets.NewHandle safe is
 kept_case s now opening view (Some handle) safe plain cached reads kept is = share_case s now opening view handle safe (record { plain = plain; reads = reads; cached = cached; kept = kept })
 
-view_case : (s : ClientState) (now : ℕ) (opening : Open) (view : View) (b : Bool) → IsSafe s now → is_plain opening ≡ true → answer s.cache (noted_moment s now) opening.name ≡ Some (Some view) → is_read_only opening.mode ≡ b → IsDone s now (asks.Open opening) (served_or (cond b (option_map (share s opening view) (serving s.kept opening.name view.instance)) None) (sent_open s opening))
+view_case : (s : ClientState) (now : ℕ) (opening : Open) (view : View) (b : Bool) → IsSafe s now → is_plain opening ≡ true → answer s.cache (noted_moment s now) opening.name ≡ Some (Some view) → only_reads opening ≡ b → IsDone s now (asks.Open opening) (served_or (cond b (option_map (share s opening view) (serving s.kept opening.name view.instance)) None) (sent_open s opening))
 view_case s now opening view true safe plain cached reads is = kept_case s now opening view (serving s.kept opening.name view.instance) safe plain cached reads refl is
-view_case s now opening view false safe plain cached reads is = sends_case s now (asks.Open opening) (calls.Open opening) targets.NewHandle safe is
+view_case s now opening view false safe plain cached reads is = sends_case s now (asks.Open opening) (calls.Open opening) None targets.NewHandle safe is
 
 entry_case : (s : ClientState) (now : ℕ) (opening : Open) (o : Option (Option View)) → IsSafe s now → is_plain opening ≡ true → answer s.cache (noted_moment s now) opening.name ≡ o → IsDone s now (asks.Open opening) (served_or (entry_served s opening o) (sent_open s opening))
-entry_case s now opening None safe plain cached is = sends_case s now (asks.Open opening) (calls.Open opening) targets.NewHandle safe is
+entry_case s now opening None safe plain cached is = sends_case s now (asks.Open opening) (calls.Open opening) None targets.NewHandle safe is
 entry_case s now opening (Some None) safe plain cached is = (AbsenceServed opening safe refl plain cached, refl)
-entry_case s now opening (Some (Some view)) safe plain cached is = view_case s now opening view (is_read_only opening.mode) safe plain cached refl is
+entry_case s now opening (Some (Some view)) safe plain cached is = view_case s now opening view (only_reads opening) safe plain cached refl is
 
 plain_case : (s : ClientState) (now : ℕ) (opening : Open) (b : Bool) → IsSafe s now → is_plain opening ≡ b → IsDone s now (asks.Open opening) (served_or (cond b (entry_served s opening (answer s.cache (noted_moment s now) opening.name)) None) (sent_open s opening))
 plain_case s now opening true safe plain is = entry_case s now opening (answer s.cache (noted_moment s now) opening.name) safe plain refl is
-plain_case s now opening false safe plain is = sends_case s now (asks.Open opening) (calls.Open opening) targets.NewHandle safe is
+plain_case s now opening false safe plain is = sends_case s now (asks.Open opening) (calls.Open opening) None targets.NewHandle safe is
 
 -- ---- a call on a handle
 
-shared_case : (s : ClientState) (now number : ℕ) (handle : ClientHandle) (b : Bool) → IsSafe s now → handle_of s.handles number ≡ Some handle → handle.shared ≡ b → IsDone s now (asks.Close number) (cond b (Ok (plans.Release number)) (send_plan s (calls.Close handle.bytes) (targets.Closing number)))
+shared_case : (s : ClientState) (now number : ℕ) (handle : ClientHandle) (b : Bool) → IsSafe s now → handle_of s.handles number ≡ Some handle → handle.shared ≡ b → IsDone s now (asks.Close number) (cond b (Ok (plans.Release number)) (send_plan s (calls.Close handle.bytes) None (targets.Closing number)))
 shared_case s now number handle true safe found shared is = (Released number handle safe refl found shared, refl)
-shared_case s now number handle false safe found shared is = sends_case s now (asks.Close number) (calls.Close handle.bytes) (targets.Closing number) safe is
+shared_case s now number handle false safe found shared is = sends_case s now (asks.Close number) (calls.Close handle.bytes) None (targets.Closing number) safe is
 
 close_case : (s : ClientState) (now number : ℕ) (h : Option ClientHandle) → IsSafe s now → handle_of s.handles number ≡ h → IsDone s now (asks.Close number) (close_plan s number h)
 close_case s now number None safe found is = (Refused faults.BadHandle safe is, refl)
@@ -116,17 +116,21 @@ poison_case : (s : ClientState) (now number : ℕ) (h : Option ClientHandle) →
 poison_case s now number None safe found is = (Refused faults.BadHandle safe is, refl)
 poison_case s now number (Some handle) safe found is = poisoned_case s now number handle handle.poisoned safe found refl is
 
-cached_case : (s : ClientState) (now number : ℕ) (handle : ClientHandle) (o : Option (Option View)) → IsSafe s now → IsUsable s number handle → handle.mode.read ≡ true → answer s.cache (noted_moment s now) handle.name ≡ o → IsDone s now (asks.Node number node_calls.Read) (served_or (option_map (serve_read s handle) o) (send_plan s (calls.Read handle.bytes) (targets.Handle number)))
-cached_case s now number handle None safe usable reads cached is = sends_case s now (asks.Node number node_calls.Read) (calls.Read handle.bytes) (targets.Handle number) safe is
-cached_case s now number handle (Some entry) safe usable reads cached is = (ReadServed number handle entry safe refl (record { of_handle = usable; reads = reads; cached = cached }), refl)
+cached_case : (s : ClientState) (now number : ℕ) (handle : ClientHandle) (o : Option (Option View)) → IsSafe s now → IsUsable s number handle → handle.mode.read ≡ true → handle.sequencer ≡ None → answer s.cache (noted_moment s now) handle.name ≡ o → IsDone s now (asks.Node number node_calls.Read) (served_or (option_map (serve_read s handle) o) (send_plan s (calls.Read handle.bytes) handle.sequencer (targets.Handle number)))
+cached_case s now number handle None safe usable reads unsequenced cached is = sends_case s now (asks.Node number node_calls.Read) (calls.Read handle.bytes) handle.sequencer (targets.Handle number) safe is
+cached_case s now number handle (Some entry) safe usable reads unsequenced cached is = (ReadServed number handle entry safe refl (record { of_handle = usable; reads = reads; unsequenced = unsequenced; cached = cached }), refl)
 
-reads_case : (s : ClientState) (now number : ℕ) (handle : ClientHandle) (b : Bool) → IsSafe s now → IsUsable s number handle → handle.mode.read ≡ b → IsDone s now (asks.Node number node_calls.Read) (served_or (cond b (option_map (serve_read s handle) (answer s.cache (noted_moment s now) handle.name)) None) (send_plan s (calls.Read handle.bytes) (targets.Handle number)))
-reads_case s now number handle true safe usable reads is = cached_case s now number handle (answer s.cache (noted_moment s now) handle.name) safe usable reads refl is
-reads_case s now number handle false safe usable reads is = sends_case s now (asks.Node number node_calls.Read) (calls.Read handle.bytes) (targets.Handle number) safe is
+unsequenced_case : (s : ClientState) (now number : ℕ) (handle : ClientHandle) (o : Option (List ℕ)) → IsSafe s now → IsUsable s number handle → handle.mode.read ≡ true → handle.sequencer ≡ o → IsDone s now (asks.Node number node_calls.Read) (served_or (cond (is_none o) (option_map (serve_read s handle) (answer s.cache (noted_moment s now) handle.name)) None) (send_plan s (calls.Read handle.bytes) handle.sequencer (targets.Handle number)))
+unsequenced_case s now number handle None safe usable reads at is = cached_case s now number handle (answer s.cache (noted_moment s now) handle.name) safe usable reads at refl is
+unsequenced_case s now number handle (Some sequencer) safe usable reads at is = sends_case s now (asks.Node number node_calls.Read) (calls.Read handle.bytes) handle.sequencer (targets.Handle number) safe is
+
+reads_case : (s : ClientState) (now number : ℕ) (handle : ClientHandle) (b : Bool) → IsSafe s now → IsUsable s number handle → handle.mode.read ≡ b → IsDone s now (asks.Node number node_calls.Read) (served_or (cond (b && is_none handle.sequencer) (option_map (serve_read s handle) (answer s.cache (noted_moment s now) handle.name)) None) (send_plan s (calls.Read handle.bytes) handle.sequencer (targets.Handle number)))
+reads_case s now number handle true safe usable reads is = unsequenced_case s now number handle handle.sequencer safe usable reads refl is
+reads_case s now number handle false safe usable reads is = sends_case s now (asks.Node number node_calls.Read) (calls.Read handle.bytes) handle.sequencer (targets.Handle number) safe is
 
 call_case : (s : ClientState) (now number : ℕ) (handle : ClientHandle) (call : NodeCall) → IsSafe s now → IsUsable s number handle → IsDone s now (asks.Node number call) (node_plan s (noted_moment s now) number call (Ok handle))
 call_case s now number handle node_calls.Read safe usable is = reads_case s now number handle handle.mode.read safe usable refl is
-call_case s now number handle call safe usable is = sends_case s now (asks.Node number call) (call_on handle.bytes call) (targets.Handle number) safe is
+call_case s now number handle call safe usable is = sends_case s now (asks.Node number call) (call_on handle.bytes call) handle.sequencer (targets.Handle number) safe is
 
 usable_case : (s : ClientState) (now number : ℕ) (handle : ClientHandle) (call : NodeCall) (b : Bool) → IsSafe s now → handle_of s.handles number ≡ Some handle → handle.poisoned ≡ b → IsDone s now (asks.Node number call) (node_plan s (noted_moment s now) number call (cond b (Err faults.Poisoned) (Ok handle)))
 usable_case s now number handle call true safe found at is = (Refused faults.Poisoned safe is, refl)
@@ -136,6 +140,14 @@ node_case : (s : ClientState) (now number : ℕ) (call : NodeCall) (h : Option C
 node_case s now number call None safe found is = (Refused faults.BadHandle safe is, refl)
 node_case s now number call (Some handle) safe found is = usable_case s now number handle call handle.poisoned safe found refl is
 
+set_case : (s : ClientState) (now number : ℕ) (sequencer : List ℕ) (handle : ClientHandle) (b : Bool) → IsSafe s now → IsDone s now (asks.SetSequencer number sequencer) (sequencer_plan s number sequencer (cond b (Err faults.Poisoned) (Ok handle)))
+set_case s now number sequencer handle true safe is = (Refused faults.Poisoned safe is, refl)
+set_case s now number sequencer handle false safe is = sends_case s now (asks.SetSequencer number sequencer) (calls.SetSequencer handle.bytes) (Some sequencer) (targets.Sequencing number) safe is
+
+sequencer_case : (s : ClientState) (now number : ℕ) (sequencer : List ℕ) (h : Option ClientHandle) → IsSafe s now → IsDone s now (asks.SetSequencer number sequencer) (sequencer_plan s number sequencer (usable_handle h))
+sequencer_case s now number sequencer None safe is = (Refused faults.BadHandle safe is, refl)
+sequencer_case s now number sequencer (Some handle) safe is = set_case s now number sequencer handle handle.poisoned safe is
+
 -- ---- the lemma
 
 plan_case : (s : ClientState) (now : ℕ) (ask : Ask) → IsSafe s now → IsAsked s now ask (ask_by s (noted_moment s now) (plan_of s (noted_moment s now) ask))
@@ -143,6 +155,8 @@ plan_case s now (asks.Open opening) safe = plain_case s now opening (is_plain op
 plan_case s now (asks.Close number) safe = close_case s now number (handle_of s.handles number) safe refl refl
 plan_case s now (asks.Poison number) safe = poison_case s now number (handle_of s.handles number) safe refl refl
 plan_case s now (asks.Node number call) safe = node_case s now number call (handle_of s.handles number) safe refl refl
+plan_case s now (asks.SetSequencer number sequencer) safe = sequencer_case s now number sequencer (handle_of s.handles number) safe refl
+plan_case s now (asks.CheckSequencer bytes) safe = sends_case s now (asks.CheckSequencer bytes) (calls.CheckSequencer bytes) None targets.Checking safe refl
 
 fault_case : (s : ClientState) (now : ℕ) (ask : Ask) (o : Option Fault) → now < moment_limit → fault_then s (noted_moment s now) ≡ o → IsAsked s now ask (ask_in s (noted_moment s now) ask o)
 fault_case s now ask (Some fault) early is = (Unsafe fault early is, refl)

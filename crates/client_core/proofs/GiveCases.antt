@@ -186,6 +186,8 @@ target_case : (s : ClientState) (now : ℕ) (out : Out) (message : Reply) (call 
 target_case s now out message call targets.NewHandle heard is for at = finish_case s now out message call targets.NewHandle heard is for at (λ e. cc)
 target_case s now out message call (targets.Closing number) heard is for at = finish_case s now out message call (targets.Closing number) heard is for at (λ e. cc)
 target_case s now out message call (targets.Handle number) heard is for at = finish_case s now out message call (targets.Handle number) heard is for at (λ e. cc)
+target_case s now out message call (targets.Sequencing number) heard is for at = finish_case s now out message call (targets.Sequencing number) heard is for at (λ e. cc)
+target_case s now out message call targets.Checking heard is for at = finish_case s now out message call targets.Checking heard is for at (λ e. cc)
 target_case s now out message call targets.Dropped heard is for at =
     (ReplyDropped message call heard is for at, in_session s now (λ n. (record n { outstanding = None }, Ok (told s (noted_moment s now) [] None))) for.live.live)
 

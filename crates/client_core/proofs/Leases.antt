@@ -62,8 +62,8 @@ asked_noted s now ask (AbsenceServed opening safe is plain cached) = inr refl
 asked_noted s now ask (Shared opening view mine safe is shared room) = inr refl
 asked_noted s now ask (OutOfHandles opening view mine safe is shared last) = inl refl
 asked_noted s now ask (Released number mine safe is found shared) = inr refl
-asked_noted s now ask (OutOfCalls call target sendable last) = inl refl
-asked_noted s now ask (Sent call target sendable room) = inr refl
+asked_noted s now ask (OutOfCalls call sequencer target sendable last) = inl refl
+asked_noted s now ask (Sent call sequencer target sendable room) = inr refl
 asked_noted s now ask (Poisoned number mine safe is usable) = inr refl
 
 pub ask_noted : (s : ClientState) (now : ℕ) (ask : Ask) → IsNoted s now (ask_step s now ask).0
@@ -82,6 +82,7 @@ beat_noted s now = let c = beat_case s now in subst (λ p. IsNoted s now p.0) (s
 ended_noted : (s : ClientState) (target : Target) (result : CallResult) → (ended_plainly s target result).clock ≡ s.clock
 ended_noted s target (results.Opened handle) = refl
 ended_noted s target results.Closed = refl
+ended_noted s target results.Done = refl
 ended_noted s target _ = refl
 
 given_noted : (s : ClientState) (now : ℕ) (out : Out) (c : GiveCase s now out) → IsNoted s now (given_in s now out c).0
@@ -164,8 +165,8 @@ asked_keeps s now ask (AbsenceServed opening safe is plain cached) = record { of
 asked_keeps s now ask (Shared opening view mine safe is shared room) = record { of_beats = record { beats = refl; sent = refl }; of_session = record { session = inl refl; epoch = refl; processed = refl; lease = refl } }
 asked_keeps s now ask (OutOfHandles opening view mine safe is shared last) = keeps s
 asked_keeps s now ask (Released number mine safe is found shared) = record { of_beats = record { beats = refl; sent = refl }; of_session = record { session = inl refl; epoch = refl; processed = refl; lease = refl } }
-asked_keeps s now ask (OutOfCalls call target sendable last) = keeps s
-asked_keeps s now ask (Sent call target sendable room) = record { of_beats = record { beats = refl; sent = refl }; of_session = record { session = inl refl; epoch = refl; processed = refl; lease = refl } }
+asked_keeps s now ask (OutOfCalls call sequencer target sendable last) = keeps s
+asked_keeps s now ask (Sent call sequencer target sendable room) = record { of_beats = record { beats = refl; sent = refl }; of_session = record { session = inl refl; epoch = refl; processed = refl; lease = refl } }
 asked_keeps s now ask (Poisoned number mine safe is usable) = record { of_beats = record { beats = refl; sent = refl }; of_session = record { session = inl refl; epoch = refl; processed = refl; lease = refl } }
 
 -- to be asked for a call changes none of these, but that a session may be given up
@@ -216,6 +217,7 @@ pub record SameBut (s new : ClientState) : Type 0 where
 pub ended_same : (s : ClientState) (target : Target) (result : CallResult) → SameBut s (ended_plainly s target result)
 ended_same s target (results.Opened handle) = record { beats = refl; sent = refl; session = refl; epoch = refl; processed = refl; cache = refl }
 ended_same s target results.Closed = record { beats = refl; sent = refl; session = refl; epoch = refl; processed = refl; cache = refl }
+ended_same s target results.Done = record { beats = refl; sent = refl; session = refl; epoch = refl; processed = refl; cache = refl }
 ended_same s target _ = record { beats = refl; sent = refl; session = refl; epoch = refl; processed = refl; cache = refl }
 
 replied_keeps_beats : (s new : ClientState) (now : ℕ) → SameBut (note_live s (noted_moment s now)) new → KeepsBeats s new

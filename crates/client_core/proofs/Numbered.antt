@@ -137,6 +137,7 @@ reply_rises s t new target results.Closed client number call handle same h told 
 reply_rises s t new target (results.Viewed view) client number call handle same h told = cc
 reply_rises s t new target (results.Stated stat) client number call handle same h told = cc
 reply_rises s t new target (results.Names names) client number call handle same h told = cc
+reply_rises s t new target (results.Sequencer bytes) client number call handle same h told = cc
 reply_rises s t new target results.Done client number call handle same h told = cc
 reply_rises s t new target (results.Refused fault) client number call handle same h told = cc
 
@@ -147,6 +148,7 @@ gives_none s target results.Closed t client number call handle X h told = cc
 gives_none s target (results.Viewed view) t client number call handle X h told = cc
 gives_none s target (results.Stated stat) t client number call handle X h told = cc
 gives_none s target (results.Names names) t client number call handle X h told = cc
+gives_none s target (results.Sequencer bytes) t client number call handle X h told = cc
 gives_none s target results.Done t client number call handle X h told = cc
 gives_none s target (results.Refused fault) t client number call handle X h told = cc
 
@@ -210,8 +212,8 @@ shares_in s new now handle ask (Shared opening view mine safe is shared room) h 
     (omega (arith, n), omega (arith, n, o))
 shares_in s new now handle ask (OutOfHandles opening view mine safe is shared last) h told = cc
 shares_in s new now handle ask (Released number mine safe is found shared) h told = cc
-shares_in s new now handle ask (OutOfCalls call target sendable last) h told = cc
-shares_in s new now handle ask (Sent call target sendable room) h told = cc
+shares_in s new now handle ask (OutOfCalls call sequencer target sendable last) h told = cc
+shares_in s new now handle ask (Sent call sequencer target sendable room) h told = cc
 shares_in s new now handle ask (Poisoned number mine safe is usable) h told = cc
 
 pub shared_numbers_rise : SharedNumbersRise
@@ -229,8 +231,8 @@ ask_stays s now ask (AbsenceServed opening safe is plain cached) = omega arith
 ask_stays s now ask (Shared opening view mine safe is shared room) = omega arith
 ask_stays s now ask (OutOfHandles opening view mine safe is shared last) = omega arith
 ask_stays s now ask (Released number mine safe is found shared) = omega arith
-ask_stays s now ask (OutOfCalls call target sendable last) = omega arith
-ask_stays s now ask (Sent call target sendable room) = omega arith
+ask_stays s now ask (OutOfCalls call sequencer target sendable last) = omega arith
+ask_stays s now ask (Sent call sequencer target sendable room) = omega arith
 ask_stays s now ask (Poisoned number mine safe is usable) = omega arith
 
 beat_stays : (s : ClientState) (now : ℕ) (c : BeatCase s now) → (beaten_in s now c).0.opened ≡ s.opened
@@ -246,6 +248,7 @@ ended_stays s target results.Closed = omega arith
 ended_stays s target (results.Viewed view) = omega arith
 ended_stays s target (results.Stated stat) = omega arith
 ended_stays s target (results.Names names) = omega arith
+ended_stays s target (results.Sequencer bytes) = omega arith
 ended_stays s target results.Done = omega arith
 ended_stays s target (results.Refused fault) = omega arith
 
@@ -287,6 +290,7 @@ ended_none s target results.Closed = refl
 ended_none s target (results.Viewed view) = refl
 ended_none s target (results.Stated stat) = refl
 ended_none s target (results.Names names) = refl
+ended_none s target (results.Sequencer bytes) = refl
 ended_none s target results.Done = refl
 ended_none s target (results.Refused fault) = refl
 
@@ -421,8 +425,8 @@ refused_in s new now ask printed fault (AbsenceServed opening safe is plain cach
 refused_in s new now ask printed fault (Shared opening view mine safe is shared room) h told comes = cc
 refused_in s new now ask printed fault (OutOfHandles opening view mine safe is shared last) h told comes = cc
 refused_in s new now ask printed fault (Released number mine safe is found shared) h told comes = cc
-refused_in s new now ask printed fault (OutOfCalls call target sendable last) h told comes = cc
-refused_in s new now ask printed fault (Sent call target sendable room) h told comes = cc
+refused_in s new now ask printed fault (OutOfCalls call sequencer target sendable last) h told comes = cc
+refused_in s new now ask printed fault (Sent call sequencer target sendable room) h told comes = cc
 refused_in s new now ask printed fault (Poisoned number mine safe is usable) h told comes = cc
 
 pub refused_call_changes_nothing : RefusedCallChangesNothing

@@ -156,8 +156,8 @@ asked_stays s now ask name (AbsenceServed opening safe is plain cached) h = same
 asked_stays s now ask name (Shared opening view mine safe is shared room) h = same_cache s.cache.entries s.cache.entries name h refl
 asked_stays s now ask name (OutOfHandles opening view mine safe is shared last) h = same_cache s.cache.entries s.cache.entries name h refl
 asked_stays s now ask name (Released number mine safe is found shared) h = same_cache s.cache.entries s.cache.entries name h refl
-asked_stays s now ask name (OutOfCalls call target sendable last) h = same_cache s.cache.entries s.cache.entries name h refl
-asked_stays s now ask name (Sent call target sendable room) h = same_cache s.cache.entries s.cache.entries name h refl
+asked_stays s now ask name (OutOfCalls call sequencer target sendable last) h = same_cache s.cache.entries s.cache.entries name h refl
+asked_stays s now ask name (Sent call sequencer target sendable room) h = same_cache s.cache.entries s.cache.entries name h refl
 asked_stays s now ask name (Poisoned number mine safe is usable) h = same_cache s.cache.entries s.cache.entries name h refl
 
 pub ask_stays : (s : ClientState) (now : ℕ) (ask : Ask) (name : List ℕ) → AreCacheEntries s.cache.entries → Stays s (ask_step s now ask).0 name

@@ -45,9 +45,9 @@ usable_handle (Some handle) = if handle.poisoned then Err faults.Poisoned else O
 
 -- ---- what is done, or the first reason why it may not be
 
--- one call at a time
-abbrev pub send_plan : ClientState → Call → Target → Result Plan Fault
-send_plan s call target = if is_some s.outstanding then Err faults.CallOutstanding else Ok (plans.Send call target)
+-- one call at a time, perhaps under a sequencer
+abbrev pub send_plan : ClientState → Call → Option (List ℕ) → Target → Result Plan Fault
+send_plan s call sequencer target = if is_some s.outstanding then Err faults.CallOutstanding else Ok (plans.Send call sequencer target)
 
 -- what the cache answers is answered, and all else is sent
 abbrev pub served_or : Option Plan → Result Plan Fault → Result Plan Fault
@@ -55,21 +55,27 @@ served_or (Some plan) sent = Ok plan
 served_or None sent = sent
 
 abbrev pub open_plan : ClientState → ℕ → Open → Result Plan Fault
-open_plan s moment opening = served_or (open_served s moment opening) (send_plan s (calls.Open opening) targets.NewHandle)
+open_plan s moment opening = served_or (open_served s moment opening) (send_plan s (calls.Open opening) None targets.NewHandle)
 
--- a shared handle stays open at the master, so that the client closes it by itself
+-- a shared handle stays open at the master, so that the client closes it by itself; a Close is under no sequencer
 abbrev pub close_plan : ClientState → ℕ → Option ClientHandle → Result Plan Fault
 close_plan s number None = Err faults.BadHandle
-close_plan s number (Some handle) = if handle.shared then Ok (plans.Release number) else send_plan s (calls.Close handle.bytes) (targets.Closing number)
+close_plan s number (Some handle) = if handle.shared then Ok (plans.Release number) else send_plan s (calls.Close handle.bytes) None (targets.Closing number)
 
 -- a Poison waits for no call
 abbrev pub poison_plan : ℕ → Result ClientHandle Fault → Result Plan Fault
 poison_plan number (Err fault) = Err fault
 poison_plan number (Ok handle) = Ok (plans.Poison number handle)
 
+-- under the sequencer of its handle
 abbrev pub node_plan : ClientState → ℕ → ℕ → NodeCall → Result ClientHandle Fault → Result Plan Fault
 node_plan s moment number call (Err fault) = Err fault
-node_plan s moment number call (Ok handle) = served_or (read_served s moment handle call) (send_plan s (call_on handle.bytes call) (targets.Handle number))
+node_plan s moment number call (Ok handle) = served_or (read_served s moment handle call) (send_plan s (call_on handle.bytes call) handle.sequencer (targets.Handle number))
+
+-- under the sequencer that is to be set
+abbrev pub sequencer_plan : ClientState → ℕ → List ℕ → Result ClientHandle Fault → Result Plan Fault
+sequencer_plan s number sequencer (Err fault) = Err fault
+sequencer_plan s number sequencer (Ok handle) = send_plan s (calls.SetSequencer handle.bytes) (Some sequencer) (targets.Sequencing number)
 
 -- first the handle, then the cache, then the outstanding call
 abbrev pub plan_of : ClientState → ℕ → Ask → Result Plan Fault
@@ -77,6 +83,8 @@ plan_of s moment (asks.Open opening) = open_plan s moment opening
 plan_of s moment (asks.Close number) = close_plan s number (handle_of s.handles number)
 plan_of s moment (asks.Poison number) = poison_plan number (usable_handle (handle_of s.handles number))
 plan_of s moment (asks.Node number call) = node_plan s moment number call (usable_handle (handle_of s.handles number))
+plan_of s moment (asks.SetSequencer number sequencer) = sequencer_plan s number sequencer (usable_handle (handle_of s.handles number))
+plan_of s moment (asks.CheckSequencer bytes) = send_plan s (calls.CheckSequencer bytes) None targets.Checking
 
 -- ---- one step
 
@@ -84,18 +92,18 @@ plan_of s moment (asks.Node number call) = node_plan s moment number call (usabl
 abbrev pub asked_for : List Line → Outcome → Asked
 asked_for lines outcome = record { lines = lines; outcome = outcome }
 
-abbrev pub message_of : ClientState → Call → Request
-message_of s call = requests.Call (record { client = s.number; epoch = s.epoch; number = s.calls + 1; call = call })
+abbrev pub message_of : ClientState → Call → Option (List ℕ) → Request
+message_of s call sequencer = requests.Call (record { client = s.number; epoch = s.epoch; number = s.calls + 1; call = call; sequencer = sequencer })
 
 -- the call is outstanding
-abbrev pub with_call : ClientState → ℕ → Call → Target → ClientState
-with_call s moment call target =
-    record s { clock = moment; calls = s.calls + 1; outstanding = Some (record { request = message_of s call; target = target }) }
+abbrev pub with_call : ClientState → ℕ → Call → Option (List ℕ) → Target → ClientState
+with_call s moment call sequencer target =
+    record s { clock = moment; calls = s.calls + 1; outstanding = Some (record { request = message_of s call sequencer; target = target }) }
 
 -- it is sent under the next number; behind the last number nothing changes
-abbrev pub send_step : ClientState → ℕ → Call → Target → ClientState × Result Asked Fault
-send_step s moment call target =
-    if nat_lt (s.calls + 1) number_end then (with_call s moment call target, Ok (asked_for [] (Sent (message_of s call)))) else (s, Err faults.Exhausted)
+abbrev pub send_step : ClientState → ℕ → Call → Option (List ℕ) → Target → ClientState × Result Asked Fault
+send_step s moment call sequencer target =
+    if nat_lt (s.calls + 1) number_end then (with_call s moment call sequencer target, Ok (asked_for [] (Sent (message_of s call sequencer)))) else (s, Err faults.Exhausted)
 
 -- a handle that is shared has the next number
 abbrev pub with_shared : ClientState → ℕ → ClientHandle → ClientState
@@ -113,7 +121,7 @@ abbrev pub without_handle : ClientState → ℕ → ℕ → ClientState
 without_handle s moment number = record s { clock = moment; handles = remove_entry (is_at (nat_cmp number)) s.handles }
 
 abbrev pub carried_out : ClientState → ℕ → Plan → ClientState × Result Asked Fault
-carried_out s moment (plans.Send call target) = send_step s moment call target
+carried_out s moment (plans.Send call sequencer target) = send_step s moment call sequencer target
 carried_out s moment (plans.Poison number handle) = (with_poisoned s moment number handle, Ok (asked_for (poison_lines s number) Answered))
 carried_out s moment (plans.Serve line answer) = (at_moment s moment, Ok (asked_for (line ∷ []) (Served answer)))
 carried_out s moment (plans.Share line handle) = share_step s moment line handle

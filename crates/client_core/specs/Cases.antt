@@ -1,5 +1,5 @@
 -- By which arm of its table a client does a step. Each law of the client is a match on these.
-use Rattle.std.specs.Prelude.{◌≡◌, ◌≢◌, ◌⊎◌, ℕ, ◌+◌, ◌<◌, ◌≤◌, max, true, false, [], ◌∷◌, ◌++◌, Option, Some, None, Result, Ok, Err}
+use Rattle.std.specs.Prelude.{◌≡◌, ◌≢◌, ◌⊎◌, ℕ, ◌+◌, ◌<◌, ◌≤◌, max, true, false, List, [], ◌∷◌, ◌++◌, Option, Some, None, Result, Ok, Err}
 use Rattle.lease_core.specs.Lease.{moment_limit}
 use Rattle.cache_core.specs.Caches.{is_leased, takes_lease, answer}
 use Rattle.cache_core.specs.Kept.{serving}
@@ -35,7 +35,7 @@ use Rattle.client_parts.specs.declared.targets.Target.TheVariants as targets
 use Rattle.client_parts.specs.declared.targets.Outstanding.{Outstanding}
 use Rattle.client_core.specs.State.{ClientState, at_moment, session_then, note, note_live, note_lines}
 use Rattle.client_core.specs.Handles.{handle_of}
-use Rattle.client_parts.specs.Opens.{read_answer, is_plain, is_read_only, kept_handle}
+use Rattle.client_parts.specs.Opens.{read_answer, is_plain, only_reads, kept_handle}
 use Rattle.client_core.specs.Asks.{fault_then, plan_of, asked_for, message_of, with_call, with_shared, without_handle}
 use Rattle.client_core.specs.Poisons.{with_poisoned, poison_lines}
 use Rattle.client_core.specs.Beats.{start_message, beat_message, with_beat, beaten}
@@ -62,10 +62,10 @@ pub record IsSafe (s : ClientState) (now : ℕ) : Type 0 where
   pub safe : s.standing ≡ standings.Safe
   pub leased : is_leased s.cache.lease (noted_moment s now) ≡ true
 
--- this call may be sent, beside no other call
-pub record IsSendable (s : ClientState) (now : ℕ) (ask : Ask) (call : Call) (target : Target) : Type 0 where
+-- this call may be sent under this sequencer or under none, beside no other call
+pub record IsSendable (s : ClientState) (now : ℕ) (ask : Ask) (call : Call) (sequencer : Option (List ℕ)) (target : Target) : Type 0 where
   pub safe : IsSafe s now
-  pub is_plan : plan_of s (noted_moment s now) ask ≡ Ok (plans.Send call target)
+  pub is_plan : plan_of s (noted_moment s now) ask ≡ Ok (plans.Send call sequencer target)
   pub free : s.outstanding ≡ None
 
 -- an open handle that isn't poisoned
@@ -73,16 +73,17 @@ pub record IsUsable (s : ClientState) (number : ℕ) (handle : ClientHandle) : T
   pub found : handle_of s.handles number ≡ Some handle
   pub usable : handle.poisoned ≡ false
 
--- a handle to read, and what is cached under its name
+-- a handle to read without a sequencer, and what is cached under its name
 pub record IsReadable (s : ClientState) (now : ℕ) (number : ℕ) (handle : ClientHandle) (entry : Option View) : Type 0 where
   pub of_handle : IsUsable s number handle
   pub reads : handle.mode.read ≡ true
+  pub unsequenced : handle.sequencer ≡ None
   pub cached : answer s.cache (noted_moment s now) handle.name ≡ Some entry
 
--- an Open to read alone, the view that is cached under its name, and the handle that is kept on that instance
+-- an Open to read alone without a lock-delay, the view that is cached under its name, and the handle that is kept on that instance
 pub record IsShared (s : ClientState) (now : ℕ) (opening : Open) (view : View) (handle : NewHandle) : Type 0 where
   pub plain : is_plain opening ≡ true
-  pub reads : is_read_only opening.mode ≡ true
+  pub reads : only_reads opening ≡ true
   pub cached : answer s.cache (noted_moment s now) opening.name ≡ Some (Some view)
   pub kept : serving s.kept opening.name view.instance ≡ Some handle
 
@@ -101,8 +102,8 @@ pub data AskCase (s : ClientState) (now : ℕ) (ask : Ask) : Type 0 where
   -- A SHARED HANDLE IS CLOSED
   Released : (number : ℕ) (handle : ClientHandle) → IsSafe s now → ask ≡ asks.Close number → handle_of s.handles number ≡ Some handle → handle.shared ≡ true → AskCase s now ask
   -- A CALL
-  OutOfCalls : (call : Call) (target : Target) → IsSendable s now ask call target → number_end ≤ s.calls + 1 → AskCase s now ask
-  Sent : (call : Call) (target : Target) → IsSendable s now ask call target → s.calls + 1 < number_end → AskCase s now ask
+  OutOfCalls : (call : Call) (sequencer : Option (List ℕ)) (target : Target) → IsSendable s now ask call sequencer target → number_end ≤ s.calls + 1 → AskCase s now ask
+  Sent : (call : Call) (sequencer : Option (List ℕ)) (target : Target) → IsSendable s now ask call sequencer target → s.calls + 1 < number_end → AskCase s now ask
   -- A POISON
   Poisoned : (number : ℕ) (handle : ClientHandle) → IsSafe s now → ask ≡ asks.Poison number → IsUsable s number handle → AskCase s now ask
 
@@ -120,8 +121,8 @@ asked_in s now ask (Shared opening view handle safe is shared room) =
 asked_in s now ask (OutOfHandles opening view handle safe is shared last) = (s, Err faults.Exhausted)
 asked_in s now ask (Released number handle safe is found shared) =
     (without_handle s (noted_moment s now) number, Ok (asked_for (lines.Done s.number 0 answers.Closed ∷ []) outcomes.Answered))
-asked_in s now ask (OutOfCalls call target sendable last) = (s, Err faults.Exhausted)
-asked_in s now ask (Sent call target sendable room) = (with_call s (noted_moment s now) call target, Ok (asked_for [] (outcomes.Sent (message_of s call))))
+asked_in s now ask (OutOfCalls call sequencer target sendable last) = (s, Err faults.Exhausted)
+asked_in s now ask (Sent call sequencer target sendable room) = (with_call s (noted_moment s now) call sequencer target, Ok (asked_for [] (outcomes.Sent (message_of s call sequencer))))
 asked_in s now ask (Poisoned number handle safe is usable) =
     (with_poisoned s (noted_moment s now) number handle, Ok (asked_for (poison_lines s number) outcomes.Answered))
 

@@ -1,6 +1,6 @@
 -- A client is given a message of a master.
 use Rattle.std.specs.Prelude.{ℕ, ◌+◌, ◌==◌, ◌&&◌, nat_lt, max, Bool, true, false, List, [], ◌∷◌, ◌++◌, Option, Some, None, Result, Ok, Err, if◌then◌else◌}
-use Rattle.std.specs.Map.{remove_entry}
+use Rattle.std.specs.Map.{remove_entry, set_value}
 use Rattle.std.specs.BTreeMap.{is_at, insert_entry}
 use Rattle.std.specs.Ordering.{nat_cmp}
 use Rattle.lease_core.specs.Lease.{LeaseTerms, moment_limit, is_unexpired}
@@ -38,7 +38,9 @@ use Rattle.client_parts.specs.declared.targets.Outstanding.{Outstanding}
 use Rattle.client_parts.specs.Sessions.{session_after}
 use Rattle.client_parts.specs.Invalidations.{is_in_order, last_number, all_flushed}
 use Rattle.client_parts.specs.Events.{are_events_in_order, last_event, event_lines}
+use Rattle.client_parts.specs.Targets.{sequencer_by}
 use Rattle.client_core.specs.State.{ClientState, moment, session_then, note, note_lines}
+use Rattle.client_core.specs.Handles.{handle_of}
 use Rattle.client_parts.specs.Opens.{is_shareable, kept_handle}
 use Rattle.client_core.specs.Lessons.{Lesson, opening_of, lesson}
 
@@ -165,6 +167,7 @@ answer_of s results.Closed = answers.Closed
 answer_of s (results.Viewed view) = answers.Viewed view
 answer_of s (results.Stated stat) = answers.Stated stat
 answer_of s (results.Names names) = answers.Names names
+answer_of s (results.Sequencer bytes) = answers.Sequencer bytes
 answer_of s results.Done = answers.Okay
 answer_of s (results.Refused fault) = answers.Refused fault
 
@@ -172,6 +175,21 @@ answer_of s (results.Refused fault) = answers.Refused fault
 abbrev pub closed : List (ℕ × ClientHandle) → Target → List (ℕ × ClientHandle)
 closed handles (targets.Closing number) = remove_entry (is_at (nat_cmp number)) handles
 closed handles _ = handles
+
+-- the sequencer under which the outstanding call was sent
+abbrev pub sequencer_of : Option Outstanding → Option (List ℕ)
+sequencer_of None = None
+sequencer_of (Some call) = sequencer_by call.request
+
+-- the calls on this handle are under the sequencer from here on, if it is still open
+abbrev pub put_under : List (ℕ × ClientHandle) → ℕ → Option (List ℕ) → Option ClientHandle → List (ℕ × ClientHandle)
+put_under handles number sequencer None = handles
+put_under handles number sequencer (Some handle) = set_value (is_at (nat_cmp number)) handles (record handle { sequencer = sequencer })
+
+-- the handles behind a SetSequencer that was done
+abbrev pub sequenced : List (ℕ × ClientHandle) → Target → Option (List ℕ) → List (ℕ × ClientHandle)
+sequenced handles (targets.Sequencing number) sequencer = put_under handles number sequencer (handle_of handles number)
+sequenced handles _ sequencer = handles
 
 -- the handles behind the outstanding call, if it was an Open
 abbrev pub handles_behind : List (ℕ × ClientHandle) → ℕ → NewHandle → Option Open → List (ℕ × ClientHandle)
@@ -193,10 +211,11 @@ with_opened s handle opening = record s {
   opened = s.opened + 1;
 }
 
--- the call has ended; a new handle is kept, a closed one is not
+-- the call has ended; a new handle is kept, a closed one is not, and a sequencer that the master took is its handle's
 abbrev pub ended_plainly : ClientState → Target → CallResult → ClientState
 ended_plainly s target (results.Opened handle) = with_opened s handle (opening_of s.outstanding)
 ended_plainly s target results.Closed = record s { outstanding = None; handles = closed s.handles target }
+ended_plainly s target results.Done = record s { outstanding = None; handles = sequenced s.handles target (sequencer_of s.outstanding) }
 ended_plainly s target _ = record s { outstanding = None }
 
 -- the call has ended, and what its reply teaches is held

@@ -1,5 +1,5 @@
 -- What a client answers out of its cache.
-use Rattle.std.specs.Prelude.{ℕ, true, Option, Some, None, if◌then◌else◌}
+use Rattle.std.specs.Prelude.{ℕ, ◌&&◌, true, is_none, Option, Some, None, if◌then◌else◌}
 use Rattle.std.specs.Option.{option_map}
 use Rattle.cache_core.specs.Caches.{answer}
 use Rattle.cache_core.specs.Kept.{serving}
@@ -12,7 +12,7 @@ use Rattle.tags_cell.specs.declared.outs.NewHandle.{NewHandle}
 use Rattle.client_parts.specs.declared.asks.NodeCall.{NodeCall}
 use Rattle.client_parts.specs.declared.asks.NodeCall.TheVariants as node_calls
 use Rattle.client_parts.specs.declared.handles.ClientHandle.{ClientHandle}
-use Rattle.client_parts.specs.Opens.{is_plain, is_read_only, kept_handle, read_answer}
+use Rattle.client_parts.specs.Opens.{is_plain, only_reads, kept_handle, read_answer}
 use Rattle.client_core.specs.declared.plans.Plan.{Plan}
 use Rattle.client_core.specs.declared.plans.Plan.TheVariants as plans
 use Rattle.client_core.specs.State.{ClientState}
@@ -22,9 +22,9 @@ use Rattle.client_core.specs.State.{ClientState}
 abbrev pub serve_read : ClientState → ClientHandle → Option View → Plan
 serve_read s handle entry = plans.Serve (lines.Served s.number handle.name entry) (read_answer handle entry)
 
--- exactly where something is cached under the handle's name, and the handle may read
+-- exactly where something is cached under the handle's name, and the handle may read and has no sequencer
 abbrev pub read_served : ClientState → ℕ → ClientHandle → NodeCall → Option Plan
-read_served s moment handle node_calls.Read = if handle.mode.read then option_map (serve_read s handle) (answer s.cache moment handle.name) else None
+read_served s moment handle node_calls.Read = if handle.mode.read && is_none handle.sequencer then option_map (serve_read s handle) (answer s.cache moment handle.name) else None
 read_served s moment handle _ = None
 
 -- ---- an Open
@@ -35,9 +35,9 @@ serve_absence s opening = plans.Serve (lines.Served s.number opening.name None) 
 abbrev pub share : ClientState → Open → View → NewHandle → Plan
 share s opening view handle = plans.Share (lines.Served s.number opening.name (Some view)) (kept_handle handle opening true)
 
--- where its mode is to read alone, and a handle on the cached instance is kept
+-- where it is to read alone, without a lock-delay, and a handle on the cached instance is kept
 abbrev pub handle_shared : ClientState → Open → View → Option Plan
-handle_shared s opening view = if is_read_only opening.mode then option_map (share s opening view) (serving s.kept opening.name view.instance) else None
+handle_shared s opening view = if only_reads opening then option_map (share s opening view) (serving s.kept opening.name view.instance) else None
 
 abbrev pub entry_served : ClientState → Open → Option (Option View) → Option Plan
 entry_served s opening None = None

@@ -10,7 +10,7 @@ use crate::client::Client;
 use crate::plans::Plan;
 use client_parts::{Ask, Asked, ClientHandle, Outcome, Outstanding, Target, one_line};
 use node_core::{Answer, Fault, Line, NUMBER_LIMIT};
-use plain::Items;
+use plain::{Bytes, Items};
 use std::alloc::AllocError;
 use std::mem;
 use tags_cell::{Call, CallMessage, MessageNumber, Request};
@@ -20,13 +20,16 @@ impl Client {
     /// Refused, in this order: without a session as NoSession, in jeopardy as InJeopardy, and where the session was lost
     /// as SessionExpired; for a handle number that isn't open as BadHandle; for a poisoned handle, but for a Close, as
     /// Poisoned; and, if the client doesn't answer it by itself, while a call is outstanding as CallOutstanding. These
-    /// change nothing but what the noting of the time does.
+    /// change nothing but what the noting of the time does. A CheckSequencer is on no handle.
     ///
-    /// The client answers by itself, also beside an outstanding call: a read on a handle to read under whose name its
-    /// cache holds something, as StaleInstance where that is no view of the handle's instance; a plain Open of a name
-    /// under which its cache holds absence, as NotFound; a plain Open to read alone, where its cache holds a view on whose
-    /// instance a handle is kept (Burrows 2006, section 2.7), which then has the next number beside; and the Close of a
-    /// handle that is kept so, which stays open at the master.
+    /// The client answers by itself, also beside an outstanding call: a read on a handle to read without a sequencer under
+    /// whose name its cache holds something, as StaleInstance where that is no view of the handle's instance; a plain Open
+    /// of a name under which its cache holds absence, as NotFound; a plain Open to read alone, without a lock-delay, where
+    /// its cache holds a view on whose instance a handle is kept (Burrows 2006, section 2.7), which then has the next
+    /// number beside; and the Close of a handle that is kept so, which stays open at the master.
+    ///
+    /// A call on a handle carries the sequencer that the handle has, but for a Close, and a SetSequencer the new one, which
+    /// the handle has once the master took it (Burrows 2006, section 2.4).
     ///
     /// A Poison sends nothing either: the client answers it, as call 0. An outstanding call on the handle that isn't a
     /// Close is then told as refused, and its reply is dropped when it comes. Until then it stays outstanding.
@@ -72,7 +75,7 @@ impl Client {
         ensures { Does self.old self.new result (carried_out self.old moment plan) }
     {
         match plan {
-            Plan::Send(call, target) => self.send(moment, call, target),
+            Plan::Send(call, sequencer, target) => self.send(moment, call, sequencer, target),
             Plan::Poison(number, handle) => self.poison_at(moment, number, handle),
             Plan::Serve(line, answer) => self.serve(moment, line, answer),
             Plan::Share(line, handle) => self.share(moment, line, handle),
@@ -81,12 +84,19 @@ impl Client {
     }
 
     // Numbers the call, and keeps its message.
-    fn send(&mut self, moment: u64, call: Call, target: Target) -> Result<Asked, Fault>
+    fn send(
+        &mut self,
+        moment: u64,
+        call: Call,
+        sequencer: Option<Bytes>,
+        target: Target,
+    ) -> Result<Asked, Fault>
         requires { IsMoment moment }
-        ensures { Does self.old self.new result (send_step self.old moment call target) }
+        ensures { Does self.old self.new result (send_step self.old moment call sequencer target) }
     {
         let Some(number) = MessageNumber::new(self.calls + 1) else {
             drop(call);
+            drop(sequencer);
             return Err(Fault::Exhausted);
         };
         let client = self.number;
@@ -96,6 +106,7 @@ impl Client {
             epoch,
             number,
             call,
+            sequencer,
         });
         match request.clone() {
             Ok(kept) => {

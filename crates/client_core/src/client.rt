@@ -36,7 +36,10 @@ use tags_cell::{Beat, ClientNumber, MessageNumber, NewHandle, Out, Request, Star
 /// Where a refusal tells of a later epoch, another master has come up: the client keeps its session, its lease and its
 /// handles, forgets what it has cached, and gives its outstanding call up (Burrows 2006, section 2.9).
 ///
-/// What isn't there yet: locks.
+/// Its calls on a handle carry the sequencer that was set on it (Burrows 2006, section 2.4), and such a handle isn't served
+/// from its cache.
+///
+/// What isn't there yet: the events that an Open may ask for.
 #[derive(Drop)]
 pub struct Client {
     pub(crate) alloc: Global,
@@ -153,10 +156,11 @@ impl Client {
     ///
     /// A Reply ends the outstanding call, if it is for that call and of the client's epoch; a handle gets the client's next
     /// number for it, none is given out twice, and the number of a closed handle is open no more. Where the call's handle
-    /// was poisoned since, its Reply prints nothing. A handle that a plain Open to read alone got on a permanent node is
-    /// kept beside, to be shared, at most 4,096 of them. The view of a read, and the absence that a plain Open met, go into
-    /// the cache where the master stamped the answer, no invalidation was processed since that isn't counted in the stamp,
-    /// and the lease runs; never in jeopardy.
+    /// was poisoned since, its Reply prints nothing. A handle that a plain Open to read alone, without a lock-delay, got on a
+    /// permanent node is kept beside, to be shared, at most 4,096 of them. The view of a read, and the absence that a plain
+    /// Open met, go into the cache where the master stamped the answer, no invalidation was processed since that isn't
+    /// counted in the stamp, and the lease runs; never in jeopardy. With the reply that a SetSequencer was done its handle
+    /// has the sequencer that the call carried (Burrows 2006, section 2.4).
     ///
     /// A refusal as OldEpoch that tells a client in its session of a later epoch than its own is how it learns of another
     /// master (Burrows 2006, section 2.9). It takes that epoch, empties its cache, has processed no invalidation and no

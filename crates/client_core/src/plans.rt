@@ -3,18 +3,19 @@ ghost use Rattle.std.specs.Prelude.{◌≡◌, Some, IfOk};
 ghost use Rattle.std.specs.Option.{option_copied};
 ghost use Rattle.plain.specs.Results.{Gives};
 ghost use Rattle.client_core.specs.Handles.{handle_of};
-ghost use Rattle.client_core.specs.Asks.{plan_of, send_plan, open_plan, close_plan, node_plan, usable_handle};
+ghost use Rattle.client_core.specs.Asks.{plan_of, send_plan, open_plan, close_plan, node_plan, sequencer_plan, usable_handle};
 
 use crate::client::Client;
 use client_parts::{Ask, ClientHandle, NodeCall, Target};
 use node_core::{Answer, Fault, Line};
+use plain::Bytes;
 use tags_cell::{Call, Open};
 
 /// What a client does next.
 #[derive(Drop)]
 pub enum Plan {
-    /// It sends a call.
-    Send(Call, Target),
+    /// It sends a call, under the sequencer of these bytes if there is one.
+    Send(Call, Option<Bytes>, Target),
     /// It poisons this handle of this number.
     Poison(u64, ClientHandle),
     /// It answers this, and prints this line.
@@ -35,18 +36,23 @@ impl Client {
             Ask::Close(number) => self.close_plan(*number),
             Ask::Poison(number) => Ok(Plan::Poison(*number, self.usable_handle(*number)?)),
             Ask::Node(number, call) => self.node_plan(moment, *number, call),
+            Ask::SetSequencer(number, sequencer) => self.sequencer_plan(*number, sequencer),
+            Ask::CheckSequencer(bytes) => {
+                self.send_plan(Call::CheckSequencer(bytes.clone()?), None, Target::Checking)
+            }
         }
     }
 
     // One call at a time.
-    fn send_plan(&self, call: Call, target: Target) -> Result<Plan, Fault>
-        ensures { result ≡ send_plan self.now call target }
+    fn send_plan(&self, call: Call, sequencer: Option<Bytes>, target: Target) -> Result<Plan, Fault>
+        ensures { result ≡ send_plan self.now call sequencer target }
     {
         if self.outstanding.is_some() {
             drop(call);
+            drop(sequencer);
             return Err(Fault::CallOutstanding);
         }
-        Ok(Plan::Send(call, target))
+        Ok(Plan::Send(call, sequencer, target))
     }
 
     fn open_plan(&self, moment: u64, opening: &Open) -> Result<Plan, Fault>
@@ -55,7 +61,7 @@ impl Client {
         if let Some(plan) = self.open_served(moment, opening)? {
             return Ok(plan);
         }
-        self.send_plan(Call::Open(opening.clone()?), Target::NewHandle)
+        self.send_plan(Call::Open(opening.clone()?), None, Target::NewHandle)
     }
 
     fn close_plan(&self, number: u64) -> Result<Plan, Fault>
@@ -67,7 +73,11 @@ impl Client {
         if handle.shared {
             return Ok(Plan::Release(number));
         }
-        self.send_plan(Call::Close(handle.bytes.clone()?), Target::Closing(number))
+        self.send_plan(
+            Call::Close(handle.bytes.clone()?),
+            None,
+            Target::Closing(number),
+        )
     }
 
     fn node_plan(&self, moment: u64, number: u64, call: &NodeCall) -> Result<Plan, Fault>
@@ -77,7 +87,17 @@ impl Client {
         if let Some(plan) = self.read_served(moment, &handle, call)? {
             return Ok(plan);
         }
-        self.send_plan(call.on(handle.bytes)?, Target::Handle(number))
+        let call = call.on(handle.bytes)?;
+        self.send_plan(call, handle.sequencer, Target::Handle(number))
+    }
+
+    fn sequencer_plan(&self, number: u64, sequencer: &Bytes) -> Result<Plan, Fault>
+        ensures { Gives Fault.NoMemory result (sequencer_plan self.now number sequencer.now (usable_handle (handle_of self.now.handles number))) }
+    {
+        let handle = self.usable_handle(number)?;
+        let sequencer = sequencer.clone()?;
+        let call = Call::SetSequencer(handle.bytes);
+        self.send_plan(call, Some(sequencer), Target::Sequencing(number))
     }
 
     // An open handle that isn't poisoned.

@@ -6,14 +6,18 @@ ghost use Rattle.cache_core.specs.Kept.{with_kept};
 ghost use Rattle.lease_core.specs.Lease.{IsMoment};
 ghost use Rattle.client_core.specs.State.{note, note_lines, Does};
 ghost use Rattle.client_core.specs.Lessons.{opening_of, lesson};
-ghost use Rattle.client_core.specs.Gives.{awaited, answer_of, has_number, handles_behind, kept_behind, ended_plainly, ended, finish_step, reply_for, reply_step};
+ghost use Rattle.tags_cell.specs.declared.outs.CallResult.TheVariants as results;
+ghost use Rattle.client_parts.specs.declared.targets.Target.TheVariants as targets;
+ghost use Rattle.client_core.specs.Handles.{handle_of};
+ghost use Rattle.client_core.specs.Gives.{awaited, answer_of, has_number, handles_behind, kept_behind, sequencer_of, put_under, ended_plainly, ended, finish_step, reply_for, reply_step};
 
 use crate::client::Client;
 use cache_core::Kept;
 use client_parts::{ClientHandle, Given, Session, Target, is_shareable, pushed, share_of};
 use node_core::{Answer, Fault, Line, NUMBER_LIMIT};
-use plain::Items;
+use plain::{Bytes, Items};
 use std::alloc::AllocError;
+use std::mem;
 use tags_cell::{CallResult, NewHandle, Open, Reply};
 
 impl Client {
@@ -112,6 +116,7 @@ impl Client {
             CallResult::Viewed(view) => Answer::Viewed(view.clone()?),
             CallResult::Stated(stat) => Answer::Stated(stat.clone()?),
             CallResult::Names(names) => Answer::Names(names.clone()?),
+            CallResult::Sequencer(bytes) => Answer::Sequencer(bytes.clone()?),
             CallResult::Done => Answer::Okay,
             CallResult::Refused(fault) => Answer::Refused(*fault),
         })
@@ -133,7 +138,7 @@ impl Client {
         Ok(())
     }
 
-    // Ends it, keeps a new handle, and lets a closed one go.
+    // Ends it, keeps a new handle, lets a closed one go, and sets a sequencer that the master took.
     fn end_plainly(
         &mut self,
         moment: u64,
@@ -145,6 +150,9 @@ impl Client {
         ensures ok { OnOk result (self.new ≡ ended_plainly (note self.old moment) target outcome.now) }
         ensures err { OnErr result (self.new ≡ self.old) }
     {
+        if let (CallResult::Done, Target::Sequencing(number)) = (outcome, target) {
+            return self.end_sequencing(moment, number);
+        }
         if let CallResult::Opened(handle) = outcome {
             self.keep_handle(self.opened + 1, handle)?;
         }
@@ -156,6 +164,42 @@ impl Client {
         }
         self.end();
         Ok(())
+    }
+
+    // Ends a SetSequencer that was done: from here on the calls on the handle are under that sequencer.
+    fn end_sequencing(&mut self, moment: u64, number: u64) -> Result<(), AllocError>
+        requires { IsMoment moment }
+        ensures ok { OnOk result (self.new ≡ ended_plainly (note self.old moment) (targets.Sequencing number) results.Done) }
+        ensures err { OnErr result (self.new ≡ self.old) }
+    {
+        let sequencer = self.sent_sequencer()?;
+        self.note(moment);
+        self.put_sequencer(number, sequencer);
+        self.end();
+        Ok(())
+    }
+
+    // The sequencer under which the outstanding call was sent.
+    fn sent_sequencer(&self) -> Result<Option<Bytes>, AllocError>
+        ensures { IfOk result (λ sequencer. sequencer ≡ sequencer_of self.now.outstanding) }
+    {
+        let Some(call) = &self.outstanding else {
+            return Ok(None);
+        };
+        match call.sequencer() {
+            Some(sequencer) => Ok(Some(sequencer.clone()?)),
+            None => Ok(None),
+        }
+    }
+
+    // The calls on the handle of this number are under this sequencer from here on, if it is still open.
+    fn put_sequencer(&mut self, number: u64, sequencer: Option<Bytes>)
+        ensures { self.new ≡ record self.old { handles = put_under self.old.handles number sequencer (handle_of self.old.handles number) } }
+    {
+        match self.handles.get_mut(&number) {
+            Some(handle) => drop(mem::replace(&mut handle.sequencer, sequencer)),
+            None => drop(sequencer),
+        }
     }
 
     // Keeps the new handle under a number, and where it may be shared beside, if the outstanding call is an Open.

@@ -6,14 +6,14 @@ ghost use Rattle.client_core.specs.Serves.{read_served, open_served, entry_serve
 
 use crate::client::Client;
 use crate::plans::Plan;
-use client_parts::{ClientHandle, NodeCall, is_plain, is_read_only};
+use client_parts::{ClientHandle, NodeCall, is_plain, only_reads};
 use names_cell::Name;
 use node_core::{Answer, Fault, Line, Right, View};
 use std::alloc::AllocError;
 use tags_cell::Open;
 
 impl Client {
-    // A read of this handle, where something is cached under its name.
+    // A read of this handle, where something is cached under its name. None where the handle has a sequencer.
     pub(crate) fn read_served(
         &self,
         moment: u64,
@@ -25,7 +25,7 @@ impl Client {
         let NodeCall::Read = call else {
             return Ok(None);
         };
-        if !handle.mode.has(Right::Read) {
+        if !handle.mode.has(Right::Read) || handle.sequencer.is_some() {
             return Ok(None);
         }
         match self.cache.look(&handle.name, moment) {
@@ -70,7 +70,7 @@ impl Client {
         }
     }
 
-    // The oldest handle that is kept on the instance of the view, where the Open is to read alone.
+    // The oldest handle that is kept on the instance of the view, where the Open is to read alone, without a lock-delay.
     fn handle_shared(
         &self,
         opening: &Open,
@@ -80,7 +80,7 @@ impl Client {
         requires { entry.now ≡ Some view.now }
         ensures { IfOk result (λ plan. plan ≡ handle_shared self.now opening.now view.now) }
     {
-        if !is_read_only(opening.mode) {
+        if !only_reads(opening) {
             return Ok(None);
         }
         match self.kept.kept_for(&opening.name, view.instance) {

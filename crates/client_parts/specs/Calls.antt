@@ -13,3 +13,7 @@ call_on bytes node_calls.List = calls.List bytes
 call_on bytes (node_calls.Set content generation) = calls.Set bytes content generation
 call_on bytes (node_calls.SetAcl acls generation) = calls.SetAcl bytes acls generation
 call_on bytes node_calls.Delete = calls.Delete bytes
+call_on bytes (node_calls.Acquire mode) = calls.Acquire bytes mode
+call_on bytes (node_calls.TryAcquire mode) = calls.TryAcquire bytes mode
+call_on bytes node_calls.Release = calls.Release bytes
+call_on bytes node_calls.GetSequencer = calls.GetSequencer bytes

@@ -6,6 +6,7 @@ use Rattle.node_core.specs.declared.refusals.Fault.TheVariants as faults
 use Rattle.node_core.specs.declared.answers.Answer.{Answer}
 use Rattle.node_core.specs.declared.answers.Answer.TheVariants as answers
 use Rattle.node_core.specs.declared.views.View.{View}
+use Rattle.tags_cell.specs.Masks.{is_no_events}
 use Rattle.tags_cell.specs.Modes.{Rights}
 use Rattle.tags_cell.specs.declared.calls.Open.{Open}
 use Rattle.tags_cell.specs.declared.outs.NewHandle.{NewHandle}
@@ -23,11 +24,15 @@ abbrev pub is_permanent : Life → Bool
 is_permanent lives.Permanent = true
 is_permanent lives.Ephemeral = false
 
--- such handles are kept and shared: of a plain Open to read, on a permanent node
-abbrev pub is_shareable : NewHandle → Open → Bool
-is_shareable handle opening = is_plain opening && (is_read_only opening.mode && is_permanent handle.life)
+-- an Open to read alone, without a lock-delay and without events
+abbrev pub only_reads : Open → Bool
+only_reads opening = is_read_only opening.mode && (opening.delay == 0 && is_no_events opening.events)
 
--- what is kept of a handle: name and mode are those that were asked for
+-- the handles that are kept and shared: of such a plain Open, on a permanent node
+abbrev pub is_shareable : NewHandle → Open → Bool
+is_shareable handle opening = is_plain opening && (only_reads opening && is_permanent handle.life)
+
+-- what is kept of a handle: name and mode are those that were asked for, and it has no sequencer
 abbrev pub kept_handle : NewHandle → Open → Bool → ClientHandle
 kept_handle handle opening shared = record {
   bytes = handle.bytes;
@@ -37,6 +42,7 @@ kept_handle handle opening shared = record {
   life = handle.life;
   poisoned = false;
   shared = shared;
+  sequencer = None;
 }
 
 -- the node that the handle is on, if it is the one that is cached

@@ -1,5 +1,5 @@
 -- What the outstanding call is.
-use Rattle.std.specs.Prelude.{ℕ, ◌==◌, Bool, false, Option, Some, None}
+use Rattle.std.specs.Prelude.{ℕ, ◌==◌, Bool, false, List, Option, Some, None}
 use Rattle.tags_cell.specs.declared.calls.Call.{Call}
 use Rattle.tags_cell.specs.declared.calls.Call.TheVariants as calls
 use Rattle.tags_cell.specs.declared.calls.Open.{Open}
@@ -13,6 +13,8 @@ abbrev pub is_on : ℕ → Target → Bool
 is_on number targets.NewHandle = false
 is_on number (targets.Closing other) = false
 is_on number (targets.Handle other) = other == number
+is_on number (targets.Sequencing other) = other == number
+is_on number targets.Checking = false
 is_on number targets.Dropped = false
 
 -- what is opened by a call, where it is an Open
@@ -24,3 +26,9 @@ abbrev pub opening_by : Request → Option Open
 opening_by (requests.Start message) = None
 opening_by (requests.Beat message) = None
 opening_by (requests.Call message) = opening_in message.call
+
+-- the sequencer under which a call was sent
+abbrev pub sequencer_by : Request → Option (List ℕ)
+sequencer_by (requests.Start message) = None
+sequencer_by (requests.Beat message) = None
+sequencer_by (requests.Call message) = message.sequencer

@@ -2,7 +2,7 @@
 ghost use Rattle.std.specs.Prelude.{◌≡◌, IfOk};
 ghost use Rattle.client_parts.specs.Calls.{call_on};
 
-use node_core::{Answer, Fault, Line};
+use node_core::{Answer, Fault, Line, LockMode};
 use plain::{Bytes, Items};
 use std::alloc::AllocError;
 use tags_cell::{AclNames, Call, HandleBytes, Open, Request};
@@ -18,6 +18,11 @@ pub enum Ask {
     Poison(u64),
     /// A call on the node of a handle.
     Node(u64, NodeCall),
+    /// SetSequencer: of a handle, with the bytes of the sequencer. Once the master took it the calls on the handle but for
+    /// a Close carry it (Burrows 2006, section 2.4).
+    SetSequencer(u64, Bytes),
+    /// CheckSequencer: whether the sequencer of these bytes is valid.
+    CheckSequencer(Bytes),
 }
 
 /// A call on the node of a handle (Burrows 2006, section 2.6).
@@ -34,6 +39,13 @@ pub enum NodeCall {
     /// SetACL: the new names, and where it is given the ACL generation that has to be present.
     SetAcl(AclNames, Option<u64>),
     Delete,
+    /// Waits for the node's lock in this mode (Burrows 2006, section 2.4).
+    Acquire(LockMode),
+    /// The same, and is refused where it would have to wait.
+    TryAcquire(LockMode),
+    Release,
+    /// What describes the lock that the handle holds.
+    GetSequencer,
 }
 
 impl NodeCall {
@@ -56,6 +68,16 @@ impl NodeCall {
                 generation: *generation,
             },
             NodeCall::Delete => Call::Delete(handle),
+            NodeCall::Acquire(mode) => Call::Acquire {
+                handle,
+                mode: *mode,
+            },
+            NodeCall::TryAcquire(mode) => Call::TryAcquire {
+                handle,
+                mode: *mode,
+            },
+            NodeCall::Release => Call::Release(handle),
+            NodeCall::GetSequencer => Call::GetSequencer(handle),
         })
     }
 }

@@ -1,15 +1,17 @@
 //! What a client keeps of a handle.
 ghost use Rattle.std.specs.Prelude.{◌≡◌, IfOk};
-ghost use Rattle.client_parts.specs.Opens.{is_plain, is_read_only, is_shareable, kept_handle, read_answer};
+ghost use Rattle.client_parts.specs.Opens.{is_plain, is_read_only, only_reads, is_shareable, kept_handle, read_answer};
 
 use cache_core::Kept;
 use names_cell::Name;
 use node_core::{Answer, Fault, Life, Right, View};
+use plain::Bytes;
 use std::alloc::AllocError;
 use tags_cell::{HandleBytes, Mode, NewHandle, Open, Ordinal};
 
 /// A handle of a client's: the bytes as its master sent them, which a client doesn't read; its name and mode, as they
-/// were asked for; the instance and the life of the node, as the master told them; and whether it was poisoned.
+/// were asked for; the instance and the life of the node, as the master told them; whether it was poisoned; and the
+/// sequencer that its calls stand under.
 #[derive(Debug, Drop)]
 pub struct ClientHandle {
     pub bytes: HandleBytes,
@@ -23,6 +25,9 @@ pub struct ClientHandle {
     /// The master's handle may be behind several of the client's numbers, and stays open when one of them is closed
     /// (Burrows 2006, section 2.7).
     pub shared: bool,
+    /// The bytes of the sequencer that was set on the client's number, also where the master's handle is shared: each call
+    /// on it but a Close carries it, and the cache answers none (Burrows 2006, section 2.4).
+    pub sequencer: Option<Bytes>,
 }
 
 impl Clone for ClientHandle {
@@ -37,6 +42,10 @@ impl Clone for ClientHandle {
             life: self.life,
             poisoned: self.poisoned,
             shared: self.shared,
+            sequencer: match &self.sequencer {
+                Some(sequencer) => Some(sequencer.clone()?),
+                None => None,
+            },
         })
     }
 }
@@ -54,6 +63,7 @@ impl ClientHandle {
             life: handle.life,
             poisoned: false,
             shared,
+            sequencer: None,
         })
     }
 
@@ -82,11 +92,18 @@ pub fn is_read_only(mode: Mode) -> bool
     mode.has(Right::Read) && !mode.has(Right::Write) && !mode.has(Right::Change)
 }
 
-/// Whether the handle that an Open gave is kept, to be shared: of a plain Open to read, on a permanent node.
+/// Whether an Open is to read alone, and asks for no lock-delay and for no events.
+pub fn only_reads(opening: &Open) -> bool
+    ensures { result ≡ only_reads opening.now }
+{
+    is_read_only(opening.mode) && opening.delay == 0 && opening.events.is_none()
+}
+
+/// Whether the handle that an Open gave is kept, to be shared: of such a plain Open, on a permanent node.
 pub fn is_shareable(handle: &NewHandle, opening: &Open) -> bool
     ensures { result ≡ is_shareable handle.now opening.now }
 {
-    is_plain(opening) && is_read_only(opening.mode) && handle.life == Life::Permanent
+    is_plain(opening) && only_reads(opening) && handle.life == Life::Permanent
 }
 
 /// A handle that is kept to be shared.

@@ -13,7 +13,7 @@ mod targets;
 
 pub use asks::{Ask, Asked, NodeCall, Outcome};
 pub use events::{are_events_in_order, last_event, with_events};
-pub use handles::{ClientHandle, is_plain, is_read_only, is_shareable, share_of};
+pub use handles::{ClientHandle, is_plain, is_read_only, is_shareable, only_reads, share_of};
 pub use invalidations::{flush_all, is_in_order, last_number};
 pub use lines::{one_line, pushed};
 pub use sessions::Session;

@@ -2,8 +2,9 @@
 ghost use Rattle.std.specs.Prelude.{◌≡◌};
 ghost use Rattle.std.specs.Option.{option_copied};
 ghost use Rattle.client_parts.specs.Targets.{is_on};
-ghost use Rattle.client_parts.specs.Targets.{opening_by};
+ghost use Rattle.client_parts.specs.Targets.{opening_by, sequencer_by};
 
+use plain::Bytes;
 use tags_cell::{Call, Open, Request};
 
 /// What the reply to a call is for. Handles go by the client's own numbers for them.
@@ -15,6 +16,10 @@ pub enum Target {
     Closing(u64),
     /// Another call on this handle.
     Handle(u64),
+    /// A SetSequencer on this handle, which has the sequencer from then on if it is done.
+    Sequencing(u64),
+    /// A CheckSequencer, which is on no handle.
+    Checking,
     /// A call on a handle that was poisoned since: its reply is dropped.
     Dropped,
 }
@@ -25,8 +30,8 @@ impl Target {
         ensures { result ≡ is_on number self }
     {
         match self {
-            Target::Handle(other) => other == number,
-            Target::NewHandle | Target::Closing(_) | Target::Dropped => false,
+            Target::Handle(other) | Target::Sequencing(other) => other == number,
+            Target::NewHandle | Target::Closing(_) | Target::Checking | Target::Dropped => false,
         }
     }
 }
@@ -50,6 +55,16 @@ impl Outstanding {
                 Call::Open(opening) => Some(opening),
                 _ => None,
             },
+        }
+    }
+
+    /// The bytes of the sequencer under which the call was sent, if there is one.
+    pub fn sequencer(&self) -> Option<&Bytes>
+        ensures { option_copied result ≡ sequencer_by self.now.request }
+    {
+        match &self.request {
+            Request::Start(_) | Request::Beat(_) => None,
+            Request::Call(message) => message.sequencer.as_ref(),
         }
     }
 }

@@ -1,5 +1,5 @@
 -- The events of one session.
-use Rattle.std.specs.Prelude.{ℕ, Bool, true, false, not, ◌&&◌, ◌+◌, ◌-◌, nat_lt, nat_le, List, [], ◌∷◌, ◌++◌, length, drop, Option, Some, None, if◌then◌else◌}
+use Rattle.std.specs.Prelude.{ℕ, Bool, true, false, not, ◌&&◌, ◌||◌, ◌+◌, ◌-◌, nat_lt, nat_le, List, [], ◌∷◌, ◌++◌, length, drop, Option, Some, None, if◌then◌else◌}
 use Rattle.node_core.specs.Limits.{number_limit}
 use Rattle.node_core.specs.declared.events.Event.{Event}
 use Rattle.node_core.specs.declared.events.Event.TheVariants.{Lost}
@@ -8,7 +8,7 @@ use Rattle.node_core.specs.declared.refusals.Fault.TheVariants as faults
 use Rattle.tags_cell.specs.declared.beats.NumberedEvent.{NumberedEvent}
 
 -- acknowledged: the number of the last event that the session acknowledged. waiting: the events behind it, in order of their numbers, which rise by one.
--- missed: whether there was no room for a later one
+-- missed: whether a later one found the queue full
 pub record EventQueue : Type 0 where
   pub acknowledged : ℕ
   pub waiting : List Event
@@ -25,12 +25,17 @@ waiting_limit = 256
 abbrev pub count_of : EventQueue → ℕ
 count_of queue = queue.acknowledged + length queue.waiting
 
-abbrev pub is_full : EventQueue → Bool
-is_full queue = nat_le waiting_limit (length queue.waiting)
-
 -- no event can get a number any more
 abbrev pub is_exhausted : EventQueue → Bool
 is_exhausted queue = nat_le number_limit (count_of queue)
+
+-- no event can be added: as many wait as may, or no number is left
+abbrev pub is_full : EventQueue → Bool
+is_full queue = nat_le waiting_limit (length queue.waiting) || is_exhausted queue
+
+-- some wait for their acknowledgement
+abbrev pub has_waiting : EventQueue → Bool
+has_waiting queue = nat_le 1 (length queue.waiting)
 
 -- events with their numbers, which rise by one from this one on
 abbrev pub numbered_from : ℕ → List Event → List NumberedEvent
@@ -44,15 +49,15 @@ unacked queue = numbered_from (queue.acknowledged + 1) queue.waiting
 abbrev pub queued : Event → EventQueue → EventQueue
 queued event queue = record queue { waiting = queue.waiting ++ event ∷ [] }
 
--- where there is no room an event is missed
+-- where the queue is full an event is missed
 abbrev pub pushed : Event → EventQueue → EventQueue
 pushed event queue = if is_full queue then record queue { missed = true } else queued event queue
 
--- some were missed, and there is room
+-- some were missed, and one can be added
 abbrev pub has_lost : EventQueue → Bool
 has_lost queue = queue.missed && not (is_full queue)
 
--- one event for all that were missed, once there is room
+-- one event for all that were missed, once one can be added
 abbrev pub with_lost : EventQueue → EventQueue
 with_lost queue = if has_lost queue then record (queued Lost queue) { missed = false } else queue
 
@@ -66,9 +71,6 @@ behind number queue = without_first (number - queue.acknowledged) queue
 abbrev pub acknowledged_to : ℕ → EventQueue → EventQueue
 acknowledged_to number queue = with_lost (behind number queue)
 
--- why an acknowledgement is refused: more than was issued, or no number is left for the one that says that some were missed
+-- why an acknowledgement is refused: it is of more than was issued
 abbrev pub acknowledge_fault : ℕ → EventQueue → Option Fault
-acknowledge_fault number queue =
-    if nat_lt (count_of queue) number then Some (faults.BadAck (count_of queue))
-    else if has_lost (behind number queue) && is_exhausted queue then Some faults.Exhausted
-    else None
+acknowledge_fault number queue = if nat_lt (count_of queue) number then Some (faults.BadAck (count_of queue)) else None

@@ -1,7 +1,7 @@
 //! What follows from the definitions.
-ghost use Rattle.event_core.specs.Laws.{QueuedGetsNext, GreaterNumbersWait, MissedIsTold, IsItsOwn};
+ghost use Rattle.event_core.specs.Laws.{QueuedGetsNext, GreaterNumbersWait, MissedIsTold};
 
-/// An event that is queued gets the next number, and all others keep theirs.
+/// An event for a queue that isn't full gets the next number, and all others keep theirs.
 pub fn queued_gets_next()
     ensures { QueuedGetsNext }
 {}
@@ -11,12 +11,7 @@ pub fn greater_numbers_wait()
     ensures { GreaterNumbersWait }
 {}
 
-/// As soon as there is room one event is queued for those that were missed.
+/// As soon as an event can be added one is queued for those that were missed.
 pub fn missed_is_told()
     ensures { MissedIsTold }
-{}
-
-/// A step of one client changes its own queue alone.
-pub fn step_is_its_own()
-    ensures { IsItsOwn }
 {}

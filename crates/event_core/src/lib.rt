@@ -1,10 +1,8 @@
-//! The events that wait for their sessions' acknowledgements.
+//! The events of a session, which wait for its acknowledgements.
 #![tactic(auto)]
 
-mod events;
 mod laws;
 mod queues;
 
-pub use events::Events;
-pub use laws::{greater_numbers_wait, missed_is_told, queued_gets_next, step_is_its_own};
-pub use queues::WAITING_LIMIT;
+pub use laws::{greater_numbers_wait, missed_is_told, queued_gets_next};
+pub use queues::{EventQueue, WAITING_LIMIT};

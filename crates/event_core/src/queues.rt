@@ -1,7 +1,7 @@
 //! The events of one session.
-ghost use Rattle.std.specs.Prelude.{◌≡◌, ◌≤◌, ◌<◌, ◌-◌, ◌&&◌, false, not, IfOk, None, length};
+ghost use Rattle.std.specs.Prelude.{◌≡◌, ◌≤◌, ◌<◌, ◌-◌, None, Some, IfOk, IfErr, OnOk, OnErr, length};
 ghost use Rattle.node_core.specs.Limits.{number_end};
-ghost use Rattle.event_core.specs.Queue.{empty_queue, waiting_limit, count_of, is_full, is_exhausted, unacked, pushed, has_lost, with_lost, without_first, behind, acknowledge_fault, acknowledged_to};
+ghost use Rattle.event_core.specs.Queue.{empty_queue, waiting_limit, count_of, is_full, is_exhausted, has_waiting, unacked, pushed, with_lost, without_first, acknowledge_fault, acknowledged_to};
 
 use node_core::{Event, Fault, NUMBER_LIMIT};
 use plain::Items;
@@ -13,15 +13,17 @@ use tags_cell::NumberedEvent;
 /// The most events of a session that wait for its acknowledgement.
 pub const WAITING_LIMIT: usize = 256;
 
-/// The events of one session. It has room for as many as may wait, so that only its making takes memory.
-#[derive(Drop)]
-pub(crate) struct Queue {
+/// The events of one session (Burrows 2006, section 2.5), numbered from 1 in each epoch: up to which number they were
+/// acknowledged, those behind it in order, and whether one was missed, as the queue was full. It has room for as many as
+/// may wait, so that only its making takes memory.
+#[derive(Debug, Drop)]
+pub struct EventQueue {
     acknowledged: u64,
     waiting: VecDeque<Event>,
     missed: bool,
 }
 
-impl Model for Queue {
+impl Model for EventQueue {
     ghost use Rattle.std.specs.Prelude.{◌≤◌, ◌<◌, ◌+◌};
     ghost use Rattle.node_core.specs.Limits.{number_end};
     ghost use Rattle.std.specs.VecDeque.{deque_len, deque_capacity};
@@ -34,49 +36,64 @@ impl Model for Queue {
     ghost invariant = { λ q. (waiting_limit ≤ deque_capacity q.waiting) × (deque_len q.waiting ≤ waiting_limit) × (q.acknowledged + deque_len q.waiting < number_end) };
 }
 
-impl Queue {
-    pub(crate) fn new(alloc: Global) -> Result<Queue, AllocError>
+impl EventQueue {
+    /// No events yet, and room for 256.
+    pub fn new(alloc: Global) -> Result<EventQueue, AllocError>
         ensures { IfOk result (λ queue. queue ≡ empty_queue) }
     {
-        Ok(Queue {
+        Ok(EventQueue {
             acknowledged: 0,
             waiting: VecDeque::with_capacity(alloc, WAITING_LIMIT)?,
             missed: false,
         })
     }
 
-    // The number of the last event.
-    pub(crate) fn count(&self) -> u64
+    /// The number of the last event, 0 before the first. Takes no memory.
+    pub fn count(&self) -> u64
         ensures count { result ≡ count_of self.now }
         ensures range { result < number_end }
     {
         self.acknowledged + self.waiting.len() as u64
     }
 
-    fn is_full(&self) -> bool
-        ensures { result ≡ is_full self.now }
+    /// The number up to which the events were acknowledged. Takes no memory.
+    pub fn acknowledged(&self) -> u64
+        ensures { result ≡ self.now.acknowledged }
     {
-        self.waiting.len() >= WAITING_LIMIT
+        self.acknowledged
     }
 
-    pub(crate) fn is_exhausted(&self) -> bool
+    /// Whether no event can get a number any more: the last one has 2^63-1. Takes no memory.
+    pub fn is_exhausted(&self) -> bool
         ensures { result ≡ is_exhausted self.now }
     {
         self.count() >= NUMBER_LIMIT
     }
 
-    // Whether the event was queued. Where there is no room it is missed.
-    pub(crate) fn push(&mut self, event: Event) -> bool
-        requires { is_exhausted self.old ≡ false }
-        ensures queued { result ≡ not (is_full self.old) }
-        ensures changed { self.new ≡ pushed event self.old }
+    /// Whether events wait for their acknowledgement. Takes no memory.
+    pub fn owes(&self) -> bool
+        ensures { result ≡ has_waiting self.now }
+    {
+        self.waiting.len() >= 1
+    }
+
+    // Whether no event can be added.
+    fn is_full(&self) -> bool
+        ensures { result ≡ is_full self.now }
+    {
+        self.waiting.len() >= WAITING_LIMIT || self.is_exhausted()
+    }
+
+    /// An event for the session gets the next number. Where 256 wait already, or no number is left, it is missed. Takes
+    /// no memory.
+    pub fn push(&mut self, event: Event)
+        ensures { self.new ≡ pushed event self.old }
     {
         if self.is_full() {
             self.missed = true;
-            return false;
+            return;
         }
         self.waiting.push_back_reserved(event);
-        true
     }
 
     // How many events an acknowledgement up to this number takes off.
@@ -86,17 +103,16 @@ impl Queue {
         number.saturating_sub(self.acknowledged)
     }
 
-    pub(crate) fn acknowledge_fault(&self, number: u64) -> Option<Fault>
+    /// Why an acknowledgement would be refused, if it would: the test that `acknowledge` makes first. Takes no memory.
+    pub fn acknowledge_fault(&self, number: u64) -> Option<Fault>
         ensures { result ≡ acknowledge_fault number self.now }
     {
-        if number > self.count() {
-            return Some(Fault::BadAck(self.count()));
+        let count = self.count();
+        if number > count {
+            Some(Fault::BadAck(count))
+        } else {
+            None
         }
-        let left = self.waiting.len() as u64 - self.count_to(number);
-        if self.missed && left < WAITING_LIMIT as u64 && self.is_exhausted() {
-            return Some(Fault::Exhausted);
-        }
-        None
     }
 
     // The first events wait no longer.
@@ -108,32 +124,36 @@ impl Queue {
         self.acknowledged += count;
     }
 
-    // Whether an event was added for those that were missed.
-    fn add_lost(&mut self) -> bool
-        requires { has_lost self.old && is_exhausted self.old ≡ false }
-        ensures lost { result ≡ has_lost self.old }
-        ensures changed { self.new ≡ with_lost self.old }
+    // Where some were missed and one can be added, one is queued for them all.
+    fn add_lost(&mut self)
+        ensures { self.new ≡ with_lost self.old }
     {
         if !self.missed || self.is_full() {
-            return false;
+            return;
         }
         self.waiting.push_back_reserved(Event::Lost);
         self.missed = false;
-        true
     }
 
-    // Whether an event was added for those that were missed.
-    pub(crate) fn acknowledge(&mut self, number: u64) -> bool
-        requires { acknowledge_fault number self.old ≡ None }
-        ensures lost { result ≡ has_lost (behind number self.old) }
-        ensures changed { self.new ≡ acknowledged_to number self.old }
+    /// The events up to a number wait no longer. Where one can be added then and some were missed, one event that says
+    /// so is queued, with the next number. Refused as BadAck, with the number of the last event, exactly where the number
+    /// is above it. Takes no memory.
+    pub fn acknowledge(&mut self, number: u64) -> Result<(), Fault>
+        ensures may { OnOk result (acknowledge_fault number self.old ≡ None) }
+        ensures ok { OnOk result (self.new ≡ acknowledged_to number self.old) }
+        ensures fault { IfErr result (λ e. acknowledge_fault number self.old ≡ Some e) }
+        ensures err { OnErr result (self.new ≡ self.old) }
     {
+        if let Some(fault) = self.acknowledge_fault(number) {
+            return Err(fault);
+        }
         self.drop_first(self.count_to(number));
-        self.add_lost()
+        self.add_lost();
+        Ok(())
     }
 
-    // The events that wait, with their numbers.
-    pub(crate) fn unacked(&self, alloc: Global) -> Result<Items<NumberedEvent>, AllocError>
+    /// The events that wait for their acknowledgement, with their numbers, in order.
+    pub fn unacked(&self, alloc: Global) -> Result<Items<NumberedEvent>, AllocError>
         ensures events { IfOk result (λ events. events ≡ unacked self.now) }
         ensures bound { IfOk result (λ events. length events ≤ waiting_limit) }
     {

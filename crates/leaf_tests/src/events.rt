@@ -1,127 +1,137 @@
-//! The events of sessions: their numbers, what is missed, and acknowledgements.
-use event_core::Events;
+//! The events of a session: their numbers, what is missed, and acknowledgements.
+use event_core::EventQueue;
 use node_core::{Event, Fault};
 use std::alloc::Global;
 use std::process::Abort;
+use std::test::Fail;
 
-// By the number of a client.
 #[derive(Clone, Copy)]
 enum Step {
-    Open(u64),
-    Close(u64),
-    // So many events: how many were queued.
-    Push(u64, u64),
-    // Up to this number: 1 where an event says that some were missed.
-    Acknowledge(u64, u64),
+    // So many events.
+    Push(u64),
+    // Up to this number.
+    Acknowledge(u64),
     // How many wait.
-    Waiting(u64),
+    Waiting,
+    // The number of the first one that waits, or 0.
+    First,
     // The number of the last one that waits, or 0.
-    Last(u64),
+    Last,
     // 1 where the last one says that some were missed.
-    IsLost(u64),
-    NumbersLeft(u64),
+    IsLost,
+    // The number of the last one, whether it waits or not.
+    Count,
+    // 1 where some wait.
+    Owes,
 }
 
-fn push(events: &mut Events, client: u64, count: u64) -> Result<u64, Fault> {
-    let mut queued = 0u64;
+fn push(queue: &mut EventQueue, count: u64) {
     for handle in 0..count {
-        if events.push(client, Event::Locked(handle))? {
-            queued = queued.saturating_add(1);
-        }
+        queue.push(Event::Locked(handle));
     }
-    Ok(queued)
 }
 
-fn waiting(events: &Events, client: u64) -> Result<u64, Fault> {
-    Ok(events.unacked(client)?.len() as u64)
+fn first(alloc: Global, queue: &EventQueue) -> Result<u64, Fault> {
+    let waiting = queue.unacked(alloc)?;
+    Ok(match waiting.as_slice().first() {
+        None => 0,
+        Some(first) => first.number,
+    })
 }
 
-fn last(events: &Events, client: u64) -> Result<u64, Fault> {
-    let waiting = events.unacked(client)?;
+fn last(alloc: Global, queue: &EventQueue) -> Result<u64, Fault> {
+    let waiting = queue.unacked(alloc)?;
     Ok(match waiting.as_slice().last() {
         None => 0,
         Some(last) => last.number,
     })
 }
 
-fn is_lost(events: &Events, client: u64) -> Result<u64, Fault> {
-    let waiting = events.unacked(client)?;
+fn is_lost(alloc: Global, queue: &EventQueue) -> Result<u64, Fault> {
+    let waiting = queue.unacked(alloc)?;
     Ok(match waiting.as_slice().last() {
         None => 0,
         Some(last) => u64::from(last.event == Event::Lost),
     })
 }
 
-fn does(events: &mut Events, step: Step) -> Result<u64, Fault> {
+fn does(alloc: Global, queue: &mut EventQueue, step: Step) -> Result<u64, Fault> {
     match step {
-        Step::Open(client) => {
-            events.open(client)?;
-            Ok(0)
-        }
-        Step::Close(client) => {
-            events.close(client);
-            Ok(0)
-        }
-        Step::Push(client, count) => push(events, client, count),
-        Step::Acknowledge(client, number) => Ok(u64::from(events.acknowledge(client, number)?)),
-        Step::Waiting(client) => waiting(events, client),
-        Step::Last(client) => last(events, client),
-        Step::IsLost(client) => is_lost(events, client),
-        Step::NumbersLeft(client) => Ok(events.numbers_left(client)),
+        Step::Push(count) => push(queue, count),
+        Step::Acknowledge(number) => queue.acknowledge(number)?,
+        Step::Waiting => return Ok(queue.unacked(alloc)?.len() as u64),
+        Step::First => return first(alloc, queue),
+        Step::Last => return last(alloc, queue),
+        Step::IsLost => return is_lost(alloc, queue),
+        Step::Count => return Ok(queue.count()),
+        Step::Owes => return Ok(u64::from(queue.owes())),
     }
+    Ok(0)
 }
 
-fn runs(rt: &impl Abort, alloc: Global, table: &[(Step, Result<u64, Fault>)]) {
-    let mut events = Events::new(alloc);
+fn runs(rt: &impl Abort, alloc: Global, table: &[(Step, Result<u64, Fault>)]) -> Result<(), Fail> {
+    let mut queue = EventQueue::new(alloc)?;
     for (row, (step, want)) in table.iter().enumerate() {
-        assert_eq!(rt; does(&mut events, *step), *want, "row {row}");
+        assert_eq!(rt; does(alloc, &mut queue, *step), *want, "row {row}");
     }
+    Ok(())
 }
 
 #[test]
-fn missed_events_are_told_as_one(rt: HostRuntime) {
+fn missed_events_are_told_as_one(rt: HostRuntime) -> Result<(), Fail> {
     let table = [
-        (Step::Open(1), Ok(0)),
-        (Step::Push(1, 256), Ok(256)),
-        (Step::Push(1, 44), Ok(0)),
-        (Step::Waiting(1), Ok(256)),
-        (Step::Last(1), Ok(256)),
-        (Step::IsLost(1), Ok(0)),
-        (Step::Acknowledge(1, 257), Err(Fault::BadAck(256))),
-        (Step::Acknowledge(1, 0), Ok(0)),
-        (Step::Acknowledge(1, 1), Ok(1)),
-        (Step::Waiting(1), Ok(256)),
-        (Step::Last(1), Ok(257)),
-        (Step::IsLost(1), Ok(1)),
-        (Step::Push(1, 1), Ok(0)),
-        (Step::Acknowledge(1, 257), Ok(1)),
-        (Step::Waiting(1), Ok(1)),
-        (Step::Last(1), Ok(258)),
-        (Step::Acknowledge(1, 258), Ok(0)),
-        (Step::Waiting(1), Ok(0)),
-        (Step::Push(1, 1), Ok(1)),
-        (Step::Last(1), Ok(259)),
-        (Step::IsLost(1), Ok(0)),
+        (Step::Push(256), Ok(0)),
+        (Step::Waiting, Ok(256)),
+        (Step::Last, Ok(256)),
+        (Step::Push(44), Ok(0)),
+        (Step::Waiting, Ok(256)),
+        (Step::Last, Ok(256)),
+        (Step::Count, Ok(256)),
+        (Step::IsLost, Ok(0)),
+        (Step::Acknowledge(257), Err(Fault::BadAck(256))),
+        (Step::Acknowledge(0), Ok(0)),
+        (Step::IsLost, Ok(0)),
+        (Step::Acknowledge(1), Ok(0)),
+        (Step::Waiting, Ok(256)),
+        (Step::First, Ok(2)),
+        (Step::Last, Ok(257)),
+        (Step::IsLost, Ok(1)),
+        (Step::Push(1), Ok(0)),
+        (Step::Last, Ok(257)),
+        (Step::Acknowledge(257), Ok(0)),
+        (Step::Waiting, Ok(1)),
+        (Step::Last, Ok(258)),
+        (Step::IsLost, Ok(1)),
+        (Step::Acknowledge(258), Ok(0)),
+        (Step::Waiting, Ok(0)),
+        (Step::Owes, Ok(0)),
+        (Step::Push(1), Ok(0)),
+        (Step::Last, Ok(259)),
+        (Step::IsLost, Ok(0)),
     ];
-    runs(&rt, rt.alloc(), table.as_slice());
+    runs(&rt, rt.alloc(), table.as_slice())
 }
 
 #[test]
-fn queues_begin_and_end(rt: HostRuntime) {
+fn events_wait_for_their_acknowledgement(rt: HostRuntime) -> Result<(), Fail> {
     let table = [
-        (Step::Push(1, 1), Ok(0)),
-        (Step::Acknowledge(1, 0), Ok(0)),
-        (Step::Acknowledge(1, 1), Err(Fault::BadAck(0))),
-        (Step::Open(1), Ok(0)),
-        (Step::Open(2), Ok(0)),
-        (Step::Push(1, 2), Ok(2)),
-        (Step::Waiting(2), Ok(0)),
-        (Step::NumbersLeft(1), Ok(9_223_372_036_854_775_805)),
-        (Step::Acknowledge(1, 1), Ok(0)),
-        (Step::Last(1), Ok(2)),
-        (Step::Close(1), Ok(0)),
-        (Step::Waiting(1), Ok(0)),
-        (Step::Acknowledge(1, 2), Err(Fault::BadAck(0))),
+        (Step::Owes, Ok(0)),
+        (Step::Acknowledge(0), Ok(0)),
+        (Step::Acknowledge(1), Err(Fault::BadAck(0))),
+        (Step::Push(3), Ok(0)),
+        (Step::Owes, Ok(1)),
+        (Step::First, Ok(1)),
+        (Step::Last, Ok(3)),
+        (Step::Acknowledge(2), Ok(0)),
+        (Step::First, Ok(3)),
+        (Step::Acknowledge(1), Ok(0)),
+        (Step::Waiting, Ok(1)),
+        (Step::Acknowledge(4), Err(Fault::BadAck(3))),
+        (Step::Acknowledge(3), Ok(0)),
+        (Step::Owes, Ok(0)),
+        (Step::Count, Ok(3)),
+        (Step::Push(1), Ok(0)),
+        (Step::First, Ok(4)),
     ];
-    runs(&rt, rt.alloc(), table.as_slice());
+    runs(&rt, rt.alloc(), table.as_slice())
 }

@@ -1,8 +1,8 @@
-//! Sessions: Starts, Beats, what was issued and acknowledged, the last call, expiry, and a new master. The lease is
+//! Sessions: Starts, Beats, events, what was issued and acknowledged, the last call, expiry, and a new master. The lease is
 //! 12,000 ms.
 use names_cell::Principal;
-use node_core::Fault;
-use session_core::{Issued, Kept, Sessions};
+use node_core::{Event, Fault};
+use session_core::{Kept, Sessions};
 use std::alloc::Global;
 use std::process::Abort;
 use tags_cell::{Beat, ClientNumber, MessageNumber};
@@ -19,7 +19,20 @@ enum Step {
     TakeBack(u64),
     // Whether it is live, and when the master came up.
     Recover(u64, bool, u64),
-    Issue(u64, Issued),
+    // An invalidation.
+    Issue(u64),
+    // So many events.
+    Tell(u64, u64),
+    // How many events wait for its acknowledgement.
+    Waiting(u64),
+    // The number of the last event that waits, or 0.
+    Last(u64),
+    // 1 where the last event that waits says that some were missed.
+    IsLost(u64),
+    // 1 where the first event that waits tells of a new master.
+    IsFailOver(u64),
+    // 1 for yes.
+    HasSpentEvents,
     // Its number, the processed invalidations and events, when received.
     Beat(u64, u64, u64, u64, u64),
     // The client whose Beat is due, or 0.
@@ -111,6 +124,36 @@ fn offer(sessions: &Sessions<u64>, number: u64, now: u64) -> Result<u64, Fault> 
     })
 }
 
+fn tell(sessions: &mut Sessions<u64>, client: u64, count: u64) {
+    for handle in 0..count {
+        sessions.tell(client, Event::Locked(handle));
+    }
+}
+
+fn last(sessions: &Sessions<u64>, client: u64) -> Result<u64, Fault> {
+    let waiting = sessions.unacked(client)?;
+    Ok(match waiting.as_slice().last() {
+        None => 0,
+        Some(last) => last.number,
+    })
+}
+
+fn is_lost(sessions: &Sessions<u64>, client: u64) -> Result<u64, Fault> {
+    let waiting = sessions.unacked(client)?;
+    Ok(match waiting.as_slice().last() {
+        None => 0,
+        Some(last) => u64::from(last.event == Event::Lost),
+    })
+}
+
+fn is_fail_over(sessions: &Sessions<u64>, client: u64) -> Result<u64, Fault> {
+    let waiting = sessions.unacked(client)?;
+    Ok(match waiting.as_slice().first() {
+        None => 0,
+        Some(first) => u64::from(first.event == Event::FailOver),
+    })
+}
+
 fn reads(sessions: &Sessions<u64>, step: Step) -> Result<u64, Fault> {
     match step {
         Step::Due(now) => Ok(due(sessions, now)),
@@ -118,6 +161,11 @@ fn reads(sessions: &Sessions<u64>, step: Step) -> Result<u64, Fault> {
         Step::Expired(now) => Ok(sessions.expired(now).unwrap_or(0)),
         Step::Kept(client, call) => kept(sessions, client, call),
         Step::AllHeard => Ok(u64::from(sessions.all_heard())),
+        Step::HasSpentEvents => Ok(u64::from(sessions.has_spent_events())),
+        Step::Waiting(client) => Ok(sessions.unacked(client)?.len() as u64),
+        Step::Last(client) => last(sessions, client),
+        Step::IsLost(client) => is_lost(sessions, client),
+        Step::IsFailOver(client) => is_fail_over(sessions, client),
         Step::IsLive(client) => Ok(u64::from(sessions.is_live(client))),
         _ => Err(Fault::Unknown),
     }
@@ -126,7 +174,8 @@ fn reads(sessions: &Sessions<u64>, step: Step) -> Result<u64, Fault> {
 fn changes(sessions: &mut Sessions<u64>, step: Step) -> Result<u64, Fault> {
     match step {
         Step::TakeBack(number) => sessions.take_back(client(number)?),
-        Step::Issue(client, issued) => sessions.issue(client, issued)?,
+        Step::Issue(client) => sessions.issue(client)?,
+        Step::Tell(client, count) => tell(sessions, client, count),
         Step::Beat(client, number, invalidations, events, received) => {
             sessions.beat(&beat(client, number, invalidations, events)?, received)?
         }
@@ -181,7 +230,7 @@ fn beats_fall_due(rt: HostRuntime) {
         (Step::Offer(1, 8_250), Ok(0)),
         (Step::Due(9_249), Ok(0)),
         (Step::Due(9_250), Ok(2)),
-        (Step::Issue(1, Issued::Event), Ok(0)),
+        (Step::Tell(1, 1), Ok(0)),
         (Step::Beat(1, 3, 0, 0, 9_000), Ok(0)),
         (Step::Due(9_250), Ok(1)),
         (Step::Beat(1, 4, 0, 1, 9_000), Ok(0)),
@@ -198,7 +247,7 @@ fn acknowledgements(rt: HostRuntime) {
     let table = [
         (Step::Beat(1, 1, 0, 0, 0), Err(Fault::NoSession)),
         (Step::Start(1, "ann", 0, 0), Ok(12_000)),
-        (Step::Issue(1, Issued::Event), Ok(0)),
+        (Step::Tell(1, 1), Ok(0)),
         (Step::Beat(1, 2, 1, 0, 0), Err(Fault::BadAck(0))),
         (Step::Beat(1, 2, 0, 5, 0), Err(Fault::BadAck(1))),
         (Step::Beat(1, 2, 1, 5, 0), Err(Fault::BadAck(0))),
@@ -207,6 +256,40 @@ fn acknowledgements(rt: HostRuntime) {
         (Step::Beat(1, 1, 9, 9, 0), Err(Fault::Repeat)),
         (Step::Beat(1, 3, 0, 0, 0), Ok(0)),
         (Step::Due(0), Ok(0)),
+    ];
+    runs(&rt, rt.alloc(), table.as_slice());
+}
+
+#[test]
+fn events_of_each_session(rt: HostRuntime) {
+    let table = [
+        (Step::Tell(1, 1), Ok(0)),
+        (Step::Waiting(1), Ok(0)),
+        (Step::Start(1, "ann", 0, 0), Ok(12_000)),
+        (Step::Start(2, "bob", 0, 0), Ok(12_000)),
+        (Step::Waiting(1), Ok(0)),
+        (Step::Tell(1, 300), Ok(0)),
+        (Step::Tell(2, 2), Ok(0)),
+        (Step::Waiting(1), Ok(256)),
+        (Step::Waiting(2), Ok(2)),
+        (Step::IsLost(1), Ok(0)),
+        (Step::Beat(1, 2, 0, 257, 0), Err(Fault::BadAck(256))),
+        (Step::Beat(1, 2, 0, 1, 0), Ok(0)),
+        (Step::Waiting(1), Ok(256)),
+        (Step::Last(1), Ok(257)),
+        (Step::IsLost(1), Ok(1)),
+        (Step::Due(0), Ok(1)),
+        (Step::Beat(1, 3, 0, 257, 0), Ok(0)),
+        (Step::Waiting(1), Ok(0)),
+        (Step::Due(0), Ok(0)),
+        (Step::Issue(1), Ok(0)),
+        (Step::Due(0), Ok(1)),
+        (Step::Waiting(1), Ok(0)),
+        (Step::HasSpentEvents, Ok(0)),
+        (Step::Expire(2), Ok(0)),
+        (Step::Waiting(2), Ok(0)),
+        (Step::Tell(2, 1), Ok(0)),
+        (Step::Waiting(2), Ok(0)),
     ];
     runs(&rt, rt.alloc(), table.as_slice());
 }
@@ -233,8 +316,8 @@ fn starts_and_ends(rt: HostRuntime) {
     runs(&rt, rt.alloc(), table.as_slice());
 }
 
-// Its time is 60,002 ms from the coming up on. It is heard once its first event is acknowledged, which the master issued
-// to each live session by itself, so that a parked Beat is answered at once until then.
+// Its time is 60,002 ms from the coming up on. The first event of a live one tells that the master is up. It is heard once
+// that is acknowledged, and a parked Beat is answered at once until then.
 #[test]
 fn sessions_of_a_new_master(rt: HostRuntime) {
     let table = [
@@ -243,6 +326,10 @@ fn sessions_of_a_new_master(rt: HostRuntime) {
         (Step::Recover(2, false, 1_000), Ok(0)),
         (Step::Recover(3, true, 1_000), Ok(0)),
         (Step::AllHeard, Ok(0)),
+        (Step::Waiting(1), Ok(1)),
+        (Step::IsFailOver(1), Ok(1)),
+        (Step::Last(3), Ok(1)),
+        (Step::Waiting(2), Ok(0)),
         (Step::Beat(2, 1, 0, 0, 1_500), Err(Fault::NoSession)),
         (Step::Beat(1, 5, 0, 2, 1_500), Err(Fault::BadAck(1))),
         (Step::Beat(1, 5, 1, 1, 1_500), Err(Fault::BadAck(0))),

@@ -27,7 +27,7 @@ none_before : (o : Option (Session Reply)) (step : Session Reply → Session Rep
 none_before None step h = refl
 none_before (Some before) step h = absurd (cc)
 
-other_key : (a b : ℕ) → is_at (nat_cmp a) b ≡ false → a ≢ b
+pub other_key : (a b : ℕ) → is_at (nat_cmp a) b ≡ false → a ≢ b
 other_key a b h same = let at = at_itself a in let here : is_at (nat_cmp a) a ≡ false = rw (← same) at h in absurd (cc)
 
 -- ---- a step of one client's session

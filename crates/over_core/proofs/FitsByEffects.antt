@@ -1,17 +1,16 @@
 -- What a change that waits puts or takes away, when its turn comes, fits the rows.
-use Rattle.std.proofs.Common.{◌≡◌, ℕ, ◌+◌, ◌≤◌, List, length, Bool, true, false, cond, Option, Some, None, Result, Ok, Err, refl, sym, ◌∙◌, ap, subst, arith}
+use Rattle.std.proofs.Common.{◌≡◌, ℕ, ◌+◌, ◌≤◌, List, [], length, Bool, true, false, cond, Option, Some, None, Result, Ok, Err, refl, sym, ◌∙◌, ap, subst, arith}
 use Rattle.std.specs.Prelude.{◌&&◌, ◌||◌, ◌==◌, nat_lt, nat_le, is_none}
 use Rattle.std.specs.Option.{option_map, option_map_or}
 use Rattle.std.specs.Str.{bytes_eq}
-use Rattle.std.proofs.lemmas.Bool.{eq-eqb}
+use Rattle.std.proofs.lemmas.Bool.{eq-eqb, eqb-true}
 use Rattle.std.proofs.lemmas.Bool.Decides.{nat_tests}
 use Rattle.std.proofs.lemmas.Slice.Eq.{bytes_eq-Decides}
 use Rattle.names_cell.specs.Text.{parent_of, cell_of}
 use Rattle.node_core.specs.declared.refusals.Fault.{Fault}
 use Rattle.node_core.specs.declared.refusals.Fault.TheVariants as faults
 use Rattle.node_core.specs.declared.views.View.{View}
-use Rattle.node_core.specs.declared.views.Mod.{Mod}
-use Rattle.node_core.specs.declared.views.Mod.TheVariants.{Put, Gone}
+use Rattle.node_core.specs.declared.views.Mod.TheVariants.{Put}
 use Rattle.node_core.specs.declared.kinds.Kind.{Kind}
 use Rattle.node_core.specs.declared.kinds.Kind.TheVariants.{File, Directory}
 use Rattle.node_core.specs.declared.kinds.Right.{Right}
@@ -24,7 +23,6 @@ use Rattle.rows_cell.specs.Sound.{sound, is_number, is_directory, numbers_fit, c
 use Rattle.rows_cell.proofs.RowViews.{views_get}
 use Rattle.rows_cell.proofs.SoundChanges.{PutFits, found_fits, sound_numbers}
 use Rattle.rows_cell.proofs.SoundParts.{five_parts}
-use Rattle.rows_cell.proofs.SoundRemovals.{GoneFits}
 use Rattle.tags_cell.specs.Modes.{has_right}
 use Rattle.tags_cell.specs.Handles.{read_handle}
 use Rattle.tags_cell.specs.declared.handles.Handle.{Handle}
@@ -39,12 +37,15 @@ use Rattle.tags_cell.specs.declared.calls.Call.{Call}
 use Rattle.tags_cell.specs.declared.calls.Call.TheVariants as calls
 use Rattle.tags_cell.specs.declared.outs.CallResult.{CallResult}
 use Rattle.tags_cell.specs.declared.outs.CallResult.TheVariants as results
-use Rattle.cell_core.specs.declared.deeds.Change.{Change}
+use Rattle.tags_cell.specs.Numbers.{is_client_number}
+use Rattle.cell_core.specs.declared.pending.Work.TheVariants as works
 use Rattle.over_core.specs.declared.effects.Effect.{Effect}
 use Rattle.cell_core.specs.State.{MasterState}
-use Rattle.cell_core.specs.Step.{may, missing_right, is_of_cell, node_of_handle, new_handle, content_fault, node_fault, write_fault, needing, answer_on_node}
-use Rattle.over_core.specs.Effect.{answered, refused, changes_to, is_last, new_view, acls_of, create_made, create_numbered, create_permitted, create_in, create_under, create_new, create_over, create_effect, open_effect, generation_fits, with_content, with_acls, put_at, delete_at, change_at, effect_on, handle_effect, effect}
-use Rattle.over_core.specs.Kept.{IsKept}
+use Rattle.cell_core.specs.Step.{is_live, may, missing_right, is_of_cell, node_of_handle, new_handle, content_fault, node_fault, delay_fault, create_fault, write_fault, needing, sequencer_fault, answer_on_node, answer_under}
+use Rattle.over_core.specs.Effect.{answered, refused, changes_to, is_last, new_view, acls_of, create_made, create_numbered, create_permitted, create_in, create_under, create_new, create_over, create_effect, create_under_sequencer, open_effect, generation_fits, with_content, with_acls, put_at, deleted, delete_at, change_at, close_under, effect_on, handle_effect, effect}
+use Rattle.over_core.specs.Kept.{IsKept, IsOwnCall}
+use Rattle.over_core.proofs.LockEffects.{IsOwnHandle, own_handle_read, acquire_fits, try_fits, release_fits, close_fits}
+use Rattle.over_core.proofs.LockingFits.{TurnFits, EffectFits}
 
 -- ---- the node that stands at a name
 
@@ -78,29 +79,19 @@ parts_of_node cell rows name node h found =
 
 -- ---- what an effect puts or takes away
 
-abbrev pub ModFits : Rows → Mod → ℕ → Type 0
-ModFits rows (Put name view) next = PutFits rows name view next
-ModFits rows (Gone name) next = GoneFits rows name next
+module _ (rows : Rows) (s : MasterState) (client : ℕ) where
+  else_fits : (b : Bool) (x y : Effect) → EffectFits rows s client x → (b ≡ false → EffectFits rows s client y) → EffectFits rows s client (cond b x y)
+  else_fits true x y a k = a
+  else_fits false x y a k = k refl
 
-abbrev pub ChangeFits : Rows → Option Change → Type 0
-ChangeFits rows None = Unit {0}
-ChangeFits rows (Some change) = ModFits rows change.change change.next_instance
+  then_fits : (b : Bool) (x y : Effect) → (b ≡ true → EffectFits rows s client x) → EffectFits rows s client y → EffectFits rows s client (cond b x y)
+  then_fits true x y k a = k refl
+  then_fits false x y k a = a
 
-abbrev pub EffectFits : Rows → Effect → Type 0
-EffectFits rows effected = ChangeFits rows effected.change
-
-else_fits : (rows : Rows) (b : Bool) (x y : Effect) → EffectFits rows x → (b ≡ false → EffectFits rows y) → EffectFits rows (cond b x y)
-else_fits rows true x y a k = a
-else_fits rows false x y a k = k refl
-
-then_fits : (rows : Rows) (b : Bool) (x y : Effect) → (b ≡ true → EffectFits rows x) → EffectFits rows y → EffectFits rows (cond b x y)
-then_fits rows true x y k a = k refl
-then_fits rows false x y k a = a
-
--- where something refuses
-unless_fits : {X : Type 0} (rows : Rows) (o : Option X) (f : X → Effect) (y : Effect) → ((x : X) → EffectFits rows (f x)) → (o ≡ None → EffectFits rows y) → EffectFits rows (option_map_or f o y)
-unless_fits rows None f y a k = k refl
-unless_fits rows (Some x) f y a k = a x
+  -- where something refuses
+  unless_fits : {X : Type 0} (o : Option X) (f : X → Effect) (y : Effect) → ((x : X) → EffectFits rows s client (f x)) → (o ≡ None → EffectFits rows s client y) → EffectFits rows s client (option_map_or f o y)
+  unless_fits None f y a k = k refl
+  unless_fits (Some x) f y a k = a x
 
 rises : (n m : ℕ) → m ≡ n → n ≤ m + 1
 rises n m same = omega arith
@@ -152,15 +143,27 @@ needed : (handle : Handle) (right : Right) (answer : Option CallResult) → need
 needed handle right answer h =
     (elim (has_right handle.mode right) as (λ b. cond b answer (Some (results.Refused (faults.Denied right))) ≡ None → answer ≡ None) [ true ↦ (λ e. e) | false ↦ (λ e. cc) ]) h
 
-node_present : (b : Bool) (view found : View) → cond b (Some view) None ≡ Some found → view ≡ found
-node_present true view found h = cc
-node_present false view found h = cc
-
 neither : (a b : Bool) → (a || b) ≡ false → (a ≡ false) × (b ≡ false)
 neither false false h = (refl, refl)
 neither _ _ h = cc
 
-module _ (cell : List ℕ) (rows : Rows) (s : MasterState) (k : IsKept cell rows s) where
+no_fault : (o p : Option CallResult) → option_map_or (λ answer. Some answer) o p ≡ None → o ≡ None
+no_fault None p h = refl
+no_fault (Some answer) p h = cc
+
+node_here : (view found : View) (instance : ℕ) → cond (view.instance == instance) (Some view) None ≡ Some found → (view ≡ found) × (found.instance ≡ instance)
+node_here view found instance h =
+    (elim (view.instance == instance) as (λ b. (view.instance == instance) ≡ b → cond b (Some view) None ≡ Some found → (view ≡ found) × (found.instance ≡ instance)) [
+      | true ↦ (λ c e.
+          let same : view ≡ found = cc in
+          (same, ap (λ (v : View). v.instance) (sym same) ∙ eqb-true view.instance instance c))
+      | false ↦ (λ c e. absurd cc)
+    ]) refl h
+
+module _ (cell : List ℕ) (rows : Rows) (s : MasterState) (k : IsKept cell rows s) (client : ℕ) (live : is_live s client ≡ true) (numbered : is_client_number client ≡ true) where
+  abbrev Fits : Effect → Type 0
+  Fits effected = EffectFits rows s client effected
+
   stored : (name : List ℕ) (o : Option View) → get_node s.nodes name ≡ o → option_map (λ (node : Node). node.view) (stored_node rows.nodes name) ≡ o
   stored name o h = sym (views_get rows.nodes name) ∙ (sym (ap (λ (n : Nodes). get_node n name) k.nodes) ∙ h)
 
@@ -192,51 +195,56 @@ module _ (cell : List ℕ) (rows : Rows) (s : MasterState) (k : IsKept cell rows
         own = rw absent (not_given rows.next_instance s.next_instance k.next_instance);
       }
 
-  made_fits : (opening : Open) (view : View) (r : Result Handle Fault) → PutFits rows opening.name view (s.next_instance + 1) → EffectFits rows (create_made s opening view r)
+  made_fits : (opening : Open) (view : View) (r : Result Handle Fault) → PutFits rows opening.name view (s.next_instance + 1) → Fits (create_made s opening view r)
   made_fits opening view (Err fault) h = tt
-  made_fits opening view (Ok handle) h = h
+  made_fits opening view (Ok handle) h = record { name = opening.name; view = view; is = refl; fits = h }
 
-  permitted_fits : (client number : ℕ) (opening : Open) (view : View) → (is_last s.next_instance ≡ false → PutFits rows opening.name view (s.next_instance + 1)) → EffectFits rows (create_permitted s client number opening view)
-  permitted_fits client number opening view h =
-      unless_fits rows (missing_right s client opening.mode view) (λ right. refused (faults.Denied right)) (create_numbered s client number opening view) (λ right. tt)
-      (λ none. else_fits rows (is_last s.next_instance) (refused faults.Exhausted) (create_made s opening view (new_handle s client number opening view)) tt
+  permitted_fits : (number : ℕ) (opening : Open) (view : View) → (is_last s.next_instance ≡ false → PutFits rows opening.name view (s.next_instance + 1)) → Fits (create_permitted s client number opening view)
+  permitted_fits number opening view h =
+      unless_fits rows s client (missing_right s client opening.mode view) (λ right. refused (faults.Denied right)) (create_numbered s client number opening view) (λ right. tt)
+      (λ none. else_fits rows s client (is_last s.next_instance) (refused faults.Exhausted) (create_made s opening view (new_handle s client number opening view)) tt
       (λ room. made_fits opening view (new_handle s client number opening view) (h room)))
 
-  in_fits : (client number : ℕ) (opening : Open) (create : Create) (parent : List ℕ) (w : Node) (kind : Kind) → is_of_cell s opening.name ≡ true → node_fault create.node ≡ None → stored_node rows.nodes opening.name ≡ None → parent_of opening.name ≡ Some parent → stored_node rows.nodes parent ≡ Some w → w.view.kind ≡ kind → EffectFits rows (create_in s client number opening create w.view kind)
-  in_fits client number opening create parent w File named short absent p found kind = tt
-  in_fits client number opening create parent w Directory named short absent p found kind =
+  in_fits : (number : ℕ) (opening : Open) (create : Create) (parent : List ℕ) (w : Node) (kind : Kind) → is_of_cell s opening.name ≡ true → node_fault create.node ≡ None → stored_node rows.nodes opening.name ≡ None → parent_of opening.name ≡ Some parent → stored_node rows.nodes parent ≡ Some w → w.view.kind ≡ kind → Fits (create_in s client number opening create w.view kind)
+  in_fits number opening create parent w File named short absent p found kind = tt
+  in_fits number opening create parent w Directory named short absent p found kind =
       let view : View = new_view w.view s.next_instance create.node (acls_of w.view create.acls) in
-      then_fits rows (may s client w.view rights.Write) (create_permitted s client number opening view) (refused (faults.Denied rights.Write))
-      (λ allowed. permitted_fits client number opening view (λ room. node_put_fits opening.name parent create.node (acls_of w.view create.acls) w named short absent p found kind room)) tt
+      then_fits rows s client (may s client w.view rights.Write) (create_permitted s client number opening view) (refused (faults.Denied rights.Write))
+      (λ allowed. permitted_fits number opening view (λ room. node_put_fits opening.name parent create.node (acls_of w.view create.acls) w named short absent p found kind room)) tt
 
-  under_fits : (client number : ℕ) (opening : Open) (create : Create) (parent : List ℕ) (o : Option View) → is_of_cell s opening.name ≡ true → node_fault create.node ≡ None → stored_node rows.nodes opening.name ≡ None → parent_of opening.name ≡ Some parent → get_node s.nodes parent ≡ o → EffectFits rows (create_under s client number opening create o)
-  under_fits client number opening create parent None named short absent p found = tt
-  under_fits client number opening create parent (Some above) named short absent p found =
+  under_fits : (number : ℕ) (opening : Open) (create : Create) (parent : List ℕ) (o : Option View) → is_of_cell s opening.name ≡ true → node_fault create.node ≡ None → stored_node rows.nodes opening.name ≡ None → parent_of opening.name ≡ Some parent → get_node s.nodes parent ≡ o → Fits (create_under s client number opening create o)
+  under_fits number opening create parent None named short absent p found = tt
+  under_fits number opening create parent (Some above) named short absent p found =
       let t = some_node (stored_node rows.nodes parent) above (stored parent (Some above) found) in
-      let P : View → Type 0 = λ view. EffectFits rows (create_in s client number opening create view view.kind) in
-      subst P t.2 (in_fits client number opening create parent t.0 t.0.view.kind named short absent p t.1 refl)
+      let P : View → Type 0 = λ view. Fits (create_in s client number opening create view view.kind) in
+      subst P t.2 (in_fits number opening create parent t.0 t.0.view.kind named short absent p t.1 refl)
 
-  new_fits : (client number : ℕ) (opening : Open) (create : Create) (o : Option (List ℕ)) → is_of_cell s opening.name ≡ true → node_fault create.node ≡ None → stored_node rows.nodes opening.name ≡ None → parent_of opening.name ≡ o → EffectFits rows (option_map_or (λ parent. create_under s client number opening create (get_node s.nodes parent)) o (refused faults.NotFound))
-  new_fits client number opening create None named short absent p = tt
-  new_fits client number opening create (Some parent) named short absent p =
-      under_fits client number opening create parent (get_node s.nodes parent) named short absent p refl
+  new_fits : (number : ℕ) (opening : Open) (create : Create) (o : Option (List ℕ)) → is_of_cell s opening.name ≡ true → node_fault create.node ≡ None → stored_node rows.nodes opening.name ≡ None → parent_of opening.name ≡ o → Fits (option_map_or (λ parent. create_under s client number opening create (get_node s.nodes parent)) o (refused faults.NotFound))
+  new_fits number opening create None named short absent p = tt
+  new_fits number opening create (Some parent) named short absent p =
+      under_fits number opening create parent (get_node s.nodes parent) named short absent p refl
 
-  over_fits : (client number : ℕ) (opening : Open) (disposition : Disposition) (view : View) → EffectFits rows (create_over s client number opening disposition view)
-  over_fits client number opening Must view = tt
-  over_fits client number opening May view = tt
+  over_fits : (number : ℕ) (opening : Open) (disposition : Disposition) (view : View) → Fits (create_over s client number opening disposition view)
+  over_fits number opening Must view = tt
+  over_fits number opening May view = tt
 
-  create_fits : (client number : ℕ) (opening : Open) (create : Create) (o : Option View) → is_of_cell s opening.name ≡ true → node_fault create.node ≡ None → get_node s.nodes opening.name ≡ o → EffectFits rows (option_map_or (λ view. create_over s client number opening create.disposition view) o (create_new s client number opening create))
-  create_fits client number opening create None named short found =
+  create_fits : (number : ℕ) (opening : Open) (create : Create) (o : Option View) → is_of_cell s opening.name ≡ true → node_fault create.node ≡ None → get_node s.nodes opening.name ≡ o → Fits (option_map_or (λ view. create_over s client number opening create.disposition view) o (create_new s client number opening create))
+  create_fits number opening create None named short found =
       let absent = no_node (stored_node rows.nodes opening.name) (stored opening.name None found) in
-      new_fits client number opening create (parent_of opening.name) named short absent refl
-  create_fits client number opening create (Some view) named short found = over_fits client number opening create.disposition view
+      new_fits number opening create (parent_of opening.name) named short absent refl
+  create_fits number opening create (Some view) named short found = over_fits number opening create.disposition view
 
-  open_fits : (client number : ℕ) (opening : Open) (o : Option Create) → EffectFits rows (open_effect s client number opening o)
-  open_fits client number opening None = tt
-  open_fits client number opening (Some create) =
-      then_fits rows (is_of_cell s opening.name) (option_map_or (λ answer. answered answer) (node_fault create.node) (create_effect s client number opening create)) (refused faults.OtherCell)
-      (λ named. unless_fits rows (node_fault create.node) (λ answer. answered answer) (create_effect s client number opening create) (λ answer. tt)
-      (λ short. create_fits client number opening create (get_node s.nodes opening.name) named short refl)) tt
+  under_sequencer_fits : (number : ℕ) (opening : Open) (create : Create) (f : Option Fault) → is_of_cell s opening.name ≡ true → Fits (create_under_sequencer s client number opening create f)
+  under_sequencer_fits number opening create (Some fault) named = tt
+  under_sequencer_fits number opening create None named =
+      unless_fits rows s client (create_fault opening create.node) (λ answer. answered answer) (create_effect s client number opening create) (λ answer. tt)
+      (λ none. create_fits number opening create (get_node s.nodes opening.name) named (no_fault (node_fault create.node) (delay_fault opening.delay) none) refl)
+
+  open_fits : (number : ℕ) (opening : Open) (sequencer : Option (List ℕ)) (o : Option Create) → Fits (open_effect s client number opening sequencer o)
+  open_fits number opening sequencer None = tt
+  open_fits number opening sequencer (Some create) =
+      then_fits rows s client (is_of_cell s opening.name) (create_under_sequencer s client number opening create (sequencer_fault s sequencer)) (refused faults.OtherCell)
+      (under_sequencer_fits number opening create (sequencer_fault s sequencer)) tt
 
   -- ---- a node that stands
 
@@ -259,86 +267,125 @@ module _ (cell : List ℕ) (rows : Rows) (s : MasterState) (k : IsKept cell rows
         own = rw found same;
       }
 
-  put_fits : (handle : Handle) (present : ℕ) (wanted : Option ℕ) (view : View) → (is_last present ≡ false → PutFits rows handle.name view s.next_instance) → EffectFits rows (put_at s handle present wanted view)
+  put_fits : (handle : Handle) (present : ℕ) (wanted : Option ℕ) (view : View) → (is_last present ≡ false → PutFits rows handle.name view s.next_instance) → Fits (put_at s handle present wanted view)
   put_fits handle present wanted view h =
       let written : Effect = changes_to (Put handle.name view) s.next_instance results.Done in
-      then_fits rows (generation_fits wanted present) (cond (is_last present) (refused faults.Exhausted) written) (refused (faults.WrongGeneration present))
-      (λ fits. else_fits rows (is_last present) (refused faults.Exhausted) written tt h) tt
+      then_fits rows s client (generation_fits wanted present) (cond (is_last present) (refused faults.Exhausted) written) (refused (faults.WrongGeneration present))
+      (λ fits. else_fits rows s client (is_last present) (refused faults.Exhausted) written tt (λ room. record { name = handle.name; view = view; is = refl; fits = h room })) tt
 
-  set_fits : (handle : Handle) (content : List ℕ) (generation : Option ℕ) (w : Node) → stored_node rows.nodes handle.name ≡ Some w → write_fault w.view.kind content ≡ None → EffectFits rows (put_at s handle w.view.content_generation generation (with_content w.view content))
+  set_fits : (handle : Handle) (content : List ℕ) (generation : Option ℕ) (w : Node) → stored_node rows.nodes handle.name ≡ Some w → write_fault w.view.kind content ≡ None → Fits (put_at s handle w.view.content_generation generation (with_content w.view content))
   set_fits handle content generation w found h =
       let parts = parts_of_node cell rows handle.name w k.sound_rows found in
       put_fits handle w.view.content_generation generation (with_content w.view content)
       (λ room. again_fits handle.name w (with_content w.view content) found refl refl (next_number w.view.content_generation room) parts.acl (written_content w.view.kind w.view content h))
 
-  acl_fits : (handle : Handle) (acls : AclNames) (generation : Option ℕ) (w : Node) → stored_node rows.nodes handle.name ≡ Some w → EffectFits rows (put_at s handle w.view.acl_generation generation (with_acls w.view acls))
+  acl_fits : (handle : Handle) (acls : AclNames) (generation : Option ℕ) (w : Node) → stored_node rows.nodes handle.name ≡ Some w → Fits (put_at s handle w.view.acl_generation generation (with_acls w.view acls))
   acl_fits handle acls generation w found =
       let parts = parts_of_node cell rows handle.name w k.sound_rows found in
       put_fits handle w.view.acl_generation generation (with_acls w.view acls)
       (λ room. again_fits handle.name w (with_acls w.view acls) found refl refl parts.written (next_number w.view.acl_generation room) (acl_content w.view.kind w.view acls parts.content))
 
-  delete_fits : (handle : Handle) → EffectFits rows (delete_at s handle)
-  delete_fits handle =
-      else_fits rows (has_children s.nodes handle.name || is_none (parent_of handle.name)) (refused faults.NotEmpty) (changes_to (Gone handle.name) s.next_instance results.Done) tt
+  -- its lock goes with it
+  delete_fits : (handle : Handle) (w : Node) → stored_node rows.nodes handle.name ≡ Some w → w.view.instance ≡ handle.instance → Fits (delete_at s handle)
+  delete_fits handle w found present =
+      else_fits rows s client (has_children s.nodes handle.name || is_none (parent_of handle.name)) (refused faults.NotEmpty) (deleted s handle) tt
       (λ free.
       let t = neither (has_children s.nodes handle.name) (is_none (parent_of handle.name)) free in
       let next = k.next_instance in
       let P : Nodes → Type 0 = λ n. has_children n handle.name ≡ false in
       record {
-        least = not_less rows.next_instance s.next_instance k.next_instance;
-        most = rw next (sound_numbers cell rows k.sound_rows).2;
-        no_children = subst P k.nodes t.0;
-        no_root = t.1;
+        name = handle.name;
+        node = w;
+        is = refl;
+        found = found;
+        of_node = present;
+        all = refl;
+        fits = record {
+          least = not_less rows.next_instance s.next_instance k.next_instance;
+          most = rw next (sound_numbers cell rows k.sound_rows).2;
+          no_children = subst P k.nodes t.0;
+          no_root = t.1;
+        };
       })
 
-  change_fits : (handle : Handle) (call : Call) (w : Node) → stored_node rows.nodes handle.name ≡ Some w → answer_on_node s handle call w.view ≡ None → EffectFits rows (change_at s handle call w.view)
-  change_fits handle (calls.Set bytes content generation) w found h =
+  change_fits : (handle : Handle) (call : Call) (w : Node) → IsOwnHandle client handle → stored_node rows.nodes handle.name ≡ Some w → w.view.instance ≡ handle.instance → answer_on_node s handle call w.view ≡ None → Fits (change_at s handle call w.view)
+  change_fits handle (calls.Set bytes content generation) w shown found present h =
       set_fits handle content generation w found (needed handle rights.Write (write_fault w.view.kind content) h)
-  change_fits handle (calls.SetAcl bytes acls generation) w found h = acl_fits handle acls generation w found
-  change_fits handle (calls.Delete bytes) w found h = delete_fits handle
-  change_fits handle (calls.Open opening) w found h = tt
-  change_fits handle (calls.Close bytes) w found h = tt
-  change_fits handle (calls.Read bytes) w found h = tt
-  change_fits handle (calls.Stat bytes) w found h = tt
-  change_fits handle (calls.List bytes) w found h = tt
+  change_fits handle (calls.SetAcl bytes acls generation) w shown found present h = acl_fits handle acls generation w found
+  change_fits handle (calls.Delete bytes) w shown found present h = delete_fits handle w found present
+  change_fits handle (calls.Acquire bytes mode) w shown found present h = acquire_fits cell rows s k client live numbered handle shown w found present mode
+  change_fits handle (calls.TryAcquire bytes mode) w shown found present h = try_fits cell rows s k client live numbered handle shown w found present mode
+  change_fits handle (calls.Release bytes) w shown found present h = release_fits cell rows s k client live numbered handle shown w found present
+  change_fits handle (calls.Open opening) w shown found present h = tt
+  change_fits handle (calls.Close bytes) w shown found present h = tt
+  change_fits handle (calls.Read bytes) w shown found present h = tt
+  change_fits handle (calls.Stat bytes) w shown found present h = tt
+  change_fits handle (calls.List bytes) w shown found present h = tt
+  change_fits handle (calls.GetSequencer bytes) w shown found present h = tt
+  change_fits handle (calls.SetSequencer bytes) w shown found present h = tt
+  change_fits handle (calls.CheckSequencer bytes) w shown found present h = tt
 
   -- what would be answered at once is answered, and else the change is made
-  view_fits : (handle : Handle) (call : Call) (view : View) → get_node s.nodes handle.name ≡ Some view → EffectFits rows (option_map_or (λ answer. answered answer) (answer_on_node s handle call view) (change_at s handle call view))
-  view_fits handle call view found =
+  view_fits : (handle : Handle) (call : Call) (view : View) (f : Option Fault) → IsOwnHandle client handle → get_node s.nodes handle.name ≡ Some view → view.instance ≡ handle.instance → Fits (option_map_or (λ answer. answered answer) (answer_under s handle call view f) (change_at s handle call view))
+  view_fits handle call view (Some fault) shown found present = tt
+  view_fits handle call view None shown found present =
       let t = some_node (stored_node rows.nodes handle.name) view (stored handle.name (Some view) found) in
-      let P : View → Type 0 = λ v. EffectFits rows (option_map_or (λ answer. answered answer) (answer_on_node s handle call v) (change_at s handle call v)) in
+      let P : View → Type 0 = λ v. Fits (option_map_or (λ answer. answered answer) (answer_on_node s handle call v) (change_at s handle call v)) in
       subst P t.2
-      (unless_fits rows (answer_on_node s handle call t.0.view) (λ answer. answered answer) (change_at s handle call t.0.view) (λ answer. tt) (λ none. change_fits handle call t.0 t.1 none))
+      (unless_fits rows s client (answer_on_node s handle call t.0.view) (λ answer. answered answer) (change_at s handle call t.0.view) (λ answer. tt)
+      (λ none. change_fits handle call t.0 shown t.1 (ap (λ (v : View). v.instance) t.2 ∙ present) none))
 
-  present_fits : (handle : Handle) (call : Call) (o p : Option View) → get_node s.nodes handle.name ≡ p → option_map_or (λ (view : View). cond (view.instance == handle.instance) (Some view) None) p None ≡ o → EffectFits rows (option_map_or (λ answer. answered answer) (option_map_or (λ view. answer_on_node s handle call view) o (Some (results.Refused faults.StaleInstance))) (option_map_or (λ view. change_at s handle call view) o (refused faults.StaleInstance)))
-  present_fits handle call None p found is = tt
-  present_fits handle call (Some view) None found is = cc
-  present_fits handle call (Some view) (Some there) found is =
-      let same : there ≡ view = node_present (there.instance == handle.instance) there view is in
-      view_fits handle call view (found ∙ ap (λ v. Some v) same)
+  present_fits : (handle : Handle) (call : Call) (f : Option Fault) (o p : Option View) → IsOwnHandle client handle → get_node s.nodes handle.name ≡ p → option_map_or (λ (view : View). cond (view.instance == handle.instance) (Some view) None) p None ≡ o
+      → Fits (option_map_or (λ answer. answered answer) (option_map_or (λ view. answer_under s handle call view f) o (Some (results.Refused faults.StaleInstance))) (option_map_or (λ view. change_at s handle call view) o (refused faults.StaleInstance)))
+  present_fits handle call f None p shown found is = tt
+  present_fits handle call f (Some view) None shown found is = cc
+  present_fits handle call f (Some view) (Some there) shown found is =
+      let t = node_here there view handle.instance is in
+      view_fits handle call view f shown (found ∙ ap (λ v. Some v) t.0) t.1
 
-  call_fits : (handle : Handle) (call : Call) → EffectFits rows (effect_on s handle call)
-  call_fits handle (calls.Close bytes) = tt
-  call_fits handle (calls.Open opening) = present_fits handle (calls.Open opening) (node_of_handle s handle) (get_node s.nodes handle.name) refl refl
-  call_fits handle (calls.Read bytes) = present_fits handle (calls.Read bytes) (node_of_handle s handle) (get_node s.nodes handle.name) refl refl
-  call_fits handle (calls.Stat bytes) = present_fits handle (calls.Stat bytes) (node_of_handle s handle) (get_node s.nodes handle.name) refl refl
-  call_fits handle (calls.List bytes) = present_fits handle (calls.List bytes) (node_of_handle s handle) (get_node s.nodes handle.name) refl refl
-  call_fits handle (calls.Set bytes content generation) = present_fits handle (calls.Set bytes content generation) (node_of_handle s handle) (get_node s.nodes handle.name) refl refl
-  call_fits handle (calls.SetAcl bytes acls generation) = present_fits handle (calls.SetAcl bytes acls generation) (node_of_handle s handle) (get_node s.nodes handle.name) refl refl
-  call_fits handle (calls.Delete bytes) = present_fits handle (calls.Delete bytes) (node_of_handle s handle) (get_node s.nodes handle.name) refl refl
+  -- a handle that is closed leaves the lock of its node, where that is there
+  close_here : (handle : Handle) (o p : Option View) → IsOwnHandle client handle → get_node s.nodes handle.name ≡ p → option_map_or (λ (view : View). cond (view.instance == handle.instance) (Some view) None) p None ≡ o → TurnFits rows s client None (close_under s handle o)
+  close_here handle None p shown found is = tt
+  close_here handle (Some view) None shown found is = cc
+  close_here handle (Some view) (Some there) shown found is =
+      let t = node_here there view handle.instance is in
+      let u = some_node (stored_node rows.nodes handle.name) view (stored handle.name (Some view) (found ∙ ap (λ v. Some v) t.0)) in
+      close_fits cell rows s k client live numbered handle shown u.0 u.1 (ap (λ (v : View). v.instance) u.2 ∙ t.1)
 
-  handle_fits : (call : Call) (o : Option Handle) → EffectFits rows (handle_effect s call o)
-  handle_fits call None = tt
-  handle_fits call (Some handle) = call_fits handle call
+  call_fits : (handle : Handle) (call : Call) (sequencer : Option (List ℕ)) → IsOwnHandle client handle → Fits (effect_on s handle call sequencer)
+  call_fits handle (calls.Close bytes) sequencer shown = close_here handle (node_of_handle s handle) (get_node s.nodes handle.name) shown refl refl
+  call_fits handle (calls.Open opening) sequencer shown = present_fits handle (calls.Open opening) (sequencer_fault s sequencer) (node_of_handle s handle) (get_node s.nodes handle.name) shown refl refl
+  call_fits handle (calls.Read bytes) sequencer shown = present_fits handle (calls.Read bytes) (sequencer_fault s sequencer) (node_of_handle s handle) (get_node s.nodes handle.name) shown refl refl
+  call_fits handle (calls.Stat bytes) sequencer shown = present_fits handle (calls.Stat bytes) (sequencer_fault s sequencer) (node_of_handle s handle) (get_node s.nodes handle.name) shown refl refl
+  call_fits handle (calls.List bytes) sequencer shown = present_fits handle (calls.List bytes) (sequencer_fault s sequencer) (node_of_handle s handle) (get_node s.nodes handle.name) shown refl refl
+  call_fits handle (calls.Set bytes content generation) sequencer shown = present_fits handle (calls.Set bytes content generation) (sequencer_fault s sequencer) (node_of_handle s handle) (get_node s.nodes handle.name) shown refl refl
+  call_fits handle (calls.SetAcl bytes acls generation) sequencer shown = present_fits handle (calls.SetAcl bytes acls generation) (sequencer_fault s sequencer) (node_of_handle s handle) (get_node s.nodes handle.name) shown refl refl
+  call_fits handle (calls.Delete bytes) sequencer shown = present_fits handle (calls.Delete bytes) (sequencer_fault s sequencer) (node_of_handle s handle) (get_node s.nodes handle.name) shown refl refl
+  call_fits handle (calls.Acquire bytes mode) sequencer shown = present_fits handle (calls.Acquire bytes mode) (sequencer_fault s sequencer) (node_of_handle s handle) (get_node s.nodes handle.name) shown refl refl
+  call_fits handle (calls.TryAcquire bytes mode) sequencer shown = present_fits handle (calls.TryAcquire bytes mode) (sequencer_fault s sequencer) (node_of_handle s handle) (get_node s.nodes handle.name) shown refl refl
+  call_fits handle (calls.Release bytes) sequencer shown = present_fits handle (calls.Release bytes) (sequencer_fault s sequencer) (node_of_handle s handle) (get_node s.nodes handle.name) shown refl refl
+  call_fits handle (calls.GetSequencer bytes) sequencer shown = present_fits handle (calls.GetSequencer bytes) (sequencer_fault s sequencer) (node_of_handle s handle) (get_node s.nodes handle.name) shown refl refl
+  call_fits handle (calls.SetSequencer bytes) sequencer shown = present_fits handle (calls.SetSequencer bytes) (sequencer_fault s sequencer) (node_of_handle s handle) (get_node s.nodes handle.name) shown refl refl
+  call_fits handle (calls.CheckSequencer bytes) sequencer shown = present_fits handle (calls.CheckSequencer bytes) (sequencer_fault s sequencer) (node_of_handle s handle) (get_node s.nodes handle.name) shown refl refl
 
-  -- what a call does fits
-  pub effect_fits : (client number : ℕ) (call : Call) → EffectFits rows (effect s client number call)
-  unfolding effect
-  effect_fits client number (calls.Open opening) = open_fits client number opening opening.create
-  effect_fits client number (calls.Close bytes) = handle_fits (calls.Close bytes) (read_handle s.secret bytes)
-  effect_fits client number (calls.Read bytes) = handle_fits (calls.Read bytes) (read_handle s.secret bytes)
-  effect_fits client number (calls.Stat bytes) = handle_fits (calls.Stat bytes) (read_handle s.secret bytes)
-  effect_fits client number (calls.List bytes) = handle_fits (calls.List bytes) (read_handle s.secret bytes)
-  effect_fits client number (calls.Set bytes content generation) = handle_fits (calls.Set bytes content generation) (read_handle s.secret bytes)
-  effect_fits client number (calls.SetAcl bytes acls generation) = handle_fits (calls.SetAcl bytes acls generation) (read_handle s.secret bytes)
-  effect_fits client number (calls.Delete bytes) = handle_fits (calls.Delete bytes) (read_handle s.secret bytes)
+  handle_fits : (call : Call) (sequencer : Option (List ℕ)) (bytes : List ℕ) (o : Option Handle) → read_handle s.secret bytes ≡ o → ((handle : Handle) → read_handle s.secret bytes ≡ Some handle → handle.client ≡ client) → Fits (handle_effect s call sequencer o)
+  handle_fits call sequencer bytes None is own = tt
+  handle_fits call sequencer bytes (Some handle) is own = call_fits handle call sequencer (own_handle_read s.secret bytes client handle is (own handle is))
+
+-- what a call does fits
+pub effect_fits : (cell : List ℕ) (rows : Rows) (s : MasterState) → IsKept cell rows s → (client number : ℕ) (call : Call) (sequencer : Option (List ℕ)) → is_live s client ≡ true → is_client_number client ≡ true → IsOwnCall s.secret client (works.Calls call sequencer) → EffectFits rows s client (effect s client number call sequencer)
+unfolding effect
+effect_fits cell rows s k client number (calls.Open opening) sequencer live numbered own = open_fits cell rows s k client live numbered number opening sequencer opening.create
+effect_fits cell rows s k client number (calls.Close bytes) sequencer live numbered own = handle_fits cell rows s k client live numbered (calls.Close bytes) sequencer bytes (read_handle s.secret bytes) refl own
+effect_fits cell rows s k client number (calls.Read bytes) sequencer live numbered own = handle_fits cell rows s k client live numbered (calls.Read bytes) sequencer bytes (read_handle s.secret bytes) refl own
+effect_fits cell rows s k client number (calls.Stat bytes) sequencer live numbered own = handle_fits cell rows s k client live numbered (calls.Stat bytes) sequencer bytes (read_handle s.secret bytes) refl own
+effect_fits cell rows s k client number (calls.List bytes) sequencer live numbered own = handle_fits cell rows s k client live numbered (calls.List bytes) sequencer bytes (read_handle s.secret bytes) refl own
+effect_fits cell rows s k client number (calls.Set bytes content generation) sequencer live numbered own = handle_fits cell rows s k client live numbered (calls.Set bytes content generation) sequencer bytes (read_handle s.secret bytes) refl own
+effect_fits cell rows s k client number (calls.SetAcl bytes acls generation) sequencer live numbered own = handle_fits cell rows s k client live numbered (calls.SetAcl bytes acls generation) sequencer bytes (read_handle s.secret bytes) refl own
+effect_fits cell rows s k client number (calls.Delete bytes) sequencer live numbered own = handle_fits cell rows s k client live numbered (calls.Delete bytes) sequencer bytes (read_handle s.secret bytes) refl own
+effect_fits cell rows s k client number (calls.Acquire bytes mode) sequencer live numbered own = handle_fits cell rows s k client live numbered (calls.Acquire bytes mode) sequencer bytes (read_handle s.secret bytes) refl own
+effect_fits cell rows s k client number (calls.TryAcquire bytes mode) sequencer live numbered own = handle_fits cell rows s k client live numbered (calls.TryAcquire bytes mode) sequencer bytes (read_handle s.secret bytes) refl own
+effect_fits cell rows s k client number (calls.Release bytes) sequencer live numbered own = handle_fits cell rows s k client live numbered (calls.Release bytes) sequencer bytes (read_handle s.secret bytes) refl own
+effect_fits cell rows s k client number (calls.GetSequencer bytes) sequencer live numbered own = handle_fits cell rows s k client live numbered (calls.GetSequencer bytes) sequencer bytes (read_handle s.secret bytes) refl own
+effect_fits cell rows s k client number (calls.SetSequencer bytes) sequencer live numbered own = handle_fits cell rows s k client live numbered (calls.SetSequencer bytes) sequencer bytes (read_handle s.secret bytes) refl own
+effect_fits cell rows s k client number (calls.CheckSequencer bytes) sequencer live numbered own = handle_fits cell rows s k client live numbered (calls.CheckSequencer bytes) sequencer [] (read_handle s.secret []) refl own

@@ -1,32 +1,34 @@
 -- A master that comes up stands beside its rows.
 use Rattle.std.proofs.Common.{◌≡◌, ℕ, List, [], ◌∷◌, Bool, true, false, cond, Some, refl, sym, ap, subst, ◌∙◌, arith}
-use Rattle.std.specs.Prelude.{◌+◌, ◌||◌, ◌≤◌, not, map, filter}
-use Rattle.std.specs.List.{list_any}
+use Rattle.std.specs.Prelude.{◌+◌, ◌≤◌, map}
+use Rattle.std.specs.Option.{unwrap_or}
+use Rattle.std.specs.List.{sum_by}
 use Rattle.std.specs.List.Sorted.{IsStrictlySortedBy}
-use Rattle.std.specs.Map.{keys_of, lookup}
+use Rattle.std.specs.Map.{keys_of, lookup, values_of}
 use Rattle.std.specs.BTreeMap.{is_at}
-use Rattle.std.specs.Cmp.{tied_itself}
+use Rattle.std.specs.Cmp.Lexicographic.{slice_cmp}
 use Rattle.std.specs.Ordering.{nat_cmp}
 use Rattle.std.proofs.lemmas.List.Elements.{All-nil}
-use Rattle.rows_cell.specs.declared.keys.LockKey.{LockKey}
-use Rattle.rows_cell.specs.declared.tables.LockRow.{LockRow}
 use Rattle.rows_cell.specs.declared.tables.Session as stored
 use Rattle.rows_cell.specs.declared.tables.Rows.{Rows}
 use Rattle.rows_cell.specs.Keys.{lock_order}
 use Rattle.rows_cell.specs.declared.tables.Edit.TheVariants.{Epoch}
-use Rattle.rows_cell.specs.Rows.{StoredLocks, changed_rows}
+use Rattle.rows_cell.specs.Rows.{changed_rows}
 use Rattle.rows_cell.specs.Sound.{sound}
 use Rattle.rows_cell.specs.Stores.{Store, IsCommitted}
-use Rattle.rows_cell.proofs.PutEntries.{all_more}
-use Rattle.rows_cell.proofs.SoundEnds.{locks_total}
 use Rattle.tags_cell.specs.declared.outs.Reply.{Reply}
 use Rattle.gate_core.specs.declared.pending.Waiting.{Waiting}
 use Rattle.session_core.specs.declared.records.Session.{Session}
+use Rattle.event_core.specs.Queue.{empty_queue}
+use Rattle.session_core.specs.Session.{first_events, events_of}
+use Rattle.session_core.specs.Sessions.{kept_of}
 use Rattle.session_core.proofs.RowsOfSessions.{rows_of}
 use Rattle.cell_core.specs.declared.pending.Task.{Task}
-use Rattle.cell_core.specs.State.{MasterState, is_held, taken_over, row_of, master_of}
-use Rattle.over_core.specs.Kept.{IsKept, names_touched, is_known, are_known}
+use Rattle.cell_core.specs.Locks.{locks_of}
+use Rattle.cell_core.specs.State.{MasterState, taken_over, sessions_of, row_of, master_of}
+use Rattle.over_core.specs.Kept.{IsKept, IsOwnCall, names_touched, waits_count, unanswered}
 use Rattle.over_core.specs.Up.{up_edits}
+use Rattle.over_core.proofs.LocksRebuilt.{nobody_outstanding, locks_rebuilt}
 
 -- the sessions that a master takes over are those of its rows
 same_rows : (now : ℕ) (es : List (ℕ × stored.Session)) → rows_of row_of (map (taken_over now) es) ≡ es
@@ -42,36 +44,21 @@ none_counted f now none (e ∷ es) client session h =
       | false ↦ (λ k. none_counted f now none es client session k)
     ]) h
 
+-- the first event waits
+nothing_heard : (live : Bool) → (unwrap_or (first_events live) empty_queue).acknowledged ≡ 0
+nothing_heard true = refl
+nothing_heard false = refl
+
 none_counts : {P : Type 0} (n : ℕ) → n ≡ 0 → 1 ≤ n → P
 none_counts n none some = absurd (omega arith)
 
--- ---- the held locks
-
-abbrev held_keys : StoredLocks → List LockKey
-held_keys locks = map (λ entry. entry.0) (filter is_held locks)
-
-one_more : (a b c : Bool) → (a || c) ≡ true → (a || (b || c)) ≡ true
-one_more true b c h = refl
-one_more false true c h = refl
-one_more false false c h = h
-
-known_more : (key : LockKey) (known : List LockKey) (locks : StoredLocks) → are_known known locks ≡ true → are_known (key ∷ known) locks ≡ true
-known_more key known locks h =
-    all_more (is_known known) (is_known (key ∷ known)) locks (λ e k. one_more (not (is_held e)) (is_at (lock_order e.0) key) (list_any (is_at (lock_order e.0)) known) k) h
-
-held_known : (locks : StoredLocks) → are_known (held_keys locks) locks ≡ true
-held_known [] = refl
-held_known (e ∷ es) =
-    let itself : is_at (lock_order e.0) e.0 ≡ true = rw (tied_itself locks_total e.0) refl in
-    (elim (is_held e) as (λ b. is_held e ≡ b → are_known (map (λ (entry : LockKey × LockRow). entry.0) (cond b (e ∷ filter is_held es) (filter is_held es))) (e ∷ es) ≡ true) [
-      | true ↦ (λ h. rw (h, itself) (known_more e.0 (held_keys es) es (held_known es)))
-      | false ↦ (λ h. rw h (held_known es))
-    ]) refl
+at_most : (a b : ℕ) → a ≡ 0 → 0 + a ≤ b
+at_most a b none = omega (arith, none)
 
 -- ---- the master
 
-pub up_kept : (cell : List ℕ) (rows : Rows) (lease now : ℕ) → sound cell rows ≡ true → IsStrictlySortedBy nat_cmp (keys_of rows.sessions) → IsStrictlySortedBy lock_order (keys_of rows.locks) → IsKept cell rows (master_of rows lease now)
-up_kept cell rows lease now h sessions locks = record {
+pub up_kept : (cell : List ℕ) (rows : Rows) (lease now : ℕ) → sound cell rows ≡ true → IsStrictlySortedBy nat_cmp (keys_of rows.sessions) → IsStrictlySortedBy lock_order (keys_of rows.locks) → IsStrictlySortedBy (slice_cmp nat_cmp) (keys_of rows.nodes) → IsKept cell rows (master_of rows lease now)
+up_kept cell rows lease now h sessions locks names = record {
   name = refl;
   secret = refl;
   epoch = refl;
@@ -80,21 +67,24 @@ up_kept cell rows lease now h sessions locks = record {
   sessions = same_rows now rows.sessions;
   sound_rows = h;
   waiting = refl;
-  held_locks = held_known rows.locks;
+  locks = locks_rebuilt cell rows lease now h locks;
+  one_call = λ client. at_most (sum_by (waits_count client) (values_of (locks_of rows now))) (unanswered (kept_of (sessions_of rows lease now) client)) (nobody_outstanding rows now client);
+  names_in_order = names;
   sessions_in_order = sessions;
   locks_in_order = locks;
   recovery_is_empty = λ recovering. refl;
-  by_beats = λ client session found some. none_counts session.events.acknowledged (none_counted (λ x. x.events.acknowledged) now (λ e. refl) rows.sessions client session found) some;
+  by_beats = λ client session found some. none_counts (events_of session).acknowledged (none_counted (λ x. (events_of x).acknowledged) now (λ e. nothing_heard e.1.live) rows.sessions client session found) some;
   recorded = record { numbered = tt; counted = omega arith; few = omega arith; once = tt; called = tt; within = tt };
   issued = λ client session found. none_counted (λ x. x.invalidations.issued) now (λ e. refl) rows.sessions client session found;
   owned = λ client none. refl;
   orderly = record { rising = omega arith; counted = omega arith; few = omega arith };
   touching = All-nil (λ (w : Waiting Task). w.change.touched ≡ names_touched rows.secret w.change.body.work);
+  own = All-nil (λ (w : Waiting Task). IsOwnCall rows.secret w.change.body.client w.change.body.work);
 }
 
 -- the same of a store that was read and then commits the epoch
-pub up_stands : (read new : Store) (rows : Rows) (s : MasterState) (lease now : ℕ) → sound read.cell (changed_rows read.rows (up_edits read.rows)) ≡ true → rows ≡ changed_rows read.rows (up_edits read.rows) → IsStrictlySortedBy nat_cmp (keys_of rows.sessions) → IsStrictlySortedBy lock_order (keys_of rows.locks) → s ≡ master_of rows lease now → IsCommitted (Epoch rows.epoch ∷ []) read new → IsKept new.cell new.rows s
-up_stands read new rows s lease now h next sessions locks is committed =
+pub up_stands : (read new : Store) (rows : Rows) (s : MasterState) (lease now : ℕ) → sound read.cell (changed_rows read.rows (up_edits read.rows)) ≡ true → rows ≡ changed_rows read.rows (up_edits read.rows) → IsStrictlySortedBy nat_cmp (keys_of rows.sessions) → IsStrictlySortedBy lock_order (keys_of rows.locks) → IsStrictlySortedBy (slice_cmp nat_cmp) (keys_of rows.nodes) → s ≡ master_of rows lease now → IsCommitted (Epoch rows.epoch ∷ []) read new → IsKept new.cell new.rows s
+up_stands read new rows s lease now h next sessions locks names is committed =
     let epoch : rows.epoch ≡ read.rows.epoch + 1 = ap (λ (r : Rows). r.epoch) next in
     let same : new.rows ≡ rows =
     committed.rows
@@ -104,4 +94,4 @@ up_stands read new rows s lease now h next sessions locks is committed =
     let C : List ℕ → Type 0 = λ cell. IsKept cell new.rows s in
     let Q : Rows → Type 0 = λ r. IsKept read.cell r s in
     let T : MasterState → Type 0 = IsKept read.cell rows in
-    subst C (sym committed.cell) (subst Q (sym same) (subst T (sym is) (up_kept read.cell rows lease now (subst P (sym next) h) sessions locks)))
+    subst C (sym committed.cell) (subst Q (sym same) (subst T (sym is) (up_kept read.cell rows lease now (subst P (sym next) h) sessions locks names)))

@@ -26,23 +26,32 @@ use Rattle.session_core.specs.declared.records.Session.{Session}
 use Rattle.session_core.specs.Session.{is_client_expired, is_client_due, is_due, owes, nears_timeout, offer_to}
 use Rattle.session_core.specs.Sessions.{all_heard, lowest, passes, offer_of}
 use Rattle.session_core.proofs.Lowest.{lowest_is}
-use Rattle.cell_core.specs.declared.deeds.Change.{Change}
-use Rattle.cell_core.specs.declared.deeds.SessionDeed.TheVariants.{Ends, Answers}
+use Rattle.lock_core.specs.declared.claims.Claim.{Claim}
+use Rattle.lock_core.specs.Turns.{reopened}
+use Rattle.lock_core.specs.Locks.{lock_at, due}
+use Rattle.cell_core.specs.declared.deeds.LockPut.{LockPut}
+use Rattle.cell_core.specs.declared.deeds.SessionDeed.TheVariants.{Answers}
 use Rattle.cell_core.specs.declared.handles.Note.{Note}
 use Rattle.cell_core.specs.declared.pending.Task.{Task}
 use Rattle.cell_core.specs.declared.pending.Work.{Work}
 use Rattle.cell_core.specs.declared.pending.Work.TheVariants as works
-use Rattle.cell_core.specs.State.{MasterState, locks_of, next_change, task_at}
-use Rattle.cell_core.specs.Step.{session_of, is_live, may_start, turned_away, is_past_end, noted}
-use Rattle.over_core.specs.Effect.{effect}
+use Rattle.cell_core.specs.State.{MasterState, next_change, task_at}
+use Rattle.cell_core.specs.Step.{session_of, is_live, may_start, turned_away, noted}
 use Rattle.cell_core.specs.Deeds.{edits_of}
+use Rattle.cell_core.specs.declared.notices.Telling.{Telling}
+use Rattle.over_core.specs.Effect.{effect}
+use Rattle.over_core.specs.Notices.{tellings_of}
+use Rattle.over_core.specs.declared.effects.Effect.{Effect}
+use Rattle.over_core.specs.declared.effects.Leave.{Leave}
 use Rattle.over_core.specs.declared.actions.Action.{Action}
 use Rattle.over_core.specs.declared.actions.Action.TheVariants as actions
 use Rattle.over_core.specs.declared.plans.Plan.{Plan}
 use Rattle.over_core.specs.declared.sweeps.Swept.{Swept}
-use Rattle.over_core.specs.Sweep.{no_deed, no_plan, session_plan, alive_out, leaving, plan_session, plan_start, plan_effect, plan_call, plan_work, expiry_lines, answer_or_quiet, apply_or_later, first_action, swept_by_plan, swept, action_edits, sweep_edits, sweep_step}
-use Rattle.over_core.specs.SweepCase.{IsTurn, IsDueToEnd, IsDue, SweepCase, swept_by, swept_edits}
-use Rattle.over_core.specs.SweepCase.SweepCase.{Quiet, Recovers, Expires, AnswersBeat, TurnedAway, StartedAgain, Started, OfEnded, Ended, Applied}
+use Rattle.over_core.specs.Sweep.{no_deed, no_plan, session_plan, alive_out, leaving, plan_session, plan_start, plan_effect, plan_asked, plan_call, plan_of, plan_work, left_put, puts_of, lapses_of, expiry_plan, answer_or_quiet, reopen_or_later, apply_or_later, first_action, swept_by_plan, acted, telling, swept, action_edits, is_over, sweep_edits, sweep_step}
+use Rattle.over_core.specs.SweepCase.{IsTurn, IsDueToEnd, IsDue, SweepCase, swept_by, relocking, swept_edits}
+use Rattle.over_core.specs.SweepCase.SweepCase.{Quiet, Recovers, Expires, AnswersBeat, TurnedAway, StartedAgain, Started, Reopens, OfEnded, Ended, Applied, Deleted, Locked, Awaited, Left}
+use Rattle.over_core.proofs.EffectShapes.{Shape, effect_by, shape_of}
+use Rattle.over_core.proofs.EffectShapes.Shape.{Ends, Applies, Deletes, Locks, Awaits, Leaves}
 
 -- one of the cases is what is done, and committed
 abbrev pub IsSwept : (s : MasterState) → MasterState × Swept → List Edit → Type 0
@@ -54,11 +63,15 @@ HasSessionsInOrder s = IsStrictlySortedBy nat_cmp (keys_of s.sessions.sessions)
 
 -- what a plan does for the change that has its turn
 abbrev IsPlan : (s : MasterState) → ℕ → Plan → Type 0
-IsPlan s number plan = IsSwept s (swept_by_plan s (leaving number plan) false) (edits_of (leaving number plan).deed)
+IsPlan s number plan = IsSwept s (swept_by_plan s (leaving number plan) false) (edits_of s (leaving number plan).deed)
 
 either : (s : MasterState) (number : ℕ) (b : Bool) (x y : Plan) → (b ≡ true → IsPlan s number x) → (b ≡ false → IsPlan s number y) → IsPlan s number (cond b x y)
 either s number true x y h k = h refl
 either s number false x y h k = k refl
+
+-- nothing is committed of a session, nor of the map
+bare : (edits : List Edit) → edits ++ [] ++ [] ≡ edits
+bare edits = append-nil (edits ++ []) ∙ append-nil edits
 
 itself : (n : ℕ) → eqb n n ≡ true
 itself n = grind (arith, nat_tests)
@@ -132,49 +145,80 @@ module _ (s : MasterState) (front : List (Waiting Task)) (w : Waiting Task) (bac
   start_case principal received work =
       let client = w.change.body.client in
       let number = w.change.body.number in
-      let away : Plan = record { deed = no_deed; taken = turned_away s client number faults.NoSession } in
+      let away : Plan = record { deed = no_deed; taken = turned_away s client number faults.NoSession; contested = None } in
       either s w.number (may_start s client principal) (plan_session s client number principal received) away
       (λ may. (elim (is_live s client) as (λ b. is_live s client ≡ b → IsPlan s w.number (plan_session s client number principal received)) [ true ↦ again_case principal received work | false ↦ fresh_case principal received work may ]) refl)
       (λ may. (TurnedAway front back w.change.body principal received turn work may, rw left_behind refl, refl))
 
-  put_case : (call : Call) (note : Option Note) (change : Mod) (next : ℕ) (answer : CallResult) → w.change.body.work ≡ works.Calls call → is_live s w.change.body.client ≡ true → effect s w.change.body.client w.change.body.number call ≡ record { note = note; change = Some (record { change = change; next_instance = next }); answer = answer } → IsPlan s w.number (plan_effect s w.change.body.client w.change.body.number (record { note = note; change = Some (record { change = change; next_instance = next }); answer = answer }))
-  put_case call None (Put name view) next answer work live made = (Applied front back w.change.body call None (record { change = Put name view; next_instance = next }) answer turn work live made, rw left_behind refl, refl)
-  put_case call None (Gone name) next answer work live made = (Applied front back w.change.body call None (record { change = Gone name; next_instance = next }) answer turn work live made, rw left_behind refl, refl)
-  put_case call (Some note) (Put name view) next answer work live made = (Applied front back w.change.body call (Some note) (record { change = Put name view; next_instance = next }) answer turn work live made, rw left_behind refl, refl)
-  put_case call (Some note) (Gone name) next answer work live made = (Applied front back w.change.body call (Some note) (record { change = Gone name; next_instance = next }) answer turn work live made, rw left_behind refl, refl)
+  -- what the plan for a call of this shape does
+  abbrev IsDoneBy : Call → Option (List ℕ) → Shape → Type 0
+  IsDoneBy call sequencer shape =
+      w.change.body.work ≡ works.Calls call sequencer → is_live s w.change.body.client ≡ true → effect s w.change.body.client w.change.body.number call sequencer ≡ effect_by shape
+      → IsPlan s w.number (plan_effect s w.change.body.client w.change.body.number (effect_by shape))
 
-  effect_case : (call : Call) (note : Option Note) (change : Option Change) (answer : CallResult) → w.change.body.work ≡ works.Calls call → is_live s w.change.body.client ≡ true → effect s w.change.body.client w.change.body.number call ≡ record { note = note; change = change; answer = answer } → IsPlan s w.number (plan_effect s w.change.body.client w.change.body.number (record { note = note; change = change; answer = answer }))
-  effect_case call None None answer work live made = (Ended front back w.change.body call None answer turn work live made, rw left_behind refl, refl)
-  effect_case call (Some note) None answer work live made = (Ended front back w.change.body call (Some note) answer turn work live made, rw left_behind refl, refl)
-  effect_case call note (Some change) answer work live made = put_case call note change.change change.next_instance answer work live made
+  ended_case : (call : Call) (sequencer : Option (List ℕ)) (note : Option Note) (answer : CallResult) → IsDoneBy call sequencer (Ends note answer)
+  ended_case call sequencer None answer work live made = (Ended front back w.change.body call sequencer None answer turn work live made, rw left_behind refl, refl)
+  ended_case call sequencer (Some note) answer work live made = (Ended front back w.change.body call sequencer (Some note) answer turn work live made, rw left_behind refl, refl)
 
-  call_case : (call : Call) → w.change.body.work ≡ works.Calls call → IsPlan s w.number (plan_call s w.change.body.client w.change.body.number call)
-  call_case call work =
+  applied_case : (call : Call) (sequencer : Option (List ℕ)) (note : Option Note) (change : Mod) (next : ℕ) (answer : CallResult) → IsDoneBy call sequencer (Applies note (record { change = change; next_instance = next }) answer)
+  applied_case call sequencer None (Put name view) next answer work live made = (Applied front back w.change.body call sequencer None (record { change = Put name view; next_instance = next }) answer turn work live made, rw left_behind refl, refl)
+  applied_case call sequencer None (Gone name) next answer work live made = (Applied front back w.change.body call sequencer None (record { change = Gone name; next_instance = next }) answer turn work live made, rw left_behind refl, refl)
+  applied_case call sequencer (Some note) (Put name view) next answer work live made = (Applied front back w.change.body call sequencer (Some note) (record { change = Put name view; next_instance = next }) answer turn work live made, rw left_behind refl, refl)
+  applied_case call sequencer (Some note) (Gone name) next answer work live made = (Applied front back w.change.body call sequencer (Some note) (record { change = Gone name; next_instance = next }) answer turn work live made, rw left_behind refl, refl)
+
+  deleted_case : (call : Call) (sequencer : Option (List ℕ)) (change : Mod) (next instance : ℕ) (waiters : List Claim) (answer : CallResult) → IsDoneBy call sequencer (Deletes (record { change = change; next_instance = next }) instance waiters answer)
+  deleted_case call sequencer (Put name view) next instance waiters answer work live made = (Deleted front back w.change.body call sequencer (record { change = Put name view; next_instance = next }) instance waiters answer turn work live made, rw left_behind refl, refl)
+  deleted_case call sequencer (Gone name) next instance waiters answer work live made = (Deleted front back w.change.body call sequencer (record { change = Gone name; next_instance = next }) instance waiters answer turn work live made, rw left_behind refl, refl)
+
+  locked_case : (call : Call) (sequencer : Option (List ℕ)) (put : LockPut) (claim : Claim) (answer : CallResult) → IsDoneBy call sequencer (Locks put claim answer)
+  locked_case call sequencer put claim answer work live made = (Locked front back w.change.body call sequencer put claim answer turn work live made, rw left_behind refl, bare (relocking s (put ∷ [])))
+
+  awaited_case : (call : Call) (sequencer : Option (List ℕ)) (put : LockPut) → IsDoneBy call sequencer (Awaits put)
+  awaited_case call sequencer put work live made = (Awaited front back w.change.body call sequencer put turn work live made, rw left_behind refl, bare (relocking s (put ∷ [])))
+
+  left_case : (call : Call) (sequencer : Option (List ℕ)) (note : Option Note) (leave : Leave) (answer : CallResult) → IsDoneBy call sequencer (Leaves note leave answer)
+  left_case call sequencer None leave answer work live made = (Left front back w.change.body call sequencer None leave answer turn work live made, rw left_behind refl, bare (relocking s (left_put leave ∷ [])))
+  left_case call sequencer (Some note) leave answer work live made = (Left front back w.change.body call sequencer (Some note) leave answer turn work live made, rw left_behind refl, bare (relocking s (left_put leave ∷ [])))
+
+  shape_case : (call : Call) (sequencer : Option (List ℕ)) (shape : Shape) → IsDoneBy call sequencer shape
+  shape_case call sequencer (Ends note answer) = ended_case call sequencer note answer
+  shape_case call sequencer (Applies note change answer) = applied_case call sequencer note change.change change.next_instance answer
+  shape_case call sequencer (Deletes change instance waiters answer) = deleted_case call sequencer change.change change.next_instance instance waiters answer
+  shape_case call sequencer (Locks put claim answer) = locked_case call sequencer put claim answer
+  shape_case call sequencer (Awaits put) = awaited_case call sequencer put
+  shape_case call sequencer (Leaves note leave answer) = left_case call sequencer note leave answer
+
+  effect_case : (call : Call) (sequencer : Option (List ℕ)) → w.change.body.work ≡ works.Calls call sequencer → is_live s w.change.body.client ≡ true → IsPlan s w.number (plan_effect s w.change.body.client w.change.body.number (effect s w.change.body.client w.change.body.number call sequencer))
+  effect_case call sequencer work live =
+      let t = shape_of s w.change.body.client w.change.body.number call sequencer in
+      let P : Effect → Type 0 = λ effected. IsPlan s w.number (plan_effect s w.change.body.client w.change.body.number effected) in
+      subst P (sym t.1) (shape_case call sequencer t.0 work live t.1)
+
+  call_case : (call : Call) (sequencer : Option (List ℕ)) → w.change.body.work ≡ works.Calls call sequencer → IsPlan s w.number (plan_call s w.change.body.client w.change.body.number call sequencer)
+  call_case call sequencer work =
       let client = w.change.body.client in
-      let made = effect s client w.change.body.number call in
-      either s w.number (is_live s client) (plan_effect s client w.change.body.number made) no_plan
-      (λ live. effect_case call made.note made.change made.answer work live refl)
-      (λ gone. (OfEnded front back w.change.body call turn work gone, rw left_behind refl, refl))
+      either s w.number (is_live s client) (plan_asked s client w.change.body.number call (effect s client w.change.body.number call sequencer)) no_plan (effect_case call sequencer work)
+      (λ gone. (OfEnded front back w.change.body call sequencer turn work gone, rw left_behind refl, refl))
 
   work_case : (work : Work) → w.change.body.work ≡ work → IsPlan s w.number (plan_work s w.change.body.client w.change.body.number work)
   work_case (works.Starts principal received) work = start_case principal received work
-  work_case (works.Calls call) work = call_case call work
+  work_case (works.Calls call sequencer) work = call_case call sequencer work
 
   found : task_at w.number s.gate.waiting ≡ Some w.change.body
   found = ap (task_at w.number) stands ∙ (numbered 0 s.gate.pushed front w back rising).0
 
-  apply_case : IsSwept s (swept s (actions.Apply w.number)) (action_edits s (actions.Apply w.number))
+  apply_case : IsSwept s (acted s (actions.Apply w.number)) (action_edits s (actions.Apply w.number))
   apply_case =
       let P : Option Task → Type 0 = λ o.
       let plan = option_map_or (λ (task : Task). leaving w.number (plan_work s task.client task.number task.work)) o no_plan in
-      IsSwept s (swept_by_plan s plan false) (edits_of plan.deed) in
+      IsSwept s (swept_by_plan s plan false) (edits_of s plan.deed) in
       subst P (sym found) (work_case w.change.body.work refl)
 
 -- ---- what becomes of one session
 
 -- the action that a table tells is done
 abbrev IsDone : (s : MasterState) → Action → Type 0
-IsDone s action = IsSwept s (swept s action) (action_edits s action)
+IsDone s action = IsSwept s (acted s action) (action_edits s action)
 
 -- the client that is found first passes the test
 passed : (s : MasterState) (test : ℕ → Session Reply → Bool) (client : ℕ) → HasSessionsInOrder s → lowest s.sessions test ≡ Some client → passes s.sessions test client ≡ true
@@ -195,7 +239,7 @@ over_at a b h = grind (arith, nat_tests)
 
 -- what is planned for a session, and what for none
 abbrev pub expiry_of : MasterState → ℕ → Option (Session Reply) → Plan
-expiry_of s client o = option_map_or (λ session. session_plan (Ends client session.principal (locks_of client s.held_locks)) (expiry_lines s client) []) o no_plan
+expiry_of s client o = option_map_or (λ (session : Session Reply). expiry_plan s client session.principal (lapses_of s client)) o no_plan
 
 abbrev pub answer_of : MasterState → ℕ → Option Offer → Plan
 answer_of s client o = option_map_or (λ offer. session_plan (Answers client) [] (alive_out s client offer ∷ [])) o no_plan
@@ -208,7 +252,7 @@ module _ (s : MasterState) (order : HasSessionsInOrder s) (orderly : IsOrderly s
       let due : IsDueToEnd s client t.0 = record { lowest_expired = is; found = t.1; live = u.0; over = over_at t.0.timeout s.clock u.1 } in (
         Expires client t.0 due,
         ap (λ (o : Option (Session Reply)). swept_by_plan s (expiry_of s client o) false) t.1,
-        ap (λ (o : Option (Session Reply)). edits_of (expiry_of s client o).deed) t.1 ∙ append-nil (swept_edits s (Expires client t.0 due)),
+        ap (λ (o : Option (Session Reply)). edits_of s (expiry_of s client o).deed) t.1 ∙ append-nil (swept_edits s (Expires client t.0 due)),
       )
 
   answer_case : (client : ℕ) → lowest s.sessions (is_client_due s.sessions.lease s.clock) ≡ Some client → IsDone s (actions.Answer client)
@@ -221,18 +265,25 @@ module _ (s : MasterState) (order : HasSessionsInOrder s) (orderly : IsOrderly s
       ∙ ap (λ (o : Option Parked). option_map (offer_to s.sessions.lease s.clock) o) u.1 in (
         AnswersBeat client t.0 u.0 due,
         ap (λ (o : Option Offer). swept_by_plan s (answer_of s client o) false) offered,
-        ap (λ (o : Option Offer). edits_of (answer_of s client o).deed) offered,
+        ap (λ (o : Option Offer). edits_of s (answer_of s client o).deed) offered,
       )
+
+  reopen_case : (instance : ℕ) → due s.locks s.clock ≡ Some instance → IsDone s (actions.Reopen instance)
+  reopen_case instance is = (Reopens instance (record { lowest_due = is }), refl, bare (relocking s (puts_of s instance (reopened (lock_at s.locks instance)).lock)))
 
   -- ---- the first action that there is
 
-  late_case : (o : Option ℕ) → lowest s.sessions (is_client_due s.sessions.lease s.clock) ≡ o → next_change s ≡ None → lowest s.sessions (is_client_expired s.clock) ≡ None → (s.recovering && all_heard s.sessions) ≡ false → IsDone s (option_map_or actions.Answer o actions.Quiet)
-  late_case None due none live going = (Quiet (rw (going, live, none, due) refl), refl, refl)
-  late_case (Some client) due none live going = answer_case client due
+  late_case : (o : Option ℕ) → lowest s.sessions (is_client_due s.sessions.lease s.clock) ≡ o → due s.locks s.clock ≡ None → next_change s ≡ None → lowest s.sessions (is_client_expired s.clock) ≡ None → (s.recovering && all_heard s.sessions) ≡ false → IsDone s (option_map_or actions.Answer o actions.Quiet)
+  late_case None parked closed none live going = (Quiet (rw (going, live, none, closed, parked) refl), refl, refl)
+  late_case (Some client) parked closed none live going = answer_case client parked
 
-  waiting_case : (o : Option (Waiting Task)) → find (is_free s.rights) s.gate.waiting ≡ o → lowest s.sessions (is_client_expired s.clock) ≡ None → (s.recovering && all_heard s.sessions) ≡ false → IsDone s (option_map_or actions.Apply (option_map (λ (w : Waiting Task). w.number) o) (answer_or_quiet s))
+  closed_case : (o : Option ℕ) → due s.locks s.clock ≡ o → next_change s ≡ None → lowest s.sessions (is_client_expired s.clock) ≡ None → (s.recovering && all_heard s.sessions) ≡ false → IsDone s (option_map_or actions.Reopen o (answer_or_quiet s))
+  closed_case None is none live going = late_case (lowest s.sessions (is_client_due s.sessions.lease s.clock)) refl is none live going
+  closed_case (Some instance) is none live going = reopen_case instance is
+
+  waiting_case : (o : Option (Waiting Task)) → find (is_free s.rights) s.gate.waiting ≡ o → lowest s.sessions (is_client_expired s.clock) ≡ None → (s.recovering && all_heard s.sessions) ≡ false → IsDone s (option_map_or actions.Apply (option_map (λ (w : Waiting Task). w.number) o) (reopen_or_later s))
   waiting_case None is live going =
-      late_case (lowest s.sessions (is_client_due s.sessions.lease s.clock)) refl (ap (λ (o : Option (Waiting Task)). option_map (λ (w : Waiting Task). w.number) o) is) live going
+      closed_case (due s.locks s.clock) refl (ap (λ (o : Option (Waiting Task)). option_map (λ (w : Waiting Task). w.number) o) is) live going
   waiting_case (Some w) is live going =
       let t = between (is_free s.rights) s.gate.waiting w is in
       apply_case s t.0 w t.1 t.2 t.3 orderly
@@ -243,21 +294,31 @@ module _ (s : MasterState) (order : HasSessionsInOrder s) (orderly : IsOrderly s
 
 -- ---- the lemma
 
-pub sweep_case : (s : MasterState) → HasSessionsInOrder s → IsOrderly s.gate → IsSwept s (swept s (first_action s)) (action_edits s (first_action s))
+pub sweep_case : (s : MasterState) → HasSessionsInOrder s → IsOrderly s.gate → IsSwept s (acted s (first_action s)) (action_edits s (first_action s))
 sweep_case s order orderly =
     (elim (s.recovering && all_heard s.sessions) as (λ b. (s.recovering && all_heard s.sessions) ≡ b → IsDone s (cond b actions.Recover (option_map_or actions.Expire (lowest s.sessions (is_client_expired s.clock)) (apply_or_later s)))) [
       | true ↦ (λ h. let t = and_parts s.recovering (all_heard s.sessions) h in (Recovers t.0 t.1, refl, refl))
       | false ↦ (λ h. session_case s order orderly (lowest s.sessions (is_client_expired s.clock)) refl h)
     ]) refl
 
+-- what the clients of open handles are told of the first action
+abbrev pub first_tellings : MasterState → List Telling
+first_tellings s = tellings_of s (plan_of s (first_action s))
+
+-- one of the cases is what is done, and committed, and behind it clients are told
+abbrev pub IsSweptAndTold : (s : MasterState) → MasterState × Swept → List Edit → Type 0
+IsSweptAndTold s p edits = (c : SweepCase s) × (p ≡ telling (first_tellings s) (swept_by s c)) × (edits ≡ swept_edits s c)
+
 -- a sweep at a moment
-pub swept_case : (s new : MasterState) (now : ℕ) (told : Swept) → HasSessionsInOrder s → IsOrderly s.gate → sweep_step s now ≡ Ok (new, told) → IsSwept (noted s now) (new, told) (sweep_edits s now)
+pub swept_case : (s new : MasterState) (now : ℕ) (told : Swept) → HasSessionsInOrder s → IsOrderly s.gate → sweep_step s now ≡ Ok (new, told) → IsSweptAndTold (noted s now) (new, told) (sweep_edits s now)
 unfolding sweep_step
 swept_case s new now told order orderly h =
-    let edits = action_edits (noted s now) (first_action (noted s now)) in
-    (elim (is_past_end now) as (λ b. cond {A = Result (MasterState × Swept) Fault} b (Err faults.Exhausted) (Ok (swept (noted s now) (first_action (noted s now)))) ≡ Ok (new, told) → IsSwept (noted s now) (new, told) (cond b [] edits)) [
+    let there = noted s now in
+    let edits = action_edits there (first_action there) in
+    (elim (is_over s now) as (λ b. cond {A = Result (MasterState × Swept) Fault} b (Err faults.Exhausted) (Ok (swept there (first_action there))) ≡ Ok (new, told) → IsSweptAndTold there (new, told) (cond b [] edits)) [
       | true ↦ (λ e. cc)
       | false ↦ (λ e.
-          let is : swept (noted s now) (first_action (noted s now)) ≡ (new, told) = cc in
-          rw (← is) (sweep_case (noted s now) order orderly))
+          let is : swept there (first_action there) ≡ (new, told) = cc in
+          let c = sweep_case there order orderly in
+          (c.0, sym is ∙ ap (telling (first_tellings there)) c.1, c.2))
     ]) h

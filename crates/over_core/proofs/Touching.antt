@@ -6,7 +6,7 @@ use Rattle.names_cell.specs.Text.{parent_of}
 use Rattle.node_core.specs.declared.refusals.Fault.{Fault}
 use Rattle.node_core.specs.declared.refusals.Fault.TheVariants as faults
 use Rattle.node_core.specs.declared.views.View.{View}
-use Rattle.node_core.specs.declared.views.Mod.TheVariants.{Put, Gone}
+use Rattle.node_core.specs.declared.views.Mod.TheVariants.{Put}
 use Rattle.node_core.specs.declared.kinds.Kind.{Kind}
 use Rattle.node_core.specs.declared.kinds.Kind.TheVariants.{File, Directory}
 use Rattle.node_core.specs.declared.kinds.Right.TheVariants as rights
@@ -21,13 +21,19 @@ use Rattle.tags_cell.specs.declared.calls.Call.{Call}
 use Rattle.tags_cell.specs.declared.calls.Call.TheVariants as calls
 use Rattle.tags_cell.specs.declared.outs.CallResult.{CallResult}
 use Rattle.tags_cell.specs.declared.outs.CallResult.TheVariants as results
+use Rattle.lock_core.specs.declared.claims.Claim.{Claim}
+use Rattle.lock_core.specs.declared.turns.Turn.{Turn}
+use Rattle.lock_core.specs.declared.turns.Acquired.{Acquired}
+use Rattle.lock_core.specs.declared.turns.Acquired.TheVariants as asked
+use Rattle.lock_core.specs.State.{LockState}
+use Rattle.lock_core.specs.Turns.{tried, acquired, released}
 use Rattle.cell_core.specs.declared.deeds.Change.{Change}
-use Rattle.cell_core.specs.declared.handles.Note.{Note}
+use Rattle.cell_core.specs.Locks.{owner_of, claim_of}
 use Rattle.cell_core.specs.State.{MasterState}
-use Rattle.cell_core.specs.Step.{may, missing_right, is_of_cell, node_of_handle, new_handle, node_fault, touched_by, answer_on}
+use Rattle.cell_core.specs.Step.{may, missing_right, is_of_cell, create_fault, sequencer_fault, lock_under, node_of_handle, new_handle, touched_by, answer_on, bytes_of}
 use Rattle.cell_core.specs.Names.{name_changed}
 use Rattle.over_core.specs.declared.effects.Effect.{Effect}
-use Rattle.over_core.specs.Effect.{answered, refused, changes_to, is_last, new_view, acls_of, create_made, create_numbered, create_permitted, create_in, create_under, create_new, create_over, create_effect, create_here, open_effect, generation_fits, with_content, with_acls, put_at, delete_at, change_at, change_on, effect_on, handle_effect, effect}
+use Rattle.over_core.specs.Effect.{answered, refused, changes_to, is_last, new_view, acls_of, create_made, create_numbered, create_permitted, create_in, create_under, create_new, create_over, create_effect, create_tested, create_under_sequencer, open_effect, acquire_by, try_by, release_by, generation_fits, with_content, with_acls, put_at, deleted, delete_at, change_at, change_on, effect_on, handle_effect, effect}
 
 -- a change, if there is one, is of this name
 abbrev IsOn : Option (List ℕ) → Option Change → Type 0
@@ -79,16 +85,22 @@ module _ (s : MasterState) where
   over_touches client number opening Must view = tt
   over_touches client number opening May view = tt
 
-  here_touches : (client number : ℕ) (opening : Open) (create : Create) → Touches (Some opening.name) (create_here s client number opening create)
-  here_touches client number opening create =
+  tested_touches : (client number : ℕ) (opening : Open) (create : Create) → Touches (Some opening.name) (create_tested s client number opening create)
+  tested_touches client number opening create =
       let name = Some opening.name in
-      either name (is_of_cell s opening.name) (option_map_or (λ answer. answered answer) (node_fault create.node) (create_effect s client number opening create)) (refused faults.OtherCell)
-      (by_option name (node_fault create.node) (λ answer. answered answer) (create_effect s client number opening create) (λ answer. tt)
-      (by_option name (get_node s.nodes opening.name) (λ view. create_over s client number opening create.disposition view) (create_new s client number opening create) (over_touches client number opening create.disposition) (new_touches client number opening create))) tt
+      by_option name (create_fault opening create.node) (λ answer. answered answer) (create_effect s client number opening create) (λ answer. tt)
+      (by_option name (get_node s.nodes opening.name) (λ view. create_over s client number opening create.disposition view) (create_new s client number opening create) (over_touches client number opening create.disposition) (new_touches client number opening create))
 
-  open_touches : (client number : ℕ) (opening : Open) (o : Option Create) → Touches (option_map (λ create. opening.name) o) (open_effect s client number opening o)
-  open_touches client number opening None = tt
-  open_touches client number opening (Some create) = here_touches client number opening create
+  sequencer_touches : (client number : ℕ) (opening : Open) (create : Create) (o : Option Fault) → Touches (Some opening.name) (create_under_sequencer s client number opening create o)
+  sequencer_touches client number opening create None = tested_touches client number opening create
+  sequencer_touches client number opening create (Some fault) = tt
+
+  open_touches : (client number : ℕ) (opening : Open) (sequencer : Option (List ℕ)) (o : Option Create) → Touches (option_map (λ create. opening.name) o) (open_effect s client number opening sequencer o)
+  open_touches client number opening sequencer None = tt
+  open_touches client number opening sequencer (Some create) =
+      let fault = sequencer_fault s sequencer in
+      either (Some opening.name) (is_of_cell s opening.name) (create_under_sequencer s client number opening create fault) (refused faults.OtherCell)
+      (sequencer_touches client number opening create fault) tt
 
   -- ---- a change of a node that stands
 
@@ -100,17 +112,40 @@ module _ (s : MasterState) where
 
   delete_touches : (handle : Handle) → Touches (Some handle.name) (delete_at s handle)
   delete_touches handle =
-      either (Some handle.name) (has_children s.nodes handle.name || is_none (parent_of handle.name)) (refused faults.NotEmpty) (changes_to (Gone handle.name) s.next_instance results.Done) tt refl
+      either (Some handle.name) (has_children s.nodes handle.name || is_none (parent_of handle.name)) (refused faults.NotEmpty) (deleted s handle) tt refl
+
+  -- ---- a lock
+
+  acquired_touches : (name : Option (List ℕ)) (handle : Handle) (claim : Claim) (r : Result Acquired Fault) → Touches name (acquire_by handle claim r)
+  acquired_touches name handle claim (Ok (asked.Held lock)) = tt
+  acquired_touches name handle claim (Ok (asked.Waits lock)) = tt
+  acquired_touches name handle claim (Err fault) = tt
+
+  tried_touches : (name : Option (List ℕ)) (handle : Handle) (claim : Claim) (r : Result LockState Fault) → Touches name (try_by handle claim r)
+  tried_touches name handle claim (Ok lock) = tt
+  tried_touches name handle claim (Err fault) = tt
+
+  released_touches : (name : Option (List ℕ)) (handle : Handle) (r : Result Turn Fault) → Touches name (release_by handle r)
+  released_touches name handle (Ok turn) = tt
+  released_touches name handle (Err fault) = tt
+
+  -- ---- any call
 
   node_touches : (handle : Handle) (call : Call) (view : View) → Touches (touched_by handle call) (change_at s handle call view)
   node_touches handle (calls.Set bytes content generation) view = put_touches handle view.content_generation generation (with_content view content)
   node_touches handle (calls.SetAcl bytes acls generation) view = put_touches handle view.acl_generation generation (with_acls view acls)
   node_touches handle (calls.Delete bytes) view = delete_touches handle
+  node_touches handle (calls.Acquire bytes mode) view = acquired_touches None handle (claim_of handle mode) (acquired (lock_under s handle) (claim_of handle mode))
+  node_touches handle (calls.TryAcquire bytes mode) view = tried_touches None handle (claim_of handle mode) (tried (lock_under s handle) (claim_of handle mode) s.clock)
+  node_touches handle (calls.Release bytes) view = released_touches None handle (released (lock_under s handle) (owner_of handle))
   node_touches handle (calls.Open opening) view = tt
   node_touches handle (calls.Close bytes) view = tt
   node_touches handle (calls.Read bytes) view = tt
   node_touches handle (calls.Stat bytes) view = tt
   node_touches handle (calls.List bytes) view = tt
+  node_touches handle (calls.GetSequencer bytes) view = tt
+  node_touches handle (calls.SetSequencer bytes) view = tt
+  node_touches handle (calls.CheckSequencer bytes) view = tt
 
   -- what would be answered at once changes nothing
   answered_touches : (handle : Handle) (call : Call) (o : Option CallResult) → Touches (touched_by handle call) (option_map_or (λ answer. answered answer) o (change_on s handle call))
@@ -118,35 +153,21 @@ module _ (s : MasterState) where
       by_option (touched_by handle call) o (λ answer. answered answer) (change_on s handle call) (λ answer. tt)
       (by_option (touched_by handle call) (node_of_handle s handle) (λ view. change_at s handle call view) (refused faults.StaleInstance) (node_touches handle call) tt)
 
-  call_touches : (handle : Handle) (call : Call) → Touches (touched_by handle call) (effect_on s handle call)
-  call_touches handle (calls.Close bytes) = tt
-  call_touches handle (calls.Open opening) = answered_touches handle (calls.Open opening) (answer_on s handle (calls.Open opening))
-  call_touches handle (calls.Read bytes) = answered_touches handle (calls.Read bytes) (answer_on s handle (calls.Read bytes))
-  call_touches handle (calls.Stat bytes) = answered_touches handle (calls.Stat bytes) (answer_on s handle (calls.Stat bytes))
-  call_touches handle (calls.List bytes) = answered_touches handle (calls.List bytes) (answer_on s handle (calls.List bytes))
-  call_touches handle (calls.Set bytes content generation) = answered_touches handle (calls.Set bytes content generation) (answer_on s handle (calls.Set bytes content generation))
-  call_touches handle (calls.SetAcl bytes acls generation) = answered_touches handle (calls.SetAcl bytes acls generation) (answer_on s handle (calls.SetAcl bytes acls generation))
-  call_touches handle (calls.Delete bytes) = answered_touches handle (calls.Delete bytes) (answer_on s handle (calls.Delete bytes))
+  call_touches : (handle : Handle) (call : Call) (sequencer : Option (List ℕ)) → Touches (touched_by handle call) (effect_on s handle call sequencer)
+  call_touches handle (calls.Close bytes) sequencer = tt
+  call_touches handle call sequencer = answered_touches handle call (answer_on s handle call sequencer)
 
-  handle_touches : (call : Call) (o : Option Handle) → Touches (option_and_then (λ handle. touched_by handle call) o) (handle_effect s call o)
-  handle_touches call None = tt
-  handle_touches call (Some handle) = call_touches handle call
+  handle_touches : (call : Call) (sequencer : Option (List ℕ)) (o : Option Handle) → Touches (option_and_then (λ handle. touched_by handle call) o) (handle_effect s call sequencer o)
+  handle_touches call sequencer None = tt
+  handle_touches call sequencer (Some handle) = call_touches handle call sequencer
 
-  -- ---- any call
-
-  effect_touches : (client number : ℕ) (call : Call) → Touches (name_changed s.secret call) (effect s client number call)
+  effect_touches : (client number : ℕ) (call : Call) (sequencer : Option (List ℕ)) → Touches (name_changed s.secret call) (effect s client number call sequencer)
   unfolding effect
-  effect_touches client number (calls.Open opening) = open_touches client number opening opening.create
-  effect_touches client number (calls.Close bytes) = handle_touches (calls.Close bytes) (read_handle s.secret bytes)
-  effect_touches client number (calls.Read bytes) = handle_touches (calls.Read bytes) (read_handle s.secret bytes)
-  effect_touches client number (calls.Stat bytes) = handle_touches (calls.Stat bytes) (read_handle s.secret bytes)
-  effect_touches client number (calls.List bytes) = handle_touches (calls.List bytes) (read_handle s.secret bytes)
-  effect_touches client number (calls.Set bytes content generation) = handle_touches (calls.Set bytes content generation) (read_handle s.secret bytes)
-  effect_touches client number (calls.SetAcl bytes acls generation) = handle_touches (calls.SetAcl bytes acls generation) (read_handle s.secret bytes)
-  effect_touches client number (calls.Delete bytes) = handle_touches (calls.Delete bytes) (read_handle s.secret bytes)
+  effect_touches client number (calls.Open opening) sequencer = open_touches client number opening sequencer opening.create
+  effect_touches client number call sequencer = handle_touches call sequencer (read_handle s.secret (bytes_of call))
 
 -- a change that a call makes is of the name that it may change
-pub change_is_named : (s : MasterState) (client number : ℕ) (call : Call) (noting : Option Note) (change : Change) (answer : CallResult) → effect s client number call ≡ record { note = noting; change = Some change; answer = answer } → name_changed s.secret call ≡ Some (name_of change.change)
-change_is_named s client number call noting change answer made =
-    let P : Effect → Type 0 = Touches (name_changed s.secret call) in
-    subst P made (effect_touches s client number call)
+pub change_is_named : (s : MasterState) (client number : ℕ) (call : Call) (sequencer : Option (List ℕ)) (change : Change) → (effect s client number call sequencer).change ≡ Some change → name_changed s.secret call ≡ Some (name_of change.change)
+change_is_named s client number call sequencer change made =
+    let P : Option Change → Type 0 = IsOn (name_changed s.secret call) in
+    subst P made (effect_touches s client number call sequencer)

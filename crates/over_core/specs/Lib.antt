@@ -4,12 +4,19 @@ pub use Rattle.node_core.specs.Nodes
 pub use Rattle.rows_cell.specs.Rows
 pub use Rattle.rows_cell.specs.Sound
 pub use Rattle.rows_cell.specs.Stores
+pub use Rattle.rows_cell.specs.LockRows
+pub use Rattle.rows_cell.specs.Indexes
+pub use Rattle.lock_core.specs.State as LockStates
+pub use Rattle.lock_core.specs.Turns
+pub use Rattle.lock_core.specs.Locks as LockTables
+pub use Rattle.cell_core.specs.Locks
 pub use Rattle.cell_core.specs.State
 pub use Rattle.cell_core.specs.Step
 pub use Rattle.cell_core.specs.Cases
 pub use Rattle.cell_core.specs.Deeds
 pub mod Kept
 pub mod Effect
+pub mod Notices
 pub mod Sweep
 pub mod SweepCase
 pub mod Up

@@ -1,35 +1,52 @@
 -- What a master does by itself: the first action that there is, what is planned for it, what is committed, and the step.
-use Rattle.std.specs.Prelude.{ℕ, Bool, true, false, ◌&&◌, List, [], ◌∷◌, ◌++◌, map, Option, Some, None, Result, Ok, Err, if◌then◌else◌}
-use Rattle.std.specs.Option.{option_map_or}
+use Rattle.std.specs.Prelude.{ℕ, Bool, true, false, not, ◌==◌, ◌&&◌, ◌||◌, List, [], ◌∷◌, ◌++◌, map, Option, Some, None, Result, Ok, Err, if◌then◌else◌, find}
+use Rattle.std.specs.Option.{option_map, option_map_or}
 use Rattle.node_core.specs.declared.refusals.Fault.{Fault}
 use Rattle.node_core.specs.declared.refusals.Fault.TheVariants as faults
 use Rattle.node_core.specs.declared.lines.Line.{Line}
 use Rattle.node_core.specs.declared.lines.Line.TheVariants as lines
-use Rattle.node_core.specs.declared.events.Event.TheVariants as events
+use Rattle.node_core.specs.Nodes.{Nodes}
 use Rattle.rows_cell.specs.declared.tables.Edit.{Edit}
 use Rattle.tags_cell.specs.declared.beats.Invalidation.{Invalidation}
-use Rattle.tags_cell.specs.declared.beats.NumberedEvent.{NumberedEvent}
 use Rattle.tags_cell.specs.declared.outs.Out.{Out}
 use Rattle.tags_cell.specs.declared.outs.Out.TheVariants as outs
+use Rattle.tags_cell.specs.declared.outs.CallResult.{CallResult}
+use Rattle.tags_cell.specs.declared.outs.CallResult.TheVariants as results
+use Rattle.tags_cell.specs.declared.outs.Reply.{Reply}
+use Rattle.tags_cell.specs.Numbers.{is_client_number}
 use Rattle.tags_cell.specs.declared.calls.Call.{Call}
 use Rattle.rights_core.specs.declared.endings.Ending.TheVariants as endings
 use Rattle.rights_core.specs.Rights.{numbers_ending, unacked_of}
 use Rattle.session_core.specs.declared.records.Offer.{Offer}
 use Rattle.session_core.specs.Session.{is_client_expired, is_client_due, offered_span}
-use Rattle.session_core.specs.Sessions.{owes_event, all_heard, lowest, offer_of}
+use Rattle.session_core.specs.Sessions.{unacked_events, has_spent_events, all_heard, lowest, offer_of}
+use Rattle.lock_core.specs.declared.claims.Claim.{Claim}
+use Rattle.lock_core.specs.declared.turns.Turn.{Turn}
+use Rattle.lock_core.specs.declared.turns.Lapse.{Lapse}
+use Rattle.lock_core.specs.State.{LockState}
+use Rattle.lock_core.specs.Turns.{reopened, is_nobody}
+use Rattle.lock_core.specs.Locks.{lock_at, lapses, due}
 use Rattle.cell_core.specs.declared.deeds.Deed.{Deed}
+use Rattle.cell_core.specs.declared.deeds.KeptPut.{KeptPut}
+use Rattle.cell_core.specs.declared.deeds.LockPut.{LockPut}
 use Rattle.cell_core.specs.declared.deeds.SessionDeed.{SessionDeed}
 use Rattle.cell_core.specs.declared.deeds.SessionDeed.TheVariants.{Begins, Prolongs, Ends, Answers}
 use Rattle.over_core.specs.declared.effects.Effect.{Effect}
+use Rattle.over_core.specs.declared.effects.Leave.{Leave}
+use Rattle.over_core.specs.declared.effects.Locking.{Locking}
+use Rattle.over_core.specs.declared.effects.Locking.TheVariants.{Takes, Waits, Leaves, Goes}
 use Rattle.cell_core.specs.declared.deeds.Change.{Change}
 use Rattle.cell_core.specs.declared.pending.Work.{Work}
 use Rattle.cell_core.specs.declared.pending.Work.TheVariants as works
-use Rattle.cell_core.specs.State.{MasterState, locks_of, next_change, task_at}
-use Rattle.cell_core.specs.Step.{session_of, may_start, is_live, nothing, turned_away, reply_of, answered_by, is_past_end, noted}
+use Rattle.cell_core.specs.State.{MasterState, next_change, task_at}
+use Rattle.cell_core.specs.Step.{session_of, kept_of, may_start, is_live, nothing, turned_away, reply_of, answered_by, is_past_end, noted}
 use Rattle.cell_core.specs.Deeds.{done, edits_of}
+use Rattle.cell_core.specs.declared.notices.Telling.{Telling}
+use Rattle.cell_core.specs.Notices.{with_tellings}
+use Rattle.over_core.specs.Notices.{contested_by, tellings_of}
 use Rattle.over_core.specs.Effect.{effect}
 use Rattle.over_core.specs.declared.actions.Action.{Action}
-use Rattle.over_core.specs.declared.actions.Action.TheVariants.{Recover, Expire, Apply, Answer, Quiet}
+use Rattle.over_core.specs.declared.actions.Action.TheVariants.{Recover, Expire, Apply, Reopen, Answer, Quiet}
 use Rattle.over_core.specs.declared.plans.Plan.{Plan}
 use Rattle.over_core.specs.declared.sweeps.Swept.{Swept}
 
@@ -39,11 +56,15 @@ use Rattle.over_core.specs.declared.sweeps.Swept.{Swept}
 abbrev pub answer_or_quiet : MasterState → Action
 answer_or_quiet s = option_map_or Answer (lowest s.sessions (is_client_due s.sessions.lease s.clock)) Quiet
 
+-- the lowest instance whose lock was closed long enough
+abbrev pub reopen_or_later : MasterState → Action
+reopen_or_later s = option_map_or Reopen (due s.locks s.clock) (answer_or_quiet s)
+
 -- the lowest change that no right holds up, by its number
 abbrev pub apply_or_later : MasterState → Action
-apply_or_later s = option_map_or Apply (next_change s) (answer_or_quiet s)
+apply_or_later s = option_map_or Apply (next_change s) (reopen_or_later s)
 
--- a recovery ends, the lowest client's session expires that is due to, a change has its turn, a Beat is answered, or there is nothing to do
+-- a recovery ends, the lowest client's session expires that is due to, a change has its turn, a lock is open again, a Beat is answered, or there is nothing to do
 abbrev pub first_action : MasterState → Action
 first_action s =
     if s.recovering && all_heard s.sessions then Recover
@@ -52,14 +73,14 @@ first_action s =
 -- ---- what is planned
 
 abbrev pub no_deed : Deed
-no_deed = record { session = None; kept = None; note = None; change = None; recovers = false; leaves = None }
+no_deed = record { session = None; kept = []; note = None; change = None; locks = []; ends_lock = None; recovers = false; leaves = None }
 
 abbrev pub no_plan : Plan
-no_plan = record { deed = no_deed; taken = nothing }
+no_plan = record { deed = no_deed; taken = nothing; contested = None }
 
 -- what becomes of one session, with what is printed and sent
 abbrev pub session_plan : SessionDeed → List Line → List Out → Plan
-session_plan deed printed sent = record { deed = record no_deed { session = Some deed }; taken = record { lines = printed; outs = sent } }
+session_plan deed printed sent = record { deed = record no_deed { session = Some deed }; taken = record { lines = printed; outs = sent }; contested = None }
 
 -- ---- Starts
 
@@ -77,7 +98,81 @@ plan_session s client number principal received =
 abbrev pub plan_start : MasterState → ℕ → ℕ → List ℕ → ℕ → Plan
 plan_start s client number principal received =
     if may_start s client principal then plan_session s client number principal received
-    else record { deed = no_deed; taken = turned_away s client number faults.NoSession }
+    else record no_plan { taken = turned_away s client number faults.NoSession }
+
+-- ---- replies
+
+-- a reply is kept, and sent
+abbrev pub kept_put : Reply → KeptPut
+kept_put reply = record { client = reply.client; kept = answered_by reply }
+
+abbrev pub kept_puts : List Reply → List KeptPut
+kept_puts replies = map kept_put replies
+
+abbrev pub sent : List Reply → List Out
+sent replies = map outs.Reply replies
+
+-- the answer to the call of a client that waits for a lock
+abbrev pub reply_to : MasterState → CallResult → ℕ → List Reply
+reply_to s answer client =
+    if is_client_number client then option_map_or (λ kept. reply_of s client kept.number answer ∷ []) (kept_of s client) [] else []
+
+-- to each of these, in order
+abbrev pub replies_to : MasterState → CallResult → List Claim → List Reply
+replies_to s answer [] = []
+replies_to s answer (claim ∷ claims) = reply_to s answer claim.owner.client ++ replies_to s answer claims
+
+-- who got the lock is told so, and who can't get it any more
+abbrev pub turn_replies : MasterState → Turn → List Reply
+turn_replies s turn = replies_to s results.Done turn.granted ++ replies_to s (results.Refused faults.Exhausted) turn.exhausted
+
+-- ---- locks
+
+abbrev pub locked_line : ℕ → ℕ → Claim → Line
+locked_line instance generation claim = lines.Locked claim.owner.client instance claim.hold.mode generation
+
+-- each that got the lock, in order
+abbrev pub locked_lines : ℕ → Turn → List Line
+locked_lines instance turn = map (locked_line instance turn.lock.generation) turn.granted
+
+-- a line where this holds
+abbrev pub line_if : Bool → Line → List Line
+line_if holds line = if holds then line ∷ [] else []
+
+abbrev pub leave_lines : ℕ → Leave → List Line
+leave_lines client leave = line_if leave.held (lines.Freed client leave.instance) ++ locked_lines leave.instance leave.turn
+
+abbrev pub locking_lines : ℕ → Locking → List Line
+locking_lines client (Takes put claim) = locked_line put.instance put.lock.generation claim ∷ []
+locking_lines client (Leaves leave) = leave_lines client leave
+locking_lines client _ = []
+
+-- to those that waited
+abbrev pub locking_replies : MasterState → Locking → List Reply
+locking_replies s (Leaves leave) = turn_replies s leave.turn
+locking_replies s (Goes instance waiters) = replies_to s (results.Refused faults.StaleInstance) waiters
+locking_replies s _ = []
+
+abbrev pub left_put : Leave → LockPut
+left_put leave = record { name = leave.name; instance = leave.instance; lock = leave.turn.lock }
+
+abbrev pub locking_puts : Locking → List LockPut
+locking_puts (Takes put claim) = put ∷ []
+locking_puts (Waits put) = put ∷ []
+locking_puts (Leaves leave) = left_put leave ∷ []
+locking_puts _ = []
+
+abbrev pub lock_ended : Locking → Option ℕ
+lock_ended (Goes instance waiters) = Some instance
+lock_ended _ = None
+
+-- the name of an instance's node
+abbrev pub name_of : Nodes → ℕ → Option (List ℕ)
+name_of nodes instance = option_map (λ entry. entry.0) (find (λ entry. entry.1.instance == instance) nodes)
+
+-- what becomes of the lock of an instance, where its node is there
+abbrev pub puts_of : MasterState → ℕ → LockState → List LockPut
+puts_of s instance lock = option_map_or (λ name. record { name = name; instance = instance; lock = lock } ∷ []) (name_of s.nodes instance) []
 
 -- ---- calls
 
@@ -86,25 +181,48 @@ abbrev pub applied_lines : ℕ → ℕ → Option Change → List Line
 applied_lines client number None = []
 applied_lines client number (Some change) = lines.Applied client number change.change ∷ []
 
--- the reply to a call is kept and sent, and a change of the map is committed and printed
+-- a call that waits for a lock has no reply yet
+abbrev pub own_replies : MasterState → ℕ → ℕ → Option CallResult → List Reply
+own_replies s client number None = []
+own_replies s client number (Some answer) = reply_of s client number answer ∷ []
+
+-- the caller's first
+abbrev pub effect_replies : MasterState → ℕ → ℕ → Effect → List Reply
+effect_replies s client number effected = own_replies s client number effected.answer ++ locking_replies s effected.locking
+
+-- the replies are kept and sent, and a change of the map or of a lock is committed and printed
 abbrev pub plan_effect : MasterState → ℕ → ℕ → Effect → Plan
 plan_effect s client number effected = record {
   deed =
       record no_deed {
-        kept = Some (record { client = client; kept = answered_by (reply_of s client number effected.answer) });
+        kept = kept_puts (effect_replies s client number effected);
         note = effected.note;
         change = effected.change;
+        locks = locking_puts effected.locking;
+        ends_lock = lock_ended effected.locking;
       };
-  taken = record { lines = applied_lines client number effected.change; outs = outs.Reply (reply_of s client number effected.answer) ∷ [] };
+  taken = record {
+    lines = applied_lines client number effected.change ++ locking_lines client effected.locking;
+    outs = sent (effect_replies s client number effected);
+  };
+  contested = None;
 }
 
+-- and who holds a lock that the call asks for is told of that
+abbrev pub contesting : MasterState → Call → Effect → Plan → Plan
+contesting s call effected plan = record plan { contested = contested_by s call effected }
+
+abbrev pub plan_asked : MasterState → ℕ → ℕ → Call → Effect → Plan
+plan_asked s client number call effected = contesting s call effected (plan_effect s client number effected)
+
 -- a call of a session that has ended changes nothing, and sends nothing
-abbrev pub plan_call : MasterState → ℕ → ℕ → Call → Plan
-plan_call s client number call = if is_live s client then plan_effect s client number (effect s client number call) else no_plan
+abbrev pub plan_call : MasterState → ℕ → ℕ → Call → Option (List ℕ) → Plan
+plan_call s client number call sequencer =
+    if is_live s client then plan_asked s client number call (effect s client number call sequencer) else no_plan
 
 abbrev pub plan_work : MasterState → ℕ → ℕ → Work → Plan
 plan_work s client number (works.Starts principal received) = plan_start s client number principal received
-plan_work s client number (works.Calls call) = plan_call s client number call
+plan_work s client number (works.Calls call sequencer) = plan_call s client number call sequencer
 
 -- the change of this number leaves the gate
 abbrev pub leaving : ℕ → Plan → Plan
@@ -112,13 +230,60 @@ leaving number plan = record plan { deed = record plan.deed { leaves = Some numb
 
 -- ---- sessions
 
--- each right that ends with a session is printed, and then its end
-abbrev pub expiry_lines : MasterState → ℕ → List Line
-expiry_lines s client = map lines.Expired (numbers_ending client endings.Expiry s.rights) ++ lines.Ended client ∷ []
+-- what the session held, a lock that is open again at once, and who got it
+abbrev pub lapse_lines : ℕ → Lapse → List Line
+lapse_lines client lapse =
+    line_if (not (is_nobody lapse.ended)) (lines.Lapsed client lapse.instance) ++ line_if lapse.reopens (lines.Reopened lapse.instance)
+    ++ locked_lines lapse.instance lapse.turn
+
+abbrev pub lapses_lines : ℕ → List Lapse → List Line
+lapses_lines client [] = []
+lapses_lines client (lapse ∷ rest) = lapse_lines client lapse ++ lapses_lines client rest
+
+-- the session's own waiters aren't told
+abbrev pub lapses_replies : MasterState → List Lapse → List Reply
+lapses_replies s [] = []
+lapses_replies s (lapse ∷ rest) = turn_replies s lapse.turn ++ lapses_replies s rest
+
+abbrev pub lapses_puts : MasterState → List Lapse → List LockPut
+lapses_puts s [] = []
+lapses_puts s (lapse ∷ rest) = puts_of s lapse.instance lapse.turn.lock ++ lapses_puts s rest
+
+-- each lock that the session held or awaited, as it is without it
+abbrev pub lapses_of : MasterState → ℕ → List Lapse
+lapses_of s client = lapses s.locks client s.clock
+
+-- each right that ends with a session is printed, then what becomes of its locks, and then its end
+abbrev pub expiry_lines : MasterState → ℕ → List Lapse → List Line
+expiry_lines s client ended =
+    map lines.Expired (numbers_ending client endings.Expiry s.rights) ++ lapses_lines client ended ++ lines.Ended client ∷ []
+
+abbrev pub expiry_plan : MasterState → ℕ → List ℕ → List Lapse → Plan
+expiry_plan s client principal ended = record {
+  deed =
+      record no_deed {
+        session = Some (Ends client principal);
+        kept = kept_puts (lapses_replies s ended);
+        locks = lapses_puts s ended;
+      };
+  taken = record { lines = expiry_lines s client ended; outs = sent (lapses_replies s ended) };
+  contested = None;
+}
 
 -- it is put as ended
 abbrev pub plan_expiry : MasterState → ℕ → Plan
-plan_expiry s client = option_map_or (λ session. session_plan (Ends client session.principal (locks_of client s.held_locks)) (expiry_lines s client) []) (session_of s client) no_plan
+plan_expiry s client = option_map_or (λ session. expiry_plan s client session.principal (lapses_of s client)) (session_of s client) no_plan
+
+abbrev pub reopen_plan : MasterState → ℕ → Turn → Plan
+reopen_plan s instance turn = record {
+  deed = record no_deed { kept = kept_puts (turn_replies s turn); locks = puts_of s instance turn.lock };
+  taken = record { lines = lines.Reopened instance ∷ locked_lines instance turn; outs = sent (turn_replies s turn) };
+  contested = None;
+}
+
+-- the lock of an instance is open again
+abbrev pub plan_reopen : MasterState → ℕ → Plan
+plan_reopen s instance = reopen_plan s instance (reopened (lock_at s.locks instance))
 
 abbrev pub invalidation_of : ℕ × List ℕ → Invalidation
 invalidation_of entry = record { number = entry.0; name = entry.1 }
@@ -127,18 +292,10 @@ invalidation_of entry = record { number = entry.0; name = entry.1 }
 abbrev pub invalidations_for : MasterState → ℕ → List Invalidation
 invalidations_for s client = map invalidation_of (unacked_of client s.rights)
 
--- the first event tells that a new master is up; there is no other yet
-abbrev pub first_event : NumberedEvent
-first_event = record { number = 1; event = events.FailOver }
-
--- those that the client has still to acknowledge, in order of their numbers
-abbrev pub events_for : MasterState → ℕ → List NumberedEvent
-events_for s client = if owes_event s.sessions client then first_event ∷ [] else []
-
 -- the session lives for a lease from now on
 abbrev pub alive_out : MasterState → ℕ → Offer → Out
 alive_out s client offer =
-    outs.Alive (record { client = client; epoch = s.epoch; number = offer.number; span = offer.span; invalidations = invalidations_for s client; events = events_for s client })
+    outs.Alive (record { client = client; epoch = s.epoch; number = offer.number; span = offer.span; invalidations = invalidations_for s client; events = unacked_events s.sessions client })
 
 abbrev pub plan_answer : MasterState → ℕ → Plan
 plan_answer s client = option_map_or (λ offer. session_plan (Answers client) [] (alive_out s client offer ∷ [])) (offer_of s.sessions client s.clock) no_plan
@@ -146,9 +303,10 @@ plan_answer s client = option_map_or (λ offer. session_plan (Answers client) []
 -- ---- every action
 
 abbrev pub plan_of : MasterState → Action → Plan
-plan_of s Recover = record { deed = record no_deed { recovers = true }; taken = record { lines = lines.Recovered ∷ []; outs = [] } }
+plan_of s Recover = record no_plan { deed = record no_deed { recovers = true }; taken = record { lines = lines.Recovered ∷ []; outs = [] } }
 plan_of s (Expire client) = plan_expiry s client
 plan_of s (Apply number) = option_map_or (λ task. leaving number (plan_work s task.client task.number task.work)) (task_at number s.gate.waiting) no_plan
+plan_of s (Reopen instance) = plan_reopen s instance
 plan_of s (Answer client) = plan_answer s client
 plan_of s Quiet = no_plan
 
@@ -162,16 +320,27 @@ is_quiet _ = false
 abbrev pub swept_by_plan : MasterState → Plan → Bool → MasterState × Swept
 swept_by_plan s plan quiet = (done s plan.deed, record { lines = plan.taken.lines; outs = plan.taken.outs; quiet = quiet })
 
+abbrev pub acted : MasterState → Action → MasterState × Swept
+acted s action = swept_by_plan s (plan_of s action) (is_quiet action)
+
+-- behind all else the clients of open handles are told of it
+abbrev pub telling : List Telling → MasterState × Swept → MasterState × Swept
+telling tellings done = (with_tellings done.0 tellings, done.1)
+
 abbrev pub swept : MasterState → Action → MasterState × Swept
-swept s action = swept_by_plan s (plan_of s action) (is_quiet action)
+swept s action = telling (tellings_of s (plan_of s action)) (acted s action)
 
 -- what an action commits
 abbrev pub action_edits : MasterState → Action → List Edit
-action_edits s action = edits_of (plan_of s action).deed
+action_edits s action = edits_of s (plan_of s action).deed
+
+-- a moment past the end of moments, or a session whose count of events is at its end
+abbrev pub is_over : MasterState → ℕ → Bool
+is_over s now = is_past_end now || has_spent_events s.sessions
 
 -- what a sweep at a moment commits
 abbrev pub sweep_edits : MasterState → ℕ → List Edit
-sweep_edits s now = if is_past_end now then [] else action_edits (noted s now) (first_action (noted s now))
+sweep_edits s now = if is_over s now then [] else action_edits (noted s now) (first_action (noted s now))
 
 unfoldable pub sweep_step : MasterState → ℕ → Result (MasterState × Swept) Fault
-sweep_step s now = if is_past_end now then Err faults.Exhausted else Ok (swept (noted s now) (first_action (noted s now)))
+sweep_step s now = if is_over s now then Err faults.Exhausted else Ok (swept (noted s now) (first_action (noted s now)))

@@ -1,11 +1,12 @@
 -- By which arm of its table a master sweeps. Each law of it is a match on these.
-use Rattle.std.specs.Prelude.{◌≡◌, ℕ, ◌+◌, ◌≤◌, true, false, List, [], ◌∷◌, ◌++◌, map, Option, Some, None}
+use Rattle.std.specs.Prelude.{◌≡◌, ℕ, ◌+◌, ◌≤◌, true, false, List, [], ◌∷◌, ◌++◌, Option, Some, None}
 use Rattle.node_core.specs.declared.refusals.Fault.TheVariants as faults
 use Rattle.node_core.specs.declared.lines.Line.{Line}
 use Rattle.node_core.specs.declared.lines.Line.TheVariants as lines
 use Rattle.node_core.specs.Nodes.{changed}
 use Rattle.rows_cell.specs.declared.tables.Edit.{Edit}
-use Rattle.rows_cell.specs.declared.tables.Edit.TheVariants.{NextInstance, PutSession, RemoveLock}
+use Rattle.rows_cell.specs.declared.tables.Edit.TheVariants.{NextInstance, PutSession}
+use Rattle.rows_cell.specs.LockRows.{locks_edits}
 use Rattle.tags_cell.specs.declared.calls.Call.{Call}
 use Rattle.tags_cell.specs.declared.outs.Out.{Out}
 use Rattle.tags_cell.specs.declared.outs.Out.TheVariants as outs
@@ -19,17 +20,24 @@ use Rattle.cell_core.specs.declared.deeds.Change.{Change}
 use Rattle.cell_core.specs.declared.handles.Note.{Note}
 use Rattle.cell_core.specs.declared.pending.Task.{Task}
 use Rattle.cell_core.specs.declared.pending.Work.TheVariants as works
-use Rattle.cell_core.specs.State.{MasterState, locks_of}
+use Rattle.lock_core.specs.declared.claims.Claim.{Claim}
+use Rattle.lock_core.specs.Turns.{reopened}
+use Rattle.lock_core.specs.Locks.{lock_at, due}
+use Rattle.cell_core.specs.declared.deeds.LockPut.{LockPut}
+use Rattle.tags_cell.specs.declared.outs.CallResult.TheVariants as results
+use Rattle.over_core.specs.declared.effects.Leave.{Leave}
+use Rattle.over_core.specs.declared.effects.Locking.TheVariants as lockings
+use Rattle.cell_core.specs.State.{MasterState}
 use Rattle.session_core.specs.declared.records.Parked.{Parked}
 use Rattle.session_core.specs.declared.records.Session.{Session}
 use Rattle.session_core.specs.Session as of_session
 use Rattle.session_core.specs.Session.{session_until, prolonged, answered, is_client_expired, is_client_due, offer_to}
 use Rattle.session_core.specs.Sessions.{with_session, with_new, all_heard, lowest}
 use Rattle.cell_core.specs.Step.{session_of, may_start, is_live, turned_away, reply_of, answered_by, recorded, with_note}
-use Rattle.cell_core.specs.Deeds.{edit_of}
+use Rattle.cell_core.specs.Deeds.{edit_of, with_kept, with_locks, without_lock, lock_changes}
 use Rattle.over_core.specs.Effect.{effect}
 use Rattle.over_core.specs.declared.sweeps.Swept.{Swept}
-use Rattle.over_core.specs.Sweep.{first_action, expiry_lines, started_out, alive_out}
+use Rattle.over_core.specs.Sweep.{first_action, expiry_lines, started_out, alive_out, kept_puts, sent, turn_replies, locked_line, locked_lines, leave_lines, left_put, lapses_of, lapses_puts, lapses_replies, puts_of, replies_to}
 use Rattle.over_core.specs.declared.actions.Action.TheVariants as actions
 
 -- a change has its turn: it waited between these, and no right holds it up
@@ -53,6 +61,10 @@ pub record IsDue (s : MasterState) (client : ℕ) (session : Session Reply) (bea
   pub live : session.live ≡ true
   pub is_parked : session.parked ≡ Some beat
 
+-- a lock is the one that is to be open again now
+pub record IsToReopen (s : MasterState) (instance : ℕ) : Type 0 where
+  pub lowest_due : due s.locks s.clock ≡ Some instance
+
 pub data SweepCase (s : MasterState) : Type 0 where
   Quiet : first_action s ≡ actions.Quiet → SweepCase s
   Recovers : s.recovering ≡ true → all_heard s.sessions ≡ true → SweepCase s
@@ -63,10 +75,16 @@ pub data SweepCase (s : MasterState) : Type 0 where
   TurnedAway : (front back : List (Waiting Task)) (task : Task) (principal : List ℕ) (received : ℕ) → IsTurn s front task back → task.work ≡ works.Starts principal received → may_start s task.client principal ≡ false → SweepCase s
   StartedAgain : (front back : List (Waiting Task)) (task : Task) (principal : List ℕ) (received : ℕ) (session : Session Reply) → IsTurn s front task back → task.work ≡ works.Starts principal received → session_of s task.client ≡ Some session → session.live ≡ true → SweepCase s
   Started : (front back : List (Waiting Task)) (task : Task) (principal : List ℕ) (received : ℕ) → IsTurn s front task back → task.work ≡ works.Starts principal received → session_of s task.client ≡ None → SweepCase s
+  -- A LOCK
+  Reopens : (instance : ℕ) → IsToReopen s instance → SweepCase s
   -- A CALL'S TURN
-  OfEnded : (front back : List (Waiting Task)) (task : Task) (call : Call) → IsTurn s front task back → task.work ≡ works.Calls call → is_live s task.client ≡ false → SweepCase s
-  Ended : (front back : List (Waiting Task)) (task : Task) (call : Call) (note : Option Note) (answer : CallResult) → IsTurn s front task back → task.work ≡ works.Calls call → is_live s task.client ≡ true → effect s task.client task.number call ≡ record { note = note; change = None; answer = answer } → SweepCase s
-  Applied : (front back : List (Waiting Task)) (task : Task) (call : Call) (note : Option Note) (change : Change) (answer : CallResult) → IsTurn s front task back → task.work ≡ works.Calls call → is_live s task.client ≡ true → effect s task.client task.number call ≡ record { note = note; change = Some change; answer = answer } → SweepCase s
+  OfEnded : (front back : List (Waiting Task)) (task : Task) (call : Call) (sequencer : Option (List ℕ)) → IsTurn s front task back → task.work ≡ works.Calls call sequencer → is_live s task.client ≡ false → SweepCase s
+  Ended : (front back : List (Waiting Task)) (task : Task) (call : Call) (sequencer : Option (List ℕ)) (note : Option Note) (answer : CallResult) → IsTurn s front task back → task.work ≡ works.Calls call sequencer → is_live s task.client ≡ true → effect s task.client task.number call sequencer ≡ record { note = note; change = None; locking = lockings.Nothing; answer = Some answer } → SweepCase s
+  Applied : (front back : List (Waiting Task)) (task : Task) (call : Call) (sequencer : Option (List ℕ)) (note : Option Note) (change : Change) (answer : CallResult) → IsTurn s front task back → task.work ≡ works.Calls call sequencer → is_live s task.client ≡ true → effect s task.client task.number call sequencer ≡ record { note = note; change = Some change; locking = lockings.Nothing; answer = Some answer } → SweepCase s
+  Deleted : (front back : List (Waiting Task)) (task : Task) (call : Call) (sequencer : Option (List ℕ)) (change : Change) (instance : ℕ) (waiters : List Claim) (answer : CallResult) → IsTurn s front task back → task.work ≡ works.Calls call sequencer → is_live s task.client ≡ true → effect s task.client task.number call sequencer ≡ record { note = None; change = Some change; locking = lockings.Goes instance waiters; answer = Some answer } → SweepCase s
+  Locked : (front back : List (Waiting Task)) (task : Task) (call : Call) (sequencer : Option (List ℕ)) (put : LockPut) (claim : Claim) (answer : CallResult) → IsTurn s front task back → task.work ≡ works.Calls call sequencer → is_live s task.client ≡ true → effect s task.client task.number call sequencer ≡ record { note = None; change = None; locking = lockings.Takes put claim; answer = Some answer } → SweepCase s
+  Awaited : (front back : List (Waiting Task)) (task : Task) (call : Call) (sequencer : Option (List ℕ)) (put : LockPut) → IsTurn s front task back → task.work ≡ works.Calls call sequencer → is_live s task.client ≡ true → effect s task.client task.number call sequencer ≡ record { note = None; change = None; locking = lockings.Waits put; answer = None } → SweepCase s
+  Left : (front back : List (Waiting Task)) (task : Task) (call : Call) (sequencer : Option (List ℕ)) (note : Option Note) (leave : Leave) (answer : CallResult) → IsTurn s front task back → task.work ≡ works.Calls call sequencer → is_live s task.client ≡ true → effect s task.client task.number call sequencer ≡ record { note = note; change = None; locking = lockings.Leaves leave; answer = Some answer } → SweepCase s
 
 -- a change has left the gate; the others keep their order
 abbrev pub rest : MasterState → List (Waiting Task) → List (Waiting Task) → MasterState
@@ -80,6 +98,18 @@ ended s task note answer = with_note (recorded s task.client (answered_by (reply
 abbrev pub mapped : MasterState → Change → MasterState
 mapped s change = record s { nodes = changed s.nodes change.change; next_instance = change.next_instance }
 
+-- who waited for a lock is answered
+abbrev pub told : MasterState → List Reply → MasterState
+told s replies = with_kept s (kept_puts replies)
+
+-- the session has ended, and holds no right any more
+abbrev pub expired : MasterState → ℕ → MasterState
+expired s client = record s { sessions = with_session s.sessions client of_session.ended; rights = of_rights.ended client endings.Expiry s.rights }
+
+-- what is sent of a call's end, and of those that waited for a lock
+abbrev pub replied_with : MasterState → Task → CallResult → List Reply → List Out
+replied_with s task answer others = outs.Reply (reply_of s task.client task.number answer) ∷ sent others
+
 abbrev pub swept_with : List Line → List Out → Swept
 swept_with printed sent = record { lines = printed; outs = sent; quiet = false }
 
@@ -88,8 +118,12 @@ abbrev pub swept_by : (s : MasterState) → SweepCase s → MasterState × Swept
 swept_by s (Quiet none) = (s, record { lines = []; outs = []; quiet = true })
 swept_by s (Recovers recovering heard) = (record s { recovering = false }, swept_with (lines.Recovered ∷ []) [])
 swept_by s (Expires client session due) = (
-  record s { sessions = with_session s.sessions client of_session.ended; rights = of_rights.ended client endings.Expiry s.rights },
-  swept_with (expiry_lines s client) [],
+  told (with_locks (expired s client) (lapses_puts s (lapses_of s client))) (lapses_replies s (lapses_of s client)),
+  swept_with (expiry_lines s client (lapses_of s client)) (sent (lapses_replies s (lapses_of s client))),
+)
+swept_by s (Reopens instance due) = (
+  told (with_locks s (puts_of s instance (reopened (lock_at s.locks instance)).lock)) (turn_replies s (reopened (lock_at s.locks instance))),
+  swept_with (lines.Reopened instance ∷ locked_lines instance (reopened (lock_at s.locks instance))) (sent (turn_replies s (reopened (lock_at s.locks instance)))),
 )
 swept_by s (AnswersBeat client session beat due) = (
   record s { sessions = with_session s.sessions client (answered s.sessions.lease s.clock) },
@@ -104,17 +138,40 @@ swept_by s (Started front back task principal received turn work none) = (
   rest (record s { sessions = with_new s.sessions task.client (session_until principal true (s.clock + s.sessions.lease)) }) front back,
   swept_with (lines.Started task.client ∷ []) (started_out s task.client task.number received ∷ []),
 )
-swept_by s (OfEnded front back task call turn work gone) = (rest s front back, swept_with [] [])
-swept_by s (Ended front back task call note answer turn work live made) =
-    (ended (rest s front back) task note answer, swept_with [] (outs.Reply (reply_of s task.client task.number answer) ∷ []))
-swept_by s (Applied front back task call note change answer turn work live made) = (
+swept_by s (OfEnded front back task call sequencer turn work gone) = (rest s front back, swept_with [] [])
+swept_by s (Ended front back task call sequencer note answer turn work live made) =
+    (ended (rest s front back) task note answer, swept_with [] (replied_with s task answer []))
+swept_by s (Applied front back task call sequencer note change answer turn work live made) = (
   ended (mapped (rest s front back) change) task note answer,
-  swept_with (lines.Applied task.client task.number change.change ∷ []) (outs.Reply (reply_of s task.client task.number answer) ∷ []),
+  swept_with (lines.Applied task.client task.number change.change ∷ []) (replied_with s task answer []),
 )
+swept_by s (Deleted front back task call sequencer change instance waiters answer turn work live made) = (
+  without_lock (told (ended (mapped (rest s front back) change) task None answer) (replies_to s (results.Refused faults.StaleInstance) waiters)) (Some instance),
+  swept_with (lines.Applied task.client task.number change.change ∷ []) (replied_with s task answer (replies_to s (results.Refused faults.StaleInstance) waiters)),
+)
+swept_by s (Locked front back task call sequencer put claim answer turn work live made) = (
+  ended (with_locks (rest s front back) (put ∷ [])) task None answer,
+  swept_with (locked_line put.instance put.lock.generation claim ∷ []) (replied_with s task answer []),
+)
+swept_by s (Awaited front back task call sequencer put turn work live made) = (with_locks (rest s front back) (put ∷ []), swept_with [] [])
+swept_by s (Left front back task call sequencer note leave answer turn work live made) = (
+  told (ended (with_locks (rest s front back) (left_put leave ∷ [])) task note answer) (turn_replies s leave.turn),
+  swept_with (leave_lines task.client leave) (replied_with s task answer (turn_replies s leave.turn)),
+)
+
+-- what becomes of the rows of locks
+abbrev pub relocking : MasterState → List LockPut → List Edit
+relocking s puts = locks_edits (lock_changes s puts)
 
 -- what it commits
 abbrev pub swept_edits : (s : MasterState) → SweepCase s → List Edit
-swept_edits s (Expires client session due) = map RemoveLock (locks_of client s.held_locks) ++ PutSession client (record { principal = session.principal; live = false }) ∷ []
+swept_edits s (Expires client session due) = relocking s (lapses_puts s (lapses_of s client)) ++ PutSession client (record { principal = session.principal; live = false }) ∷ []
 swept_edits s (Started front back task principal received turn work none) = PutSession task.client (record { principal = principal; live = true }) ∷ []
-swept_edits s (Applied front back task call _ change answer turn work live made) = edit_of change.change ∷ NextInstance change.next_instance ∷ []
+swept_edits s (Reopens instance due) = relocking s (puts_of s instance (reopened (lock_at s.locks instance)).lock)
+swept_edits s (Applied front back task call sequencer _ change answer turn work live made) = edit_of change.change ∷ NextInstance change.next_instance ∷ []
+swept_edits s (Deleted front back task call sequencer change instance waiters answer turn work live made) = edit_of change.change ∷ NextInstance change.next_instance ∷ []
+swept_edits s (Locked front back task call sequencer put claim answer turn work live made) = relocking s (put ∷ [])
+-- one waiter more is no row
+swept_edits s (Awaited front back task call sequencer put turn work live made) = relocking s (put ∷ [])
+swept_edits s (Left front back task call sequencer _ leave answer turn work live made) = relocking s (left_put leave ∷ [])
 swept_edits s _ = []

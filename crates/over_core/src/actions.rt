@@ -1,6 +1,6 @@
 //! What a master does by itself first.
 ghost use Rattle.std.specs.Prelude.{◌≡◌};
-ghost use Rattle.over_core.specs.Sweep.{first_action, apply_or_later, answer_or_quiet};
+ghost use Rattle.over_core.specs.Sweep.{first_action, apply_or_later, reopen_or_later, answer_or_quiet};
 
 use cell_core::Cell as Master;
 use tags_cell::ClientNumber;
@@ -17,6 +17,8 @@ pub enum Action {
     /// The change of this number is done, and leaves the gate: the lowest that no right to cache holds up (Burrows
     /// 2006, section 2.7: a modification is held until every cache has let go).
     Apply(u64),
+    /// The lock of this instance was closed for its delay, and is open again (Burrows 2006, section 2.4).
+    Reopen(u64),
     /// The parked Beat of this client is answered (Burrows 2006, section 2.8: a KeepAlive is held until the lease is
     /// close to its end, or something has to be told).
     Answer(ClientNumber),
@@ -43,6 +45,16 @@ fn apply_or_later(master: &Master) -> Action
 {
     match master.next_change() {
         Some(number) => Action::Apply(number),
+        None => reopen_or_later(master),
+    }
+}
+
+// The lowest instance whose lock was closed long enough.
+fn reopen_or_later(master: &Master) -> Action
+    ensures { result ≡ reopen_or_later master.now }
+{
+    match master.locks().due(master.clock()) {
+        Some(instance) => Action::Reopen(instance),
         None => answer_or_quiet(master),
     }
 }

@@ -1,8 +1,10 @@
 //! A master over its records.
-ghost use Rattle.std.specs.Prelude.{◌≡◌, ◌≢◌, ◌⊎◌, ◌≤◌, ◌∷◌, [], true, Ok, Err, IfOk, IfErr, OnOk, OnErr};
+ghost use Rattle.std.specs.Prelude.{◌≡◌, ◌≢◌, ◌⊎◌, ◌≤◌, ◌<◌, ◌+◌, ◌∷◌, [], length, true, Ok, Err, IfOk, IfErr, OnOk, OnErr};
+ghost use Rattle.std.specs.Vec.{vec_len, vec_capacity};
 ghost use Rattle.std.specs.List.Sorted.{IsStrictlySortedBy};
 ghost use Rattle.std.specs.Map.{keys_of};
 ghost use Rattle.std.specs.Ordering.{nat_cmp};
+ghost use Rattle.std.specs.Cmp.Lexicographic.{slice_cmp};
 ghost use Rattle.rows_cell.specs.Keys.{lock_order};
 ghost use Rattle.rows_cell.specs.Rows.{changed_rows};
 ghost use Rattle.rows_cell.specs.Sound.{sound};
@@ -15,7 +17,7 @@ ghost use Rattle.over_core.specs.Up.{up_edits, next_epoch, ComesUp, StaysDown, C
 use crate::sweeps::{Swept, sweep_by};
 use cell_core::{Cell as Master, Taken};
 use lease_core::MOMENT_LIMIT;
-use node_core::{Fault, NUMBER_LIMIT};
+use node_core::{Fault, Line, NUMBER_LIMIT};
 use plain::Items;
 use rows_cell::{Edit, Records, Rows};
 use std::alloc::Global;
@@ -93,9 +95,10 @@ impl<R: Records> Cell<R> {
     /// committed, and with it its rights to cache end; an answer to a Start or a Beat lets it live for a lease from the
     /// moment of the answer, and offers its client just that, counted from the receipt (Gray and Cheriton 1989, section
     /// 2). A change waits while a client holds a right on the name that it touches, and the answer to a Beat tells the
-    /// client what it is to let go of (Burrows 2006, section 2.7). Moments are as in `take`. A refusal leaves the master
-    /// and the rows as they were, and comes only for a moment of 2^53 or more as Exhausted, for want of memory, or where
-    /// the store refused.
+    /// client what it is to let go of (Burrows 2006, section 2.7). Behind all that, events wait in the sessions of those
+    /// who opened handles on what changed (section 2.5). Moments are as in `take`. A refusal leaves the master and the
+    /// rows as they were, and comes only for a moment of 2^53 or more, or where a session's count of events is at
+    /// 2^63-1, as Exhausted, for want of memory, or where the store refused.
     pub fn sweep(&mut self, now: u64) -> Result<Swept, Fault>
         ensures ok { IfOk result (λ swept. sweep_step self.old.master now ≡ Ok (self.new.master, swept)) }
         ensures committed { OnOk result (IsCommitted (sweep_edits self.old.master now) self.old.store self.new.store) }
@@ -103,8 +106,25 @@ impl<R: Records> Cell<R> {
             ⊎ IsRefused e (sweep_edits self.old.master now) self.old.store self.new.store) }
         ensures err { OnErr result (self.new.master ≡ self.old.master) }
     {
-        let _nodes = self.master.map().as_map();
-        sweep_by(&mut self.master, &mut self.records, now)
+        let mut room: Vec<Line> = Vec::new(self.master.alloc());
+        let swept = self.sweep_with_room(now, &mut room);
+        drop(room);
+        swept
+    }
+
+    /// A sweep, with room in a list of the caller's, made before anything changes: for all that the sweep sends, and for
+    /// all that it prints and one more. So what the caller adds of them afterwards takes no memory.
+    pub fn sweep_with_room<T>(&mut self, now: u64, room: &mut Vec<T>) -> Result<Swept, Fault>
+        ensures ok { IfOk result (λ swept. sweep_step self.old.master now ≡ Ok (self.new.master, swept)) }
+        ensures committed { OnOk result (IsCommitted (sweep_edits self.old.master now) self.old.store self.new.store) }
+        ensures fault { IfErr result (λ e. (sweep_step self.old.master now ≡ Err e × self.new ≡ self.old)
+            ⊎ IsRefused e (sweep_edits self.old.master now) self.old.store self.new.store) }
+        ensures err { OnErr result (self.new.master ≡ self.old.master) }
+        ensures items { room.new.items ≡ room.old.items }
+        ensures outs { IfOk result (λ swept. vec_len room.new + length swept.outs ≤ vec_capacity room.new) }
+        ensures lines { IfOk result (λ swept. vec_len room.new + length swept.lines < vec_capacity room.new) }
+    {
+        sweep_by(&mut self.master, &mut self.records, now, room)
     }
 
     /// How many masters came up, this one being the last.
@@ -164,6 +184,7 @@ fn next_rows<R: Records>(records: &mut R) -> Result<Rows, Fault>
     ensures sound { OnOk result (sound (R.store records.new).cell (changed_rows (R.store records.new).rows (up_edits (R.store records.new).rows)) ≡ true) }
     ensures sessions { IfOk result (λ rows. IsStrictlySortedBy nat_cmp (keys_of rows.sessions)) }
     ensures locks { IfOk result (λ rows. IsStrictlySortedBy lock_order (keys_of rows.locks)) }
+    ensures names { IfOk result (λ rows. IsStrictlySortedBy (slice_cmp nat_cmp) (keys_of rows.nodes)) }
     ensures read { OnOk result (IsRead (R.store records.old) (R.store records.new)) }
     ensures fault { IfErr result (λ e. IsUnread e (R.store records.old) (R.store records.new)
         ⊎ (IsRead (R.store records.old) (R.store records.new) × next_epoch (R.store records.new).cell (R.store records.new).rows ≡ Err e)) }
@@ -183,11 +204,14 @@ fn next_rows<R: Records>(records: &mut R) -> Result<Rows, Fault>
 fn note_orders(rows: &Rows)
     ensures sessions { IsStrictlySortedBy nat_cmp (keys_of rows.now.sessions) }
     ensures locks { IsStrictlySortedBy lock_order (keys_of rows.now.locks) }
+    ensures names { IsStrictlySortedBy (slice_cmp nat_cmp) (keys_of rows.now.nodes) }
 {
     let sessions = rows.sessions.as_map();
     let locks = rows.locks.as_map();
+    let nodes = rows.nodes.as_map();
     let _sessions = sessions.len();
     let _locks = locks.len();
+    let _nodes = nodes.len();
 }
 
 // Commits an epoch.

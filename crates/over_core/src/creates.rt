@@ -4,7 +4,7 @@ ghost use Rattle.node_core.specs.declared.views.Mod.TheVariants.{Put};
 ghost use Rattle.over_core.specs.Effect.{create_effect, create_over, create_new, create_in, create_permitted, create_numbered, create_made, new_view, kind_of, first_generation, content_of, acls_of};
 ghost use Rattle.cell_core.specs.Step.{may};
 
-use crate::effects::{Effect, opened_effect};
+use crate::effects::{Effect, Locking, opened_effect};
 use cell_core::{Cell as Master, Change};
 use names_cell::Name;
 use node_core::{Fault, Kind, Life, Mod, NUMBER_LIMIT, Right, View};
@@ -146,7 +146,8 @@ fn create_made(
     let (note, answer) = master.opened(Ok(handle))?;
     Ok(Effect {
         note,
-        answer,
+        locking: Locking::Nothing,
+        answer: Some(answer),
         change: Some(change),
     })
 }

@@ -1,48 +1,74 @@
 //! What is planned for an action.
-ghost use Rattle.std.specs.Prelude.{◌≡◌, [], ◌∷◌, Some, None, map, IfOk};
+ghost use Rattle.std.specs.Prelude.{◌≡◌, [], ◌∷◌, ◌++◌, Some, None, map, IfOk};
 ghost use Rattle.node_core.specs.declared.lines.Line.TheVariants as lines;
-ghost use Rattle.cell_core.specs.Step.{sends};
 ghost use Rattle.over_core.specs.declared.actions.Action.TheVariants as actions;
-ghost use Rattle.over_core.specs.Sweep.{no_deed, started_out, events_for, alive_out, applied_lines, plan_session, plan_start, plan_effect, plan_call, plan_work, expiry_lines, plan_expiry, invalidation_of, plan_answer, plan_of};
+ghost use Rattle.over_core.specs.Sweep.{no_deed, started_out, alive_out, applied_lines, plan_session, plan_start, plan_effect, effect_replies, plan_call, plan_asked, plan_work, own_replies, locking_lines, lock_ended, locking_puts, left_put, plan_expiry, invalidation_of, plan_answer, plan_of};
 
 use crate::actions::Action;
-use crate::effects::{Effect, effect_of};
-use cell_core::{
-    Cell as Master, Change, Deed, KeptPut, SessionDeed, Taken, Task, Work, answered_by,
-};
+use crate::effects::{Effect, Leave, Locking, effect_of};
+use crate::lapses::{expiry_plan, plan_reopen};
+use crate::notices::contested_by;
+use crate::replies::{Told, locking_lines, locking_replies, told_by};
+use cell_core::{Cell as Master, Change, Deed, LockPut, SessionDeed, Taken, Task, Work};
+use lock_core::Turn;
 use names_cell::{Name, Principal};
-use node_core::{Event, Fault, Line, Mod};
-use plain::{Items, Table};
-use rights_core::Ending;
+use node_core::{Fault, Line, Mod};
+use plain::{Bytes, Items, Table};
 use session_core::Offer;
 use std::alloc::{AllocError, Global};
 use tags_cell::{
-    Alive, Call, ClientNumber, Invalidation, MessageNumber, NumberedEvent, Out, Reply, Started,
+    Alive, Call, CallResult, ClientNumber, Invalidation, MessageNumber, Out, Reply, Started,
 };
 
 /// What is done for an action. It is made before anything changes.
-#[derive(Debug, Drop)]
+#[derive(Drop)]
 pub struct Plan {
     pub deed: Deed,
     /// What is printed and sent once the deed is done.
     pub taken: Taken,
+    /// The instance of a held lock that the call asks for.
+    pub contested: Option<u64>,
 }
 
 impl Plan {
-    // What becomes of a session, if anything.
-    fn of(session: Option<SessionDeed>, taken: Taken) -> Plan
-        ensures { result ≡ record { deed = record no_deed { session = session }; taken = taken } }
+    // What is told, and the locks that change.
+    pub(crate) fn telling(session: Option<SessionDeed>, told: Told, locks: Items<LockPut>) -> Plan
+        ensures { result ≡ record { deed = record no_deed { session = session; kept = told.kept; locks = locks }; taken = told.taken; contested = None } }
     {
+        let Told { kept, taken } = told;
         Plan {
             deed: Deed {
                 session,
-                kept: None,
+                kept,
                 note: None,
                 change: None,
+                locks,
+                ends_lock: None,
                 recovers: false,
                 leaves: None,
             },
             taken,
+            contested: None,
+        }
+    }
+
+    // What becomes of a session, if anything.
+    pub(crate) fn of(alloc: Global, session: Option<SessionDeed>, taken: Taken) -> Plan
+        ensures { result ≡ record { deed = record no_deed { session = session }; taken = taken; contested = None } }
+    {
+        Plan {
+            deed: Deed {
+                session,
+                kept: Items::new(alloc),
+                note: None,
+                change: None,
+                locks: Items::new(alloc),
+                ends_lock: None,
+                recovers: false,
+                leaves: None,
+            },
+            taken,
+            contested: None,
         }
     }
 }
@@ -55,8 +81,9 @@ pub(crate) fn plan_of(master: &Master, action: &Action) -> Result<Plan, AllocErr
         Action::Recover => plan_recovery(master),
         Action::Expire(client) => plan_expiry(master, *client),
         Action::Apply(number) => plan_apply(master, *number),
+        Action::Reopen(instance) => plan_reopen(master, *instance),
         Action::Answer(client) => plan_answer(master, *client),
-        Action::Quiet => Ok(Plan::of(None, master.nothing())),
+        Action::Quiet => Ok(Plan::of(master.alloc(), None, master.nothing())),
     }
 }
 
@@ -64,7 +91,7 @@ fn plan_recovery(master: &Master) -> Result<Plan, AllocError>
     ensures { IfOk result (λ plan. plan ≡ plan_of master.now actions.Recover) }
 {
     let taken = printed(master, Line::Recovered)?;
-    let mut plan = Plan::of(None, taken);
+    let mut plan = Plan::of(master.alloc(), None, taken);
     plan.deed.recovers = true;
     Ok(plan)
 }
@@ -74,27 +101,14 @@ fn plan_expiry(master: &Master, client: u64) -> Result<Plan, AllocError>
     ensures { IfOk result (λ plan. plan ≡ plan_expiry master.now client) }
 {
     let Some(session) = master.sessions().get(client) else {
-        return Ok(Plan::of(None, master.nothing()));
+        return Ok(Plan::of(master.alloc(), None, master.nothing()));
     };
-    let locks = master.held_locks_of(client)?;
     let principal = session.principal.clone()?;
-    let taken = expiry_taken(master, client)?;
-    Ok(Plan::of(Some(SessionDeed::Ends(client, principal, locks)), taken))
-}
-
-// What is printed of a session that ends.
-fn expiry_taken(master: &Master, client: u64) -> Result<Taken, AllocError>
-    ensures { IfOk result (λ taken. taken ≡ record { lines = expiry_lines master.now client; outs = [] }) }
-{
-    let expired = master.rights().ending(client, Ending::Expiry)?;
-    let mut taken = master.nothing();
-    taken.lines = expired_lines(master.alloc(), expired.as_slice())?;
-    taken.lines.push(Line::Ended(client))?;
-    Ok(taken)
+    expiry_plan(master, client, principal)
 }
 
 // The rights of these numbers have expired.
-fn expired_lines(alloc: Global, numbers: &[u64]) -> Result<Items<Line>, AllocError>
+pub(crate) fn expired_lines(alloc: Global, numbers: &[u64]) -> Result<Items<Line>, AllocError>
     ensures { IfOk result (λ printed. printed ≡ map lines.Expired numbers.now) }
 {
     let mut printed = Items::new(alloc);
@@ -109,7 +123,7 @@ fn plan_apply(master: &Master, number: u64) -> Result<Plan, AllocError>
     ensures { IfOk result (λ plan. plan ≡ plan_of master.now (actions.Apply number)) }
 {
     let Some(task) = master.task(number) else {
-        return Ok(Plan::of(None, master.nothing()));
+        return Ok(Plan::of(master.alloc(), None, master.nothing()));
     };
     let mut plan = plan_task(master, task)?;
     plan.deed.leaves = Some(number);
@@ -125,7 +139,7 @@ fn plan_task(master: &Master, task: &Task) -> Result<Plan, AllocError>
         Work::Starts(principal, received) => {
             plan_start(master, client, number, principal, *received)
         }
-        Work::Calls(call) => plan_call(master, client, number, call),
+        Work::Calls(call, sequencer) => plan_call(master, client, number, call, sequencer),
     }
 }
 
@@ -144,7 +158,7 @@ fn plan_start(
         return plan_session(master, client, number, principal, received);
     }
     let taken = master.turned_away(client, number, Fault::NoSession)?;
-    Ok(Plan::of(None, taken))
+    Ok(Plan::of(master.alloc(), None, taken))
 }
 
 fn plan_session(
@@ -158,11 +172,15 @@ fn plan_session(
 {
     if master.is_live(client) {
         let taken = started_out(master, client, number, received)?;
-        return Ok(Plan::of(Some(SessionDeed::Prolongs(client)), taken));
+        return Ok(Plan::of(master.alloc(), Some(SessionDeed::Prolongs(client)), taken));
     }
     let taken = started(master, client, number, received)?;
     let principal = principal.clone()?;
-    Ok(Plan::of(Some(SessionDeed::Begins(client, principal)), taken))
+    Ok(Plan::of(
+        master.alloc(),
+        Some(SessionDeed::Begins(client, principal)),
+        taken,
+    ))
 }
 
 // The client's new session is printed too.
@@ -204,14 +222,48 @@ fn plan_call(
     client: ClientNumber,
     number: MessageNumber,
     call: &Call,
+    sequencer: &Option<Bytes>,
 ) -> Result<Plan, AllocError>
-    ensures { IfOk result (λ plan. plan ≡ plan_call master.now client number call.now) }
+    ensures { IfOk result (λ plan. plan ≡ plan_call master.now client number call.now sequencer.now) }
 {
     if !master.is_live(client) {
-        return Ok(Plan::of(None, master.nothing()));
+        return Ok(Plan::of(master.alloc(), None, master.nothing()));
     }
-    let effect = effect_of(master, client, number, call)?;
-    plan_effect(master, client, number, effect)
+    let effect = effect_of(master, client, number, call, sequencer)?;
+    plan_asked(master, client, number, call, effect)
+}
+
+// Who holds a lock that the call asks for is told of that.
+fn plan_asked(
+    master: &Master,
+    client: ClientNumber,
+    number: MessageNumber,
+    call: &Call,
+    effect: Effect,
+) -> Result<Plan, AllocError>
+    ensures { IfOk result (λ plan. plan ≡ plan_asked master.now client number call.now effect) }
+{
+    match contested_by(master, client, call, &effect) {
+        Ok(contested) => contesting(master, client, number, effect, contested),
+        Err(error) => {
+            drop(effect);
+            Err(error)
+        }
+    }
+}
+
+fn contesting(
+    master: &Master,
+    client: ClientNumber,
+    number: MessageNumber,
+    effect: Effect,
+    contested: Option<u64>,
+) -> Result<Plan, AllocError>
+    ensures { IfOk result (λ plan. plan ≡ record (plan_effect master.now client number effect) { contested = contested }) }
+{
+    let mut plan = plan_effect(master, client, number, effect)?;
+    plan.contested = contested;
+    Ok(plan)
 }
 
 fn plan_effect(
@@ -222,52 +274,174 @@ fn plan_effect(
 ) -> Result<Plan, AllocError>
     ensures { IfOk result (λ plan. plan ≡ plan_effect master.now client number effect) }
 {
+    match effect_told(master, client, number, &effect) {
+        Ok(told) => effect_plan(master.alloc(), effect, told),
+        Err(error) => {
+            drop(effect);
+            Err(error)
+        }
+    }
+}
+
+// What is kept, printed and sent of a call.
+fn effect_told(
+    master: &Master,
+    client: ClientNumber,
+    number: MessageNumber,
+    effect: &Effect,
+) -> Result<Told, AllocError>
+    ensures kept { IfOk result (λ told. told.kept ≡ (plan_effect master.now client number effect.now).deed.kept) }
+    ensures taken { IfOk result (λ told. told.taken ≡ (plan_effect master.now client number effect.now).taken) }
+{
+    let lines = effect_lines(master.alloc(), client, number, effect)?;
+    let replies = effect_replies(master, client, number, effect)?;
+    told_by(master.alloc(), lines, replies)
+}
+
+// What it changes.
+fn effect_plan(alloc: Global, effect: Effect, told: Told) -> Result<Plan, AllocError>
+    ensures { IfOk result (λ plan. plan ≡ record {
+      deed =
+          record no_deed {
+            kept = told.kept;
+            note = effect.note;
+            change = effect.change;
+            locks = locking_puts effect.locking;
+            ends_lock = lock_ended effect.locking;
+          };
+      taken = told.taken;
+      contested = None;
+    }) }
+{
     let Effect {
         note,
         change,
+        locking,
         answer,
     } = effect;
-    let reply = master.reply_of(client, number, answer);
-    let taken = reply_taken(master, &reply, &change)?;
-    let kept = Some(KeptPut {
-        client,
-        kept: answered_by(reply),
-    });
+    drop(answer);
+    let ends_lock = lock_ended(&locking);
+    let locks = locking_puts(alloc, locking)?;
+    let Told { kept, taken } = told;
     Ok(Plan {
         deed: Deed {
             session: None,
             kept,
             note,
             change,
+            locks,
+            ends_lock,
             recovers: false,
             leaves: None,
         },
         taken,
+        contested: None,
     })
 }
 
-// What is printed and sent for a call.
-fn reply_taken(master: &Master, reply: &Reply, change: &Option<Change>) -> Result<Taken, AllocError>
-    ensures lines { IfOk result (λ taken. taken.lines ≡ applied_lines reply.now.client reply.now.number change.now) }
-    ensures outs { IfOk result (λ taken. taken.outs ≡ (sends reply.now).outs) }
-{
-    let mut taken = master.sends(reply)?;
-    if let Some(applied) = change {
-        let line = applied_line(reply.client, reply.number, &applied.change)?;
-        taken.lines.push(line)?;
-    }
-    Ok(taken)
-}
-
-fn applied_line(
+// The caller's reply first.
+fn effect_replies(
+    master: &Master,
     client: ClientNumber,
     number: MessageNumber,
-    change: &Mod,
-) -> Result<Line, AllocError>
-    ensures { IfOk result (λ line. line ≡ lines.Applied client number change.now) }
+    effect: &Effect,
+) -> Result<Items<Reply>, AllocError>
+    ensures { IfOk result (λ replies. replies ≡ effect_replies master.now client number effect.now) }
 {
-    let shown = change.clone()?;
-    Ok(Line::Applied(client.get(), number.get(), shown))
+    let mut replies = own_replies(master, client, number, &effect.answer)?;
+    replies.append(locking_replies(master, &effect.locking)?)?;
+    Ok(replies)
+}
+
+// A call that waits for a lock has no reply yet.
+fn own_replies(
+    master: &Master,
+    client: ClientNumber,
+    number: MessageNumber,
+    answer: &Option<CallResult>,
+) -> Result<Items<Reply>, AllocError>
+    ensures { IfOk result (λ replies. replies ≡ own_replies master.now client number answer.now) }
+{
+    let mut replies = Items::new(master.alloc());
+    if let Some(answer) = answer {
+        replies.push(master.reply_of(client, number, answer.clone()?))?;
+    }
+    Ok(replies)
+}
+
+// What is printed of a call.
+fn effect_lines(
+    alloc: Global,
+    client: ClientNumber,
+    number: MessageNumber,
+    effect: &Effect,
+) -> Result<Items<Line>, AllocError>
+    ensures { IfOk result (λ printed. printed ≡ applied_lines client number effect.now.change ++ locking_lines client effect.now.locking) }
+{
+    let mut printed = applied_lines(alloc, client, number, &effect.change)?;
+    printed.append(locking_lines(alloc, client.get(), &effect.locking)?)?;
+    Ok(printed)
+}
+
+fn lock_ended(locking: &Locking) -> Option<u64>
+    ensures { result ≡ lock_ended locking.now }
+{
+    match locking {
+        Locking::Goes(instance, _) => Some(*instance),
+        _ => None,
+    }
+}
+
+fn locking_puts(alloc: Global, locking: Locking) -> Result<Items<LockPut>, AllocError>
+    ensures { IfOk result (λ puts. puts ≡ locking_puts locking) }
+{
+    let mut puts = Items::new(alloc);
+    match locking {
+        Locking::Nothing => {}
+        Locking::Takes(put, _claim) => puts.push(put)?,
+        Locking::Waits(put) => puts.push(put)?,
+        Locking::Leaves(leave) => puts.push(left_put(leave))?,
+        Locking::Goes(_instance, _waiters) => {}
+    }
+    Ok(puts)
+}
+
+fn left_put(leave: Leave) -> LockPut
+    ensures { result ≡ left_put leave }
+{
+    let Leave {
+        name,
+        instance,
+        held: _held,
+        turn,
+    } = leave;
+    let Turn {
+        lock,
+        granted: _granted,
+        exhausted: _exhausted,
+    } = turn;
+    LockPut {
+        name,
+        instance,
+        lock,
+    }
+}
+
+// The line of a change of the map, if there is one.
+fn applied_lines(
+    alloc: Global,
+    client: ClientNumber,
+    number: MessageNumber,
+    change: &Option<Change>,
+) -> Result<Items<Line>, AllocError>
+    ensures { IfOk result (λ printed. printed ≡ applied_lines client number change.now) }
+{
+    let mut printed = Items::new(alloc);
+    if let Some(applied) = change {
+        let shown = applied.change.clone()?;
+        printed.push(Line::Applied(client.get(), number.get(), shown))?;
+    }
+    Ok(printed)
 }
 
 // ---- Beats
@@ -276,10 +450,10 @@ fn plan_answer(master: &Master, client: ClientNumber) -> Result<Plan, AllocError
     ensures { IfOk result (λ plan. plan ≡ plan_answer master.now client) }
 {
     let Some(offer) = master.sessions().offer(client, master.clock()) else {
-        return Ok(Plan::of(None, master.nothing()));
+        return Ok(Plan::of(master.alloc(), None, master.nothing()));
     };
     let taken = alive_out(master, client, offer)?;
-    Ok(Plan::of(Some(SessionDeed::Answers(client)), taken))
+    Ok(Plan::of(master.alloc(), Some(SessionDeed::Answers(client)), taken))
 }
 
 fn alive_out(master: &Master, client: ClientNumber, offer: Offer) -> Result<Taken, AllocError>
@@ -294,23 +468,8 @@ fn alive_out(master: &Master, client: ClientNumber, offer: Offer) -> Result<Take
         number,
         span,
         invalidations,
-        events: events_for(master, client)?,
+        events: master.sessions().unacked(client.get())?,
     }))
-}
-
-// The events that the client has still to acknowledge. The first tells that a new master is up (Burrows 2006, section
-// 2.5), and there is no other.
-fn events_for(master: &Master, client: ClientNumber) -> Result<Items<NumberedEvent>, AllocError>
-    ensures { IfOk result (λ events. events ≡ events_for master.now client) }
-{
-    let mut events = Items::new(master.alloc());
-    if master.sessions().owes_event(client.get()) {
-        events.push(NumberedEvent {
-            number: 1,
-            event: Event::FailOver,
-        })?;
-    }
-    Ok(events)
 }
 
 // The invalidations of these numbers and names, as they are sent.

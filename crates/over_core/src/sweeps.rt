@@ -1,21 +1,23 @@
 //! What a master does by itself.
-ghost use Rattle.std.specs.Prelude.{◌≡◌, ◌⊎◌, true, Ok, Err, map, IfOk, IfErr, OnOk, OnErr};
+ghost use Rattle.std.specs.Prelude.{◌≡◌, ◌⊎◌, ◌≤◌, ◌<◌, ◌+◌, length, true, Ok, Err, IfOk, IfErr, OnOk, OnErr};
+ghost use Rattle.std.specs.Vec.{vec_len, vec_capacity};
 ghost use Rattle.rows_cell.specs.Rows.{changed_rows};
 ghost use Rattle.rows_cell.specs.Sound.{sound};
 ghost use Rattle.rows_cell.specs.Stores.{Commits, IsCommitted, IsRefused};
-ghost use Rattle.rows_cell.specs.declared.tables.Edit.TheVariants.{PutNode, PutSession, RemoveLock};
-ghost use Rattle.cell_core.specs.Deeds.{BeginsNew, session_edits, edit_of, change_edits, edits_of, done};
-ghost use Rattle.over_core.specs.Sweep.{first_action, is_quiet, swept, action_edits, sweep_edits, sweep_step};
+ghost use Rattle.cell_core.specs.Deeds.{BeginsNew, edits_of, done};
+ghost use Rattle.over_core.specs.Notices.{tellings_of};
+ghost use Rattle.over_core.specs.Sweep.{first_action, is_quiet, plan_of, swept, action_edits, is_over, sweep_edits, sweep_step};
 
 use crate::actions::{Action, first_action};
+use crate::edits::edits_of;
+use crate::notices::tellings_of;
 use crate::plans::{Plan, plan_of};
-use cell_core::{Cell as Master, Change, Deed, Grown, SessionDeed, Taken};
+use cell_core::{Cell as Master, Deed, Grown, Taken, Telling};
 use lease_core::MOMENT_LIMIT;
-use names_cell::{Name, Principal};
-use node_core::{Fault, Line, Mod, View};
+use node_core::{Fault, Line};
 use plain::Items;
-use rows_cell::{Edit, LockKey, Records, Session};
-use std::alloc::{AllocError, Global};
+use rows_cell::{Edit, Records};
+use std::alloc::AllocError;
 use tags_cell::Out;
 
 /// What a sweep prints and sends, and whether it found nothing to do.
@@ -35,13 +37,21 @@ impl Swept {
     }
 }
 
+// What is planned for an action, and what the clients of open handles are told of it.
+struct Prepared {
+    plan: Plan,
+    tellings: Items<Telling>,
+}
+
 /// A sweep at a moment, in milliseconds; an earlier one than the last counts as that, and one of 2^53 or more is refused
-/// as Exhausted. A refusal leaves the master as it was.
+/// as Exhausted, as is each sweep once a session's events have no number left. Room for what is printed and sent is made
+/// in a list of the caller's. A refusal leaves the master as it was.
 #[tactic(auto, unfolding(crate::specs::Sweep::sweep_step))]
-pub(crate) fn sweep_by<R: Records>(
+pub(crate) fn sweep_by<R: Records, T>(
     master: &mut Master,
     records: &mut R,
     now: u64,
+    room: &mut Vec<T>,
 ) -> Result<Swept, Fault>
     requires { sound (R.store records.old).cell (changed_rows (R.store records.old).rows (sweep_edits master.old now)) ≡ true }
     ensures ok { IfOk result (λ swept. sweep_step master.old now ≡ Ok (master.new, swept)) }
@@ -49,12 +59,15 @@ pub(crate) fn sweep_by<R: Records>(
     ensures err { OnErr result (master.new ≡ master.old) }
     ensures fault { IfErr result (λ e. (sweep_step master.old now ≡ Err e × R.store records.new ≡ R.store records.old)
         ⊎ IsRefused e (sweep_edits master.old now) (R.store records.old) (R.store records.new)) }
+    ensures items { room.new.items ≡ room.old.items }
+    ensures outs { IfOk result (λ swept. vec_len room.new + length swept.outs ≤ vec_capacity room.new) }
+    ensures lines { IfOk result (λ swept. vec_len room.new + length swept.lines < vec_capacity room.new) }
 {
-    if now >= MOMENT_LIMIT {
+    if is_over(master, now) {
         return Err(Fault::Exhausted);
     }
     let before = master.note_moment(now);
-    match sweep_at(master, records) {
+    match sweep_at(master, records, room) {
         Ok(swept) => Ok(swept),
         Err(fault) => {
             master.restore_moment(before);
@@ -63,20 +76,96 @@ pub(crate) fn sweep_by<R: Records>(
     }
 }
 
+// A moment past the end of moments, or a session whose count of events is at its end.
+fn is_over(master: &Master, now: u64) -> bool
+    ensures { result ≡ is_over master.now now }
+{
+    now >= MOMENT_LIMIT || master.sessions().has_spent_events()
+}
+
 // Does the first action that there is, with at most one commit to the records, which comes before all that is printed
-// and sent. A refusal leaves the master as it was.
-fn sweep_at<R: Records>(master: &mut Master, records: &mut R) -> Result<Swept, Fault>
+// and sent. Behind all else the clients of open handles are told of it. A refusal leaves the master as it was.
+fn sweep_at<R: Records, T>(
+    master: &mut Master,
+    records: &mut R,
+    room: &mut Vec<T>,
+) -> Result<Swept, Fault>
     requires { sound (R.store records.old).cell (changed_rows (R.store records.old).rows (action_edits master.old (first_action master.old))) ≡ true }
     ensures ok { IfOk result (λ done. swept master.old (first_action master.old) ≡ (master.new, done)) }
     ensures store { Commits (action_edits master.old (first_action master.old)) (R.store records.old) (R.store records.new) result }
     ensures err { OnErr result (master.new ≡ master.old) }
+    ensures items { room.new.items ≡ room.old.items }
+    ensures outs { IfOk result (λ swept. vec_len room.new + length swept.outs ≤ vec_capacity room.new) }
+    ensures lines { IfOk result (λ swept. vec_len room.new + length swept.lines < vec_capacity room.new) }
 {
     let action = first_action(master);
-    if is_quiet(&action) {
+    note_if_quiet(master, &action);
+    let Prepared { plan, tellings } = planned(master, &action, room)?;
+    match carry_out(master, records, plan, is_quiet(&action)) {
+        Ok(swept) => {
+            master.tell(tellings);
+            Ok(swept)
+        }
+        Err(fault) => {
+            drop(tellings);
+            Err(fault)
+        }
+    }
+}
+
+// Where there is nothing to do, until when that is so is noted. The master stays as it is.
+fn note_if_quiet(master: &mut Master, action: &Action)
+    ensures { master.new ≡ master.old }
+{
+    if is_quiet(action) {
         master.note_quiet();
     }
-    let plan = plan_of(master, &action)?;
-    carry_out(master, records, plan, is_quiet(&action))
+}
+
+// What is planned for an action, with room for what it prints and sends.
+fn planned<T>(master: &Master, action: &Action, room: &mut Vec<T>) -> Result<Prepared, AllocError>
+    ensures ok { IfOk result (λ prepared. prepared.plan ≡ plan_of master.now action.now) }
+    ensures told { IfOk result (λ prepared. prepared.tellings ≡ tellings_of master.now (plan_of master.now action.now)) }
+    ensures items { room.new.items ≡ room.old.items }
+    ensures outs { IfOk result (λ prepared. vec_len room.new + length prepared.plan.taken.outs ≤ vec_capacity room.new) }
+    ensures lines { IfOk result (λ prepared. vec_len room.new + length prepared.plan.taken.lines < vec_capacity room.new) }
+{
+    let plan = plan_of(master, action)?;
+    match with_room(master, room, &plan) {
+        Ok(tellings) => Ok(Prepared { plan, tellings }),
+        Err(error) => {
+            drop(plan);
+            Err(error)
+        }
+    }
+}
+
+// What the clients of open handles are told of a plan, with room for what it prints and sends.
+fn with_room<T>(
+    master: &Master,
+    room: &mut Vec<T>,
+    plan: &Plan,
+) -> Result<Items<Telling>, AllocError>
+    ensures told { IfOk result (λ tellings. tellings ≡ tellings_of master.now plan.now) }
+    ensures items { room.new.items ≡ room.old.items }
+    ensures outs { OnOk result (vec_len room.new + length plan.now.taken.outs ≤ vec_capacity room.new) }
+    ensures lines { OnOk result (vec_len room.new + length plan.now.taken.lines < vec_capacity room.new) }
+{
+    make_room(room, &plan.taken)?;
+    tellings_of(master, plan)
+}
+
+// Room for all that is sent, and for all that is printed and one more.
+fn make_room<T>(room: &mut Vec<T>, taken: &Taken) -> Result<(), AllocError>
+    ensures items { room.new.items ≡ room.old.items }
+    ensures outs { OnOk result (vec_len room.new + length taken.now.outs ≤ vec_capacity room.new) }
+    ensures lines { OnOk result (vec_len room.new + length taken.now.lines < vec_capacity room.new) }
+{
+    room.reserve(taken.outs.len())?;
+    let Some(lines) = taken.lines.len().checked_add(1) else {
+        return Err(AllocError);
+    };
+    room.reserve(lines)
 }
 
 fn is_quiet(action: &Action) -> bool
@@ -92,14 +181,14 @@ fn carry_out<R: Records>(
     plan: Plan,
     quiet: bool,
 ) -> Result<Swept, Fault>
-    requires sound { sound (R.store records.old).cell (changed_rows (R.store records.old).rows (edits_of plan.deed)) ≡ true }
+    requires sound { sound (R.store records.old).cell (changed_rows (R.store records.old).rows (edits_of master.old plan.deed)) ≡ true }
     requires begins { BeginsNew master.old plan.deed.session }
     ensures ok { IfOk result (λ swept. swept ≡ record { lines = plan.taken.lines; outs = plan.taken.outs; quiet = quiet }) }
     ensures done { OnOk result (master.new ≡ done master.old plan.deed) }
-    ensures store { Commits (edits_of plan.deed) (R.store records.old) (R.store records.new) result }
+    ensures store { Commits (edits_of master.old plan.deed) (R.store records.old) (R.store records.new) result }
     ensures err { OnErr result (master.new ≡ master.old) }
 {
-    let Plan { deed, taken } = plan;
+    let Plan { deed, taken, .. } = plan;
     match commit_edits(master, records, deed) {
         Ok(()) => Ok(Swept::of(taken, quiet)),
         Err(fault) => {
@@ -111,13 +200,13 @@ fn carry_out<R: Records>(
 
 // The deed is done, with its edits committed.
 fn commit_edits<R: Records>(master: &mut Master, records: &mut R, deed: Deed) -> Result<(), Fault>
-    requires sound { sound (R.store records.old).cell (changed_rows (R.store records.old).rows (edits_of deed)) ≡ true }
+    requires sound { sound (R.store records.old).cell (changed_rows (R.store records.old).rows (edits_of master.old deed)) ≡ true }
     requires begins { BeginsNew master.old deed.session }
     ensures ok { OnOk result (master.new ≡ done master.old deed) }
-    ensures store { Commits (edits_of deed) (R.store records.old) (R.store records.new) result }
+    ensures store { Commits (edits_of master.old deed) (R.store records.old) (R.store records.new) result }
     ensures err { OnErr result (master.new ≡ master.old) }
 {
-    match edits_of(master.alloc(), &deed) {
+    match edits_of(master, &deed) {
         Ok(edits) => {
             let done = commit_deed(master, records, deed, &edits);
             drop(edits);
@@ -146,7 +235,7 @@ fn commit_deed<R: Records>(
     let Grown { former, rest } = master.grow(deed)?;
     match records.commit(edits) {
         Ok(()) => {
-            drop(former);
+            master.settle(former);
             master.finish(rest);
             Ok(())
         }
@@ -156,76 +245,4 @@ fn commit_deed<R: Records>(
             Err(fault.into())
         }
     }
-}
-
-// What is committed for a deed.
-fn edits_of(alloc: Global, deed: &Deed) -> Result<Items<Edit>, AllocError>
-    ensures { IfOk result (λ edits. edits ≡ edits_of deed.now) }
-{
-    let mut edits = session_edits(alloc, &deed.session)?;
-    edits.append(change_edits(alloc, &deed.change)?)?;
-    Ok(edits)
-}
-
-fn session_edits(alloc: Global, deed: &Option<SessionDeed>) -> Result<Items<Edit>, AllocError>
-    ensures { IfOk result (λ edits. edits ≡ session_edits deed.now) }
-{
-    match deed {
-        Some(SessionDeed::Begins(client, principal)) => {
-            let mut edits = Items::new(alloc);
-            edits.push(put_session(client.get(), principal, true)?)?;
-            Ok(edits)
-        }
-        Some(SessionDeed::Ends(client, principal, locks)) => {
-            let mut edits = unlocks(alloc, locks.as_slice())?;
-            edits.push(put_session(*client, principal, false)?)?;
-            Ok(edits)
-        }
-        _ => Ok(Items::new(alloc)),
-    }
-}
-
-// These locks are let go.
-fn unlocks(alloc: Global, locks: &[LockKey]) -> Result<Items<Edit>, AllocError>
-    ensures { IfOk result (λ edits. edits ≡ map RemoveLock locks.now) }
-{
-    let mut edits = Items::new(alloc);
-    for key in locks {
-        edits.push(Edit::RemoveLock(*key))?;
-    }
-    Ok(edits)
-}
-
-fn put_session(client: u64, principal: &Principal, live: bool) -> Result<Edit, AllocError>
-    ensures { IfOk result (λ edit. edit ≡ PutSession client (record { principal = principal.now; live = live })) }
-{
-    let principal = principal.clone()?;
-    Ok(Edit::PutSession(client, Session { principal, live }))
-}
-
-fn change_edits(alloc: Global, change: &Option<Change>) -> Result<Items<Edit>, AllocError>
-    ensures { IfOk result (λ edits. edits ≡ change_edits change.now) }
-{
-    let mut edits = Items::new(alloc);
-    if let Some(change) = change {
-        edits.push(edit_of(&change.change)?)?;
-        edits.push(Edit::NextInstance(change.next_instance))?;
-    }
-    Ok(edits)
-}
-
-fn edit_of(change: &Mod) -> Result<Edit, AllocError>
-    ensures { IfOk result (λ edit. edit ≡ edit_of change.now) }
-{
-    match change {
-        Mod::Put(name, view) => put_edit(name, view),
-        Mod::Gone(name) => Ok(Edit::RemoveNode(name.clone()?)),
-    }
-}
-
-fn put_edit(name: &Name, view: &View) -> Result<Edit, AllocError>
-    ensures { IfOk result (λ edit. edit ≡ PutNode name.now view.now) }
-{
-    let name = name.clone()?;
-    Ok(Edit::PutNode(name, view.clone()?))
 }

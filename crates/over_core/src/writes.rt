@@ -3,6 +3,7 @@ ghost use Rattle.std.specs.Prelude.{◌≡◌, ◌<◌, ◌-◌, ◌^◌, IfOk};
 ghost use Rattle.over_core.specs.Effect.{changes_to, put_at, delete_at, change_at, change_on, generation_fits, with_content, with_acls};
 
 use crate::effects::Effect;
+use crate::locks::{acquire_at, deleted, release_at, try_at};
 use cell_core::Cell as Master;
 use node_core::{Fault, Mod, NUMBER_LIMIT, View};
 use plain::Bytes;
@@ -38,6 +39,9 @@ fn change_at(
             ..
         } => set_acl_at(master, handle, view, acls, *generation),
         Call::Delete(_) => delete_at(master, handle),
+        Call::Acquire { mode, .. } => acquire_at(master, handle, *mode),
+        Call::TryAcquire { mode, .. } => try_at(master, handle, *mode),
+        Call::Release(_) => release_at(master, handle),
         _ => Ok(Effect::refused(Fault::BadHandle)),
     }
 }
@@ -87,8 +91,7 @@ fn delete_at(master: &Master, handle: &Handle) -> Result<Effect, AllocError>
     if master.map().has_children(&handle.name)? || handle.name.is_root() {
         return Ok(Effect::refused(Fault::NotEmpty));
     }
-    let change = Mod::Gone(handle.name.clone()?);
-    Ok(Effect::changes_to(change, master.next_instance(), CallResult::Done))
+    deleted(master, handle)
 }
 
 // The node of the handle gets this view.

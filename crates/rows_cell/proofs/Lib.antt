@@ -11,3 +11,8 @@ pub mod StoreLemmas
 pub mod InstanceTables
 pub mod WholeTest
 pub mod LiveCounts
+pub mod SortedLookups
+pub mod RowEdits
+pub mod SoundLocks
+pub mod SoundGenerations
+pub mod LockChanges

@@ -41,7 +41,7 @@ views_get (e ∷ es) name =
       | false ↦ views_get es name
     ]
 
-keys_of_views : (nodes : StoredNodes) → keys_of (views_of nodes) ≡ keys_of nodes
+pub keys_of_views : (nodes : StoredNodes) → keys_of (views_of nodes) ≡ keys_of nodes
 keys_of_views [] = refl
 keys_of_views (e ∷ es) = ap (λ ks. e.0 ∷ ks) (keys_of_views es)
 

@@ -59,7 +59,7 @@ all_gone {K} {V} test p (e ∷ es) h =
     ]
 
 -- some value still passes, where the one that goes does not
-any_gone : {K V : Type 0} (test : K → Bool) (p : V → Bool) (es : List (K × V)) → ((w : V) → lookup test es ≡ Some w → p w ≡ false) → list_any (λ e. p e.1) es ≡ true → list_any (λ e. p e.1) (remove_entry test es) ≡ true
+pub any_gone : {K V : Type 0} (test : K → Bool) (p : V → Bool) (es : List (K × V)) → ((w : V) → lookup test es ≡ Some w → p w ≡ false) → list_any (λ e. p e.1) es ≡ true → list_any (λ e. p e.1) (remove_entry test es) ≡ true
 any_gone test p [] fails h = h
 any_gone {K} {V} test p (e ∷ es) fails h =
     let any : List (K × V) → Bool = list_any (λ x. p x.1) in
@@ -199,7 +199,7 @@ state_left rows new key Shared same holder h =
     and_from (list_all (λ e. is_shared e.1.state) (beside new.locks key)) (holder_fits new key) (rw same t.0) (holder t.1)
 state_left rows new key Lapsed same holder h = rw same h
 
-lock_left : (rows new : Rows) (entry : LockKey × LockRow) → beside new.locks entry.0 ≡ beside rows.locks entry.0 → (has_instance rows.nodes entry.0.instance ≡ true → has_instance new.nodes entry.0.instance ≡ true) → (holder_fits rows entry.0 ≡ true → holder_fits new entry.0 ≡ true) → lock_fits rows entry ≡ true → lock_fits new entry ≡ true
+pub lock_left : (rows new : Rows) (entry : LockKey × LockRow) → beside new.locks entry.0 ≡ beside rows.locks entry.0 → (has_instance rows.nodes entry.0.instance ≡ true → has_instance new.nodes entry.0.instance ≡ true) → (holder_fits rows entry.0 ≡ true → holder_fits new entry.0 ≡ true) → lock_fits rows entry ≡ true → lock_fits new entry ≡ true
 lock_left rows new entry same there holder h =
     let t = five_parts (has_instance rows.nodes entry.0.instance) (is_number entry.0.client) (is_number entry.0.handle) (nat_le entry.1.delay 60000) (state_fits rows entry.0 entry.1.state) h in
     rw (there t.0, t.1, t.2, t.3) (state_left rows new entry.0 entry.1.state same holder t.4)

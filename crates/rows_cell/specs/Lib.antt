@@ -4,6 +4,7 @@ pub use Rattle.node_core.specs.Nodes
 pub mod Keys
 pub mod Rows
 pub mod Sound
+pub mod LockRows
 pub mod Stores
 pub mod Indexes
 pub mod Counts

@@ -19,6 +19,10 @@ other_text xs ys r is h same = true≢false (sym ((bytes_eq-Decides xs ys).1 sam
 pub unlike : (xs ys : List ℕ) (r : Bool) → r ≡ bytes_eq xs ys → r ≡ false → xs ≢ ys
 unlike xs ys r is h same = true≢false (sym ((bytes_eq-Decides xs ys).1 same) ∙ sym is ∙ h)
 
+-- what `==` says of two texts
+pub alike : (xs ys : List ℕ) (r : Bool) → r ≡ bytes_eq xs ys → r ≡ true → xs ≡ ys
+alike xs ys r is h = (bytes_eq-Decides xs ys).0 (sym is ∙ h)
+
 pub own : IsNumeralModel (AllDigits 10) (digits_value 10)
 own = numerals_by_value (AllDigits 10) tells_digits
 

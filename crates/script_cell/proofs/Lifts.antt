@@ -42,6 +42,11 @@ plain whole_fault r flaw h out reads =
 abbrev pub none : Bor (List ℕ)
 none = record { ref_ptr = (0, 0); now = [] }
 
+pub one_word : (words : List (Bor (List ℕ))) → 1 ≤ length words → length words < 2 → texts words ≡ (get_or words 0 none).now ∷ []
+one_word (a ∷ []) l h = λ _. (a.now ∷ [])
+one_word [] l h = absurd (omega arith)
+one_word (a ∷ b ∷ words) l h = absurd (omega arith)
+
 pub two_words : (words : List (Bor (List ℕ))) → 2 ≤ length words → length words < 3 → texts words ≡ (get_or words 0 none).now ∷ ((get_or words 1 none).now ∷ [])
 two_words (a ∷ b ∷ []) l h = λ _. (a.now ∷ (b.now ∷ []))
 two_words [] l h = absurd (omega arith)

@@ -17,6 +17,7 @@ use Rattle.tags_cell.specs.declared.calls.Disposition.{Disposition}
 use Rattle.tags_cell.specs.declared.calls.NewNode.{NewNode}
 use Rattle.tags_cell.specs.declared.calls.NewNode.TheVariants.{File, Directory}
 use Rattle.tags_cell.specs.declared.calls.Open.{Open}
+use Rattle.tags_cell.specs.declared.masks.Events.{Events}
 use Rattle.client_parts.specs.declared.asks.Ask.{Ask}
 use Rattle.client_parts.specs.declared.asks.Ask.TheVariants as calls
 use Rattle.client_parts.specs.declared.asks.NodeCall.{NodeCall}
@@ -27,7 +28,7 @@ use Rattle.script_cell.specs.declared.steps.Flaw.{Flaw}
 use Rattle.script_cell.specs.declared.steps.Flaw.TheVariants.{Bad, Refused, NoMemory}
 use Rattle.tags_cell.specs.Modes.{Rights}
 use Rattle.script_cell.specs.Words.{letters_of, HasRight}
-use Rattle.script_cell.specs.Steps.{WritesStep, WritesCall, IsHandleCall, WritesOpen, WritesCreate, WritesPermanent, WritesMade, WritesNode, WritesNodeCall, WritesGeneration, IsFileContent, IsNumber, acl_words, new_acl_words, disposition_word, fault_unless, step_fault, call_fault, open_fault, create_fault, made_fault, new_acls_fault, acls_fault, node_call_fault}
+use Rattle.script_cell.specs.Steps.{WritesStep, WritesCall, IsHandleCall, WritesOpen, WritesMaking, WritesCreate, WritesPermanent, WritesMade, WritesNode, WritesNodeCall, IsPlainCall, WritesGeneration, IsFileContent, IsHex, IsNumber, acl_words, new_acl_words, disposition_word, fault_unless, step_fault, call_fault, open_fault, create_fault, made_fault, new_acls_fault, acls_fault, node_call_fault}
 use Rattle.script_cell.specs.Readings.{Reads, flaw_of}
 use Rattle.script_cell.proofs.Decimals.{unlike, same_text}
 use Rattle.script_cell.proofs.Lifts.{IsPart}
@@ -176,43 +177,90 @@ name_or : (right : Bool) (inner : Option Fault) (fault : Fault) → inner ≡ So
 name_or true inner fault h k = h
 name_or false inner fault h k = k
 
-pub open_part : (words rest : List (List ℕ)) (name letters : List ℕ) (mode : Rights) → letters_of mode ≡ letters → HasRight mode → words ≡ name ∷ (letters ∷ rest) → IsPart {A = Option Create} {B = Open} (WritesCreate rest) create_fault (WritesOpen words) open_fault
+pub open_part : (words rest : List (List ℕ)) (name letters : List ℕ) (mode : Rights) → letters_of mode ≡ letters → HasRight mode → words ≡ name ∷ (letters ∷ rest) → IsPart {A = Option Create × ℕ × Events} {B = Open} (λ making. WritesMaking rest making.0 making.1 making.2) (λ making. create_fault making.0) (WritesOpen words) open_fault
 open_part words rest name letters mode told right shape = record {
-  out = λ b w. (b.create, subst (λ x. WritesCreate x b.create) (ap (λ x. tail (tail x)) (sym w.1 ∙ shape)) w.2.1);
-  make = λ create p. (
-    record { name = name; mode = mode; create = create },
+  out = λ b w. ((b.create, b.delay, b.events), subst (λ x. WritesMaking x b.create b.delay b.events) (ap (λ x. tail (tail x)) (sym w.1 ∙ shape)) w.2.1);
+  make = λ making p. (
+    record { name = name; mode = mode; create = making.0; delay = making.1; events = making.2 },
     (rest, shape ∙ ap (λ x. name ∷ (x ∷ rest)) (sym told), (right, p)),
-    λ fault h. name_or (is_name name) (create_fault create) fault h (only_bad_name create fault h),
+    λ fault h. name_or (is_name name) (create_fault making.0) fault h (only_bad_name making.0 fault h),
   );
 }
 
-pub unnamed_open : (words rest : List (List ℕ)) (name letters : List ℕ) (mode : Rights) (create : Option Create) → letters_of mode ≡ letters → HasRight mode → words ≡ name ∷ (letters ∷ rest) → WritesCreate rest create → is_name name ≡ false → Reads {A = Open} (WritesOpen words) open_fault (Err (Refused BadName))
-unnamed_open words rest name letters mode create told right shape w bad =
-    (record { name = name; mode = mode; create = create }, (rest, shape ∙ ap (λ x. name ∷ (x ∷ rest)) (sym told), (right, w)), ap (λ right. if right then create_fault create else Some BadName) bad)
+pub unnamed_open : (words rest : List (List ℕ)) (name letters : List ℕ) (mode : Rights) (create : Option Create) (delay : ℕ) (events : Events) → letters_of mode ≡ letters → HasRight mode → words ≡ name ∷ (letters ∷ rest) → WritesMaking rest create delay events → is_name name ≡ false → Reads {A = Open} (WritesOpen words) open_fault (Err (Refused BadName))
+unnamed_open words rest name letters mode create delay events told right shape w bad =
+    (record { name = name; mode = mode; create = create; delay = delay; events = events }, (rest, shape ∙ ap (λ x. name ∷ (x ∷ rest)) (sym told), (right, w)), ap (λ right. if right then create_fault create else Some BadName) bad)
 
 -- the name is the word, and it is one
-opened_by : (words rest : List (List ℕ)) (word name letters : List ℕ) (mode : Rights) (create : Option Create) (right : Bool) → is_name word ≡ right → letters_of mode ≡ letters → HasRight mode → words ≡ word ∷ (letters ∷ rest) → WritesCreate rest create → create_fault create ≡ None → (if right then Ok word else Err names.BadName) ≡ Ok name → WritesOpen words (record { name = name; mode = mode; create = create }) × (open_fault (record { name = name; mode = mode; create = create }) ≡ None)
-opened_by words rest word name letters mode create false known told right shape w quiet good = cc
-opened_by words rest word name letters mode create true known told right shape w quiet good =
+opened_by : (words rest : List (List ℕ)) (word name letters : List ℕ) (mode : Rights) (create : Option Create) (delay : ℕ) (events : Events) (right : Bool) → is_name word ≡ right → letters_of mode ≡ letters → HasRight mode → words ≡ word ∷ (letters ∷ rest) → WritesMaking rest create delay events → create_fault create ≡ None → (if right then Ok word else Err names.BadName) ≡ Ok name → WritesOpen words (record { name = name; mode = mode; create = create; delay = delay; events = events }) × (open_fault (record { name = name; mode = mode; create = create; delay = delay; events = events }) ≡ None)
+opened_by words rest word name letters mode create delay events false known told right shape w quiet good = cc
+opened_by words rest word name letters mode create delay events true known told right shape w quiet good =
     let same : word ≡ name = cc in
     let named : is_name name ≡ true = ap is_name (sym same) ∙ known in
     ((rest, shape ∙ ap (λ x. word ∷ (x ∷ rest)) (sym told) ∙ ap (λ x. x ∷ (letters_of mode ∷ rest)) same, (right, w)), ap (λ b. if b then create_fault create else Some BadName) named ∙ quiet)
 
-pub opened : (words rest : List (List ℕ)) (word name letters : List ℕ) (mode : Rights) (create : Option Create) → letters_of mode ≡ letters → HasRight mode → words ≡ word ∷ (letters ∷ rest) → WritesCreate rest create → create_fault create ≡ None → (if is_name word then Ok word else Err names.BadName) ≡ Ok name → WritesOpen words (record { name = name; mode = mode; create = create }) × (open_fault (record { name = name; mode = mode; create = create }) ≡ None)
-opened words rest word name letters mode create told right shape w quiet good = opened_by words rest word name letters mode create (is_name word) refl told right shape w quiet good
+pub opened : (words rest : List (List ℕ)) (word name letters : List ℕ) (mode : Rights) (create : Option Create) (delay : ℕ) (events : Events) → letters_of mode ≡ letters → HasRight mode → words ≡ word ∷ (letters ∷ rest) → WritesMaking rest create delay events → create_fault create ≡ None → (if is_name word then Ok word else Err names.BadName) ≡ Ok name → WritesOpen words (record { name = name; mode = mode; create = create; delay = delay; events = events }) × (open_fault (record { name = name; mode = mode; create = create; delay = delay; events = events }) ≡ None)
+opened words rest word name letters mode create delay events told right shape w quiet good = opened_by words rest word name letters mode create delay events (is_name word) refl told right shape w quiet good
 
 -- ---- calls on a node
 
-pub set_content : (word content : List ℕ) (words last : List (List ℕ)) → word ≡ codes "set" → words ≡ content ∷ last → (b : NodeCall) → WritesNodeCall word words b → (bytes : List ℕ) × IsFileContent content bytes
+as_node_call : (word : List ℕ) (rest : List (List ℕ)) (call : NodeCall) → IsPlainCall word rest call → WritesNodeCall word rest call
+as_node_call word rest nodes.Read w = w
+as_node_call word rest nodes.Stat w = w
+as_node_call word rest nodes.List w = w
+as_node_call word rest nodes.Delete w = w
+as_node_call word rest nodes.Release w = w
+as_node_call word rest nodes.GetSequencer w = w
+as_node_call word rest (nodes.Set bytes generation) w = w
+as_node_call word rest (nodes.SetAcl acls generation) w = w
+as_node_call word rest (nodes.Acquire mode) w = absurd w
+as_node_call word rest (nodes.TryAcquire mode) w = absurd w
+
+as_plain_call : (word : List ℕ) (rest : List (List ℕ)) → word ≢ codes "acquire" → word ≢ codes "try" → (call : NodeCall) → WritesNodeCall word rest call → IsPlainCall word rest call
+as_plain_call word rest a b nodes.Read w = w
+as_plain_call word rest a b nodes.Stat w = w
+as_plain_call word rest a b nodes.List w = w
+as_plain_call word rest a b nodes.Delete w = w
+as_plain_call word rest a b nodes.Release w = w
+as_plain_call word rest a b nodes.GetSequencer w = w
+as_plain_call word rest a b (nodes.Set bytes generation) w = w
+as_plain_call word rest a b (nodes.SetAcl acls generation) w = w
+as_plain_call word rest a b (nodes.Acquire mode) w = a w.0
+as_plain_call word rest a b (nodes.TryAcquire mode) w = b w.0
+
+pub other_node_call : (word : List ℕ) (rest : List (List ℕ)) → word ≢ codes "acquire" → word ≢ codes "try" → (r : Result NodeCall Flaw) → Reads (IsPlainCall word rest) node_call_fault r → Reads (WritesNodeCall word rest) node_call_fault r
+other_node_call word rest a b (Ok call) h = (as_node_call word rest call h.0, h.1)
+other_node_call word rest a b (Err Bad) h = λ call w. h call (as_plain_call word rest a b call w)
+other_node_call word rest a b (Err (Refused fault)) h = (h.0, as_node_call word rest h.0 h.1, h.2)
+other_node_call word rest a b (Err NoMemory) h = tt
+
+pub set_content : (word content : List ℕ) (words last : List (List ℕ)) → word ≡ codes "set" → words ≡ content ∷ last → (b : NodeCall) → IsPlainCall word words b → (bytes : List ℕ) × IsFileContent content bytes
 set_content word content words last is shape nodes.Read w = absurd (other (codes "set") (codes "read") refl is w.0)
 set_content word content words last is shape nodes.Stat w = absurd (other (codes "set") (codes "stat") refl is w.0)
 set_content word content words last is shape nodes.List w = absurd (other (codes "set") (codes "list") refl is w.0)
 set_content word content words last is shape nodes.Delete w = absurd (other (codes "set") (codes "delete") refl is w.0)
+set_content word content words last is shape (nodes.Acquire mode) w = absurd w
+set_content word content words last is shape (nodes.TryAcquire mode) w = absurd w
+set_content word content words last is shape nodes.Release w = absurd (other (codes "set") (codes "release") refl is w.0)
+set_content word content words last is shape nodes.GetSequencer w = absurd (other (codes "set") (codes "getseq") refl is w.0)
 set_content word content words last is shape (nodes.Set bytes generation) w =
     let same : w.1.0 ≡ content = ap head (sym w.1.2 ∙ shape) in (bytes, subst (λ c. IsFileContent c bytes) same w.1.3.0)
 set_content word content words last is shape (nodes.SetAcl acls generation) w = absurd (other (codes "set") (codes "acl") refl is w.0)
 
-pub set_written : (word content bytes : List ℕ) (words last : List (List ℕ)) (generation : Option ℕ) → word ≡ codes "set" → words ≡ content ∷ last → IsFileContent content bytes → WritesGeneration last generation → WritesNodeCall word words (nodes.Set bytes generation)
+pub set_generation : (word content : List ℕ) (words last : List (List ℕ)) → word ≡ codes "set" → words ≡ content ∷ last → (b : NodeCall) → IsPlainCall word words b → (generation : Option ℕ) × WritesGeneration last generation
+set_generation word content words last is shape nodes.Read w = absurd (other (codes "set") (codes "read") refl is w.0)
+set_generation word content words last is shape nodes.Stat w = absurd (other (codes "set") (codes "stat") refl is w.0)
+set_generation word content words last is shape nodes.List w = absurd (other (codes "set") (codes "list") refl is w.0)
+set_generation word content words last is shape nodes.Delete w = absurd (other (codes "set") (codes "delete") refl is w.0)
+set_generation word content words last is shape (nodes.Acquire mode) w = absurd w
+set_generation word content words last is shape (nodes.TryAcquire mode) w = absurd w
+set_generation word content words last is shape nodes.Release w = absurd (other (codes "set") (codes "release") refl is w.0)
+set_generation word content words last is shape nodes.GetSequencer w = absurd (other (codes "set") (codes "getseq") refl is w.0)
+set_generation word content words last is shape (nodes.Set bytes generation) w =
+    (generation, subst (λ x. WritesGeneration x generation) (ap tail (sym w.1.2 ∙ shape)) w.1.3.1)
+set_generation word content words last is shape (nodes.SetAcl acls generation) w = absurd (other (codes "set") (codes "acl") refl is w.0)
+
+pub set_written : (word content bytes : List ℕ) (words last : List (List ℕ)) (generation : Option ℕ) → word ≡ codes "set" → words ≡ content ∷ last → IsFileContent content bytes → WritesGeneration last generation → IsPlainCall word words (nodes.Set bytes generation)
 set_written word content bytes words last generation is shape fits told = (is, (content, last, shape, (fits, told)))
 
 abbrev behind_three : List (List ℕ) → List (List ℕ)
@@ -221,27 +269,35 @@ behind_three words = tail (tail (tail words))
 abbrev three : List (List ℕ) → List (List ℕ)
 three words = head words ∷ (head (tail words) ∷ (head (tail (tail words)) ∷ []))
 
-pub acl_generation : (word r w c : List ℕ) (words last : List (List ℕ)) → word ≡ codes "acl" → words ≡ r ∷ (w ∷ (c ∷ last)) → (b : NodeCall) → WritesNodeCall word words b → (generation : Option ℕ) × WritesGeneration last generation
+pub acl_generation : (word r w c : List ℕ) (words last : List (List ℕ)) → word ≡ codes "acl" → words ≡ r ∷ (w ∷ (c ∷ last)) → (b : NodeCall) → IsPlainCall word words b → (generation : Option ℕ) × WritesGeneration last generation
 acl_generation word r w c words last is shape nodes.Read h = absurd (other (codes "acl") (codes "read") refl is h.0)
 acl_generation word r w c words last is shape nodes.Stat h = absurd (other (codes "acl") (codes "stat") refl is h.0)
 acl_generation word r w c words last is shape nodes.List h = absurd (other (codes "acl") (codes "list") refl is h.0)
 acl_generation word r w c words last is shape nodes.Delete h = absurd (other (codes "acl") (codes "delete") refl is h.0)
+acl_generation word r w c words last is shape (nodes.Acquire mode) h = absurd h
+acl_generation word r w c words last is shape (nodes.TryAcquire mode) h = absurd h
+acl_generation word r w c words last is shape nodes.Release h = absurd (other (codes "acl") (codes "release") refl is h.0)
+acl_generation word r w c words last is shape nodes.GetSequencer h = absurd (other (codes "acl") (codes "getseq") refl is h.0)
 acl_generation word r w c words last is shape (nodes.Set bytes generation) h = absurd (other (codes "acl") (codes "set") refl is h.0)
 acl_generation word r w c words last is shape (nodes.SetAcl acls generation) h =
     (generation, subst (λ x. WritesGeneration x generation) (ap behind_three (sym h.1.1 ∙ shape)) h.1.2)
 
-given_names : (word r w c : List ℕ) (words last : List (List ℕ)) → word ≡ codes "acl" → words ≡ r ∷ (w ∷ (c ∷ last)) → (b : NodeCall) → WritesNodeCall word words b → (acls : AclNames) × (acl_words acls ≡ r ∷ (w ∷ (c ∷ [])))
+given_names : (word r w c : List ℕ) (words last : List (List ℕ)) → word ≡ codes "acl" → words ≡ r ∷ (w ∷ (c ∷ last)) → (b : NodeCall) → IsPlainCall word words b → (acls : AclNames) × (acl_words acls ≡ r ∷ (w ∷ (c ∷ [])))
 given_names word r w c words last is shape nodes.Read h = absurd (other (codes "acl") (codes "read") refl is h.0)
 given_names word r w c words last is shape nodes.Stat h = absurd (other (codes "acl") (codes "stat") refl is h.0)
 given_names word r w c words last is shape nodes.List h = absurd (other (codes "acl") (codes "list") refl is h.0)
 given_names word r w c words last is shape nodes.Delete h = absurd (other (codes "acl") (codes "delete") refl is h.0)
+given_names word r w c words last is shape (nodes.Acquire mode) h = absurd h
+given_names word r w c words last is shape (nodes.TryAcquire mode) h = absurd h
+given_names word r w c words last is shape nodes.Release h = absurd (other (codes "acl") (codes "release") refl is h.0)
+given_names word r w c words last is shape nodes.GetSequencer h = absurd (other (codes "acl") (codes "getseq") refl is h.0)
 given_names word r w c words last is shape (nodes.Set bytes generation) h = absurd (other (codes "acl") (codes "set") refl is h.0)
 given_names word r w c words last is shape (nodes.SetAcl acls generation) h = (acls, ap three (sym h.1.1 ∙ shape))
 
-pub acl_written : (word r w c : List ℕ) (words last : List (List ℕ)) (acls : AclNames) (generation : Option ℕ) → word ≡ codes "acl" → words ≡ r ∷ (w ∷ (c ∷ last)) → WritesGeneration last generation → acl_words acls ≡ r ∷ (w ∷ (c ∷ [])) → WritesNodeCall word words (nodes.SetAcl acls generation)
+pub acl_written : (word r w c : List ℕ) (words last : List (List ℕ)) (acls : AclNames) (generation : Option ℕ) → word ≡ codes "acl" → words ≡ r ∷ (w ∷ (c ∷ last)) → WritesGeneration last generation → acl_words acls ≡ r ∷ (w ∷ (c ∷ [])) → IsPlainCall word words (nodes.SetAcl acls generation)
 acl_written word r w c words last acls generation is shape told p = (is, (last, shape ∙ ap (λ x. x ++ last) (sym p), told))
 
-pub acl_part : (word r w c : List ℕ) (words last : List (List ℕ)) (generation : Option ℕ) → word ≡ codes "acl" → words ≡ r ∷ (w ∷ (c ∷ last)) → WritesGeneration last generation → IsPart {A = AclNames} {B = NodeCall} (λ acls. acl_words acls ≡ r ∷ (w ∷ (c ∷ []))) acls_fault (WritesNodeCall word words) node_call_fault
+pub acl_part : (word r w c : List ℕ) (words last : List (List ℕ)) (generation : Option ℕ) → word ≡ codes "acl" → words ≡ r ∷ (w ∷ (c ∷ last)) → WritesGeneration last generation → IsPart {A = AclNames} {B = NodeCall} (λ acls. acl_words acls ≡ r ∷ (w ∷ (c ∷ []))) acls_fault (IsPlainCall word words) node_call_fault
 acl_part word r w c words last generation is shape told = record {
   out = given_names word r w c words last is shape;
   make = λ acls p. (nodes.SetAcl acls generation, acl_written word r w c words last acls generation is shape told p, λ fault h. h);
@@ -254,6 +310,8 @@ handle_out word handle words rest shape (calls.Node n call) w = (call, subst (λ
 handle_out word handle words rest shape (calls.Open opening) w = absurd w
 handle_out word handle words rest shape (calls.Close n) w = absurd w
 handle_out word handle words rest shape (calls.Poison n) w = absurd w
+handle_out word handle words rest shape (calls.SetSequencer n bytes) w = absurd w
+handle_out word handle words rest shape (calls.CheckSequencer bytes) w = absurd w
 
 pub handle_written : (word handle : List ℕ) (words rest : List (List ℕ)) (n : ℕ) (call : NodeCall) → decimal n ≡ handle → IsNumber n → words ≡ handle ∷ rest → WritesNodeCall word rest call → IsHandleCall word words (calls.Node n call)
 handle_written word handle words rest n call is small shape w = (rest, shape ∙ ap (λ x. x ∷ rest) (sym is), (small, w))
@@ -269,6 +327,10 @@ no_node_call word rest nodes.Read is w = other (codes "open") (codes "read") ref
 no_node_call word rest nodes.Stat is w = other (codes "open") (codes "stat") refl is w.0
 no_node_call word rest nodes.List is w = other (codes "open") (codes "list") refl is w.0
 no_node_call word rest nodes.Delete is w = other (codes "open") (codes "delete") refl is w.0
+no_node_call word rest (nodes.Acquire mode) is w = other (codes "open") (codes "acquire") refl is w.0
+no_node_call word rest (nodes.TryAcquire mode) is w = other (codes "open") (codes "try") refl is w.0
+no_node_call word rest nodes.Release is w = other (codes "open") (codes "release") refl is w.0
+no_node_call word rest nodes.GetSequencer is w = other (codes "open") (codes "getseq") refl is w.0
 no_node_call word rest (nodes.Set bytes generation) is w = other (codes "open") (codes "set") refl is w.0
 no_node_call word rest (nodes.SetAcl acls generation) is w = other (codes "open") (codes "acl") refl is w.0
 
@@ -276,6 +338,8 @@ open_out : (word : List ℕ) (rest : List (List ℕ)) → word ≡ codes "open" 
 open_out word rest is (calls.Open opening) w = (opening, w.1)
 open_out word rest is (calls.Close n) w = absurd (other (codes "open") (codes "close") refl is w.0)
 open_out word rest is (calls.Poison n) w = absurd (other (codes "open") (codes "poison") refl is w.0)
+open_out word rest is (calls.SetSequencer n bytes) w = absurd (other (codes "open") (codes "setseq") refl is w.0)
+open_out word rest is (calls.CheckSequencer bytes) w = absurd (other (codes "open") (codes "checkseq") refl is w.0)
 open_out word rest is (calls.Node n call) w = absurd (no_node_call word w.0 call is w.2.1)
 
 pub open_call_part : (word : List ℕ) (rest : List (List ℕ)) → word ≡ codes "open" → IsPart {A = Open} {B = Ask} (WritesOpen rest) open_fault (WritesCall word rest) call_fault
@@ -289,18 +353,63 @@ as_call word rest (calls.Node n call) w = w
 as_call word rest (calls.Open opening) w = absurd w
 as_call word rest (calls.Close n) w = absurd w
 as_call word rest (calls.Poison n) w = absurd w
+as_call word rest (calls.SetSequencer n bytes) w = absurd w
+as_call word rest (calls.CheckSequencer bytes) w = absurd w
 
-as_handle_call : (word : List ℕ) (rest : List (List ℕ)) → word ≢ codes "open" → word ≢ codes "close" → word ≢ codes "poison" → (call : Ask) → WritesCall word rest call → IsHandleCall word rest call
-as_handle_call word rest a b c (calls.Node n call) w = w
-as_handle_call word rest a b c (calls.Open opening) w = a w.0
-as_handle_call word rest a b c (calls.Close n) w = b w.0
-as_handle_call word rest a b c (calls.Poison n) w = c w.0
+as_handle_call : (word : List ℕ) (rest : List (List ℕ)) → word ≢ codes "open" → word ≢ codes "close" → word ≢ codes "poison" → word ≢ codes "setseq" → word ≢ codes "checkseq" → (call : Ask) → WritesCall word rest call → IsHandleCall word rest call
+as_handle_call word rest a b c d e (calls.Node n call) w = w
+as_handle_call word rest a b c d e (calls.Open opening) w = a w.0
+as_handle_call word rest a b c d e (calls.Close n) w = b w.0
+as_handle_call word rest a b c d e (calls.Poison n) w = c w.0
+as_handle_call word rest a b c d e (calls.SetSequencer n bytes) w = d w.0
+as_handle_call word rest a b c d e (calls.CheckSequencer bytes) w = e w.0
 
-pub other_call : (word : List ℕ) (rest : List (List ℕ)) → word ≢ codes "open" → word ≢ codes "close" → word ≢ codes "poison" → (r : Result Ask Flaw) → Reads (IsHandleCall word rest) call_fault r → Reads (WritesCall word rest) call_fault r
-other_call word rest a b c (Ok call) h = (as_call word rest call h.0, h.1)
-other_call word rest a b c (Err Bad) h = λ call w. h call (as_handle_call word rest a b c call w)
-other_call word rest a b c (Err (Refused fault)) h = (h.0, as_call word rest h.0 h.1, h.2)
-other_call word rest a b c (Err NoMemory) h = tt
+pub other_call : (word : List ℕ) (rest : List (List ℕ)) → word ≢ codes "open" → word ≢ codes "close" → word ≢ codes "poison" → word ≢ codes "setseq" → word ≢ codes "checkseq" → (r : Result Ask Flaw) → Reads (IsHandleCall word rest) call_fault r → Reads (WritesCall word rest) call_fault r
+other_call word rest a b c d e (Ok call) h = (as_call word rest call h.0, h.1)
+other_call word rest a b c d e (Err Bad) h = λ call w. h call (as_handle_call word rest a b c d e call w)
+other_call word rest a b c d e (Err (Refused fault)) h = (h.0, as_call word rest h.0 h.1, h.2)
+other_call word rest a b c d e (Err NoMemory) h = tt
+
+-- ---- sequencers
+
+pub setting_out : (words : List (List ℕ)) (handle text : List ℕ) → words ≡ handle ∷ (text ∷ []) → (b : Ask) → WritesCall (codes "setseq") words b → (bytes : List ℕ) × IsHex text bytes
+setting_out words handle text shape (calls.SetSequencer n bytes) w =
+    (bytes, subst (λ x. IsHex x bytes) (ap (λ x. head (tail x)) (sym w.1.1 ∙ shape)) w.1.2.1)
+setting_out words handle text shape (calls.CheckSequencer bytes) w = absurd (other (codes "setseq") (codes "checkseq") refl refl w.0)
+setting_out words handle text shape (calls.Open opening) w = absurd (other (codes "setseq") (codes "open") refl refl w.0)
+setting_out words handle text shape (calls.Close n) w = absurd (other (codes "setseq") (codes "close") refl refl w.0)
+setting_out words handle text shape (calls.Poison n) w = absurd (other (codes "setseq") (codes "poison") refl refl w.0)
+setting_out words handle text shape (calls.Node n call) w = absurd (no_setting w.0 call w.2.1) where
+  no_setting : (rest : List (List ℕ)) (call : NodeCall) → WritesNodeCall (codes "setseq") rest call → ⊥
+  no_setting rest nodes.Read w = other (codes "setseq") (codes "read") refl refl w.0
+  no_setting rest nodes.Stat w = other (codes "setseq") (codes "stat") refl refl w.0
+  no_setting rest nodes.List w = other (codes "setseq") (codes "list") refl refl w.0
+  no_setting rest nodes.Delete w = other (codes "setseq") (codes "delete") refl refl w.0
+  no_setting rest (nodes.Acquire mode) w = other (codes "setseq") (codes "acquire") refl refl w.0
+  no_setting rest (nodes.TryAcquire mode) w = other (codes "setseq") (codes "try") refl refl w.0
+  no_setting rest nodes.Release w = other (codes "setseq") (codes "release") refl refl w.0
+  no_setting rest nodes.GetSequencer w = other (codes "setseq") (codes "getseq") refl refl w.0
+  no_setting rest (nodes.Set bytes generation) w = other (codes "setseq") (codes "set") refl refl w.0
+  no_setting rest (nodes.SetAcl acls generation) w = other (codes "setseq") (codes "acl") refl refl w.0
+
+pub check_out : (words : List (List ℕ)) (text : List ℕ) → words ≡ text ∷ [] → (b : Ask) → WritesCall (codes "checkseq") words b → (bytes : List ℕ) × IsHex text bytes
+check_out words text shape (calls.CheckSequencer bytes) w = (bytes, subst (λ x. IsHex x bytes) (ap head (sym w.1.1 ∙ shape)) w.1.2)
+check_out words text shape (calls.SetSequencer n bytes) w = absurd (other (codes "checkseq") (codes "setseq") refl refl w.0)
+check_out words text shape (calls.Open opening) w = absurd (other (codes "checkseq") (codes "open") refl refl w.0)
+check_out words text shape (calls.Close n) w = absurd (other (codes "checkseq") (codes "close") refl refl w.0)
+check_out words text shape (calls.Poison n) w = absurd (other (codes "checkseq") (codes "poison") refl refl w.0)
+check_out words text shape (calls.Node n call) w = absurd (no_check w.0 call w.2.1) where
+  no_check : (rest : List (List ℕ)) (call : NodeCall) → WritesNodeCall (codes "checkseq") rest call → ⊥
+  no_check rest nodes.Read w = other (codes "checkseq") (codes "read") refl refl w.0
+  no_check rest nodes.Stat w = other (codes "checkseq") (codes "stat") refl refl w.0
+  no_check rest nodes.List w = other (codes "checkseq") (codes "list") refl refl w.0
+  no_check rest nodes.Delete w = other (codes "checkseq") (codes "delete") refl refl w.0
+  no_check rest (nodes.Acquire mode) w = other (codes "checkseq") (codes "acquire") refl refl w.0
+  no_check rest (nodes.TryAcquire mode) w = other (codes "checkseq") (codes "try") refl refl w.0
+  no_check rest nodes.Release w = other (codes "checkseq") (codes "release") refl refl w.0
+  no_check rest nodes.GetSequencer w = other (codes "checkseq") (codes "getseq") refl refl w.0
+  no_check rest (nodes.Set bytes generation) w = other (codes "checkseq") (codes "set") refl refl w.0
+  no_check rest (nodes.SetAcl acls generation) w = other (codes "checkseq") (codes "acl") refl refl w.0
 
 -- ---- steps
 

@@ -1,11 +1,13 @@
 -- The lines of a script: the words that write each step.
-use Rattle.std.specs.Prelude.{◌≡◌, ◌⊎◌, ◌&&◌, ◌==◌, ◌<◌, ◌^◌, ⊤, ℕ, Bool, true, false, List, map, [], ◌∷◌, ◌++◌, codes, decimal, Option, None, Some, if◌then◌else◌}
+use Rattle.std.specs.Prelude.{◌≡◌, ◌⊎◌, ◌&&◌, ◌==◌, ◌<◌, ◌≤◌, ◌^◌, ⊤, ℕ, Bool, true, false, List, map, [], ◌∷◌, ◌++◌, codes, decimal, length, Option, None, Some, if◌then◌else◌}
 use Rattle.std.specs.Borrow.{Bor}
 use Rattle.std.specs.List.{list_any, slice_split}
 use Rattle.hex.specs.Hex.{IsBytes}
 use Rattle.names_cell.specs.Text.{is_component, is_name}
 use Rattle.node_core.specs.declared.refusals.Fault.{Fault}
 use Rattle.node_core.specs.declared.refusals.Fault.TheVariants.{BadName, BadPrincipal}
+use Rattle.node_core.specs.Words.{lock_mode_text}
+use Rattle.tags_cell.specs.Masks.{no_events, is_no_events}
 use Rattle.tags_cell.specs.Numbers.{IsClientNumber}
 use Rattle.tags_cell.specs.declared.calls.AclNames.{AclNames}
 use Rattle.tags_cell.specs.declared.calls.Create.{Create}
@@ -14,6 +16,7 @@ use Rattle.tags_cell.specs.declared.calls.Disposition.TheVariants.{May, Must}
 use Rattle.tags_cell.specs.declared.calls.NewNode.{NewNode}
 use Rattle.tags_cell.specs.declared.calls.NewNode.TheVariants.{File, Directory}
 use Rattle.tags_cell.specs.declared.calls.Open.{Open}
+use Rattle.tags_cell.specs.declared.masks.Events.{Events}
 use Rattle.client_parts.specs.declared.asks.Ask.{Ask}
 use Rattle.client_parts.specs.declared.asks.Ask.TheVariants as calls
 use Rattle.client_parts.specs.declared.asks.NodeCall.{NodeCall}
@@ -23,7 +26,7 @@ use Rattle.world_cell.specs.declared.steps.Step.TheVariants as steps
 use Rattle.world_cell.specs.declared.steps.Ticks.{Ticks}
 use Rattle.world_cell.specs.declared.steps.Commit.{Commit}
 use Rattle.world_cell.specs.declared.steps.Commit.TheVariants.{Kept, Lost}
-use Rattle.script_cell.specs.Words.{letters_of, HasRight, IsContent}
+use Rattle.script_cell.specs.Words.{letters_of, HasRight, event_letters, IsWritten, IsContent}
 
 -- a number that a word may write
 abbrev pub IsNumber : ℕ → Type 0
@@ -72,13 +75,63 @@ WritesCreate words None = words ≡ []
 WritesCreate words (Some create) =
     (word : List ℕ) × (rest : List (List ℕ)) × (words ≡ word ∷ rest) × WritesPermanent word rest create
 
+-- the lock-delay in milliseconds, and the words behind it; 0 may be left out
+abbrev pub WritesDelay : List (List ℕ) → ℕ → List (List ℕ) → Type 0
+WritesDelay words delay rest = ((words ≡ rest) × (delay ≡ 0)) ⊎ ((words ≡ codes "delay" ∷ (decimal delay ∷ rest)) × IsNumber delay)
+
+-- the events that a client asks for: none without words
+abbrev pub WritesEvents : List (List ℕ) → Events → Type 0
+WritesEvents words events =
+    ((words ≡ []) × (events ≡ no_events)) ⊎ ((words ≡ codes "events" ∷ (event_letters events ∷ [])) × (is_no_events events ≡ false))
+
+-- the lock-delay of a handle, and behind it its events
+abbrev pub WritesOptions : List (List ℕ) → ℕ → Events → Type 0
+WritesOptions words delay events = (rest : List (List ℕ)) × WritesDelay words delay rest × WritesEvents rest events
+
+-- what an `open` makes, and behind it the lock-delay and the events of the handle
+abbrev pub WritesMaking : List (List ℕ) → Option Create → ℕ → Events → Type 0
+WritesMaking words create delay events =
+    (made : List (List ℕ)) × (last : List (List ℕ)) × (words ≡ made ++ last) × (WritesCreate made create × WritesOptions last delay events)
+
 abbrev pub WritesOpen : List (List ℕ) → Open → Type 0
 WritesOpen words opening =
-    (create : List (List ℕ)) × (words ≡ opening.name ∷ (letters_of opening.mode ∷ create)) × (HasRight opening.mode × WritesCreate create opening.create)
+    (rest : List (List ℕ)) × (words ≡ opening.name ∷ (letters_of opening.mode ∷ rest))
+    × (HasRight opening.mode × WritesMaking rest opening.create opening.delay opening.events)
+
+abbrev pub WritesSomeCreate : List (List ℕ) → Type 0
+WritesSomeCreate words = (create : Option Create) × WritesCreate words create
+
+-- behind the disposition
+abbrev pub WritesSomeNode : List (List ℕ) → Type 0
+WritesSomeNode words = (word : List ℕ) × (create : Create) × WritesPermanent word words create
+
+-- a content, and ACL names
+abbrev pub WritesSomeFile : List (List ℕ) → Type 0
+WritesSomeFile words = (content : List ℕ) × (acls : Option AclNames) × (words ≡ content ∷ new_acl_words acls)
+
+abbrev pub WritesSomeAcls : List (List ℕ) → Type 0
+WritesSomeAcls words = (acls : Option AclNames) × (words ≡ new_acl_words acls)
+
+-- a lock-delay and events begin with words of their own
+abbrev pub IsOptionWord : List ℕ → Type 0
+IsOptionWord word = (word ≡ codes "delay") ⊎ (word ≡ codes "events")
+
+abbrev pub BeginsOptions : List (List ℕ) → Type 0
+BeginsOptions [] = ⊤
+BeginsOptions (word ∷ rest) = IsOptionWord word
+
+-- however the words are read as such a part with a lock-delay or events behind it, the part is so many of them
+pub record IsCut (IsPart : List (List ℕ) → Type 0) (words : List (List ℕ)) (count : ℕ) : Type 0 where
+  pub fits : count ≤ length words
+  pub cut : (part last : List (List ℕ)) → words ≡ part ++ last → IsPart part → BeginsOptions last → length part ≡ count
 
 -- one number
 abbrev pub WritesNumber : List (List ℕ) → ℕ → Type 0
 WritesNumber words n = (words ≡ decimal n ∷ []) × IsNumber n
+
+-- the bytes that a word writes, at least one, two lower case hexadecimal digits each
+abbrev pub IsHex : List ℕ → List ℕ → Type 0
+IsHex word bytes = IsWritten word bytes × IsBytes bytes
 
 -- the word of a call on a node, and the words behind its handle
 abbrev pub WritesNodeCall : List ℕ → List (List ℕ) → NodeCall → Type 0
@@ -90,6 +143,16 @@ WritesNodeCall word rest (nodes.Set bytes generation) =
     (word ≡ codes "set") × ((content : List ℕ) × (last : List (List ℕ)) × (rest ≡ content ∷ last) × (IsFileContent content bytes × WritesGeneration last generation))
 WritesNodeCall word rest (nodes.SetAcl acls generation) =
     (word ≡ codes "acl") × ((last : List (List ℕ)) × (rest ≡ acl_words acls ++ last) × WritesGeneration last generation)
+WritesNodeCall word rest (nodes.Acquire mode) = (word ≡ codes "acquire") × (rest ≡ lock_mode_text mode ∷ [])
+WritesNodeCall word rest (nodes.TryAcquire mode) = (word ≡ codes "try") × (rest ≡ lock_mode_text mode ∷ [])
+WritesNodeCall word rest nodes.Release = (word ≡ codes "release") × (rest ≡ [])
+WritesNodeCall word rest nodes.GetSequencer = (word ≡ codes "getseq") × (rest ≡ [])
+
+-- one that doesn't ask for a lock
+abbrev pub IsPlainCall : List ℕ → List (List ℕ) → NodeCall → Type 0
+IsPlainCall word rest (nodes.Acquire mode) = ⊥
+IsPlainCall word rest (nodes.TryAcquire mode) = ⊥
+IsPlainCall word rest call = WritesNodeCall word rest call
 
 abbrev pub WritesHandleCall : List ℕ → List (List ℕ) → ℕ → NodeCall → Type 0
 WritesHandleCall word words handle call = (rest : List (List ℕ)) × (words ≡ decimal handle ∷ rest) × (IsNumber handle × WritesNodeCall word rest call)
@@ -98,12 +161,22 @@ abbrev pub IsHandleCall : List ℕ → List (List ℕ) → Ask → Type 0
 IsHandleCall word words (calls.Node handle call) = WritesHandleCall word words handle call
 IsHandleCall word words _ = ⊥
 
+-- a handle and a sequencer
+abbrev pub WritesSetting : List (List ℕ) → ℕ → List ℕ → Type 0
+WritesSetting words handle bytes = (text : List ℕ) × (words ≡ decimal handle ∷ (text ∷ [])) × (IsNumber handle × IsHex text bytes)
+
+-- a sequencer
+abbrev pub WritesHex : List (List ℕ) → List ℕ → Type 0
+WritesHex words bytes = (text : List ℕ) × (words ≡ text ∷ []) × IsHex text bytes
+
 -- the word of a call, and the words behind it
 abbrev pub WritesCall : List ℕ → List (List ℕ) → Ask → Type 0
 WritesCall word rest (calls.Open opening) = (word ≡ codes "open") × WritesOpen rest opening
 WritesCall word rest (calls.Close handle) = (word ≡ codes "close") × WritesNumber rest handle
 WritesCall word rest (calls.Poison handle) = (word ≡ codes "poison") × WritesNumber rest handle
 WritesCall word rest (calls.Node handle call) = WritesHandleCall word rest handle call
+WritesCall word rest (calls.SetSequencer handle bytes) = (word ≡ codes "setseq") × WritesSetting rest handle bytes
+WritesCall word rest (calls.CheckSequencer bytes) = (word ≡ codes "checkseq") × WritesHex rest bytes
 
 -- a client, the word of a call, and the words behind it
 abbrev pub WritesAsk : List (List ℕ) → ℕ → Ask → Type 0

@@ -2,6 +2,7 @@
 use Rattle.std.specs.Prelude.{◌≡◌, ◌≢◌, ◌⊎◌, ◌≤◌, ◌<◌, ◌||◌, ℕ, List, [], ◌∷◌, ◌++◌, true, if◌then◌else◌, codes, decimal, replicate, Option, Result, IfOk, MatchOption}
 use Rattle.hex.specs.Hex.{IsBytes, encode_lower}
 use Rattle.tags_cell.specs.Modes.{Rights}
+use Rattle.tags_cell.specs.declared.masks.Events.{Events}
 
 -- a letter for each right, in this order
 abbrev pub letters_of : Rights → List ℕ
@@ -11,6 +12,12 @@ letters_of rights =
 -- some right
 abbrev pub HasRight : Rights → Type 0
 HasRight rights = (rights.read || rights.write || rights.change) ≡ true
+
+-- a letter for each event, in this order
+abbrev pub event_letters : Events → List ℕ
+event_letters events =
+    (if events.contents then codes "m" else [])
+    ++ ((if events.children then codes "d" else []) ++ ((if events.lock then codes "l" else []) ++ (if events.conflict then codes "x" else [])))
 
 -- these bytes, at least one, two lower case hexadecimal digits each
 abbrev pub IsWritten : List ℕ → List ℕ → Type 0

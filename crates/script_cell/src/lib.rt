@@ -11,4 +11,4 @@ mod words;
 pub use lines::Counted;
 pub use scripts::script;
 pub use steps::{Parsed, read_line, read_step};
-pub use words::{content, mode, number};
+pub use words::{content, events, mode, number};

@@ -1,17 +1,18 @@
 //! The steps of a script, each of them a line.
 ghost use Rattle.std.specs.Prelude.{◌≡◌, ◌∷◌, [], codes, IfOk, decimal, None};
 ghost use Rattle.std.specs.Str.Lossy.{utf8_lossy};
-ghost use Rattle.script_cell.specs.Steps.{WritesLine, WritesStep, WritesCall, WritesOpen, WritesCreate, WritesPermanent, WritesMade, WritesNumber, WritesNodeCall, WritesGeneration, IsHandleCall, IsFileContent, IsNumber, WritesTicks, WritesOwn, IsOwn, own_word, commit_word, acl_words, new_acl_words, disposition_word, texts, step_fault, call_fault, open_fault, create_fault, made_fault, new_acls_fault, acls_fault, node_call_fault};
+ghost use Rattle.node_core.specs.Words.{lock_mode_text};
+ghost use Rattle.script_cell.specs.Steps.{WritesLine, WritesStep, WritesCall, WritesOpen, WritesMaking, WritesOptions, WritesEvents, IsCut, WritesSomeCreate, WritesSomeNode, WritesSomeFile, WritesSomeAcls, IsHex, WritesCreate, WritesPermanent, WritesMade, WritesNumber, WritesNodeCall, IsPlainCall, WritesGeneration, IsHandleCall, IsFileContent, IsNumber, WritesTicks, WritesOwn, IsOwn, own_word, commit_word, acl_words, new_acl_words, disposition_word, texts, step_fault, call_fault, open_fault, create_fault, made_fault, new_acls_fault, acls_fault, node_call_fault};
 ghost use Rattle.script_cell.specs.Readings.{Reads, IsParsed, flaw_of};
 
-use crate::words::{content, mode, number};
+use crate::words::{content, events, mode, number, written};
 use client_core::{Ask, NodeCall};
 use names_cell::{Component, Name, NameFault, Principal};
-use node_core::Fault;
+use node_core::{Fault, LockMode};
 use plain::{Bytes, Items};
 use std::alloc::{AllocError, Global};
 use std::str;
-use tags_cell::{AclNames, ClientNumber, Create, Disposition, NewNode, Open};
+use tags_cell::{AclNames, ClientNumber, Create, Disposition, Events, NewNode, Open};
 use world_cell::{Commit, Step, Ticks};
 
 /// What a line of a script asks for.
@@ -220,6 +221,8 @@ fn call_of(alloc: Global, word: &str, rest: &[&str]) -> Result<Ask, Flaw>
         "open" => Ok(Ask::Open(open(alloc, rest)?)),
         "close" => Ok(Ask::Close(only_number(rest)?)),
         "poison" => Ok(Ask::Poison(only_number(rest)?)),
+        "setseq" => set_sequencer(alloc, rest),
+        "checkseq" => check_sequencer(alloc, rest),
         _ => handle_call(alloc, word, rest),
     }
 }
@@ -227,15 +230,102 @@ fn call_of(alloc: Global, word: &str, rest: &[&str]) -> Result<Ask, Flaw>
 fn open(alloc: Global, words: &[&str]) -> Result<Open, Flaw>
     ensures { Reads (WritesOpen (texts words.now)) open_fault result }
 {
-    let [name, letters, create @ ..] = words else {
+    let [name, letters, rest @ ..] = words else {
         return Err(Flaw::Bad);
     };
     let Some(mode) = mode(letters) else {
         return Err(Flaw::Bad);
     };
-    let create = create_of(alloc, create)?;
+    let (create, delay, events) = making_of(alloc, rest)?;
     let name = Name::parse(alloc, name)?;
-    Ok(Open { name, mode, create })
+    Ok(Open {
+        name,
+        mode,
+        create,
+        delay,
+        events,
+    })
+}
+
+// What an Open makes, and the lock-delay and the events of its handle.
+fn making_of(alloc: Global, words: &[&str]) -> Result<(Option<Create>, u64, Events), Flaw>
+    ensures { Reads (λ making. WritesMaking (texts words.now) making.0 making.1 making.2) (λ making. create_fault making.0) result }
+{
+    let cut = create_length(words);
+    let (delay, events) = options_of(&words[cut..])?;
+    let create = create_of(alloc, &words[..cut])?;
+    Ok((create, delay, events))
+}
+
+// How many words say what an Open makes: a disposition, and a node.
+fn create_length(words: &[&str]) -> usize
+    ensures { IsCut WritesSomeCreate (texts words.now) result }
+{
+    let [first, rest @ ..] = words else {
+        return 0;
+    };
+    match *first {
+        "delay" | "events" => 0,
+        _ => 1 + node_length(rest),
+    }
+}
+
+// How many say a node: its kind and life, a file's content, and ACL names.
+fn node_length(words: &[&str]) -> usize
+    ensures { IsCut WritesSomeNode (texts words.now) result }
+{
+    let [kind, _, rest @ ..] = words else {
+        return words.len();
+    };
+    if *kind == "file" {
+        return 2 + file_length(rest);
+    }
+    2 + acls_length(rest)
+}
+
+// How many are a content and ACL names.
+fn file_length(words: &[&str]) -> usize
+    ensures { IsCut WritesSomeFile (texts words.now) result }
+{
+    let [_, rest @ ..] = words else {
+        return 0;
+    };
+    1 + acls_length(rest)
+}
+
+// How many are ACL names, with the word before them.
+fn acls_length(words: &[&str]) -> usize
+    ensures { IsCut WritesSomeAcls (texts words.now) result }
+{
+    let [first, _, _, _, ..] = words else {
+        return 0;
+    };
+    if *first == "acl" { 4 } else { 0 }
+}
+
+// A lock-delay, and events behind it. Without its word the delay is 0.
+fn options_of(words: &[&str]) -> Result<(u64, Events), Flaw>
+    ensures { Reads (λ options. WritesOptions (texts words.now) options.0 options.1) (λ _. None) result }
+{
+    let [first, delay, rest @ ..] = words else {
+        return Ok((0, events_of(words)?));
+    };
+    if *first != "delay" {
+        return Ok((0, events_of(words)?));
+    }
+    let delay = number_of(delay)?;
+    Ok((delay, events_of(rest)?))
+}
+
+// The events that a client asks for. Without words there are none.
+fn events_of(words: &[&str]) -> Result<Events, Flaw>
+    ensures { Reads (WritesEvents (texts words.now)) (λ _. None) result }
+{
+    match words {
+        [] => Ok(Events::none()),
+        ["events", letters] => events(letters).ok_or(Flaw::Bad),
+        _ => Err(Flaw::Bad),
+    }
 }
 
 // What an Open makes: a disposition, a permanent node and its ACL names. Without words it makes nothing.
@@ -336,11 +426,24 @@ fn handle_call(alloc: Global, word: &str, words: &[&str]) -> Result<Ask, Flaw>
 fn node_call(alloc: Global, call: &str, words: &[&str]) -> Result<NodeCall, Flaw>
     ensures { Reads (WritesNodeCall call.now (texts words.now)) node_call_fault result }
 {
+    match call {
+        "acquire" => Ok(NodeCall::Acquire(only_mode(words)?)),
+        "try" => Ok(NodeCall::TryAcquire(only_mode(words)?)),
+        _ => plain_call(alloc, call, words),
+    }
+}
+
+// One that doesn't ask for a lock.
+fn plain_call(alloc: Global, call: &str, words: &[&str]) -> Result<NodeCall, Flaw>
+    ensures { Reads (IsPlainCall call.now (texts words.now)) node_call_fault result }
+{
     match (call, words) {
         ("read", []) => Ok(NodeCall::Read),
         ("stat", []) => Ok(NodeCall::Stat),
         ("list", []) => Ok(NodeCall::List),
         ("delete", []) => Ok(NodeCall::Delete),
+        ("release", []) => Ok(NodeCall::Release),
+        ("getseq", []) => Ok(NodeCall::GetSequencer),
         ("set", [content, generation @ ..]) => {
             let generation = generation_of(generation)?;
             Ok(NodeCall::Set(content_of(alloc, content)?, generation))
@@ -352,6 +455,50 @@ fn node_call(alloc: Global, call: &str, words: &[&str]) -> Result<NodeCall, Flaw
         }
         _ => Err(Flaw::Bad),
     }
+}
+
+// One mode of a lock, and no word more.
+fn only_mode(words: &[&str]) -> Result<LockMode, Flaw>
+    ensures { Reads (λ mode. texts words.now ≡ lock_mode_text mode ∷ []) (λ _. None) result }
+{
+    match words {
+        [mode] => lock_mode_of(mode),
+        _ => Err(Flaw::Bad),
+    }
+}
+
+// How a lock is to be held: alone, or beside others.
+fn lock_mode_of(word: &str) -> Result<LockMode, Flaw>
+    ensures { Reads (λ mode. lock_mode_text mode ≡ word.now) (λ _. None) result }
+{
+    match word {
+        "x" => Ok(LockMode::Exclusive),
+        "s" => Ok(LockMode::Shared),
+        _ => Err(Flaw::Bad),
+    }
+}
+
+// A handle, and the sequencer that its calls are to stand under.
+fn set_sequencer(alloc: Global, words: &[&str]) -> Result<Ask, Flaw>
+    ensures { Reads (WritesCall (codes "setseq") (texts words.now)) call_fault result }
+{
+    let [handle, sequencer] = words else {
+        return Err(Flaw::Bad);
+    };
+    let handle = number_of(handle)?;
+    let sequencer = hex_of(alloc, sequencer)?;
+    Ok(Ask::SetSequencer(handle, sequencer))
+}
+
+// A sequencer that is asked about.
+fn check_sequencer(alloc: Global, words: &[&str]) -> Result<Ask, Flaw>
+    ensures { Reads (WritesCall (codes "checkseq") (texts words.now)) call_fault result }
+{
+    let [sequencer] = words else {
+        return Err(Flaw::Bad);
+    };
+    let sequencer = hex_of(alloc, sequencer)?;
+    Ok(Ask::CheckSequencer(sequencer))
 }
 
 // The generation that has to be present, where one is given.
@@ -370,6 +517,16 @@ fn content_of(alloc: Global, word: &str) -> Result<Bytes, Flaw>
 {
     match content(alloc, word)? {
         Some(content) => Ok(content),
+        None => Err(Flaw::Bad),
+    }
+}
+
+// Bytes, at least one.
+fn hex_of(alloc: Global, word: &str) -> Result<Bytes, Flaw>
+    ensures { Reads (IsHex word.now) (λ _. None) result }
+{
+    match written(alloc, word)? {
+        Some(bytes) => Ok(bytes),
         None => Err(Flaw::Bad),
     }
 }

@@ -1,12 +1,14 @@
 //! The words of a step.
-ghost use Rattle.std.specs.Prelude.{◌≡◌, ◌≢◌, ℕ, ◌^◌, ◌<◌, IfSome, IfNone, decimal};
+ghost use Rattle.std.specs.Prelude.{◌≡◌, ◌≢◌, ℕ, ◌^◌, ◌<◌, IfSome, IfNone, decimal, false};
+ghost use Rattle.tags_cell.specs.Masks.{is_no_events};
 ghost use Rattle.tags_cell.specs.Modes.{Rights};
-ghost use Rattle.script_cell.specs.Words.{letters_of, HasRight, IsWritten, IsFilled, IsContent, FindsBytes};
+ghost use Rattle.tags_cell.specs.declared.masks.Events.{Events};
+ghost use Rattle.script_cell.specs.Words.{letters_of, HasRight, event_letters, IsWritten, IsFilled, IsContent, FindsBytes};
 
 use hex::FromHexError;
 use plain::Bytes;
 use std::alloc::{AllocError, Global};
-use tags_cell::Mode;
+use tags_cell::{Events, Mode};
 
 /// The most bytes of a content that is written as a byte and how often it stands.
 const FILL_LIMIT: u64 = 300_000;
@@ -40,6 +42,42 @@ pub fn mode(word: &str) -> Option<Mode>
         "wc" => Mode::new(false, true, true),
         "rwc" => Mode::new(true, true, true),
         _ => None,
+    }
+}
+
+/// Events: some of the letters `mdlx` in this order, at least one.
+pub fn events(word: &str) -> Option<Events>
+    ensures some { IfSome result (λ events. (event_letters events ≡ word.now) × (is_no_events events ≡ false)) }
+    ensures none { IfNone result ((events : Events) → is_no_events events ≡ false → event_letters events ≢ word.now) }
+{
+    match word {
+        "m" => Some(chosen(true, false, false, false)),
+        "d" => Some(chosen(false, true, false, false)),
+        "md" => Some(chosen(true, true, false, false)),
+        "l" => Some(chosen(false, false, true, false)),
+        "ml" => Some(chosen(true, false, true, false)),
+        "dl" => Some(chosen(false, true, true, false)),
+        "mdl" => Some(chosen(true, true, true, false)),
+        "x" => Some(chosen(false, false, false, true)),
+        "mx" => Some(chosen(true, false, false, true)),
+        "dx" => Some(chosen(false, true, false, true)),
+        "mdx" => Some(chosen(true, true, false, true)),
+        "lx" => Some(chosen(false, false, true, true)),
+        "mlx" => Some(chosen(true, false, true, true)),
+        "dlx" => Some(chosen(false, true, true, true)),
+        "mdlx" => Some(chosen(true, true, true, true)),
+        _ => None,
+    }
+}
+
+fn chosen(contents: bool, children: bool, lock: bool, conflict: bool) -> Events
+    ensures { result ≡ record { contents = contents; children = children; lock = lock; conflict = conflict } }
+{
+    Events {
+        contents,
+        children,
+        lock,
+        conflict,
     }
 }
 
@@ -82,7 +120,7 @@ fn filled(alloc: Global, word: &str) -> Result<Option<Bytes>, AllocError>
 }
 
 // Bytes, at least one. `decode` takes upper case digits too, so the text of the bytes has to be the word again.
-fn written(alloc: Global, word: &str) -> Result<Option<Bytes>, AllocError>
+pub(crate) fn written(alloc: Global, word: &str) -> Result<Option<Bytes>, AllocError>
     ensures { FindsBytes (IsWritten word.now) result }
 {
     let bytes = match hex::decode(alloc, word) {

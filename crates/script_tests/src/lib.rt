@@ -4,9 +4,13 @@
 #[cfg(test)]
 mod caches;
 #[cfg(test)]
+mod events;
+#[cfg(test)]
 mod fail_overs;
 #[cfg(test)]
 mod leases;
+#[cfg(test)]
+mod locks;
 #[cfg(test)]
 mod masters;
 #[cfg(test)]

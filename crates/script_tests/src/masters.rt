@@ -207,6 +207,8 @@ fn root(alloc: Global) -> Result<Call, Fail> {
         name,
         mode,
         create: None,
+        delay: 0,
+        events: tags_cell::Events::none(),
     }))
 }
 
@@ -219,6 +221,7 @@ fn call(alloc: Global, epoch: u64, at: u64) -> Result<Request, Fail> {
         epoch,
         number,
         call,
+        sequencer: None,
     }))
 }
 

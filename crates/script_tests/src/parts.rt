@@ -8,7 +8,7 @@ use rows_cell::{ListRecords, Settings};
 use std::alloc::Global;
 use std::process::Abort;
 use std::test::Fail;
-use tags_cell::{Alive, ClientNumber, MessageNumber, Mode, Open, Out, Request, Started};
+use tags_cell::{Alive, ClientNumber, Events, MessageNumber, Mode, Open, Out, Request, Started};
 
 fn new_records(alloc: Global) -> Result<ListRecords, Fail> {
     let settings = Settings::standard(alloc)?;
@@ -212,6 +212,8 @@ fn open_of(alloc: Global) -> Result<Ask, Fail> {
         name,
         mode,
         create: None,
+        delay: 0,
+        events: Events::none(),
     }))
 }
 

@@ -1,9 +1,10 @@
 //! Whole scripts, the limits of the reader, and each bad form.
+use names_cell::{Component, Principal};
 use node_core::Line;
-use plain::Items;
+use plain::{Items, Secret};
 use rows_cell::{ListRecords, Settings};
 use rows_sql::SqlRecords;
-use script_cell::{Counted, Parsed, content, mode, number, read_step, script};
+use script_cell::{Counted, Parsed, content, events, mode, number, read_step, script};
 use sqlite::Connection;
 use std::alloc::Global;
 use std::io::{Read, Write};
@@ -20,6 +21,8 @@ pub(crate) enum Before {
     Client,
     // Two clients that have a file open.
     File,
+    // The same under leases of 60,000 ms.
+    FileForLong,
 }
 
 impl Before {
@@ -28,7 +31,15 @@ impl Before {
         match self {
             Before::Nothing => ("", ""),
             Before::Client => ("up 0; join 1 ann; beat 1; settle; ", "up 1; started 1; "),
-            Before::File => (BEFORE, PRINTED_BEFORE),
+            Before::File | Before::FileForLong => (BEFORE, PRINTED_BEFORE),
+        }
+    }
+
+    // In milliseconds.
+    fn lease(self) -> u64 {
+        match self {
+            Before::FileForLong => 60_000,
+            _ => 12_000,
         }
     }
 }
@@ -159,8 +170,17 @@ struct Ran {
     errors: Vec<u8>,
 }
 
-fn run_from<R: Read + Drop>(alloc: Global, reader: R) -> Result<Ran, Fail> {
-    let settings = Settings::standard(alloc)?;
+// The cell `c` with a lease of so many milliseconds.
+fn settings(alloc: Global, lease: u64) -> Result<Settings, Fail> {
+    let cell = Component::parse(alloc, "c")?;
+    let ann = Principal::parse(alloc, "ann")?;
+    let bob = Principal::parse(alloc, "bob")?;
+    let secret = Secret::new([0; 32]);
+    Ok(Settings::new(alloc, cell, lease, &[ann, bob], secret)?)
+}
+
+fn run_from<R: Read + Drop>(alloc: Global, lease: u64, reader: R) -> Result<Ran, Fail> {
+    let settings = settings(alloc, lease)?;
     let records = ListRecords::new(alloc, &settings)?;
     let mut output = Vec::new(alloc);
     let mut errors = Vec::new(alloc);
@@ -173,8 +193,8 @@ fn run_from<R: Read + Drop>(alloc: Global, reader: R) -> Result<Ran, Fail> {
 }
 
 // The same over a new store in SQL, in memory.
-fn run_in_sql<R: Read + Drop>(alloc: Global, reader: R) -> Result<Ran, Fail> {
-    let settings = Settings::standard(alloc)?;
+fn run_in_sql<R: Read + Drop>(alloc: Global, lease: u64, reader: R) -> Result<Ran, Fail> {
+    let settings = settings(alloc, lease)?;
     let conn = Connection::open_in_memory(alloc)?;
     let records = SqlRecords::adopt(alloc, conn, &settings)
         .ok()
@@ -210,7 +230,14 @@ pub(crate) fn prints(
     let (steps_before, lines_before) = before.texts();
     let steps = text_of(alloc, steps_before, steps)?;
     let lines = text_of(alloc, lines_before, lines)?;
-    prints_text(rt, alloc, name, steps.as_str(), lines.as_str())
+    prints_under(
+        rt,
+        alloc,
+        name,
+        before.lease(),
+        steps.as_str(),
+        lines.as_str(),
+    )
 }
 
 // The same of a script and lines that are whole texts.
@@ -221,9 +248,20 @@ pub(crate) fn prints_text(
     steps: &str,
     lines: &str,
 ) -> Result<(), Fail> {
-    let ran = run_from(alloc, steps.as_bytes())?;
+    prints_under(rt, alloc, name, 12_000, steps, lines)
+}
+
+fn prints_under(
+    rt: &impl Abort,
+    alloc: Global,
+    name: &str,
+    lease: u64,
+    steps: &str,
+    lines: &str,
+) -> Result<(), Fail> {
+    let ran = run_from(alloc, lease, steps.as_bytes())?;
     ended(rt, name, &ran, 0, lines, "");
-    let ran = run_in_sql(alloc, steps.as_bytes())?;
+    let ran = run_in_sql(alloc, lease, steps.as_bytes())?;
     ended(rt, name, &ran, 0, lines, "");
     Ok(())
 }
@@ -324,7 +362,7 @@ fn ends(rt: &impl Abort, alloc: Global, row: &(&str, Bytes, u8, &str, &str)) -> 
     let (name, parts, status, lines, words) = row;
     let mut bytes = Vec::new(alloc);
     push_parts(&mut bytes, parts)?;
-    let ran = run_from(alloc, bytes.as_slice())?;
+    let ran = run_from(alloc, 12_000, bytes.as_slice())?;
     ended(rt, name, &ran, *status, lines, words);
     Ok(())
 }
@@ -453,6 +491,53 @@ const LINES: &[(&str, &str)] = &[
     ("ask 1 acl 1 a b c", "step"),
     ("ask 1 acl 1 a b c 18446744073709551615", "step"),
     ("ask 1 delete 18446744073709551615", "step"),
+    ("ask 1 open /ls/c r delay 1", "step"),
+    ("ask 1 open /ls/c r delay 18446744073709551615", "step"),
+    (
+        "ask 1 open /ls/c/f w must file permanent 61 delay 0",
+        "step",
+    ),
+    (
+        "ask 1 open /ls/c/f w must file permanent 61 acl a b c delay 5",
+        "step",
+    ),
+    (
+        "ask 1 open /ls/c/f w must file permanent 61 acl a delay 5",
+        "step",
+    ),
+    (
+        "ask 1 open /ls/c/f w must file permanent 61 acl acl a delay delay 5",
+        "step",
+    ),
+    ("ask 1 open /ls/c/d w may dir permanent delay 9", "step"),
+    ("ask 1 open /ls/c r events m", "step"),
+    ("ask 1 open /ls/c r events mdlx", "step"),
+    ("ask 1 open /ls/c r delay 5 events dx", "step"),
+    (
+        "ask 1 open /ls/c/f w must file permanent 61 events l",
+        "step",
+    ),
+    (
+        "ask 1 open /ls/c/f w must file permanent 61 acl a b c delay 5 events ml",
+        "step",
+    ),
+    (
+        "ask 1 open /ls/c/f w must file permanent 61 acl a events m",
+        "step",
+    ),
+    (
+        "ask 1 open /ls/c/f w must file permanent 61 acl acl events m events m",
+        "step",
+    ),
+    ("ask 1 open /ls/c/d w may dir permanent events d", "step"),
+    ("ask 1 acquire 1 x", "step"),
+    ("ask 1 acquire 1 s", "step"),
+    ("ask 1 try 18446744073709551615 x", "step"),
+    ("ask 1 try 1 s", "step"),
+    ("ask 1 release 1", "step"),
+    ("ask 1 getseq 1", "step"),
+    ("ask 1 setseq 1 00", "step"),
+    ("ask 1 checkseq 0aff", "step"),
     ("join 1 Ann", "BadPrincipal"),
     ("join 1 .", "BadPrincipal"),
     ("ask 1 open x r", "BadName"),
@@ -572,7 +657,48 @@ const LINES: &[(&str, &str)] = &[
     ("ask 1 open x r must file permanent 6 acl A b c", "bad"),
     ("ask 1 open /ls/c r must dir permanent acl", "bad"),
     ("ask 1 open /ls/c r must dir permanent 61 acl a b c", "bad"),
-    ("ask 1 open /ls/c r delay 1", "bad"),
+    ("ask 1 open /ls/c r delay", "bad"),
+    ("ask 1 open /ls/c r delay x", "bad"),
+    ("ask 1 open /ls/c r delay 1 1", "bad"),
+    ("ask 1 open /ls/c r delay 1 delay 1", "bad"),
+    (
+        "ask 1 open /ls/c r must file permanent 61 delay 1 acl a b c",
+        "bad",
+    ),
+    ("ask 1 open /ls/c r must file permanent delay 1", "bad"),
+    ("ask 1 open /ls/c r events", "bad"),
+    ("ask 1 open /ls/c r events y", "bad"),
+    ("ask 1 open /ls/c r events dm", "bad"),
+    ("ask 1 open /ls/c r events mm", "bad"),
+    ("ask 1 open /ls/c r events m delay 5", "bad"),
+    ("ask 1 open /ls/c r events m events m", "bad"),
+    ("ask 1 open /ls/c r delay 5 events", "bad"),
+    ("ask 1 open /ls/c r delay events m", "bad"),
+    ("ask 1 open /ls/c r events m 5", "bad"),
+    (
+        "ask 1 open /ls/c r must file permanent 61 events m acl a b c",
+        "bad",
+    ),
+    ("ask 1 open /ls/c r must file permanent events m", "bad"),
+    ("ask 1 acquire 1", "bad"),
+    ("ask 1 acquire 1 e", "bad"),
+    ("ask 1 acquire 1 x x", "bad"),
+    ("ask 1 acquire x 1", "bad"),
+    ("ask 1 try 1", "bad"),
+    ("ask 1 try 1 X", "bad"),
+    ("ask 1 release", "bad"),
+    ("ask 1 release 1 x", "bad"),
+    ("ask 1 getseq", "bad"),
+    ("ask 1 getseq 1 1", "bad"),
+    ("ask 1 setseq 1", "bad"),
+    ("ask 1 setseq 1 -", "bad"),
+    ("ask 1 setseq 1 0A", "bad"),
+    ("ask 1 setseq x 00", "bad"),
+    ("ask 1 setseq 1 fill:2:00", "bad"),
+    ("ask 1 checkseq", "bad"),
+    ("ask 1 checkseq -", "bad"),
+    ("ask 1 checkseq 0", "bad"),
+    ("ask 1 checkseq 00 00", "bad"),
 ];
 
 // Whether a line is read as one of this kind.
@@ -630,6 +756,44 @@ const MODES: &[(&str, bool)] = &[
 fn modes(rt: HostRuntime) {
     for (word, is_mode) in MODES {
         assert!(rt; mode(word).is_some() == *is_mode, "at {word:?}");
+    }
+}
+
+const EVENTS: &[(&str, Option<u8>)] = &[
+    ("m", Some(1)),
+    ("d", Some(2)),
+    ("md", Some(3)),
+    ("l", Some(4)),
+    ("ml", Some(5)),
+    ("dl", Some(6)),
+    ("mdl", Some(7)),
+    ("x", Some(8)),
+    ("mx", Some(9)),
+    ("dx", Some(10)),
+    ("mdx", Some(11)),
+    ("lx", Some(12)),
+    ("mlx", Some(13)),
+    ("dlx", Some(14)),
+    ("mdlx", Some(15)),
+    ("", None),
+    ("r", None),
+    ("M", None),
+    ("mm", None),
+    ("dm", None),
+    ("xm", None),
+    ("mdlxx", None),
+    ("mdlx ", None),
+];
+
+fn event_bits(word: &str) -> Option<u8> {
+    Some(events(word)?.bits())
+}
+
+// Each word with the byte that its events are in a handle.
+#[test]
+fn letters_of_events(rt: HostRuntime) {
+    for (word, bits) in EVENTS {
+        assert!(rt; event_bits(word) == *bits, "at {word:?}");
     }
 }
 
@@ -701,7 +865,7 @@ fn read_that_fails(rt: HostRuntime) -> Result<(), Fail> {
     let script = Trickle {
         left: b"up 0\nup 0\nup",
     };
-    let ran = run_from(rt.alloc(), script)?;
+    let ran = run_from(rt.alloc(), 12_000, script)?;
     let lines = "up 1\nrefused 39 MasterUp\n";
     ended(&rt, "read_that_fails", &ran, 1, lines, "line 3: bad step\n");
     Ok(())

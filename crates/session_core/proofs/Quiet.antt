@@ -1,8 +1,8 @@
--- Until when nothing is to be done for sessions, as each step leaves them.
-use Rattle.std.proofs.Common.{◌≡◌, ℕ, ◌<◌, ◌≤◌, ◌+◌, ◌-◌, ◌/◌, ◌^◌, List, [], ◌∷◌, Bool, true, false, cond, Option, Some, None, refl, sym, ap, arith, subst}
-use Rattle.std.specs.Prelude.{not, ◌&&◌, ◌||◌, find, nat_le, min, All, IfSome, is_none}
+-- What is known of all sessions at once, as each step leaves them.
+use Rattle.std.proofs.Common.{◌≡◌, ℕ, ◌<◌, ◌≤◌, ◌+◌, ◌-◌, ◌/◌, ◌^◌, List, [], ◌∷◌, Bool, true, false, cond, Option, Some, None, refl, sym, ap, ◌∙◌, arith, subst}
+use Rattle.std.specs.Prelude.{not, ◌&&◌, ◌||◌, find, nat_le, min, max, All, IfSome, is_none}
 use Rattle.std.specs.Option.{option_map, option_map_or}
-use Rattle.std.specs.List.{list_all}
+use Rattle.std.specs.List.{list_all, list_any}
 use Rattle.std.specs.Ordering.{nat_cmp}
 use Rattle.std.specs.Map.{values_of, lookup, set_value, remove_entry}
 use Rattle.std.specs.BTreeMap.{is_at, insert_entry}
@@ -11,9 +11,11 @@ use Rattle.std.proofs.lemmas.List.Elements.{All-nil, All-cons, All-head, All-tai
 use Rattle.std.proofs.lemmas.Map.Views.{All-values-insert_entry, All-values-set_value, All-map-remove_entry, IfSome-lookup_from_All}
 use Rattle.lease_core.specs.Lease.{least_lease, longest_lease}
 use Rattle.session_core.specs.declared.records.Session.{Session}
-use Rattle.session_core.specs.Session.{owes, has_heard, nears_timeout, is_due, is_client_expired, is_client_due}
-use Rattle.session_core.specs.Sessions.{SessionTable, all_heard, lowest, passes, IsLowest}
-use Rattle.session_core.specs.Quiet.{quiet_until, is_client_unheard, AreQuietUntil}
+use Rattle.node_core.specs.Limits.{number_limit}
+use Rattle.event_core.specs.Queue.{count_of, is_exhausted}
+use Rattle.session_core.specs.Session.{events_of, owes, has_heard, nears_timeout, is_due, is_client_expired, is_client_due}
+use Rattle.session_core.specs.Sessions.{SessionTable, has_spent_events, all_heard, lowest, passes, IsLowest}
+use Rattle.session_core.specs.Quiet.{quiet_until, is_client_unheard, AreQuietUntil, HaveAtMost}
 
 -- ---- what is noted, as sessions come, change and go
 
@@ -53,23 +55,76 @@ quiet_without {K} lease moment client old new h is = record {
       subst P (sym is) (All-map-remove_entry (is_at (nat_cmp client)) (λ (e : ℕ × Session K). e.1) (Quiet lease moment) old h.all);
 }
 
+-- ---- how many events a session has, as sessions come, change and go
+
+-- a session has no more events than this
+abbrev Within : {K : Type 0} → ℕ → Session K → Type 0
+Within most session = count_of (events_of session) ≤ most
+
+within_more : {K : Type 0} (most more : ℕ) (entries : List (ℕ × Session K)) → most ≤ more → HaveAtMost K most entries → All (Within {K = K} more) (values_of entries)
+within_more {K} most more entries le h = All-weaker (Within {K = K} most) (Within more) (λ session k. omega arith) (values_of entries) h.all
+
+own_within : (most count own : ℕ) → count ≡ own → own ≤ max most count
+own_within most count own h = omega arith
+
+pub none_within : {K : Type 0} (most : ℕ) → HaveAtMost K most []
+none_within {K} most = record { all = All-nil (Within {K = K} most) }
+
+within_with_new : {K : Type 0} (most more client : ℕ) (session : Session K) (old new : List (ℕ × Session K)) → HaveAtMost K most old → more ≡ max most (count_of (events_of session)) → new ≡ insert_entry nat_cmp old client session → HaveAtMost K more new
+within_with_new {K} most more client session old new h is put = record {
+  all =
+      let kept = within_more most more old (omega arith) h in
+      let own : count_of (events_of session) ≤ more = omega arith in
+      let P : List (ℕ × Session K) → Type 0 = λ es. All (Within {K = K} more) (values_of es) in
+      subst P (sym put) (All-values-insert_entry nat_cmp client session (Within more) old kept own);
+}
+
+within_changed : {K : Type 0} (most more client : ℕ) (session : Session K) (old new : List (ℕ × Session K)) → HaveAtMost K most old → more ≡ max most (count_of (events_of session)) → new ≡ set_value (is_at (nat_cmp client)) old session → HaveAtMost K more new
+within_changed {K} most more client session old new h is put = record {
+  all =
+      let kept = within_more most more old (omega arith) h in
+      let own : count_of (events_of session) ≤ more = omega arith in
+      let P : List (ℕ × Session K) → Type 0 = λ es. All (Within {K = K} more) (values_of es) in
+      subst P (sym put) (All-values-set_value (is_at (nat_cmp client)) (Within more) old session kept own);
+}
+
+within_without : {K : Type 0} (most client : ℕ) (old new : List (ℕ × Session K)) → HaveAtMost K most old → new ≡ remove_entry (is_at (nat_cmp client)) old → HaveAtMost K most new
+within_without {K} most client old new h is = record {
+  all =
+      let P : List (ℕ × Session K) → Type 0 = λ es. All (Within {K = K} most) (values_of es) in
+      subst P (sym is) (All-map-remove_entry (is_at (nat_cmp client)) (λ (e : ℕ × Session K). e.1) (Within most) old h.all);
+}
+
 -- ---- what is kept of all sessions
 
-abbrev pub IsKept : (K : Type 0) → ℕ → ℕ → List (ℕ × Session K) → Type 0
-IsKept K lease moment entries = (least_lease ≤ lease) × (lease ≤ longest_lease) × AreQuietUntil K lease moment entries
+abbrev pub IsKept : (K : Type 0) → ℕ → ℕ → ℕ → List (ℕ × Session K) → Type 0
+IsKept K lease moment most entries = (least_lease ≤ lease) × (lease ≤ longest_lease) × AreQuietUntil K lease moment entries × HaveAtMost K most entries
 
-pub kept_with_new : {K : Type 0} (lease moment until least client : ℕ) (session : Session K) (old new : List (ℕ × Session K)) → IsKept K lease moment old → least ≡ min moment until → until ≡ quiet_until lease session → new ≡ insert_entry nat_cmp old client session → IsKept K lease least new
-kept_with_new {K} lease moment until least client session old new h is own put =
+pub kept_with_new : {K : Type 0} (lease moment most least more client : ℕ) (session : Session K) (old new : List (ℕ × Session K)) → IsKept K lease moment most old → least ≡ min moment (quiet_until lease session) → more ≡ max most (count_of (events_of session)) → new ≡ insert_entry nat_cmp old client session → IsKept K lease least more new
+kept_with_new {K} lease moment most least more client session old new h is more_is put =
     let P : ℕ → Type 0 = λ m. AreQuietUntil K lease m new in
-    (h.0, h.1, subst P (sym is) (quiet_with_new lease moment until client session old new h.2 own put))
+    (h.0, h.1, subst P (sym is) (quiet_with_new lease moment (quiet_until lease session) client session old new h.2 refl put), within_with_new most more client session old new h.3 more_is put)
 
-pub kept_changed : {K : Type 0} (lease moment until least client : ℕ) (session : Session K) (old new : List (ℕ × Session K)) → IsKept K lease moment old → least ≡ min moment until → until ≡ quiet_until lease session → new ≡ set_value (is_at (nat_cmp client)) old session → IsKept K lease least new
-kept_changed {K} lease moment until least client session old new h is own put =
+pub kept_changed : {K : Type 0} (lease moment most least more client : ℕ) (session : Session K) (old new : List (ℕ × Session K)) → IsKept K lease moment most old → least ≡ min moment (quiet_until lease session) → more ≡ max most (count_of (events_of session)) → new ≡ set_value (is_at (nat_cmp client)) old session → IsKept K lease least more new
+kept_changed {K} lease moment most least more client session old new h is more_is put =
     let P : ℕ → Type 0 = λ m. AreQuietUntil K lease m new in
-    (h.0, h.1, subst P (sym is) (quiet_changed lease moment until client session old new h.2 own put))
+    (h.0, h.1, subst P (sym is) (quiet_changed lease moment (quiet_until lease session) client session old new h.2 refl put), within_changed most more client session old new h.3 more_is put)
 
-pub kept_without : {K : Type 0} (lease moment client : ℕ) (old new : List (ℕ × Session K)) → IsKept K lease moment old → new ≡ remove_entry (is_at (nat_cmp client)) old → IsKept K lease moment new
-kept_without lease moment client old new h put = (h.0, h.1, quiet_without lease moment client old new h.2 put)
+pub kept_without : {K : Type 0} (lease moment most client : ℕ) (old new : List (ℕ × Session K)) → IsKept K lease moment most old → new ≡ remove_entry (is_at (nat_cmp client)) old → IsKept K lease moment most new
+kept_without lease moment most client old new h put = (h.0, h.1, quiet_without lease moment client old new h.2 put, within_without most client old new h.3 put)
+
+-- ---- below that number no session's events are at their end
+
+unspent : (most count : ℕ) → most < number_limit → count ≤ most → nat_le number_limit count ≡ false
+unspent most count lt le = grind (arith, nat_tests)
+
+none_spent : {K : Type 0} (most : ℕ) (es : List (ℕ × Session K)) → most < number_limit → All (Within {K = K} most) (values_of es) → list_any (λ e. is_exhausted (events_of e.1)) es ≡ false
+none_spent most [] lt h = refl
+none_spent {K} most (e ∷ es) lt h =
+    rw (unspent most (count_of (events_of e.1)) lt (All-head (Within {K = K} most) e.1 (values_of es) h)) (none_spent most es lt (All-tail (Within {K = K} most) e.1 (values_of es) h))
+
+pub nobody_is_spent : {K : Type 0} (view s : SessionTable K) (most : ℕ) → view ≡ s → HaveAtMost K most view.sessions → most < number_limit → false ≡ has_spent_events s
+nobody_is_spent view s most same h lt = sym (none_spent most view.sessions lt h.all) ∙ ap has_spent_events same
 
 -- ---- before that moment nobody is looked for
 

@@ -5,19 +5,20 @@ use Rattle.std.specs.Ordering.{nat_cmp}
 use Rattle.std.specs.Map.{lookup, keys_of}
 use Rattle.std.specs.BTreeMap.{is_at}
 use Rattle.std.specs.List.Sorted.{IsStrictlySortedBy}
-use Rattle.session_core.specs.declared.records.Issued.{Issued}
+use Rattle.node_core.specs.declared.events.Event.{Event}
 use Rattle.tags_cell.specs.declared.beats.Beat.{Beat}
 use Rattle.session_core.specs.declared.records.Parked.{Parked}
 use Rattle.session_core.specs.declared.records.Kept.{Kept}
 use Rattle.session_core.specs.declared.records.Session.{Session}
-use Rattle.session_core.specs.Session.{prolonged, ended, issued_to, issued_through, live_beat_fault, beaten, offered_span, answered, keeping}
+use Rattle.session_core.specs.Session.{prolonged, ended, told, issued_to, issued_through, live_beat_fault, beaten, offered_span, answered, keeping}
 use Rattle.session_core.specs.Sessions.{SessionTable, session_of, kept_of, with_session, with_new, issued_by}
 
 -- what a step makes of a session
 pub data Step (K : Type 0) : Type 0 where
   Prolonged : ℕ → Step K
   Ended : Step K
-  IssuedTo : Issued → Step K
+  Told : Event → Step K
+  IssuedTo : Step K
   IssuedThrough : ℕ → Step K
   Beaten : Beat → ℕ → Step K
   Answered : ℕ → ℕ → Step K
@@ -26,7 +27,8 @@ pub data Step (K : Type 0) : Type 0 where
 abbrev pub stepped : {K : Type 0} → Step K → Session K → Session K
 stepped (Prolonged moment) session = prolonged moment session
 stepped Ended session = ended session
-stepped (IssuedTo issued) session = issued_to issued session
+stepped (Told event) session = told event session
+stepped IssuedTo session = issued_to session
 stepped (IssuedThrough number) session = issued_through number session
 stepped (Beaten beat received) session = beaten beat received session
 stepped (Answered lease now) session = answered lease now session
@@ -36,17 +38,16 @@ stepped (Keeping kept) session = keeping kept session
 abbrev pub TimeoutNeverMovesBack : Type 0 → Type 0
 TimeoutNeverMovesBack K = (step : Step K) (session : Session K) → session.timeout ≤ (stepped step session).timeout
 
--- an acknowledgement is of what was issued
-pub record IsWithin {K : Type 0} (session : Session K) : Type 0 where
-  pub invalidations : session.invalidations.acknowledged ≤ session.invalidations.issued
-  pub events : session.events.acknowledged ≤ session.events.issued
+-- the invalidations that were acknowledged were issued
+abbrev pub IsWithin : {K : Type 0} → Session K → Type 0
+IsWithin session = session.invalidations.acknowledged ≤ session.invalidations.issued
 
 -- a Beat that is taken isn't refused
 abbrev pub Allows : {K : Type 0} → Step K → Session K → Type 0
 Allows (Beaten beat received) session = live_beat_fault session beat ≡ None
 Allows _ session = ⊤
 
--- nothing is acknowledged that wasn't issued
+-- no invalidation is acknowledged that wasn't issued
 abbrev pub AcknowledgedWasIssued : Type 0 → Type 0
 AcknowledgedWasIssued K = (step : Step K) (session : Session K) → IsWithin session → Allows step session → IsWithin (stepped step session)
 

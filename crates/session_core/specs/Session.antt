@@ -1,16 +1,17 @@
 -- One session, and what each step makes of it. Moments and spans are milliseconds of the master's clock.
-use Rattle.std.specs.Prelude.{ℕ, Bool, true, false, not, ◌&&◌, ◌||◌, ◌==◌, ◌+◌, ◌-◌, ◌/◌, nat_lt, nat_le, max, List, Option, Some, None, Result, Ok, Err, if◌then◌else◌, is_none}
-use Rattle.std.specs.Option.{option_map_or}
+use Rattle.std.specs.Prelude.{ℕ, Bool, true, false, not, ◌&&◌, ◌||◌, ◌==◌, ◌+◌, ◌-◌, ◌/◌, nat_lt, nat_le, max, List, Option, Some, None, Result, Ok, Err, if◌then◌else◌, is_none, unwrap_or}
+use Rattle.std.specs.Option.{option_map, option_map_or}
 use Rattle.std.specs.Str.{bytes_eq}
 use Rattle.node_core.specs.Limits.{number_limit}
+use Rattle.node_core.specs.declared.events.Event.{Event}
+use Rattle.node_core.specs.declared.events.Event.TheVariants.{FailOver}
 use Rattle.node_core.specs.declared.refusals.Fault.{Fault}
 use Rattle.node_core.specs.declared.refusals.Fault.TheVariants as faults
 use Rattle.lease_core.specs.Lease.{recovery_timeout}
 use Rattle.tags_cell.specs.Numbers.{is_client_number}
 use Rattle.tags_cell.specs.declared.beats.Beat.{Beat}
+use Rattle.event_core.specs.Queue.{EventQueue, empty_queue, count_of, has_waiting, queued, pushed, acknowledged_to}
 use Rattle.session_core.specs.declared.records.Tally.{Tally}
-use Rattle.session_core.specs.declared.records.Issued.{Issued}
-use Rattle.session_core.specs.declared.records.Issued.TheVariants as kinds
 use Rattle.session_core.specs.declared.records.Parked.{Parked}
 use Rattle.session_core.specs.declared.records.Offer.{Offer}
 use Rattle.session_core.specs.declared.records.Kept.{Kept}
@@ -21,7 +22,7 @@ use Rattle.session_core.specs.declared.records.Session.{Session}
 abbrev pub nothing_issued : Tally
 nothing_issued = record { issued = 0; acknowledged = 0 }
 
--- a session of which this master knows no Beat and no call
+-- a session of which this master knows no Beat and no call; one that has ended has no events
 abbrev pub session_until : {K : Type 0} → List ℕ → Bool → ℕ → Session K
 session_until principal live timeout = record {
   principal = principal;
@@ -29,18 +30,18 @@ session_until principal live timeout = record {
   timeout = timeout;
   newest_beat = 0;
   invalidations = nothing_issued;
-  events = nothing_issued;
+  events = if live then Some empty_queue else None;
   parked = None;
   kept = None;
 }
 
--- to a live session a new master issues its first event, which tells that it is up
-abbrev pub first_issued : Bool → Tally
-first_issued live = record nothing_issued { issued = if live then 1 else 0 }
+-- the first event of a live session tells that a new master is up
+abbrev pub first_events : Bool → Option EventQueue
+first_events live = if live then Some (queued FailOver empty_queue) else None
 
 -- a session as a new master finds it in the rows
 abbrev pub recovered_session : {K : Type 0} → List ℕ → Bool → ℕ → Session K
-recovered_session principal live now = record (session_until principal live (now + recovery_timeout)) { events = first_issued live }
+recovered_session principal live now = record (session_until principal live (now + recovery_timeout)) { events = first_events live }
 
 -- a client without a session may start, and one with a live session of the same principal
 abbrev pub may_start : {K : Type 0} → Option (Session K) → List ℕ → Bool
@@ -57,41 +58,47 @@ is_expired now session = session.live && nat_le session.timeout now
 abbrev pub is_client_expired : {K : Type 0} → ℕ → ℕ → Session K → Bool
 is_client_expired now client session = is_expired now session
 
--- an ended session stays recorded
+-- an ended session stays recorded, without its events
 abbrev pub ended : {K : Type 0} → Session K → Session K
-ended session = record session { live = false }
+ended session = record session { live = false; events = None }
 
--- ---- what was issued to it, and acknowledged
+-- ---- its events
+
+-- a session that has ended has none
+abbrev pub events_of : {K : Type 0} → Session K → EventQueue
+events_of session = unwrap_or session.events empty_queue
+
+-- it is told of an event, unless it has ended
+abbrev pub told : {K : Type 0} → Event → Session K → Session K
+told event session = record session { events = option_map (pushed event) session.events }
+
+-- it has acknowledged its first event, which tells that a new master is up
+abbrev pub has_heard : {K : Type 0} → Session K → Bool
+has_heard session = not session.live || nat_le 1 (events_of session).acknowledged
+
+-- ---- the invalidations that were issued to it
 
 abbrev pub is_owing : Tally → Bool
 is_owing tally = nat_lt tally.acknowledged tally.issued
 
 -- an older acknowledgement takes nothing back
-abbrev pub acknowledged_to : ℕ → Tally → Tally
-acknowledged_to count tally = record tally { acknowledged = max tally.acknowledged count }
+abbrev pub processed_to : ℕ → Tally → Tally
+processed_to count tally = record tally { acknowledged = max tally.acknowledged count }
 
 abbrev pub one_more : Tally → Tally
 one_more tally = record tally { issued = tally.issued + 1 }
 
-abbrev pub tally_of : {K : Type 0} → Issued → Session K → Tally
-tally_of kinds.Invalidation session = session.invalidations
-tally_of kinds.Event session = session.events
-
-abbrev pub issued_to : {K : Type 0} → Issued → Session K → Session K
-issued_to kinds.Invalidation session = record session { invalidations = one_more session.invalidations }
-issued_to kinds.Event session = record session { events = one_more session.events }
+-- one more was issued to it
+abbrev pub issued_to : {K : Type 0} → Session K → Session K
+issued_to session = record session { invalidations = one_more session.invalidations }
 
 -- the invalidations up to this number were issued to it
 abbrev pub issued_through : {K : Type 0} → ℕ → Session K → Session K
 issued_through number session = record session { invalidations = record session.invalidations { issued = max session.invalidations.issued number } }
 
 -- the count stands at the last number
-abbrev pub is_count_full : {K : Type 0} → Issued → Session K → Bool
-is_count_full issued session = nat_le number_limit (tally_of issued session).issued
-
--- it has acknowledged its first event, which tells that a new master is up
-abbrev pub has_heard : {K : Type 0} → Session K → Bool
-has_heard session = not session.live || nat_le 1 session.events.acknowledged
+abbrev pub is_count_full : {K : Type 0} → Session K → Bool
+is_count_full session = nat_le number_limit session.invalidations.issued
 
 -- ---- Beats
 
@@ -100,7 +107,7 @@ abbrev pub live_beat_fault : {K : Type 0} → Session K → Beat → Option Faul
 live_beat_fault session beat =
     if nat_le beat.number session.newest_beat then Some faults.Repeat
     else if nat_lt session.invalidations.issued beat.invalidations then Some (faults.BadAck session.invalidations.issued)
-    else if nat_lt session.events.issued beat.events then Some (faults.BadAck session.events.issued)
+    else if nat_lt (count_of (events_of session)) beat.events then Some (faults.BadAck (count_of (events_of session)))
     else None
 
 abbrev pub beat_fault : {K : Type 0} → Option (Session K) → Beat → Option Fault
@@ -115,14 +122,14 @@ parked beat received = record { number = beat.number; received = received }
 abbrev pub beaten : {K : Type 0} → Beat → ℕ → Session K → Session K
 beaten beat received session = record session {
   newest_beat = beat.number;
-  invalidations = acknowledged_to beat.invalidations session.invalidations;
-  events = acknowledged_to beat.events session.events;
+  invalidations = processed_to beat.invalidations session.invalidations;
+  events = option_map (acknowledged_to beat.events) session.events;
   parked = Some (parked beat received);
 }
 
 -- something waits for the client's acknowledgement
 abbrev pub owes : {K : Type 0} → Session K → Bool
-owes session = is_owing session.invalidations || is_owing session.events
+owes session = is_owing session.invalidations || has_waiting (events_of session)
 
 -- the timeout is near: three seconds and a sixteenth of the lease
 abbrev pub nears_timeout : {K : Type 0} → ℕ → ℕ → Session K → Bool

@@ -1,8 +1,9 @@
 //! Beats.
 ghost use Rattle.std.specs.Prelude.{◌≡◌, ◌≤◌, if◌then◌else◌, Some, None, IfErr, OnOk, OnErr};
-ghost use Rattle.std.specs.Option.{option_map_or};
+ghost use Rattle.std.specs.Option.{option_map, option_map_or};
 ghost use Rattle.lease_core.specs.Lease.{IsMoment, longest_lease};
-ghost use Rattle.session_core.specs.Session.{live_beat_fault, beat_fault, beaten, is_client_due, prolonged, answered};
+ghost use Rattle.event_core.specs.Queue.{count_of, acknowledged_to};
+ghost use Rattle.session_core.specs.Session.{events_of, live_beat_fault, beat_fault, beaten, is_client_due, prolonged, answered};
 
 use crate::records::{Offer, Parked, Session};
 use crate::sessions::Sessions;
@@ -20,18 +21,31 @@ impl<K> Session<K> {
         if beat.invalidations > self.invalidations.issued {
             return Some(Fault::BadAck(self.invalidations.issued));
         }
-        if beat.events > self.events.issued {
-            return Some(Fault::BadAck(self.events.issued));
+        let events = self.event_count();
+        if beat.events > events {
+            return Some(Fault::BadAck(events));
         }
         None
     }
 
+    // The events wait no longer up to this number, which isn't above that of the last one.
+    fn take_events(&mut self, number: u64)
+        requires { number ≤ count_of (events_of self.old) }
+        ensures { self.new ≡ record self.old { events = option_map (acknowledged_to number) self.old.events } }
+    {
+        if let Some(events) = &mut self.events {
+            drop(events.acknowledge(number));
+        }
+    }
+
+    // A Beat that isn't refused acknowledges, and is parked.
     fn take_beat(&mut self, beat: &Beat, received: u64)
+        requires { live_beat_fault self.old beat.now ≡ None }
         ensures { self.new ≡ beaten beat.now received self.old }
     {
+        self.take_events(beat.events);
         self.newest_beat = beat.number.get();
         self.invalidations.acknowledged = self.invalidations.acknowledged.max(beat.invalidations);
-        self.events.acknowledged = self.events.acknowledged.max(beat.events);
         self.parked = Some(Parked {
             number: beat.number,
             received,
@@ -86,7 +100,7 @@ impl<K> Sessions<K> {
         }
         if let Some(session) = self.map.get_mut(&client) {
             session.take_beat(beat, received);
-            self.quiet = self.quiet.min(session.quiet_until(self.lease));
+            self.bounds = self.bounds.with(session, self.lease);
         }
         Ok(())
     }
@@ -97,7 +111,7 @@ impl<K> Sessions<K> {
         ensures value { result ≡ lowest self.now (is_client_due self.now.lease now) }
         ensures lowest { IsLowest self.now (is_client_due self.now.lease now) result }
     {
-        if now < self.quiet {
+        if now < self.bounds.quiet {
             return None;
         }
         for (number, session) in self.map.iter() {
@@ -130,7 +144,7 @@ impl<K> Sessions<K> {
         let number = client.get();
         if let Some(session) = self.map.get_mut(&number) {
             session.end_beat(until);
-            self.quiet = self.quiet.min(session.quiet_until(self.lease));
+            self.bounds = self.bounds.with(session, self.lease);
         }
     }
 }

@@ -1,9 +1,11 @@
-//! The sessions of a master: leases, Beats, what was issued and acknowledged, and the last call of each client.
+//! The sessions of a master: leases, Beats, events, what was issued and acknowledged, and the last call of each client.
 #![tactic(auto)]
 
 mod beats;
+mod bounds;
 mod calls;
 mod ends;
+mod events;
 mod issues;
 mod laws;
 mod moments;
@@ -15,5 +17,5 @@ pub use laws::{
     acknowledged_was_issued, last_call_is_kept, offer_is_covered, step_is_its_own,
     table_issues_to_each, timeout_never_moves_back,
 };
-pub use records::{Begun, Issued, Kept, Offer, Parked, Session, Tally};
+pub use records::{Begun, Kept, Offer, Parked, Session, Tally};
 pub use sessions::Sessions;

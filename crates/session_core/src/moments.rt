@@ -16,10 +16,10 @@ impl<K> Sessions<K> {
     pub fn note_quiet(&mut self, now: u64)
         ensures { self.new ≡ self.old }
     {
-        if now < self.quiet {
+        if now < self.bounds.quiet {
             return;
         }
-        self.quiet = least_quiet(&self.map, self.lease);
+        self.bounds.quiet = least_quiet(&self.map, self.lease);
     }
 
     /// Notes a client that wasn't heard from, so that `all_heard` looks at that one alone until it is. To be called where

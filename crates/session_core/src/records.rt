@@ -1,22 +1,16 @@
 //! What a master knows of a session.
 ghost use Rattle.std.specs.Prelude.{◌≡◌, ◌≤◌};
 ghost use Rattle.lease_core.specs.Lease.{longest_lease};
-ghost use Rattle.session_core.specs.Session.{is_owing, owes, nears_timeout, is_due, has_heard, is_expired};
+ghost use Rattle.event_core.specs.Queue.{count_of, has_waiting};
+ghost use Rattle.session_core.specs.Session.{is_owing, events_of, owes, nears_timeout, is_due, has_heard, is_expired};
 ghost use Rattle.session_core.specs.Quiet.{quiet_until};
 
+use event_core::EventQueue;
 use names_cell::Principal;
 use tags_cell::MessageNumber;
 
-/// What a master issues to a session and the session acknowledges.
-#[derive(Clone, Copy, Debug, PartialEq, Eq)]
-pub enum Issued {
-    /// A name that the client is to let go of (Burrows 2006, section 2.7).
-    Invalidation,
-    /// A message about a handle (Burrows 2006, section 2.5).
-    Event,
-}
-
-/// How many were issued to a session in this epoch, numbered from 1, and up to which number it acknowledged them.
+/// How many invalidations were issued to a session in this epoch (Burrows 2006, section 2.7), numbered from 1, and up to
+/// which number it acknowledged them.
 #[derive(Clone, Copy, Debug, PartialEq, Eq)]
 pub struct Tally {
     pub issued: u64,
@@ -77,17 +71,38 @@ pub struct Session<K> {
     /// The number of the newest Beat taken in this epoch; 0 before the first.
     pub newest_beat: u64,
     pub invalidations: Tally,
-    pub events: Tally,
+    /// None once it has ended.
+    pub events: Option<EventQueue>,
     pub parked: Option<Parked>,
     pub kept: Option<Kept<K>>,
 }
 
 impl<K> Session<K> {
+    // The number of its last event.
+    pub(crate) fn event_count(&self) -> u64
+        ensures { result ≡ count_of (events_of self.now) }
+    {
+        match &self.events {
+            None => 0,
+            Some(events) => events.count(),
+        }
+    }
+
+    // Whether events wait for the client's acknowledgement.
+    fn owes_events(&self) -> bool
+        ensures { result ≡ has_waiting (events_of self.now) }
+    {
+        match &self.events {
+            None => false,
+            Some(events) => events.owes(),
+        }
+    }
+
     // Whether something waits for the client's acknowledgement.
     pub(crate) fn owes(&self) -> bool
         ensures { result ≡ owes self.now }
     {
-        self.invalidations.is_owing() || self.events.is_owing()
+        self.invalidations.is_owing() || self.owes_events()
     }
 
     // Whether the timeout is near, at which a Beat is answered even if nothing waits for the client.
@@ -127,11 +142,21 @@ impl<K> Session<K> {
         }
     }
 
+    // The number of the last event that it acknowledged.
+    fn acknowledged_events(&self) -> u64
+        ensures { result ≡ (events_of self.now).acknowledged }
+    {
+        match &self.events {
+            None => 0,
+            Some(events) => events.acknowledged(),
+        }
+    }
+
     // Whether it has acknowledged its first event, or has ended.
     pub(crate) fn has_heard(&self) -> bool
         ensures { result ≡ has_heard self.now }
     {
-        !self.live || self.events.acknowledged >= 1
+        !self.live || self.acknowledged_events() >= 1
     }
 
     // Whether the master may end it.

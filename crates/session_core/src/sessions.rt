@@ -2,11 +2,14 @@
 ghost use Rattle.std.specs.Prelude.{◌≡◌, ◌≤◌, [], IfOk, OnOk, OnErr};
 ghost use Rattle.std.specs.Option.{option_copied};
 ghost use Rattle.lease_core.specs.Lease.{IsMoment, least_lease, longest_lease};
-ghost use Rattle.session_core.specs.Session.{first_issued, session_until, recovered_session};
+ghost use Rattle.session_core.specs.Session.{session_until, recovered_session};
 
+use crate::bounds::Bounds;
 use crate::records::{Session, Tally};
+use event_core::EventQueue;
 use lease_core::RECOVERY_TIMEOUT;
 use names_cell::Principal;
+use node_core::Event;
 use std::alloc::{AllocError, Global};
 use std::collections::BTreeMap;
 use std::marker::Model;
@@ -16,10 +19,10 @@ use std::marker::Model;
 /// taken where a session is added, and nowhere else.
 #[derive(Drop)]
 pub struct Sessions<K> {
+    pub(crate) alloc: Global,
     pub(crate) lease: u64,
     pub(crate) map: BTreeMap<u64, Session<K>>,
-    // Before this moment nothing is to be done for any session, so nobody looks for one.
-    pub(crate) quiet: u64,
+    pub(crate) bounds: Bounds,
     // A client that wasn't heard from when one was last looked for. Nothing hangs on it but how long a walk is.
     pub(crate) unheard: u64,
 }
@@ -28,13 +31,13 @@ impl<K> Model for Sessions<K> {
     ghost use Rattle.std.specs.Prelude.{◌≤◌};
     ghost use Rattle.lease_core.specs.Lease.{least_lease, longest_lease};
     ghost use Rattle.session_core.specs.Sessions.{SessionTable};
-    ghost use Rattle.session_core.specs.Quiet.{AreQuietUntil};
+    ghost use Rattle.session_core.specs.Quiet.{AreQuietUntil, HaveAtMost};
 
     ghost Value = { SessionTable K };
 
     ghost view = { λ s. record { lease = s.lease; sessions = s.map.entries } };
 
-    ghost invariant = { λ s. (least_lease ≤ s.lease) × (s.lease ≤ longest_lease) × AreQuietUntil K s.lease s.quiet s.map.entries };
+    ghost invariant = { λ s. (least_lease ≤ s.lease) × (s.lease ≤ longest_lease) × AreQuietUntil K s.lease s.bounds.quiet s.map.entries × HaveAtMost K s.bounds.most_events s.map.entries };
 }
 
 impl<K> Sessions<K> {
@@ -46,9 +49,10 @@ impl<K> Sessions<K> {
         ensures { result ≡ record { lease = lease; sessions = [] } }
     {
         Sessions {
+            alloc,
             lease,
             map: BTreeMap::new(alloc),
-            quiet: u64::MAX,
+            bounds: Bounds::none(),
             unheard: 0,
         }
     }
@@ -87,17 +91,7 @@ impl<K> Sessions<K> {
 }
 
 impl<K> Sessions<K> {
-    ghost use Rattle.session_core.specs.Sessions.{owes_event, all_heard};
-
-    /// Whether an event that was issued to a client's session waits for its acknowledgement. Takes no memory.
-    pub fn owes_event(&self, client: u64) -> bool
-        ensures { result ≡ owes_event self.now client }
-    {
-        match self.map.get(&client) {
-            None => false,
-            Some(session) => session.events.is_owing(),
-        }
-    }
+    ghost use Rattle.session_core.specs.Sessions.{all_heard};
 
     /// Whether each live session has acknowledged its first event, by which a new master tells of itself. Takes no
     /// memory.
@@ -114,8 +108,8 @@ impl<K> Sessions<K> {
 impl<K: Drop> Sessions<K> {
     ghost use Rattle.session_core.specs.Sessions.{with_new};
 
-    /// A new master, come up at `now`, takes over a session of the rows. To a live one it issues its first event, which
-    /// tells that it is up.
+    /// A new master, come up at `now`, takes over a session of the rows. The first event of a live one tells that it is
+    /// up.
     pub fn recover(
         &mut self,
         client: u64,
@@ -127,41 +121,56 @@ impl<K: Drop> Sessions<K> {
         ensures ok { OnOk result (self.new ≡ with_new self.old client (recovered_session principal live now)) }
         ensures err { OnErr result (self.new ≡ self.old) }
     {
-        let mut session = session_until(principal, live, now + RECOVERY_TIMEOUT);
-        session.events = first_issued(live);
-        let until = session.quiet_until(self.lease);
+        let session = recovered_session(self.alloc, principal, live, now)?;
+        let bounds = self.bounds.with(&session, self.lease);
         drop(self.map.insert(client, session)?);
-        self.quiet = self.quiet.min(until);
+        self.bounds = bounds;
         Ok(())
     }
 }
 
-// To a live session a new master issues its first event.
-fn first_issued(live: bool) -> Tally
-    ensures { result ≡ first_issued live }
+// A session as a new master finds it in the rows.
+fn recovered_session<K>(
+    alloc: Global,
+    principal: Principal,
+    live: bool,
+    now: u64,
+) -> Result<Session<K>, AllocError>
+    requires { IsMoment now }
+    ensures { IfOk result (λ session. session ≡ recovered_session principal live now) }
 {
-    Tally {
-        issued: u64::from(live),
-        acknowledged: 0,
+    let mut session = session_until(alloc, principal, live, now + RECOVERY_TIMEOUT)?;
+    if let Some(events) = &mut session.events {
+        events.push(Event::FailOver);
     }
+    Ok(session)
 }
 
 // A session of which this master knows no Beat and no call.
-pub(crate) fn session_until<K>(principal: Principal, live: bool, timeout: u64) -> Session<K>
-    ensures { result ≡ session_until principal live timeout }
+pub(crate) fn session_until<K>(
+    alloc: Global,
+    principal: Principal,
+    live: bool,
+    timeout: u64,
+) -> Result<Session<K>, AllocError>
+    ensures { IfOk result (λ session. session ≡ session_until principal live timeout) }
 {
-    let nothing = Tally {
-        issued: 0,
-        acknowledged: 0,
+    let events = if live {
+        Some(EventQueue::new(alloc)?)
+    } else {
+        None
     };
-    Session {
+    Ok(Session {
         principal,
         live,
         timeout,
         newest_beat: 0,
-        invalidations: nothing,
-        events: nothing,
+        invalidations: Tally {
+            issued: 0,
+            acknowledged: 0,
+        },
+        events,
         parked: None,
         kept: None,
-    }
+    })
 }

@@ -1,5 +1,5 @@
 -- Each reply that is sent is to a call that was sent before, whatever the master takes or sweeps.
-use Rattle.std.proofs.Common.{◌≡◌, ℕ, List, [], ◌∷◌, ◌++◌, Option, Some, None, sym, inl, inr, subst, zero, suc}
+use Rattle.std.proofs.Common.{◌≡◌, ℕ, List, [], ◌∷◌, ◌++◌, Option, Some, None, sym, ap, ◌∙◌, inl, inr, subst, zero, suc}
 use Rattle.std.specs.List.{slice_get}
 use Rattle.tags_cell.specs.declared.calls.Call.{Call}
 use Rattle.tags_cell.specs.declared.requests.CallMessage.{CallMessage}
@@ -60,14 +60,14 @@ told_answer sent secret reply call name found asks opens = record {
 
 -- what a message is answered at once opens its name
 pub answered_opens : (s : MasterState) (message : CallMessage) (note : Option Note) (answer : CallResult) → IsAnswered s message note answer → OpensAs message.call answer
-answered_opens s message note answer h = elim h.is_answer [
-  | inl t ↦ answer_opens s message.client message.number message.call answer t.0
+answered_opens s message _ answer h = elim h.is_answer [
+  | inl t ↦ answer_opens s message.client message.number message.call message.sequencer answer t.0
   | inr t ↦ subst (OpensAs message.call) (sym t.2) tt
 ]
 
 -- and what a call comes to when its turn comes
-pub turned_opens : (s : MasterState) (client number : ℕ) (call : Call) (effected : Effect) → effect s client number call ≡ effected → OpensAs call effected.answer
-turned_opens s client number call effected is = subst (λ (e : Effect). OpensAs call e.answer) is (effect_opens s client number call)
+pub turned_opens : (s : MasterState) (client number : ℕ) (call : Call) (sequencer : Option (List ℕ)) (effected : Effect) (answer : CallResult) → effect s client number call sequencer ≡ effected → effected.answer ≡ Some answer → OpensAs call answer
+turned_opens s client number call sequencer effected answer is answered = effect_opens s client number call sequencer answer (ap (λ (e : Effect). e.answer) is ∙ answered)
 
 -- ---- several messages
 

@@ -1,10 +1,16 @@
 -- Why each applied change is the effect of a call that was sent and taken.
-use Rattle.std.proofs.Common.{◌≡◌, ℕ, ◌+◌, List, [], ◌∷◌, ◌++◌, Option, Some, None, refl, sym, ap, ◌∙◌, inl, inr, append_assoc, subst, map}
+use Rattle.std.proofs.Common.{◌≡◌, ℕ, ◌+◌, List, [], ◌∷◌, ◌++◌, Option, Some, None, Result, Ok, Err, refl, sym, ap, ◌∙◌, inl, inr, append_assoc, subst, map}
 use Rattle.std.specs.Prelude.{◌⊎◌, filter}
+use Rattle.std.specs.Option.{option_map_or}
 use Rattle.std.proofs.lemmas.List.{append-nil}
+use Rattle.node_core.specs.declared.kinds.LockMode.{LockMode}
+use Rattle.node_core.specs.declared.refusals.Fault.{Fault}
+use Rattle.node_core.specs.declared.refusals.Fault.TheVariants as faults
 use Rattle.node_core.specs.declared.lines.Line.{Line}
 use Rattle.node_core.specs.declared.lines.Line.TheVariants as lines
 use Rattle.node_core.specs.declared.views.Mod.{Mod}
+use Rattle.tags_cell.specs.Handles.{read_handle}
+use Rattle.tags_cell.specs.declared.handles.Handle.{Handle}
 use Rattle.tags_cell.specs.declared.calls.Call.{Call}
 use Rattle.tags_cell.specs.declared.calls.Call.TheVariants as calls
 use Rattle.tags_cell.specs.declared.requests.Request.{Request}
@@ -15,16 +21,24 @@ use Rattle.cell_core.specs.declared.handles.Note.{Note}
 use Rattle.rights_core.specs.declared.endings.Ending.TheVariants as endings
 use Rattle.rights_core.specs.Rights.{numbers_ending}
 use Rattle.gate_core.specs.declared.pending.Waiting.{Waiting}
+use Rattle.lock_core.specs.declared.claims.Claim.{Claim}
+use Rattle.lock_core.specs.State.{LockState}
+use Rattle.lock_core.specs.Turns.{reopened, tried}
+use Rattle.lock_core.specs.Locks.{lock_at}
+use Rattle.cell_core.specs.Deeds.{with_locks}
+use Rattle.cell_core.specs.Locks.{claim_of}
 use Rattle.cell_core.specs.declared.pending.Task.{Task}
 use Rattle.cell_core.specs.declared.pending.Work.{Work}
 use Rattle.cell_core.specs.declared.pending.Work.TheVariants as works
 use Rattle.cell_core.specs.State.{MasterState}
-use Rattle.cell_core.specs.Step.{names_of, with_call, asking_for, with_note, noted}
-use Rattle.over_core.specs.Effect.{effect}
+use Rattle.cell_core.specs.Step.{names_of, task_of, with_call, asking_for, with_note, noted, lock_under, node_of_handle, answer_on}
+use Rattle.over_core.specs.declared.effects.Effect.{Effect}
+use Rattle.over_core.specs.Effect.{answered, refused, try_by, try_at, change_at, change_on, handle_effect, effect}
+use Rattle.over_core.specs.Sweep.{locked_line, locked_lines, leave_lines, lapses_lines, left_put, lapses_of}
 use Rattle.cell_core.specs.Cases.{TakeCase, taken_by}
 use Rattle.over_core.specs.SweepCase.{IsTurn, SweepCase, swept_by, rest, ended, mapped}
 use Rattle.cell_core.specs.Cases.TakeCase.{StartQueued, Answered, Granted, Waits}
-use Rattle.over_core.specs.SweepCase.SweepCase.{Quiet, Recovers, Expires, AnswersBeat, TurnedAway, StartedAgain, Started as StartedFirst, OfEnded, Ended, Applied}
+use Rattle.over_core.specs.SweepCase.SweepCase.{Quiet, Recovers, Expires, Reopens, AnswersBeat, TurnedAway, StartedAgain, Started as StartedFirst, OfEnded, Ended, Applied, Deleted, Locked, Awaited, Left}
 use Rattle.over_core.specs.Kept.{IsKept}
 use Rattle.world_cell.specs.declared.steps.Step.{Step}
 use Rattle.world_cell.specs.declared.steps.Step.TheVariants.{Take, Sweep, CutSweep}
@@ -33,7 +47,8 @@ use Rattle.world_cell.specs.Messages.{call_of}
 use Rattle.world_cell.specs.World.{WorldState, WorldView, is_of_commit}
 use Rattle.world_cell.specs.Consistent.{Agrees, IsConsistent}
 use Rattle.world_cell.specs.Runs.{IsMade, Does, Run, change_of, IsTaken, HasWaited, IsOfCall}
-use Rattle.world_cell.proofs.SilentLines.{IsSilent}
+use Rattle.world_cell.proofs.SilentLines.{IsSilent, quiet_silent}
+use Rattle.world_cell.proofs.LockLines.{reopened_of_locks, left_of_locks, lapses_of_locks}
 use Rattle.world_cell.proofs.PartsOfRuns.{run_push}
 use Rattle.world_cell.proofs.MasterFits.{waits_as, turn_sent}
 use Rattle.world_cell.proofs.WorldCases.{IsTake, WorldCase, world_case}
@@ -77,15 +92,19 @@ silent_split (line ∷ printed) (b ∷ before) rest client number change h e =
     let t : printed ≡ before ++ lines.Applied client number change ∷ rest = cc in silent_split printed before rest client number change h.1 t
 
 -- an expiry tells of no change
-expiry_split : (numbers : List ℕ) (whose : ℕ) (before rest : List Line) (client number : ℕ) (change : Mod) → map lines.Expired numbers ++ lines.Ended whose ∷ [] ≡ before ++ lines.Applied client number change ∷ rest → ⊥
-expiry_split [] whose before rest client number change e =
-    let t = one_split (lines.Ended whose) before rest (lines.Applied client number change) e in
-    let line : lines.Ended whose ≡ lines.Applied client number change = t.1 in cc
-expiry_split (right ∷ numbers) whose [] rest client number change e =
+expiry_split : (numbers : List ℕ) (others : List Line) (whose : ℕ) (before rest : List Line) (client number : ℕ) (change : Mod) → IsSilent others → map lines.Expired numbers ++ others ++ lines.Ended whose ∷ [] ≡ before ++ lines.Applied client number change ∷ rest → ⊥
+expiry_split [] others whose before rest client number change silent e =
+    elim (split others (lines.Ended whose ∷ []) before rest (lines.Applied client number change) e) [
+      | inl k ↦ silent_split others before k.0 client number change silent k.1
+      | inr k ↦
+          (let t = one_split (lines.Ended whose) k.0 rest (lines.Applied client number change) k.2 in
+          let line : lines.Ended whose ≡ lines.Applied client number change = t.1 in cc)
+    ]
+expiry_split (right ∷ numbers) others whose [] rest client number change silent e =
     let line : lines.Expired right ≡ lines.Applied client number change = cc in cc
-expiry_split (right ∷ numbers) whose (b ∷ before) rest client number change e =
-    let t : map lines.Expired numbers ++ lines.Ended whose ∷ [] ≡ before ++ lines.Applied client number change ∷ rest = cc in
-    expiry_split numbers whose before rest client number change t
+expiry_split (right ∷ numbers) others whose (b ∷ before) rest client number change silent e =
+    let t : map lines.Expired numbers ++ others ++ lines.Ended whose ∷ [] ≡ before ++ lines.Applied client number change ∷ rest = cc in
+    expiry_split numbers others whose before rest client number change silent t
 
 -- nor does a master that came up and is gone
 up_split : (epoch : ℕ) (before rest : List Line) (client number : ℕ) (change : Mod) → lines.Up epoch ∷ lines.Down ∷ [] ≡ before ++ lines.Applied client number change ∷ rest → ⊥
@@ -107,12 +126,12 @@ abbrev ground_after : Ground → Step → List Line → WorldView → Ground
 ground_after g step printed new = record { old = g.old; past = g.past ++ step ∷ []; told = g.told ++ printed; here = new }
 
 -- the call waited from the beginning, or one of the steps took it
-abbrev WasTaken : Ground → ℕ → ℕ → ℕ → Call → Type 0
-WasTaken g epoch client number call = HasWaited g.old.world.master epoch client number call ⊎ IsTaken g.old g.past g.told g.here epoch client number call
+abbrev WasTaken : Ground → ℕ → ℕ → ℕ → Call → Option (List ℕ) → Type 0
+WasTaken g epoch client number call sequencer = HasWaited g.old.world.master epoch client number call sequencer ⊎ IsTaken g.old g.past g.told g.here epoch client number call sequencer
 
 abbrev IsCalled : Ground → ℕ → ℕ → ℕ → Work → Type 0
 IsCalled g epoch client number (works.Starts principal received) = Unit {0}
-IsCalled g epoch client number (works.Calls call) = WasTaken g epoch client number call
+IsCalled g epoch client number (works.Calls call sequencer) = WasTaken g epoch client number call sequencer
 
 abbrev AreCalled : Ground → ℕ → List (Waiting Task) → Type 0
 AreCalled g epoch [] = Unit {0}
@@ -132,8 +151,8 @@ record Stands (g : Ground) : Type 0 where
 -- ---- later on
 
 module _ (g : Ground) (step : Step) (printed : List Line) (new : WorldView) (does : Does g.here step new printed) (fits : IsConsistent new.world) where
-  taken_later : (epoch client number : ℕ) (call : Call) → IsTaken g.old g.past g.told g.here epoch client number call → IsTaken g.old (g.past ++ step ∷ []) (g.told ++ printed) new epoch client number call
-  taken_later epoch client number call t = record {
+  taken_later : (epoch client number : ℕ) (call : Call) (sequencer : Option (List ℕ)) → IsTaken g.old g.past g.told g.here epoch client number call sequencer → IsTaken g.old (g.past ++ step ∷ []) (g.told ++ printed) new epoch client number call sequencer
+  taken_later epoch client number call sequencer t = record {
     front = t.front;
     at = t.at;
     back = t.back ++ step ∷ [];
@@ -155,8 +174,8 @@ module _ (g : Ground) (step : Step) (printed : List Line) (new : WorldView) (doe
 
   work_later : (epoch client number : ℕ) (work : Work) → IsCalled g epoch client number work → IsCalled (ground_after g step printed new) epoch client number work
   work_later epoch client number (works.Starts principal received) called = tt
-  work_later epoch client number (works.Calls call) (inl waited) = inl waited
-  work_later epoch client number (works.Calls call) (inr taken) = inr (taken_later epoch client number call taken)
+  work_later epoch client number (works.Calls call sequencer) (inl waited) = inl waited
+  work_later epoch client number (works.Calls call sequencer) (inr taken) = inr (taken_later epoch client number call sequencer taken)
 
   calls_later : (epoch : ℕ) (queue : List (Waiting Task)) → AreCalled g epoch queue → AreCalled (ground_after g step printed new) epoch queue
   calls_later epoch [] called = tt
@@ -185,16 +204,16 @@ asking_calls g s (Some name) h = h
 -- ---- a message is taken
 
 -- only a call of the master's own epoch may wait, and it was taken
-take_calls : (g : Ground) (s : MasterState) (request : Request) (c : TakeCase s request) → AreCalled g s.epoch s.gate.waiting → ((message : CallMessage) → request ≡ requests.Call message → message.epoch ≡ s.epoch → WasTaken g s.epoch message.client message.number message.call) → AreCalled g (taken_by s request c).0.epoch (taken_by s request c).0.gate.waiting
+take_calls : (g : Ground) (s : MasterState) (request : Request) (c : TakeCase s request) → AreCalled g s.epoch s.gate.waiting → ((message : CallMessage) → request ≡ requests.Call message → message.epoch ≡ s.epoch → WasTaken g s.epoch message.client message.number message.call message.sequencer) → AreCalled g (taken_by s request c).0.epoch (taken_by s request c).0.gate.waiting
 take_calls g s request (StartQueued start is may serving room) h k =
     calls_push g s.epoch s.gate.waiting (waits_as (s.gate.pushed + 1) [] (record { client = start.client; number = start.number; work = works.Starts start.principal s.clock })) h tt
 take_calls g s request (Answered message note answer new serving answered) h k = note_calls g s note h
 take_calls g s request (Granted message note answer name new serving may) h k = note_calls g s note h
 take_calls g s request (Waits message note touched new serving admitted) h k =
     let t = with_note s note in
-    let taken : WasTaken g t.epoch message.client message.number message.call = rw (epoch_note s note) (k message new.heard.is_call new.heard.epoch) in
-    asking_calls g (with_call t message.client message.number message.call touched) touched
-    (calls_push g t.epoch t.gate.waiting (waits_as (t.gate.pushed + 1) (names_of touched) (record { client = message.client; number = message.number; work = works.Calls message.call })) (note_calls g s note h) taken)
+    let taken : WasTaken g t.epoch message.client message.number message.call message.sequencer = rw (epoch_note s note) (k message new.heard.is_call new.heard.epoch) in
+    asking_calls g (with_call t message touched) touched
+    (calls_push g t.epoch t.gate.waiting (waits_as (t.gate.pushed + 1) (names_of touched) (task_of message)) (note_calls g s note h) taken)
 take_calls g s request _ h k = h
 
 -- ---- a sweep
@@ -215,14 +234,22 @@ sweep_calls : (g : Ground) (s : MasterState) (c : SweepCase s) → AreCalled g s
 sweep_calls g s (Quiet none) h = h
 sweep_calls g s (Recovers recovering heard) h = h
 sweep_calls g s (Expires client session due) h = h
+sweep_calls g s (Reopens instance due) h = h
 sweep_calls g s (AnswersBeat client session beat due) h = h
 sweep_calls g s (TurnedAway front back task principal received turn work may) h = (turn_calls g s front task back turn h).1
 sweep_calls g s (StartedAgain front back task principal received session turn work found live) h = (turn_calls g s front task back turn h).1
 sweep_calls g s (StartedFirst front back task principal received turn work none) h = (turn_calls g s front task back turn h).1
-sweep_calls g s (OfEnded front back task call turn work gone) h = (turn_calls g s front task back turn h).1
-sweep_calls g s (Ended front back task call note answer turn work live made) h = ended_calls g (rest s front back) task note answer (turn_calls g s front task back turn h).1
-sweep_calls g s (Applied front back task call note change answer turn work live made) h =
+sweep_calls g s (OfEnded front back task call sequencer turn work gone) h = (turn_calls g s front task back turn h).1
+sweep_calls g s (Ended front back task call sequencer note answer turn work live made) h = ended_calls g (rest s front back) task note answer (turn_calls g s front task back turn h).1
+sweep_calls g s (Applied front back task call sequencer note change answer turn work live made) h =
     ended_calls g (mapped (rest s front back) change) task note answer (turn_calls g s front task back turn h).1
+sweep_calls g s (Deleted front back task call sequencer change instance waiters answer turn work live made) h =
+    ended_calls g (mapped (rest s front back) change) task None answer (turn_calls g s front task back turn h).1
+sweep_calls g s (Locked front back task call sequencer put claim answer turn work live made) h =
+    ended_calls g (with_locks (rest s front back) (put ∷ [])) task None answer (turn_calls g s front task back turn h).1
+sweep_calls g s (Awaited front back task call sequencer put turn work live made) h = (turn_calls g s front task back turn h).1
+sweep_calls g s (Left front back task call sequencer note leave answer turn work live made) h =
+    ended_calls g (with_locks (rest s front back) (left_put leave ∷ [])) task note answer (turn_calls g s front task back turn h).1
 
 -- ---- a step
 
@@ -233,7 +260,7 @@ queued_as : (g : Ground) (m n : Option MasterState) → m ≡ n → Queued g n �
 queued_as g m n e h = rw e h
 
 -- the step that delivered the call's message
-taken_now : (g : Ground) (step : Step) (printed : List Line) (new : WorldView) (t : IsTake g.here.world step new.world printed) → Stands g → IsMade g.here step new printed → (message : CallMessage) → t.request ≡ requests.Call message → message.epoch ≡ t.master.epoch → IsTaken g.old (g.past ++ step ∷ []) (g.told ++ printed) new t.master.epoch message.client message.number message.call
+taken_now : (g : Ground) (step : Step) (printed : List Line) (new : WorldView) (t : IsTake g.here.world step new.world printed) → Stands g → IsMade g.here step new printed → (message : CallMessage) → t.request ≡ requests.Call message → message.epoch ≡ t.master.epoch → IsTaken g.old (g.past ++ step ∷ []) (g.told ++ printed) new t.master.epoch message.client message.number message.call message.sequencer
 taken_now g step printed new t h made message is_call same = record {
   front = g.past;
   at = t.at;
@@ -297,17 +324,50 @@ step_stands g step new printed h (inr r) fits = record {
 
 -- ---- the step that tells of a change
 
--- the moment doesn't matter to what a call does
-noted_effect : (s : MasterState) (now client number : ℕ) (call : Call) → effect (noted s now) client number call ≡ effect s client number call
+-- whoever asks for a lock changes no name, at whatever moment
+tried_change : (handle : Handle) (claim : Claim) (r : Result LockState Fault) → change_of (try_by handle claim r) ≡ None
+tried_change handle claim (Ok lock) = refl
+tried_change handle claim (Err fault) = refl
+
+tried_then : (s : MasterState) (now : ℕ) (handle : Handle) (mode : LockMode) → change_of (try_at (noted s now) handle mode) ≡ change_of (try_at s handle mode)
+tried_then s now handle mode =
+    let claim = claim_of handle mode in
+    tried_change handle claim (tried (lock_under s handle) claim (noted s now).clock) ∙ sym (tried_change handle claim (tried (lock_under s handle) claim s.clock))
+
+-- by what the tests answer
+either_then : (o : Option CallResult) (x y : Effect) → change_of x ≡ change_of y → change_of (option_map_or (λ answer. answered answer) o x) ≡ change_of (option_map_or (λ answer. answered answer) o y)
+either_then None x y h = h
+either_then (Some answer) x y h = refl
+
+there_then : (s : MasterState) (now : ℕ) (handle : Handle) (bytes : List ℕ) (mode : LockMode) → change_of (change_on (noted s now) handle (calls.TryAcquire bytes mode)) ≡ change_of (change_on s handle (calls.TryAcquire bytes mode))
+there_then s now handle bytes mode =
+    elim (node_of_handle s handle) as (λ o. change_of (option_map_or (λ view. change_at (noted s now) handle (calls.TryAcquire bytes mode) view) o (refused faults.StaleInstance)) ≡ change_of (option_map_or (λ view. change_at s handle (calls.TryAcquire bytes mode) view) o (refused faults.StaleInstance))) [
+      | None ↦ refl
+      | Some view ↦ tried_then s now handle mode
+    ]
+
+shown_then : (s : MasterState) (now : ℕ) (bytes : List ℕ) (mode : LockMode) (sequencer : Option (List ℕ)) (o : Option Handle) → change_of (handle_effect (noted s now) (calls.TryAcquire bytes mode) sequencer o) ≡ change_of (handle_effect s (calls.TryAcquire bytes mode) sequencer o)
+shown_then s now bytes mode sequencer None = refl
+shown_then s now bytes mode sequencer (Some handle) =
+    either_then (answer_on s handle (calls.TryAcquire bytes mode) sequencer) (change_on (noted s now) handle (calls.TryAcquire bytes mode)) (change_on s handle (calls.TryAcquire bytes mode)) (there_then s now handle bytes mode)
+
+-- the moment doesn't matter to what a call changes
+noted_change : (s : MasterState) (now client number : ℕ) (call : Call) (sequencer : Option (List ℕ)) → change_of (effect (noted s now) client number call sequencer) ≡ change_of (effect s client number call sequencer)
 unfolding effect
-noted_effect s now client number (calls.Open opening) = refl
-noted_effect s now client number (calls.Close bytes) = refl
-noted_effect s now client number (calls.Read bytes) = refl
-noted_effect s now client number (calls.Stat bytes) = refl
-noted_effect s now client number (calls.List bytes) = refl
-noted_effect s now client number (calls.Set bytes content generation) = refl
-noted_effect s now client number (calls.SetAcl bytes acls generation) = refl
-noted_effect s now client number (calls.Delete bytes) = refl
+noted_change s now client number (calls.Open opening) sequencer = refl
+noted_change s now client number (calls.Close bytes) sequencer = refl
+noted_change s now client number (calls.Read bytes) sequencer = refl
+noted_change s now client number (calls.Stat bytes) sequencer = refl
+noted_change s now client number (calls.List bytes) sequencer = refl
+noted_change s now client number (calls.Set bytes content generation) sequencer = refl
+noted_change s now client number (calls.SetAcl bytes acls generation) sequencer = refl
+noted_change s now client number (calls.Delete bytes) sequencer = refl
+noted_change s now client number (calls.Acquire bytes mode) sequencer = refl
+noted_change s now client number (calls.TryAcquire bytes mode) sequencer = shown_then s now bytes mode sequencer (read_handle s.secret bytes)
+noted_change s now client number (calls.Release bytes) sequencer = refl
+noted_change s now client number (calls.GetSequencer bytes) sequencer = refl
+noted_change s now client number (calls.SetSequencer bytes) sequencer = refl
+noted_change s now client number (calls.CheckSequencer bytes) sequencer = refl
 
 agreed : (w : WorldState) (m : Option MasterState) (s : MasterState) → m ≡ Some s → Agrees w m → IsKept w.cell w.rows s
 agreed w m s e h = rw e at h
@@ -320,18 +380,19 @@ record IsOfTurn (s : MasterState) (before : List Line) (client number : ℕ) (ch
   task : Task
   turn : IsTurn s front task back
   call : Call
-  work : task.work ≡ works.Calls call
+  sequencer : Option (List ℕ)
+  work : task.work ≡ works.Calls call sequencer
   own : task.client ≡ client
   same : task.number ≡ number
-  is_effect : change_of (effect s client number call) ≡ Some change
+  is_effect : change_of (effect s client number call sequencer) ≡ Some change
 
-of_turn : (s : MasterState) (c : SweepCase s) (before told : List Line) (client number : ℕ) (change : Mod) → (swept_by s c).1.lines ≡ before ++ lines.Applied client number change ∷ told → IsOfTurn s before client number change
-of_turn s (Applied front back task call note made answer turn work live does) before told client number change e =
-    let t = one_split (lines.Applied task.client task.number made.change) before told (lines.Applied client number change) e in
-    let line : lines.Applied task.client task.number made.change ≡ lines.Applied client number change = t.1 in
+of_call : (s : MasterState) (front back : List (Waiting Task)) (task : Task) (call : Call) (sequencer : Option (List ℕ)) (made : Mod) (before told : List Line) (client number : ℕ) (change : Mod) → IsTurn s front task back → task.work ≡ works.Calls call sequencer → change_of (effect s task.client task.number call sequencer) ≡ Some made → lines.Applied task.client task.number made ∷ [] ≡ before ++ lines.Applied client number change ∷ told → IsOfTurn s before client number change
+of_call s front back task call sequencer made before told client number change turn work does e =
+    let t = one_split (lines.Applied task.client task.number made) before told (lines.Applied client number change) e in
+    let line : lines.Applied task.client task.number made ≡ lines.Applied client number change = t.1 in
     let c : task.client ≡ client = cc in
     let n : task.number ≡ number = cc in
-    let m : made.change ≡ change = cc in
+    let m : made ≡ change = cc in
     record {
       first = t.0;
       front = front;
@@ -339,19 +400,36 @@ of_turn s (Applied front back task call note made answer turn work live does) be
       task = task;
       turn = turn;
       call = call;
+      sequencer = sequencer;
       work = work;
       own = c;
       same = n;
-      is_effect = rw (← c, ← n) (ap change_of does ∙ ap (λ x. Some x) m);
+      is_effect = rw (← c, ← n) (does ∙ ap (λ x. Some x) m);
     }
+
+of_turn : (s : MasterState) (c : SweepCase s) (before told : List Line) (client number : ℕ) (change : Mod) → (swept_by s c).1.lines ≡ before ++ lines.Applied client number change ∷ told → IsOfTurn s before client number change
+of_turn s (Applied front back task call sequencer _ made answer turn work live does) before told client number change e =
+    of_call s front back task call sequencer made.change before told client number change turn work (ap change_of does) e
+of_turn s (Deleted front back task call sequencer made instance waiters answer turn work live does) before told client number change e =
+    of_call s front back task call sequencer made.change before told client number change turn work (ap change_of does) e
 of_turn s (Recovers recovering heard) before told client number change e =
     let t = one_split lines.Recovered before told (lines.Applied client number change) e in
     let line : lines.Recovered ≡ lines.Applied client number change = t.1 in cc
 of_turn s (Expires whose session due) before told client number change e =
-    absurd (expiry_split (numbers_ending whose endings.Expiry s.rights) whose before told client number change e)
+    let others = lapses_lines whose (lapses_of s whose) in
+    absurd (expiry_split (numbers_ending whose endings.Expiry s.rights) others whose before told client number change (quiet_silent others (lapses_of_locks whose (lapses_of s whose)).quiet) e)
 of_turn s (StartedFirst front back task principal received turn work none) before told client number change e =
     let t = one_split (lines.Started task.client) before told (lines.Applied client number change) e in
     let line : lines.Started task.client ≡ lines.Applied client number change = t.1 in cc
+of_turn s (Reopens instance due) before told client number change e =
+    let turn = reopened (lock_at s.locks instance) in
+    let printed = lines.Reopened instance ∷ locked_lines instance turn in
+    absurd (silent_split printed before told client number change (quiet_silent printed (reopened_of_locks instance turn).quiet) e)
+of_turn s (Locked front back task call sequencer put claim answer turn work live made) before told client number change e =
+    absurd (silent_split (locked_line put.instance put.lock.generation claim ∷ []) before told client number change (tt, tt) e)
+of_turn s (Left front back task call sequencer _ leave answer turn work live made) before told client number change e =
+    let printed = leave_lines task.client leave in
+    absurd (silent_split printed before told client number change (quiet_silent printed (left_of_locks task.client leave).quiet) e)
 of_turn s _ before told client number change e = absurd (no_split before told (lines.Applied client number change) e)
 
 -- the same of a sweep that was cut
@@ -393,13 +471,14 @@ of_sweep g step next printed before told later client number change steps rest n
       nodes = kept.nodes ∙ tells.is_map;
       epoch = kept.epoch ∙ tells.is_epoch;
       call = turn.call;
-      sent = subst (λ k. call_of g.here.world.messages client k ≡ Some (record { client = client; epoch = master.epoch; number = k; call = turn.call })) turn.same
-          (subst (λ k. call_of g.here.world.messages k turn.task.number ≡ Some (record { client = k; epoch = master.epoch; number = turn.task.number; call = turn.call })) turn.own
-          (turn_sent g.here.world.messages s turn.front turn.task turn.back turn.turn (noted_fits g.here.world h.consistent master is_up) turn.call turn.work));
-      taken = subst (λ k. WasTaken g master.epoch client k turn.call) turn.same
-          (subst (λ k. WasTaken g master.epoch k turn.task.number turn.call) turn.own
+      sequencer = turn.sequencer;
+      sent = subst (λ k. call_of g.here.world.messages client k ≡ Some (record { client = client; epoch = master.epoch; number = k; call = turn.call; sequencer = turn.sequencer })) turn.same
+          (subst (λ k. call_of g.here.world.messages k turn.task.number ≡ Some (record { client = k; epoch = master.epoch; number = turn.task.number; call = turn.call; sequencer = turn.sequencer })) turn.own
+          (turn_sent g.here.world.messages s turn.front turn.task turn.back turn.turn (noted_fits g.here.world h.consistent master is_up) turn.call turn.sequencer turn.work));
+      taken = subst (λ k. WasTaken g master.epoch client k turn.call turn.sequencer) turn.same
+          (subst (λ k. WasTaken g master.epoch k turn.task.number turn.call turn.sequencer) turn.own
           (subst (λ x. IsCalled g master.epoch turn.task.client turn.task.number x) turn.work (turn_calls g s turn.front turn.task turn.back turn.turn (queued_at g g.here.world.master master is_up h.queue)).0));
-      is_effect = ap change_of (sym (noted_effect master g.here.world.clock client number turn.call)) ∙ turn.is_effect;
+      is_effect = sym (noted_change master g.here.world.clock client number turn.call turn.sequencer) ∙ turn.is_effect;
     })
 
 made_here : (g : Ground) (step : Step) (next : WorldView) (printed before told later : List Line) (client number : ℕ) (change : Mod) (steps : List Step) (rest : List Line) (new : WorldView) → Stands g → Does g.here step next printed → Run next steps later new → printed ≡ before ++ lines.Applied client number change ∷ told → rest ≡ told ++ later → IsOfCall g.old (g.past ++ step ∷ steps) (g.told ++ before) client number change rest new
@@ -447,7 +526,7 @@ have_waited g s up front (w ∷ ws) is = (it_waited g s up front w ws w.change.b
   where
     it_waited : (g : Ground) (s : MasterState) → g.old.world.master ≡ Some s → (front : List (Waiting Task)) (w : Waiting Task) (ws : List (Waiting Task)) (work : Work) → w.change.body.work ≡ work → s.gate.waiting ≡ front ++ w ∷ ws → IsCalled g s.epoch w.change.body.client w.change.body.number work
     it_waited g s up front w ws (works.Starts principal received) work is = tt
-    it_waited g s up front w ws (works.Calls call) work is =
+    it_waited g s up front w ws (works.Calls call sequencer) work is =
         inl (record {
           master = s;
           is_up = up;

@@ -1,11 +1,11 @@
 -- What a client holds of its cache, of its handles and of its call stays as it should, whatever it is asked for and given.
 use Rattle.std.proofs.Common.{◌≡◌, ℕ, ◌+◌, ◌≤◌, Bool, true, false, cond, List, [], ◌∷◌, ◌++◌, Option, Some, None, Result, Ok, Err, refl, sym, ap, ◌∙◌, subst, arith, drop}
-use Rattle.std.specs.Prelude.{nat_lt, length, is_some}
+use Rattle.std.specs.Prelude.{◌&&◌, nat_lt, length, is_none, is_some}
 use Rattle.std.specs.Cmp.{nat_cmp_total}
 use Rattle.std.specs.List.{AllByRecursion, IsDistinct}
 use Rattle.std.specs.List.Sorted.{IsStrictlySortedBy}
 use Rattle.std.specs.Option.{option_map}
-use Rattle.std.specs.Map.{keys_of, remove_entry}
+use Rattle.std.specs.Map.{keys_of, remove_entry, set_value}
 use Rattle.std.specs.BTreeMap.{is_at, insert_entry}
 use Rattle.std.specs.Ordering.{nat_cmp}
 use Rattle.std.proofs.lemmas.Map.{keys-set_value}
@@ -30,7 +30,7 @@ use Rattle.cache_core.specs.Kept.{serving, with_kept}
 use Rattle.cache_core.specs.declared.kept.Kept as shared
 use Rattle.cache_core.proofs.Sharing.{served_is_kept}
 use Rattle.client_parts.specs.Calls.{call_on}
-use Rattle.client_parts.specs.Opens.{is_plain, is_read_only, is_shareable, kept_handle}
+use Rattle.client_parts.specs.Opens.{is_plain, only_reads, is_shareable, kept_handle}
 use Rattle.client_parts.specs.Targets.{is_on, opening_in, opening_by}
 use Rattle.client_parts.specs.declared.asks.Ask.{Ask}
 use Rattle.client_parts.specs.declared.asks.Ask.TheVariants as asks
@@ -47,10 +47,10 @@ use Rattle.client_core.specs.declared.plans.Plan.TheVariants as plans
 use Rattle.client_core.specs.State.{ClientState, new_client, note_in, note_live}
 use Rattle.client_core.specs.Handles.{handle_of}
 use Rattle.client_core.specs.Serves.{serve_read, read_served, share, entry_served, open_served}
-use Rattle.client_core.specs.Asks.{usable_handle, send_plan, served_or, open_plan, close_plan, poison_plan, node_plan, plan_of, message_of, with_call, with_shared, without_handle}
+use Rattle.client_core.specs.Asks.{usable_handle, send_plan, served_or, open_plan, close_plan, poison_plan, node_plan, sequencer_plan, plan_of, message_of, with_call, with_shared, without_handle}
 use Rattle.client_core.specs.Poisons.{dropped, poisoned, with_poisoned}
 use Rattle.client_core.specs.Lessons.{opening_of}
-use Rattle.client_core.specs.Gives.{closed, handles_behind, kept_behind, ended_plainly}
+use Rattle.client_core.specs.Gives.{closed, sequencer_of, put_under, sequenced, handles_behind, kept_behind, ended_plainly}
 use Rattle.client_core.specs.Cases.{AskCase, asked_in, BeatCase, beaten_in, GiveCase, given_in}
 use Rattle.client_core.proofs.Leases.{LeaseDoes, asked_keeps, beaten_keeps_session, given_lease, unstarted_stays}
 use Rattle.client_core.proofs.Leases.LeaseDoes.{LeaseKept, LeaseLeft, LeaseCarried, LeaseBegun, LeaseBettered, LeasePassed}
@@ -87,14 +87,16 @@ found_removed number handles in_order =
     (λ x e. let none = lookup_removed number handles in_order in cc)
     (λ q apart x e. (x, sym (lookup_removed_apart number q apart handles) ∙ e, refl, refl))
 
-found_poisoned : (number : ℕ) (handles : Handles) (handle : ClientHandle) → handle_of handles number ≡ Some handle → (q : ℕ) (x : ClientHandle) → handle_of (poisoned handles number handle) q ≡ Some x → FoundBefore handles q x
-found_poisoned number handles handle found =
-    at_each (λ q. (x : ClientHandle) → handle_of (poisoned handles number handle) q ≡ Some x → FoundBefore handles q x) number
+found_changed : (number : ℕ) (handles : Handles) (handle v : ClientHandle) → handle_of handles number ≡ Some handle → v.bytes ≡ handle.bytes → v.name ≡ handle.name → (q : ℕ) (x : ClientHandle) → handle_of (set_value (is_at (nat_cmp number)) handles v) q ≡ Some x → FoundBefore handles q x
+found_changed number handles handle v found bytes name =
+    at_each (λ q. (x : ClientHandle) → handle_of (set_value (is_at (nat_cmp number)) handles v) q ≡ Some x → FoundBefore handles q x) number
     (λ x e.
-    let v : ClientHandle = record handle { poisoned = true } in
     let is : v ≡ x = some_is v x (sym (lookup_set number handles v ∙ ap (option_map (λ (w : ClientHandle). v)) found) ∙ e) in
-    (handle, found, sym (ap (λ (y : ClientHandle). y.bytes) is), sym (ap (λ (y : ClientHandle). y.name) is)))
-    (λ q apart x e. (x, sym (lookup_set_apart number q apart handles (record handle { poisoned = true })) ∙ e, refl, refl))
+    (handle, found, sym (ap (λ (y : ClientHandle). y.bytes) is) ∙ bytes, sym (ap (λ (y : ClientHandle). y.name) is) ∙ name))
+    (λ q apart x e. (x, sym (lookup_set_apart number q apart handles v) ∙ e, refl, refl))
+
+found_poisoned : (number : ℕ) (handles : Handles) (handle : ClientHandle) → handle_of handles number ≡ Some handle → (q : ℕ) (x : ClientHandle) → handle_of (poisoned handles number handle) q ≡ Some x → FoundBefore handles q x
+found_poisoned number handles handle found = found_changed number handles handle (record handle { poisoned = true }) found refl refl
 
 -- no handle but those that were
 fewer_handles : (opened : ℕ) (handles new : Handles) → AreHandles opened handles → IsStrictlySortedBy nat_cmp (keys_of new) → ((q : ℕ) (x : ClientHandle) → handle_of new q ≡ Some x → FoundBefore handles q x) → AreHandles opened new
@@ -108,11 +110,14 @@ removed_handles : (opened number : ℕ) (handles : Handles) → AreHandles opene
 removed_handles opened number handles h =
     fewer_handles opened handles (remove_entry (is_at (nat_cmp number)) handles) h (sorted_remove nat_cmp_total (is_at (nat_cmp number)) handles h.in_order) (found_removed number handles h.in_order)
 
+changed_handles : (opened number : ℕ) (handles : Handles) (handle v : ClientHandle) → handle_of handles number ≡ Some handle → v.bytes ≡ handle.bytes → v.name ≡ handle.name → AreHandles opened handles → AreHandles opened (set_value (is_at (nat_cmp number)) handles v)
+changed_handles opened number handles handle v found bytes name h =
+    fewer_handles opened handles (set_value (is_at (nat_cmp number)) handles v) h
+    (subst (λ (ks : List ℕ). IsStrictlySortedBy nat_cmp ks) (sym (keys-set_value (is_at (nat_cmp number)) handles v)) h.in_order)
+    (found_changed number handles handle v found bytes name)
+
 poisoned_handles : (opened number : ℕ) (handles : Handles) (handle : ClientHandle) → handle_of handles number ≡ Some handle → AreHandles opened handles → AreHandles opened (poisoned handles number handle)
-poisoned_handles opened number handles handle found h =
-    fewer_handles opened handles (poisoned handles number handle) h
-    (subst (λ (ks : List ℕ). IsStrictlySortedBy nat_cmp ks) (sym (keys-set_value (is_at (nat_cmp number)) handles (record handle { poisoned = true }))) h.in_order)
-    (found_poisoned number handles handle found)
+poisoned_handles opened number handles handle found h = changed_handles opened number handles handle (record handle { poisoned = true }) found refl refl h
 
 -- one handle more, under the next number
 put_handles : (opened : ℕ) (handles : Handles) (handle : ClientHandle) → AreHandles opened handles → name_in handle.bytes ≡ handle.name → AreHandles (opened + 1) (insert_entry nat_cmp handles (opened + 1) handle)
@@ -263,7 +268,7 @@ record IsMade (s : ClientState) (call : Call) (number : ℕ) : Type 0 where
 
 -- whatever the plan sends is made so
 abbrev MadeBy : ClientState → Result Plan Fault → Type 0
-MadeBy s (Ok (plans.Send call target)) = (number : ℕ) → target ≡ targets.Handle number → IsMade s call number
+MadeBy s (Ok (plans.Send call sequencer target)) = (number : ℕ) → target ≡ targets.Handle number → IsMade s call number
 MadeBy s (Ok _) = Unit {0}
 MadeBy s (Err fault) = Unit {0}
 
@@ -272,8 +277,8 @@ MadeIf s None = Unit {0}
 MadeIf s (Some plan) = MadeBy s (Ok plan)
 
 module _ (s : ClientState) where
-  made_send : (call : Call) (target : Target) → ((number : ℕ) → target ≡ targets.Handle number → IsMade s call number) → MadeBy s (send_plan s call target)
-  made_send call target h = elim (is_some s.outstanding) as (λ b. MadeBy s (cond b (Err faults.CallOutstanding) (Ok (plans.Send call target)))) [ true ↦ tt | false ↦ h ]
+  made_send : (call : Call) (sequencer : Option (List ℕ)) (target : Target) → ((number : ℕ) → target ≡ targets.Handle number → IsMade s call number) → MadeBy s (send_plan s call sequencer target)
+  made_send call sequencer target h = elim (is_some s.outstanding) as (λ b. MadeBy s (cond b (Err faults.CallOutstanding) (Ok (plans.Send call sequencer target)))) [ true ↦ tt | false ↦ h ]
 
   made_or : (o : Option Plan) (sent : Result Plan Fault) → MadeIf s o → MadeBy s sent → MadeBy s (served_or o sent)
   made_or None sent h k = k
@@ -290,18 +295,18 @@ module _ (s : ClientState) where
   made_entry : (opening : Open) (o : Option (Option View)) → MadeIf s (entry_served s opening o)
   made_entry opening None = tt
   made_entry opening (Some None) = tt
-  made_entry opening (Some (Some view)) = made_if (is_read_only opening.mode) (option_map (share s opening view) (serving s.kept opening.name view.instance)) (made_share opening view (serving s.kept opening.name view.instance))
+  made_entry opening (Some (Some view)) = made_if (only_reads opening) (option_map (share s opening view) (serving s.kept opening.name view.instance)) (made_share opening view (serving s.kept opening.name view.instance))
 
   made_open : (moment : ℕ) (opening : Open) → MadeBy s (open_plan s moment opening)
-  made_open moment opening = made_or (open_served s moment opening) (send_plan s (calls.Open opening) targets.NewHandle)
+  made_open moment opening = made_or (open_served s moment opening) (send_plan s (calls.Open opening) None targets.NewHandle)
       (made_if (is_plain opening) (entry_served s opening (answer s.cache moment opening.name)) (made_entry opening (answer s.cache moment opening.name)))
-      (made_send (calls.Open opening) targets.NewHandle (λ number at. cc))
+      (made_send (calls.Open opening) None targets.NewHandle (λ number at. cc))
 
   made_close : (number : ℕ) (o : Option ClientHandle) → MadeBy s (close_plan s number o)
   made_close number None = tt
-  made_close number (Some handle) = elim handle.shared as (λ b. MadeBy s (cond b (Ok (plans.Release number)) (send_plan s (calls.Close handle.bytes) (targets.Closing number)))) [
+  made_close number (Some handle) = elim handle.shared as (λ b. MadeBy s (cond b (Ok (plans.Release number)) (send_plan s (calls.Close handle.bytes) None (targets.Closing number)))) [
     | true ↦ tt
-    | false ↦ made_send (calls.Close handle.bytes) (targets.Closing number) (λ other at. cc)
+    | false ↦ made_send (calls.Close handle.bytes) None (targets.Closing number) (λ other at. cc)
   ]
 
   made_poison : (number : ℕ) (r : Result ClientHandle Fault) → MadeBy s (poison_plan number r)
@@ -313,32 +318,38 @@ module _ (s : ClientState) where
   made_read handle (Some entry) = tt
 
   made_served : (moment : ℕ) (handle : ClientHandle) (node : NodeCall) → MadeIf s (read_served s moment handle node)
-  made_served moment handle node_calls.Read = made_if handle.mode.read (option_map (serve_read s handle) (answer s.cache moment handle.name)) (made_read handle (answer s.cache moment handle.name))
+  made_served moment handle node_calls.Read = made_if (handle.mode.read && is_none handle.sequencer) (option_map (serve_read s handle) (answer s.cache moment handle.name)) (made_read handle (answer s.cache moment handle.name))
   made_served moment handle _ = tt
 
   made_on : (moment number : ℕ) (handle : ClientHandle) (node : NodeCall) → handle_of s.handles number ≡ Some handle → MadeBy s (node_plan s moment number node (Ok handle))
-  made_on moment number handle node found = made_or (read_served s moment handle node) (send_plan s (call_on handle.bytes node) (targets.Handle number)) (made_served moment handle node)
-      (made_send (call_on handle.bytes node) (targets.Handle number) (λ other at. let same : number ≡ other = cc in subst (λ n. IsMade s (call_on handle.bytes node) n) same (record { handle = handle; found = found; node = node; same = refl })))
+  made_on moment number handle node found = made_or (read_served s moment handle node) (send_plan s (call_on handle.bytes node) handle.sequencer (targets.Handle number)) (made_served moment handle node)
+      (made_send (call_on handle.bytes node) handle.sequencer (targets.Handle number) (λ other at. let same : number ≡ other = cc in subst (λ n. IsMade s (call_on handle.bytes node) n) same (record { handle = handle; found = found; node = node; same = refl })))
 
   made_node : (moment number : ℕ) (node : NodeCall) (o : Option ClientHandle) → handle_of s.handles number ≡ o → MadeBy s (node_plan s moment number node (usable_handle o))
   made_node moment number node None found = tt
   made_node moment number node (Some handle) found = elim handle.poisoned as (λ b. MadeBy s (node_plan s moment number node (cond b (Err faults.Poisoned) (Ok handle)))) [ true ↦ tt | false ↦ made_on moment number handle node found ]
+
+  made_sequencer : (number : ℕ) (sequencer : List ℕ) (r : Result ClientHandle Fault) → MadeBy s (sequencer_plan s number sequencer r)
+  made_sequencer number sequencer (Err fault) = tt
+  made_sequencer number sequencer (Ok handle) = made_send (calls.SetSequencer handle.bytes) (Some sequencer) (targets.Sequencing number) (λ other at. cc)
 
   made_plan : (moment : ℕ) (ask : Ask) → MadeBy s (plan_of s moment ask)
   made_plan moment (asks.Open opening) = made_open moment opening
   made_plan moment (asks.Close number) = made_close number (handle_of s.handles number)
   made_plan moment (asks.Poison number) = made_poison number (usable_handle (handle_of s.handles number))
   made_plan moment (asks.Node number node) = made_node moment number node (handle_of s.handles number) refl
+  made_plan moment (asks.SetSequencer number sequencer) = made_sequencer number sequencer (usable_handle (handle_of s.handles number))
+  made_plan moment (asks.CheckSequencer bytes) = made_send (calls.CheckSequencer bytes) None targets.Checking (λ number at. cc)
 
 -- it is the next call, which nobody sent before
-pub grips_sent : (sent : List Message) (s : ClientState) (moment : ℕ) (ask : Ask) (call : Call) (target : Target) → Grips sent s → plan_of s moment ask ≡ Ok (plans.Send call target) → call_of sent s.number (s.calls + 1) ≡ None → Grips (sent ++ ToMaster (message_of s call) ∷ []) (with_call s moment call target)
-grips_sent sent s moment ask call target h is new =
-    let message : CallMessage = record { client = s.number; epoch = s.epoch; number = s.calls + 1; call = call } in
-    let made : MadeBy s (Ok (plans.Send call target)) = subst (MadeBy s) is (made_plan s moment ask) in
-    let asked : HasAsked (sent ++ ToMaster (message_of s call) ∷ []) (with_call s moment call target) (record { request = message_of s call; target = target }) = record {
+pub grips_sent : (sent : List Message) (s : ClientState) (moment : ℕ) (ask : Ask) (call : Call) (sequencer : Option (List ℕ)) (target : Target) → Grips sent s → plan_of s moment ask ≡ Ok (plans.Send call sequencer target) → call_of sent s.number (s.calls + 1) ≡ None → Grips (sent ++ ToMaster (message_of s call sequencer) ∷ []) (with_call s moment call sequencer target)
+grips_sent sent s moment ask call sequencer target h is new =
+    let message : CallMessage = record { client = s.number; epoch = s.epoch; number = s.calls + 1; call = call; sequencer = sequencer } in
+    let made : MadeBy s (Ok (plans.Send call sequencer target)) = subst (MadeBy s) is (made_plan s moment ask) in
+    let asked : HasAsked (sent ++ ToMaster (message_of s call sequencer) ∷ []) (with_call s moment call sequencer target) (record { request = message_of s call sequencer; target = target }) = record {
       message = message;
       is_call = refl;
-      found = call_new sent (ToMaster (message_of s call) ∷ []) s.number (s.calls + 1) new ∙ its_call message;
+      found = call_new sent (ToMaster (message_of s call sequencer) ∷ []) s.number (s.calls + 1) new ∙ its_call message;
       counted = λ number at. let m = made number at in h.handles.counted number m.handle m.found;
       made = λ number handle at found.
           let m = made number at in
@@ -348,7 +359,7 @@ grips_sent sent s moment ask call target h is new =
     record {
       handles = h.handles;
       kept = h.kept;
-      asked = λ other is. subst (λ (x : Outstanding). HasAsked (sent ++ ToMaster (message_of s call) ∷ []) (with_call s moment call target) x) (some_is (record { request = message_of s call; target = target }) other is) asked;
+      asked = λ other is. subst (λ (x : Outstanding). HasAsked (sent ++ ToMaster (message_of s call sequencer) ∷ []) (with_call s moment call sequencer target) x) (some_is (record { request = message_of s call sequencer; target = target }) other is) asked;
     }
 
 -- ---- a call ends
@@ -390,12 +401,23 @@ closed_handles : (opened : ℕ) (handles : Handles) (target : Target) → AreHan
 closed_handles opened handles (targets.Closing number) h = removed_handles opened number handles h
 closed_handles opened handles _ h = h
 
+-- one is under a sequencer from then on, or none
+put_under_handles : (opened number : ℕ) (handles : Handles) (sequencer : Option (List ℕ)) (o : Option ClientHandle) → handle_of handles number ≡ o → AreHandles opened handles → AreHandles opened (put_under handles number sequencer o)
+put_under_handles opened number handles sequencer None found h = h
+put_under_handles opened number handles sequencer (Some handle) found h = changed_handles opened number handles handle (record handle { sequencer = sequencer }) found refl refl h
+
+sequenced_handles : (opened : ℕ) (handles : Handles) (target : Target) (sequencer : Option (List ℕ)) → AreHandles opened handles → AreHandles opened (sequenced handles target sequencer)
+sequenced_handles opened handles (targets.Sequencing number) sequencer h = put_under_handles opened number handles sequencer (handle_of handles number) refl h
+sequenced_handles opened handles _ sequencer h = h
+
 pub grips_replied : (sent : List Message) (secret : List ℕ) (s : ClientState) (moment : ℕ) (message : Reply) (call : Outstanding) (result : CallResult) → Grips sent s → IsReplied sent secret s message call → message.result ≡ result → Grips sent (ended_plainly (note_live s moment) call.target result)
 grips_replied sent secret s moment message call (results.Opened handle) h r is =
     let named = opens_name sent secret s message call r handle is in
     grips_end sent s (ended_plainly (note_live s moment) call.target (results.Opened handle)) (behind_handles s.opened s.handles handle (opening_of s.outstanding) h.handles named) (behind_kept s.kept handle (opening_of s.outstanding) h.kept named) refl
 grips_replied sent secret s moment message call results.Closed h r is =
     grips_end sent s (ended_plainly (note_live s moment) call.target results.Closed) (closed_handles s.opened s.handles call.target h.handles) h.kept refl
+grips_replied sent secret s moment message call results.Done h r is =
+    grips_end sent s (ended_plainly (note_live s moment) call.target results.Done) (sequenced_handles s.opened s.handles call.target (sequencer_of s.outstanding) h.handles) h.kept refl
 grips_replied sent secret s moment message call _ h r is = grips_end sent s _ h.handles h.kept refl
 
 -- ---- with its cache

@@ -18,11 +18,10 @@ use Rattle.node_core.specs.declared.lines.Line.{Line}
 use Rattle.node_core.specs.declared.lines.Line.TheVariants as lines
 use Rattle.node_core.specs.declared.views.Mod.{Mod}
 use Rattle.node_core.specs.declared.views.Mod.TheVariants.{Put, Gone}
-use Rattle.rows_cell.specs.declared.keys.LockKey.{LockKey}
 use Rattle.rows_cell.specs.declared.tables.Rows.{Rows}
 use Rattle.rows_cell.specs.declared.tables.Session as stored
-use Rattle.rows_cell.specs.declared.tables.Edit.TheVariants.{NextInstance, RemoveLock, PutSession}
-use Rattle.rows_cell.specs.Rows.{StoredLocks, changed_rows, edited, map_of}
+use Rattle.rows_cell.specs.declared.tables.Edit.TheVariants.{NextInstance}
+use Rattle.rows_cell.specs.Rows.{changed_rows, map_of}
 use Rattle.tags_cell.specs.declared.requests.Request.{Request}
 use Rattle.tags_cell.specs.declared.requests.Request.TheVariants as requests
 use Rattle.tags_cell.specs.declared.requests.CallMessage.{CallMessage}
@@ -30,19 +29,25 @@ use Rattle.tags_cell.specs.declared.beats.Beat.{Beat}
 use Rattle.tags_cell.specs.declared.outs.Out.{Out}
 use Rattle.tags_cell.specs.declared.outs.Out.TheVariants as outs
 use Rattle.tags_cell.specs.declared.outs.Started.{Started}
+use Rattle.tags_cell.specs.declared.outs.CallResult.TheVariants as results
 use Rattle.tags_cell.specs.declared.outs.Refused.{Refused}
 use Rattle.tags_cell.specs.declared.outs.Reply.{Reply}
 use Rattle.cell_core.specs.declared.handles.Note.{Note}
 use Rattle.session_core.specs.declared.records.Kept.{Kept}
 use Rattle.session_core.specs.declared.records.Session.{Session}
-use Rattle.session_core.specs.Session.{live_beat_fault, beat_fault}
-use Rattle.cell_core.specs.State.{MasterState, master_of, taken_over, locks_of}
+use Rattle.event_core.specs.Queue.{count_of}
+use Rattle.session_core.specs.Session.{events_of, live_beat_fault, beat_fault}
+use Rattle.lock_core.specs.Turns.{reopened}
+use Rattle.lock_core.specs.Locks.{lock_at}
+use Rattle.cell_core.specs.State.{MasterState, master_of, taken_over}
 use Rattle.cell_core.specs.Step.{session_of, with_note, with_call, asking_for, repeated_reply, noted}
-use Rattle.cell_core.specs.Deeds.{edit_of}
+use Rattle.cell_core.specs.Deeds.{edit_of, lock_changes}
 use Rattle.cell_core.specs.Cases.{TakeCase, taken_by}
 use Rattle.over_core.specs.SweepCase.{SweepCase, swept_by, swept_edits}
+use Rattle.over_core.proofs.SweepCases.{first_tellings}
 use Rattle.cell_core.specs.Cases.TakeCase.{Repeated, StartQueued, OldBeat, BeatRefused, BeatParked, OldEpoch, Answered, Granted, Waits}
-use Rattle.over_core.specs.SweepCase.SweepCase.{Quiet, Recovers, Expires, StartedAgain, Started as StartedFirst, OfEnded, Ended, Applied}
+use Rattle.over_core.specs.Sweep.{left_put, turn_replies, lapses_of, lapses_puts, lapses_replies, puts_of, replies_to}
+use Rattle.over_core.specs.SweepCase.SweepCase.{Quiet, Recovers, Expires, Reopens, StartedAgain, Started as StartedFirst, OfEnded, Ended, Applied, Deleted, Locked, Awaited, Left}
 use Rattle.over_core.specs.Kept.{IsKept}
 use Rattle.over_core.specs.Up.{up_edits}
 use Rattle.client_parts.specs.declared.sessions.Session.TheVariants as sessions
@@ -58,14 +63,17 @@ use Rattle.world_cell.specs.Seats.{Clients, new_seat, seated, each_seat, at_up}
 use Rattle.world_cell.specs.Messages.{request_at, out_at, call_of}
 use Rattle.world_cell.specs.World.{WorldState, WorldView, IsUndoubted, seat_of, new_world, world_step, world_sweep, without_quiet, step_edits, IsStored, IsLeft, clock_then, stays_fair, are_fair, moved, ticked, without_master}
 use Rattle.world_cell.specs.Slices.{slice, standing_in}
+use Rattle.world_cell.specs.Contents.{TellsTrue}
 use Rattle.world_cell.specs.Consistent.{IsSeated, Holds, HasSent, IsAnswer, FitsMessages, Agrees, Fits, IsNoted, IsInTurn, IsFairSince, AreFair, IsConsistent}
 use Rattle.world_cell.proofs.MessagesGrow.{none_sent, none_out, request_more, out_more, call_stays, call_more, call_new, no_call, no_request, one_call, its_call, one_request, one_no_out, out_among}
 use Rattle.world_cell.proofs.OneSession.{at_each, kept_in}
-use Rattle.world_cell.proofs.MasterFits.{fits_stays, take_fits, sweep_fits}
+use Rattle.world_cell.proofs.RelockedRows.{let_go, relocked_rows}
+use Rattle.world_cell.proofs.MasterFits.{fits_stays, tellings_fit, take_fits, sweep_fits}
+use Rattle.world_cell.proofs.AwaitedCalls.{awaits_unanswered, shows_own}
 use Rattle.world_cell.proofs.SeatsFound.{some_same, own_seat, other_seat, at_seats, each_found, at_each_seat, all_found, moves_so, fair_at_once, fair_beside}
 use Rattle.world_cell.specs.Runs.{WasMade, WasRefused}
 use Rattle.world_cell.proofs.AsRead.{made_doubts, made_sure, refused_doubts, refused_sure}
-use Rattle.world_cell.proofs.WorldCases.{IsUp, IsSweep, WorldCase, world_case}
+use Rattle.world_cell.proofs.WorldCases.{swept_master, IsUp, IsSweep, WorldCase, world_case}
 use Rattle.world_cell.proofs.WorldCases.WorldCase.{ComesUp, Joins, Asks, Beats, Gives, Ticks, Takes, Sweeps, GoesDown, CutsSweep, CutsUp, LosesUp}
 use Rattle.world_cell.proofs.OwnSteps.{IsNoCall, IsNextCall, Sends, OfEpoch, sending, IsOwn, asks_own, beats_own, gives_own}
 use Rattle.world_cell.proofs.OwnSteps.Sends.{Nothing, NoCall, NextCall}
@@ -114,6 +122,7 @@ pub record IsServed (w : WorldState) : Type 0 where
   pub holds : (number : ℕ) (seat : Seat) → seat_of w number ≡ Some seat → Holds w.messages seat.client
   pub answers : (at : ℕ) (reply : Reply) → out_at w.messages at ≡ Some (outs.Reply reply) → IsAnswer w.messages w.rows.secret reply
   pub reached : (client : ℕ) (name : List ℕ) → Reached (slice client name w)
+  pub tells : TellsTrue w
 
 -- a world that agrees with its rows, and serves its clients, is consistent
 pub data Becomes (w : WorldState) : Type 0 where
@@ -179,6 +188,7 @@ module _ (old new : WorldState) (more : List Message) (h : IsConsistent old) (la
     noted = noted;
     fair = fair;
     reached = served.reached;
+    tells = served.tells;
   })
 
 -- ---- messages that are no calls
@@ -318,7 +328,7 @@ module _ (w : WorldState) (h : IsConsistent w) (now : ℕ) where
       all_consistent w up [] h up_later (none_fresh w up refl)
       (at_each_seat (λ number. at_up now) w.clients (λ q x. IsSeated (w.rows.epoch + 1) q x) (λ q x is.
       let t = seated_later w.rows.epoch (w.rows.epoch + 1) q x next_epoch (h.clients q x is) in record { own = t.own; past = t.past; unstarted = t.unstarted; live = t.live; noted = t.noted }))
-      (record { queue = tt; kept = λ client kept is. no_kept client kept is; replies = λ client kept reply is of. no_kept client kept is; answers = λ client kept reply is of. no_kept client kept is; turns = λ client. (all_first now w.rows.sessions client).1 }) refl (least now)
+      (record { queue = tt; kept = λ client kept is. no_kept client kept is; replies = λ client kept reply is of. no_kept client kept is; answers = λ client kept reply is of. no_kept client kept is; turns = λ client. (all_first now w.rows.sessions client).1; awaited = λ client waits. refl }) refl (least now)
       (at_each_seat (λ number. at_up now) w.clients (λ q x. IsFairSince now x) (λ q x is. fair_at_once now (at_up now x) refl refl))
 
 -- ---- a client joins
@@ -571,7 +581,7 @@ noted_at : (now : ℕ) (o : Option MasterState) (s : MasterState) → o ≡ Some
 noted_at now o s e k = rw e at k
 
 pub noted_fits : (w : WorldState) → IsConsistent w → (s : MasterState) → w.master ≡ Some s → FitsMessages w.messages (noted s w.clock)
-noted_fits w h s up = let f = fits_at w w.master s up h.fits in record { queue = f.queue; kept = f.kept; replies = f.replies; answers = f.answers; turns = f.turns }
+noted_fits w h s up = let f = fits_at w w.master s up h.fits in record { queue = f.queue; kept = f.kept; replies = f.replies; answers = f.answers; turns = f.turns; awaited = f.awaited }
 
 repeated_tells : (epoch : ℕ) (reply : Option Reply) → AreTellingIn epoch (repeated_reply reply).outs
 repeated_tells epoch None = tt
@@ -589,7 +599,7 @@ beat_tells : {K : Type 0} (epoch : ℕ) (session : Option (Session K)) (beat : B
 beat_tells epoch None beat fault is = let e : faults.NoSession ≡ fault = cc in subst (IsFaultIn epoch) e tt
 beat_tells epoch (Some session) beat fault is =
     elim session.live as (λ live. cond live (live_beat_fault session beat) (Some faults.NoSession) ≡ Some fault → IsFaultIn epoch fault) [
-      | true ↦ live_beat_tells epoch (nat_le beat.number session.newest_beat) (nat_lt session.invalidations.issued beat.invalidations) (nat_lt session.events.issued beat.events) session.invalidations.issued session.events.issued fault
+      | true ↦ live_beat_tells epoch (nat_le beat.number session.newest_beat) (nat_lt session.invalidations.issued beat.invalidations) (nat_lt (count_of (events_of session)) beat.events) session.invalidations.issued (count_of (events_of session)) fault
       | false ↦ (λ k. let e : faults.NoSession ≡ fault = cc in subst (IsFaultIn epoch) e tt)
     ] is
 
@@ -600,16 +610,25 @@ taken_tells s request (OldEpoch message is apart) = (least s.epoch, tt)
 taken_tells s request (Repeated message kept heard is number) = repeated_tells s.epoch kept.reply
 taken_tells s request (StartQueued start is may serving room) = tt
 taken_tells s request (BeatParked beat is same taken) = tt
-taken_tells s request (Waits message note touched new serving admitted) = tt
+taken_tells s request (Waits message _ touched new serving admitted) = tt
 taken_tells s request _ = (tt, tt)
+
+-- a reply tells of no epoch
+replies_tell : (epoch : ℕ) (replies : List Reply) → AreTellingIn epoch (map outs.Reply replies)
+replies_tell epoch [] = tt
+replies_tell epoch (reply ∷ replies) = (tt, replies_tell epoch replies)
 
 swept_tells : (s : MasterState) (c : SweepCase s) → AreTellingIn s.epoch (swept_by s c).1.outs
 swept_tells s (Quiet none) = tt
 swept_tells s (Recovers recovering heard) = tt
-swept_tells s (Expires client session due) = tt
+swept_tells s (Expires client session due) = replies_tell s.epoch (lapses_replies s (lapses_of s client))
+swept_tells s (Reopens instance due) = replies_tell s.epoch (turn_replies s (reopened (lock_at s.locks instance)))
 swept_tells s (StartedAgain front back task principal received session turn work found live) = (least s.epoch, tt)
 swept_tells s (StartedFirst front back task principal received turn work none) = (least s.epoch, tt)
-swept_tells s (OfEnded front back task call turn work gone) = tt
+swept_tells s (OfEnded front back task call sequencer turn work gone) = tt
+swept_tells s (Deleted front back task call sequencer change instance waiters answer turn work live made) = (tt, replies_tell s.epoch (replies_to s (results.Refused faults.StaleInstance) waiters))
+swept_tells s (Awaited front back task call sequencer put turn work live made) = tt
+swept_tells s (Left front back task call sequencer _ leave answer turn work live made) = (tt, replies_tell s.epoch (turn_replies s leave.turn))
 swept_tells s _ = (tt, tt)
 
 -- ---- the rows behind a sweep
@@ -618,15 +637,15 @@ mod_epoch : (rows : Rows) (change : Mod) (next : ℕ) → (changed_rows rows (ed
 mod_epoch rows (Put name view) next = refl
 mod_epoch rows (Gone name) next = refl
 
--- a session that ends takes its locks along
-pub expired_rows : (rows : Rows) (keys : List LockKey) (client : ℕ) (session : stored.Session) → (locks : StoredLocks) × (changed_rows rows (map RemoveLock keys ++ PutSession client session ∷ []) ≡ record rows { sessions = insert_entry nat_cmp rows.sessions client session; locks = locks })
-expired_rows rows [] client session = (rows.locks, refl)
-expired_rows rows (key ∷ keys) client session = expired_rows (edited rows (RemoveLock key)) keys client session
-
 pub swept_epoch : (rows : Rows) (s : MasterState) (c : SweepCase s) → (changed_rows rows (swept_edits s c)).epoch ≡ rows.epoch
 swept_epoch rows s (Expires client session due) =
-    ap (λ (r : Rows). r.epoch) (expired_rows rows (locks_of client s.held_locks) client (record { principal = session.principal; live = false })).1
-swept_epoch rows s (Applied front back task call note change answer turn work live made) = mod_epoch rows change.change change.next_instance
+    (let_go rows (lock_changes s (lapses_puts s (lapses_of s client))) client (record { principal = session.principal; live = false })).beside.epoch
+swept_epoch rows s (Reopens instance due) = (relocked_rows rows (lock_changes s (puts_of s instance (reopened (lock_at s.locks instance)).lock))).beside.epoch
+swept_epoch rows s (Applied front back task call sequencer _ change answer turn work live made) = mod_epoch rows change.change change.next_instance
+swept_epoch rows s (Deleted front back task call sequencer change instance waiters answer turn work live made) = mod_epoch rows change.change change.next_instance
+swept_epoch rows s (Locked front back task call sequencer put claim answer turn work live made) = (relocked_rows rows (lock_changes s (put ∷ []))).beside.epoch
+swept_epoch rows s (Awaited front back task call sequencer put turn work live made) = (relocked_rows rows (lock_changes s (put ∷ []))).beside.epoch
+swept_epoch rows s (Left front back task call sequencer _ leave answer turn work live made) = (relocked_rows rows (lock_changes s (left_put leave ∷ []))).beside.epoch
 swept_epoch rows s _ = refl
 
 -- ---- the moment that a master knows
@@ -643,14 +662,16 @@ pub taken_clock : (s : MasterState) (request : Request) (c : TakeCase s request)
 taken_clock s request (Answered message note answer new serving answered) = note_clock s note
 taken_clock s request (Granted message note answer name new serving may) = note_clock s note
 taken_clock s request (Waits message note touched new serving admitted) =
-    asking_clock (with_call (with_note s note) message.client message.number message.call touched) touched ∙ note_clock s note
+    asking_clock (with_call (with_note s note) message touched) touched ∙ note_clock s note
 taken_clock s request _ = refl
 
 pub swept_clock : (s : MasterState) (c : SweepCase s) → (swept_by s c).0.clock ≡ s.clock
-swept_clock s (Ended front back task call None answer turn work live made) = refl
-swept_clock s (Ended front back task call (Some note) answer turn work live made) = refl
-swept_clock s (Applied front back task call None change answer turn work live made) = refl
-swept_clock s (Applied front back task call (Some note) change answer turn work live made) = refl
+swept_clock s (Ended front back task call sequencer None answer turn work live made) = refl
+swept_clock s (Ended front back task call sequencer (Some note) answer turn work live made) = refl
+swept_clock s (Applied front back task call sequencer None change answer turn work live made) = refl
+swept_clock s (Applied front back task call sequencer (Some note) change answer turn work live made) = refl
+swept_clock s (Left front back task call sequencer None leave answer turn work live made) = refl
+swept_clock s (Left front back task call sequencer (Some note) leave answer turn work live made) = refl
 swept_clock s _ = refl
 
 module _ (w : WorldState) (h : IsConsistent w) (s : MasterState) (up : w.master ≡ Some s) where
@@ -663,26 +684,28 @@ module _ (w : WorldState) (h : IsConsistent w) (s : MasterState) (up : w.master 
       let sent : List Out = (taken_by (noted s w.clock) request c).1.outs in
       let new : WorldState = record w { master = Some (taken_by (noted s w.clock) request c).0; messages = w.messages ++ map ToClient sent } in
       let asked = λ (call : CallMessage) (e : request ≡ requests.Call call). h.named at call (found ∙ ap (λ r. Some r) e) in
-      let fits = take_fits w.messages (noted s w.clock) request c (noted_fits w h s up) asked in
+      let free = awaits_unanswered (noted s w.clock) (agrees_at w w.master s up h.master).one_call in
+      let fits = take_fits w.messages (noted s w.clock) request c (noted_fits w h s up) free asked in
       let clock = taken_clock (noted s w.clock) request c in
       let telling : AreTellingIn w.rows.epoch sent = subst (λ n. AreTellingIn n sent) (agrees_at w w.master s up h.master).epoch (taken_tells (noted s w.clock) request c) in
       let early = within in
       all_consistent w new (map ToClient sent) h (same_clients w new refl (least w.rows.epoch) refl) (outs_fresh w new sent refl telling) (same_seats w new h refl (least w.rows.epoch))
       fits refl (omega (arith, clock, early)) (fair_at w w.master s up h.fair)
 
-  sweep_holds : (c : SweepCase (noted s w.clock)) → Becomes (record w { rows = changed_rows w.rows (swept_edits (noted s w.clock) c); master = Some (swept_by (noted s w.clock) c).0; messages = w.messages ++ map ToClient (swept_by (noted s w.clock) c).1.outs })
+  sweep_holds : (c : SweepCase (noted s w.clock)) → Becomes (record w { rows = changed_rows w.rows (swept_edits (noted s w.clock) c); master = Some (swept_master (noted s w.clock) c); messages = w.messages ++ map ToClient (swept_by (noted s w.clock) c).1.outs })
   sweep_holds c =
       let sent : List Out = (swept_by (noted s w.clock) c).1.outs in
-      let new : WorldState = record w { rows = changed_rows w.rows (swept_edits (noted s w.clock) c); master = Some (swept_by (noted s w.clock) c).0; messages = w.messages ++ map ToClient sent } in
+      let new : WorldState = record w { rows = changed_rows w.rows (swept_edits (noted s w.clock) c); master = Some (swept_master (noted s w.clock) c); messages = w.messages ++ map ToClient sent } in
       let stays : new.rows.epoch ≡ w.rows.epoch = swept_epoch w.rows (noted s w.clock) c in
       let epoch : s.epoch ≡ new.rows.epoch = (agrees_at w w.master s up h.master).epoch ∙ sym stays in
       let telling : AreTellingIn new.rows.epoch sent = subst (λ n. AreTellingIn n sent) epoch (swept_tells (noted s w.clock) c) in
-      let fits = sweep_fits w.messages (noted s w.clock) c (noted_fits w h s up) in
+      let own = shows_own (noted s w.clock) (agrees_at w w.master s up h.master).own in
+      let fits = tellings_fit w.messages (swept_by (noted s w.clock) c).0 (first_tellings (noted s w.clock)) (sweep_fits w.messages (noted s w.clock) c (noted_fits w h s up) own) in
       let no_less : w.rows.epoch ≤ new.rows.epoch = omega (arith, stays) in
       let clock = swept_clock (noted s w.clock) c in
       let early = within in
       all_consistent w new (map ToClient sent) h (same_clients w new refl no_less refl) (outs_fresh w new sent refl telling) (same_seats w new h refl no_less)
-      (fits_stays w.messages (map ToClient sent) (swept_by (noted s w.clock) c).0 fits) refl (omega (arith, clock, early)) (fair_at w w.master s up h.fair)
+      (fits_stays w.messages (map ToClient sent) (swept_master (noted s w.clock) c) fits) refl (omega (arith, clock, early)) (fair_at w w.master s up h.fair)
 
 -- ---- the master goes down
 
@@ -794,4 +817,5 @@ new_holds cell rows lease range = record {
   noted = tt;
   fair = tt;
   reached = λ client name. reached_at_start (get_node (map_of rows) name) (standing_in rows client) rows.epoch;
+  tells = record { sent = λ at alive is. none_out at (outs.Alive alive) is; queued = tt };
 }

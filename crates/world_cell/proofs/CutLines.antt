@@ -1,5 +1,5 @@
 -- What the lines of a step that a crash cut tell: what the step's own lines tell, and that the master is gone.
-use Rattle.std.proofs.Common.{◌≡◌, ℕ, List, [], ◌∷◌, ◌++◌, Bool, Some, None, refl, ap, inl, inr, map}
+use Rattle.std.proofs.Common.{◌≡◌, ℕ, List, [], ◌∷◌, ◌++◌, Bool, Some, None, refl, ap, inl, inr}
 use Rattle.std.specs.Prelude.{◌⊎◌, filter}
 use Rattle.std.specs.Option.{option_and_then}
 use Rattle.node_core.specs.declared.lines.Line.{Line}
@@ -7,10 +7,14 @@ use Rattle.node_core.specs.declared.lines.Line.TheVariants as lines
 use Rattle.node_core.specs.Nodes.{Nodes}
 use Rattle.rights_core.specs.declared.endings.Ending.TheVariants as endings
 use Rattle.rights_core.specs.Rights.{numbers_ending}
+use Rattle.lock_core.specs.Turns.{reopened}
+use Rattle.lock_core.specs.Locks.{lock_at}
 use Rattle.cell_core.specs.State.{MasterState}
+use Rattle.over_core.specs.Sweep.{lapses_of}
 use Rattle.over_core.specs.SweepCase.{SweepCase, swept_by}
-use Rattle.over_core.specs.SweepCase.SweepCase.{Recovers, Expires}
+use Rattle.over_core.specs.SweepCase.SweepCase.{Recovers, Expires, Reopens, Left}
 use Rattle.world_cell.specs.World.{is_of_commit}
+use Rattle.world_cell.proofs.LockLines.{reopened_of_locks, left_of_locks, expiry_kept}
 use Rattle.world_cell.specs.Runs.{Told, map_by, map_at, epoch_by, epoch_at, live_by, live_at, put_number, applied, rights_by, rights_at}
 
 -- the lines of a sweep that was cut
@@ -48,11 +52,9 @@ kept_rights rights (line ∷ told) =
 
 -- ---- a sweep's lines are of its commit, or its recovery ended
 
-expiry_kept : (numbers : List ℕ) (whose : ℕ) → filter is_of_commit (map lines.Expired numbers ++ lines.Ended whose ∷ []) ≡ map lines.Expired numbers ++ lines.Ended whose ∷ []
-expiry_kept [] whose = refl
-expiry_kept (number ∷ numbers) whose = ap (λ told. lines.Expired number ∷ told) (expiry_kept numbers whose)
-
 pub swept_kept : (s : MasterState) (c : SweepCase s) → (filter is_of_commit (swept_by s c).1.lines ≡ (swept_by s c).1.lines) ⊎ (filter is_of_commit (swept_by s c).1.lines ≡ [])
 swept_kept s (Recovers recovering heard) = inr refl
-swept_kept s (Expires client session due) = inl (expiry_kept (numbers_ending client endings.Expiry s.rights) client)
+swept_kept s (Expires client session due) = inl (expiry_kept client (numbers_ending client endings.Expiry s.rights) (lapses_of s client))
+swept_kept s (Reopens instance due) = inl (reopened_of_locks instance (reopened (lock_at s.locks instance))).kept
+swept_kept s (Left front back task call sequencer _ leave answer turn work live made) = inl (left_of_locks task.client leave).kept
 swept_kept s _ = inl refl

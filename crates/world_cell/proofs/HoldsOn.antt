@@ -63,7 +63,7 @@ module _ (w : WorldState) (h : IsConsistent w) (number : ℕ) (seat : Seat) (fou
 
   -- the number of its next call is new
   next_is_new : call_of w.messages s.number (s.calls + 1) ≡ None
-  next_is_new = unsent w h number seat found (record { client = s.number; epoch = s.epoch; number = s.calls + 1; call = calls.Read [] }) (record { client = refl; number = refl; epoch = refl }) (call_of w.messages s.number (s.calls + 1)) refl
+  next_is_new = unsent w h number seat found (record { client = s.number; epoch = s.epoch; number = s.calls + 1; call = calls.Read []; sequencer = None }) (record { client = refl; number = refl; epoch = refl }) (call_of w.messages s.number (s.calls + 1)) refl
 
   ask_holds : (ask : Ask) (c : AskCase s seat.clock ask) → Comes (λ new printed. AllHold new) (asked w number seat (asked_in s seat.clock ask c))
   ask_holds ask (AskedTooLate late) = tt
@@ -76,11 +76,11 @@ module _ (w : WorldState) (h : IsConsistent w) (number : ℕ) (seat : Seat) (fou
       (grips_shared w.messages s then (kept_handle handle opening true) held (serves_name s.kept opening.name view.instance handle own.kept shared.kept))
   ask_holds ask (OutOfHandles opening view handle safe is shared last) = tt
   ask_holds ask (Released handle mine safe is there shared) = ask_stays ask (Released handle mine safe is there shared) (grips_released w.messages s then handle held)
-  ask_holds ask (OutOfCalls call target sendable last) = tt
-  ask_holds ask (Sent call target sendable room) =
-      sends_on (asked_in s seat.clock ask (Sent call target sendable room)).0 (message_of s call)
-      (asked_rest w.messages (w.messages ++ ToMaster (message_of s call) ∷ []) s seat.clock own ask (Sent call target sendable room)
-      (grips_sent w.messages s then ask call target held sendable.is_plan next_is_new))
+  ask_holds ask (OutOfCalls call sequencer target sendable last) = tt
+  ask_holds ask (Sent call sequencer target sendable room) =
+      sends_on (asked_in s seat.clock ask (Sent call sequencer target sendable room)).0 (message_of s call sequencer)
+      (asked_rest w.messages (w.messages ++ ToMaster (message_of s call sequencer) ∷ []) s seat.clock own ask (Sent call sequencer target sendable room)
+      (grips_sent w.messages s then ask call sequencer target held sendable.is_plan next_is_new))
   ask_holds ask (Poisoned handle mine safe is usable) = ask_stays ask (Poisoned handle mine safe is usable) (grips_poisoned w.messages s then handle mine usable.found held)
 
   beat_sends : (c : BeatCase s seat.clock) (request : Request) → Grips w.messages (beaten_in s seat.clock c).0 → AllHold (sends (with_client w number seat (beaten_in s seat.clock c).0) request)

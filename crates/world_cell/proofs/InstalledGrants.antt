@@ -62,6 +62,10 @@ node_asked secret bytes name node_calls.List h = cc
 node_asked secret bytes name (node_calls.Set content generation) h = cc
 node_asked secret bytes name (node_calls.SetAcl acls generation) h = cc
 node_asked secret bytes name node_calls.Delete h = cc
+node_asked secret bytes name (node_calls.Acquire mode) h = cc
+node_asked secret bytes name (node_calls.TryAcquire mode) h = cc
+node_asked secret bytes name node_calls.Release h = cc
+node_asked secret bytes name node_calls.GetSequencer h = cc
 
 -- ---- by an Open
 
@@ -79,6 +83,12 @@ is_open (calls.List bytes) opening h = cc
 is_open (calls.Set bytes content generation) opening h = cc
 is_open (calls.SetAcl bytes acls generation) opening h = cc
 is_open (calls.Delete bytes) opening h = cc
+is_open (calls.Acquire bytes mode) opening h = cc
+is_open (calls.TryAcquire bytes mode) opening h = cc
+is_open (calls.Release bytes) opening h = cc
+is_open (calls.GetSequencer bytes) opening h = cc
+is_open (calls.SetSequencer bytes) opening h = cc
+is_open (calls.CheckSequencer bytes) opening h = cc
 
 module _ (sent : List Message) (secret : List ℕ) (s : ClientState) (message : Reply) (call : Outstanding) (handles : AreHandles s.opened s.handles) (r : IsReplied sent secret s message call) (name x : List ℕ) (entry : Option View) (asks : name_asked secret r.asked.message.call ≡ Some name) where
   by_handle : (view : View) (number : ℕ) (o : Option ClientHandle) → call.target ≡ targets.Handle number → handle_of s.handles number ≡ o → viewed o view ≡ Some (x, entry) → Learned name x (Some view) entry
@@ -93,6 +103,8 @@ module _ (sent : List Message) (secret : List ℕ) (s : ClientState) (message : 
   by_view view targets.NewHandle at h = cc
   by_view view (targets.Closing number) at h = cc
   by_view view (targets.Handle number) at h = by_handle view number (handle_of s.handles number) at refl h
+  by_view view (targets.Sequencing number) at h = cc
+  by_view view targets.Checking at h = cc
   by_view view targets.Dropped at h = cc
 
   by_plain : (opening : Open) (b : Bool) → opening_in r.asked.message.call ≡ Some opening → cond {A = Option Lesson} b (Some (opening.name, None)) None ≡ Some (x, entry) → Learned name x None entry
@@ -119,6 +131,7 @@ module _ (sent : List Message) (secret : List ℕ) (s : ClientState) (message : 
   by_result (results.Viewed view) h = by_view view call.target refl h
   by_result (results.Stated stat) h = cc
   by_result (results.Names names) h = cc
+  by_result (results.Sequencer bytes) h = cc
   by_result results.Done h = cc
   by_result (results.Refused fault) h = by_refusal fault h
 

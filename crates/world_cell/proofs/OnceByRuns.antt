@@ -1,6 +1,9 @@
 -- Why each call is applied at most once.
 use Rattle.std.proofs.Common.{◌≡◌, ℕ, ◌+◌, ◌≤◌, List, [], ◌∷◌, ◌++◌, Bool, true, false, cond, Option, Some, None, Result, Ok, Err, refl, sym, ap, ◌∙◌, inl, inr, arith, eqb, subst, map}
 use Rattle.std.specs.Prelude.{◌==◌}
+use Rattle.std.specs.Option.{option_map_or}
+use Rattle.std.specs.List.{AllByRecursion}
+use Rattle.tags_cell.specs.Numbers.{is_client_number}
 use Rattle.std.proofs.lemmas.Bool.Decides.{nat_tests}
 use Rattle.std.proofs.lemmas.List.{append-nil}
 use Rattle.node_core.specs.declared.lines.Line.{Line}
@@ -21,18 +24,29 @@ use Rattle.rights_core.specs.Rights.{grant_answer, clients_to_ask, numbers_endin
 use Rattle.tags_cell.specs.declared.outs.Reply.{Reply}
 use Rattle.cell_core.specs.declared.handles.Note.{Note}
 use Rattle.session_core.specs.declared.records.Kept.{Kept}
-use Rattle.session_core.specs.Session.{beaten, prolonged, answered, session_until}
+use Rattle.session_core.specs.Session.{beaten, keeping, prolonged, answered, session_until}
 use Rattle.session_core.specs.Session as of_session
 use Rattle.session_core.specs.Sessions as of_sessions
 use Rattle.gate_core.specs.declared.pending.Waiting.{Waiting}
+use Rattle.lock_core.specs.declared.claims.Claim.{Claim}
+use Rattle.lock_core.specs.declared.turns.Lapse.{Lapse}
+use Rattle.lock_core.specs.declared.turns.Turn.{Turn}
+use Rattle.lock_core.specs.Turns.{reopened}
+use Rattle.lock_core.specs.Locks.{lock_at}
 use Rattle.cell_core.specs.declared.pending.Task.{Task}
 use Rattle.cell_core.specs.declared.pending.Work.TheVariants as works
+use Rattle.cell_core.specs.declared.notices.Telling.{Telling}
+use Rattle.cell_core.specs.Notices.{with_tellings}
 use Rattle.cell_core.specs.State.{MasterState}
+use Rattle.cell_core.specs.Deeds.{with_locks}
 use Rattle.cell_core.specs.Step.{kept_of, is_live, reply_of, stamped_reply, answered_by, recorded, granted_lines, acknowledgement, with_call, asking_for, repeated_reply, with_note, noted}
 use Rattle.cell_core.specs.Cases.{IsBehind, TakeCase, taken_by}
-use Rattle.over_core.specs.SweepCase.{IsTurn, SweepCase, swept_by, rest, ended, mapped}
+use Rattle.over_core.specs.Sweep.{replies_to, turn_replies, locked_lines, leave_lines, lapses_lines, left_put, lapses_of, lapses_puts, lapses_replies, puts_of}
+use Rattle.over_core.specs.declared.effects.Leave.{Leave}
+use Rattle.over_core.specs.SweepCase.{IsTurn, SweepCase, swept_by, rest, ended, mapped, told, expired}
+use Rattle.over_core.proofs.SweepCases.{first_tellings}
 use Rattle.cell_core.specs.Cases.TakeCase.{StartRefused, OldBeat, BeatRefused, BeatParked, OldEpoch, NoSession, Repeated, OlderCall, Outstanding, Recovering, Answered, Granted, Waits}
-use Rattle.over_core.specs.SweepCase.SweepCase.{Quiet, Recovers, Expires, AnswersBeat, TurnedAway, StartedAgain, Started as StartedFirst, OfEnded, Ended, Applied}
+use Rattle.over_core.specs.SweepCase.SweepCase.{Quiet, Recovers, Expires, Reopens, AnswersBeat, TurnedAway, StartedAgain, Started as StartedFirst, OfEnded, Ended, Applied, Deleted, Locked, Awaited, Left}
 use Rattle.world_cell.specs.declared.steps.Step.{Step}
 use Rattle.client_core.specs.State.{ClientState}
 use Rattle.world_cell.specs.declared.seats.Seat.{Seat}
@@ -42,11 +56,13 @@ use Rattle.world_cell.specs.Messages.{call_of}
 use Rattle.world_cell.specs.World.{WorldState, WorldView, seat_of}
 use Rattle.world_cell.specs.Consistent.{FitsMessages, IsConsistent}
 use Rattle.world_cell.specs.Runs.{Does, Run, applied, put_number, IsAbove, RisesFrom, Rises}
-use Rattle.world_cell.proofs.SilentLines.{IsSilentLine, IsSilent, silent_numbers}
+use Rattle.world_cell.proofs.SilentLines.{IsSilentLine, IsSilent, quiet_silent, silent_numbers}
+use Rattle.world_cell.proofs.LockLines.{reopened_of_locks, left_of_locks, lapses_of_locks}
 use Rattle.world_cell.proofs.MessagesGrow.{call_more, no_call, one_call}
-use Rattle.world_cell.proofs.OneSession.{same, other, kept_own, kept_other, kept_stays, kept_issued, kept_begins, answered_so}
+use Rattle.world_cell.proofs.OneSession.{same, other, kept_in, each_session, kept_own, kept_other, kept_stays, kept_issued, kept_begins, answered_so}
 use Rattle.world_cell.proofs.MasterFits.{turn_sent, call_turn, WasAsked, live_note, behind_note, epoch_note}
-use Rattle.world_cell.proofs.WorldCases.{WorldCase, world_case}
+use Rattle.world_cell.proofs.WorldCases.{swept_master, WorldCase, world_case}
+use Rattle.world_cell.proofs.ToldSweeps.{told_kept}
 use Rattle.world_cell.proofs.WorldCases.WorldCase.{ComesUp, Joins, Asks, Beats, Gives, Ticks, Takes, Sweeps, GoesDown, CutsSweep, CutsUp, LosesUp}
 use Rattle.world_cell.proofs.CutLines.{cut_applied}
 use Rattle.world_cell.proofs.OwnSteps.{IsNextCall, Sends, sending, IsOwn, own_silent, asks_own, beats_own, gives_own}
@@ -185,7 +201,7 @@ take_past sent s request (Granted message note answer name new serving may) clie
 take_past sent s request (Waits message note touched new serving admitted) client last asked h =
     let t = with_note s note in
     let past : PastMaster sent client t last = note_past sent s note client last h in
-    asking_past sent (with_call t message.client message.number message.call touched) touched client last
+    asking_past sent (with_call t message touched) touched client last
     (put_past sent t message.client client (record { number = message.number; reply = None }) last (live_note s note message.client new.heard.live)
     (λ is. call_above sent t client last message (behind_note s note message.client message.number new.behind) (asked message new.heard.is_call) (new.heard.epoch ∙ sym (epoch_note s note)) past is)
     past)
@@ -223,16 +239,98 @@ record SweptOn (sent : List Message) (client : ℕ) (last : Option ℕ) (printed
   rises : RisesFrom last (applied client printed)
   past : PastMaster sent client new (last_after last (applied client printed))
 
+put_number_more : (client : ℕ) (line : Line) (xs ys : List ℕ) → put_number client line (xs ++ ys) ≡ put_number client line xs ++ ys
+put_number_more client (lines.Applied whose number change) xs ys =
+    elim (whose == client) as (λ b. cond b (number ∷ (xs ++ ys)) (xs ++ ys) ≡ cond b (number ∷ xs) xs ++ ys) [ true ↦ refl | false ↦ refl ]
+put_number_more client _ xs ys = refl
+
+applied_more : (client : ℕ) (xs ys : List Line) → applied client (xs ++ ys) ≡ applied client xs ++ applied client ys
+applied_more client [] ys = refl
+applied_more client (x ∷ xs) ys = ap (put_number client x) (applied_more client xs ys) ∙ put_number_more client x (applied client xs) (applied client ys)
+
+line_silent : (client : ℕ) (line : Line) (numbers : List ℕ) → IsSilentLine line → put_number client line numbers ≡ numbers
+line_silent client (lines.Applied whose number change) numbers h = absurd h
+line_silent client _ numbers h = refl
+
+none_applied : (client : ℕ) (printed : List Line) → IsSilent printed → applied client printed ≡ []
+none_applied client [] h = refl
+none_applied client (line ∷ rest) h = line_silent client line (applied client rest) h.0 ∙ none_applied client rest h.1
+
 -- an expiry applies nothing
-expiry_applied : (client : ℕ) (numbers : List ℕ) (whose : ℕ) → applied client (map lines.Expired numbers ++ lines.Ended whose ∷ []) ≡ []
-expiry_applied client [] whose = refl
-expiry_applied client (number ∷ numbers) whose = expiry_applied client numbers whose
+expiry_applied : (client : ℕ) (numbers : List ℕ) (others : List Line) (whose : ℕ) → IsSilent others → applied client (map lines.Expired numbers ++ others ++ lines.Ended whose ∷ []) ≡ []
+expiry_applied client [] others whose silent = applied_more client others (lines.Ended whose ∷ []) ∙ append-nil (applied client others) ∙ none_applied client others silent
+expiry_applied client (number ∷ numbers) others whose silent = expiry_applied client numbers others whose silent
+
+lapses_applied : (client : ℕ) (s : MasterState) (whose : ℕ) → applied client (map lines.Expired (numbers_ending whose endings.Expiry s.rights) ++ lapses_lines whose (lapses_of s whose) ++ lines.Ended whose ∷ []) ≡ []
+lapses_applied client s whose =
+    let others = lapses_lines whose (lapses_of s whose) in
+    expiry_applied client (numbers_ending whose endings.Expiry s.rights) others whose (quiet_silent others (lapses_of_locks whose (lapses_of s whose)).quiet)
+
+reopened_applied : (client instance : ℕ) (turn : Turn) → applied client (lines.Reopened instance ∷ locked_lines instance turn) ≡ []
+reopened_applied client instance turn = none_applied client (lines.Reopened instance ∷ locked_lines instance turn) (quiet_silent (lines.Reopened instance ∷ locked_lines instance turn) (reopened_of_locks instance turn).quiet)
+
+left_applied : (client whose : ℕ) (leave : Leave) → applied client (leave_lines whose leave) ≡ []
+left_applied client whose leave = none_applied client (leave_lines whose leave) (quiet_silent (leave_lines whose leave) (left_of_locks whose leave).quiet)
+
+-- ---- who waited for a lock
+
+-- a reply to one of the client's calls is to the last one, or to a later one
+abbrev AreFrom : ℕ → Option ℕ → List Reply → Type 0
+AreFrom client last replies = AllByRecursion (λ reply. reply.client ≡ client → IsFrom last reply.number) replies
+
+from_both : (client : ℕ) (last : Option ℕ) (xs ys : List Reply) → AreFrom client last xs → AreFrom client last ys → AreFrom client last (xs ++ ys)
+from_both client last [] ys h k = k
+from_both client last (x ∷ xs) ys h k = (h.0, from_both client last xs ys h.1 k)
+
+-- the reply is to the call that is kept
+module _ (s : MasterState) (client : ℕ) (last : Option ℕ) (from : (kept : Kept Reply) → kept_of s client ≡ Some kept → IsFrom last kept.number) where
+  one_from : (answer : CallResult) (whose : ℕ) (b : Bool) (o : Option (Kept Reply)) → kept_of s whose ≡ o → AreFrom client last (cond b (option_map_or (λ kept. reply_of s whose kept.number answer ∷ []) o []) [])
+  one_from answer whose true None is = tt
+  one_from answer whose true (Some kept) is = ((λ own. from kept (ap (λ n. kept_of s n) (sym own) ∙ is)), tt)
+  one_from answer whose false o is = tt
+
+  claims_from : (answer : CallResult) (claims : List Claim) → AreFrom client last (replies_to s answer claims)
+  claims_from answer [] = tt
+  claims_from answer (claim ∷ claims) =
+      let whose = claim.owner.client in
+      from_both client last _ (replies_to s answer claims) (one_from answer whose (is_client_number whose) (kept_of s whose) refl) (claims_from answer claims)
+
+  turn_from : (turn : Turn) → AreFrom client last (turn_replies s turn)
+  turn_from turn =
+      from_both client last (replies_to s results.Done turn.granted) (replies_to s (results.Refused faults.Exhausted) turn.exhausted)
+      (claims_from results.Done turn.granted) (claims_from (results.Refused faults.Exhausted) turn.exhausted)
+
+  lapses_from : (lapses : List Lapse) → AreFrom client last (lapses_replies s lapses)
+  lapses_from [] = tt
+  lapses_from (lapse ∷ lapses) = from_both client last (turn_replies s lapse.turn) (lapses_replies s lapses) (turn_from lapse.turn) (lapses_from lapses)
+
+-- one more is told its reply
+one_told : (sent : List Message) (s : MasterState) (client : ℕ) (last : Option ℕ) (reply : Reply) → (reply.client ≡ client → IsFrom last reply.number) → PastMaster sent client s last → PastMaster sent client (recorded s reply.client (answered_by reply)) last
+one_told sent s client last reply from h =
+    each_session (λ q o. q ≡ client → PastKept sent s.epoch client (kept_in o) last) s.sessions reply.client
+    (λ q own. subst (λ n. PastKept sent s.epoch client (kept_of s n) last) (sym own) h)
+    (keeping (answered_by reply)) (λ session is own. from own) client refl
+
+told_past : (sent : List Message) (s : MasterState) (client : ℕ) (last : Option ℕ) (replies : List Reply) → AreFrom client last replies → PastMaster sent client s last → PastMaster sent client (told s replies) last
+told_past sent s client last [] from h = h
+told_past sent s client last (reply ∷ replies) from h =
+    told_past sent (recorded s reply.client (answered_by reply)) client last replies from.1 (one_told sent s client last reply from.0 h)
+
+-- the number of a call that is kept is the last one, or a later one
+result_from : (number : ℕ) (o : Option Reply) (last : Option ℕ) → PastResult number o last → IsFrom last number
+result_from number None last h = above_from last number h
+result_from number (Some reply) last h = h
+
+kept_from : (sent : List Message) (epoch client : ℕ) (o : Option (Kept Reply)) (last : Option ℕ) → PastKept sent epoch client o last → (kept : Kept Reply) → o ≡ Some kept → IsFrom last kept.number
+kept_from sent epoch client o last h kept is = let k : PastKept sent epoch client (Some kept) last = subst (λ x. PastKept sent epoch client x last) is h in result_from kept.number kept.reply last k
+
+-- ---- a sweep's cases
 
 module _ (sent : List Message) (s : MasterState) (client : ℕ) (last : Option ℕ) (fits : FitsMessages sent s) (h : PastMaster sent client s last) where
   -- the call whose turn it is is above the last one
-  turn_above : (front back : List (Waiting Task)) (task : Task) (call : Call) → IsTurn s front task back → task.work ≡ works.Calls call → task.client ≡ client → IsAbove last task.number
-  turn_above front back task call turn work own =
-      let t = call_turn sent s front task back turn fits call work in
+  turn_above : (front back : List (Waiting Task)) (task : Task) (call : Call) (sequencer : Option (List ℕ)) → IsTurn s front task back → task.work ≡ works.Calls call sequencer → task.client ≡ client → IsAbove last task.number
+  turn_above front back task call sequencer turn work own =
+      let t = call_turn sent s front task back turn fits call sequencer work in
       let k : PastMaster sent task.client s last = rw (← own) at h in
       let w : PastResult t.kept.number t.kept.reply last = subst (λ o. PastKept sent s.epoch task.client o last) t.is_kept k in
       let v : PastResult t.kept.number None last = subst (λ o. PastResult t.kept.number o last) t.no_reply w in
@@ -258,21 +356,59 @@ module _ (sent : List Message) (s : MasterState) (client : ℕ) (last : Option �
   differ : (n m : ℕ) → eqb n m ≡ false → (m == n) ≡ false
   differ n m e = grind (arith, nat_tests)
 
-  applied_past : (t : MasterState) (front back : List (Waiting Task)) (task : Task) (call : Call) (note : Option Note) (answer : CallResult) → t.sessions ≡ s.sessions → t.epoch ≡ s.epoch → is_live s task.client ≡ true → IsTurn s front task back → task.work ≡ works.Calls call → (b : Bool) → (task.client == client) ≡ b → RisesFrom last (cond b (task.number ∷ []) []) × PastMaster sent client (ended t task note answer) (last_after last (cond b (task.number ∷ []) []))
-  applied_past t front back task call note answer same_sessions same_epoch live turn work true e =
+  -- the call whose turn it is isn't applied
+  unapplied_past : (t : MasterState) (front back : List (Waiting Task)) (task : Task) (call : Call) (sequencer : Option (List ℕ)) (note : Option Note) (answer : CallResult) → t.sessions ≡ s.sessions → t.epoch ≡ s.epoch → is_live s task.client ≡ true → IsTurn s front task back → task.work ≡ works.Calls call sequencer → PastMaster sent client (ended t task note answer) last
+  unapplied_past t front back task call sequencer note answer same_sessions same_epoch live turn work =
+      end_past t task note answer last same_sessions same_epoch live (λ own. above_from last task.number (turn_above front back task call sequencer turn work own)) (λ apart. refl)
+
+  -- what is kept of the client then
+  still_from : (kept : Kept Reply) → kept_of s client ≡ Some kept → IsFrom last kept.number
+  still_from kept is = kept_from sent s.epoch client (kept_of s client) last h kept is
+
+  turn_from_it : (front back : List (Waiting Task)) (task : Task) (call : Call) (sequencer : Option (List ℕ)) → IsTurn s front task back → task.work ≡ works.Calls call sequencer → task.client ≡ client → (kept : Kept Reply) → kept_of s client ≡ Some kept → IsFrom (Some task.number) kept.number
+  turn_from_it front back task call sequencer turn work own kept is =
+      let t = call_turn sent s front task back turn fits call sequencer work in
+      let k : kept_of s task.client ≡ Some kept = ap (λ n. kept_of s n) own ∙ is in
+      let e : t.kept ≡ kept = some_same t.kept kept (sym t.is_kept ∙ k) in
+      let n : kept.number ≡ task.number = ap (λ (x : Kept Reply). x.number) (sym e) ∙ t.same in
+      omega arith
+
+  -- it is applied, and others are told their replies
+  record AppliedOn (t : MasterState) (task : Task) (note : Option Note) (answer : CallResult) (b : Bool) : Type 0 where
+    rises : RisesFrom last (cond b (task.number ∷ []) [])
+    past : PastMaster sent client (ended t task note answer) (last_after last (cond b (task.number ∷ []) []))
+    from : (kept : Kept Reply) → kept_of s client ≡ Some kept → IsFrom (last_after last (cond b (task.number ∷ []) [])) kept.number
+
+  applied_past : (t : MasterState) (front back : List (Waiting Task)) (task : Task) (call : Call) (sequencer : Option (List ℕ)) (note : Option Note) (answer : CallResult) → t.sessions ≡ s.sessions → t.epoch ≡ s.epoch → is_live s task.client ≡ true → IsTurn s front task back → task.work ≡ works.Calls call sequencer → (b : Bool) → (task.client == client) ≡ b → AppliedOn t task note answer b
+  applied_past t front back task call sequencer note answer same_sessions same_epoch live turn work true e =
       let n : task.client ≡ client = same task.client client e in
-      ((turn_above front back task call turn work n, tt), end_past t task note answer (Some task.number) same_sessions same_epoch live (λ own. omega arith) (λ apart. let d = differ client task.client apart in cc))
-  applied_past t front back task call note answer same_sessions same_epoch live turn work false e =
-      (tt, end_past t task note answer last same_sessions same_epoch live (λ own. above_from last task.number (turn_above front back task call turn work own)) (λ apart. refl))
+      record {
+        rises = (turn_above front back task call sequencer turn work n, tt);
+        past = end_past t task note answer (Some task.number) same_sessions same_epoch live (λ own. omega arith) (λ apart. let d = differ client task.client apart in cc);
+        from = turn_from_it front back task call sequencer turn work n;
+      }
+  applied_past t front back task call sequencer note answer same_sessions same_epoch live turn work false e =
+      record { rises = tt; past = unapplied_past t front back task call sequencer note answer same_sessions same_epoch live turn work; from = still_from }
+
+  -- a step that applies nothing
+  none_on : (printed : List Line) (new : MasterState) → applied client printed ≡ [] → PastMaster sent client new last → SweptOn sent client last printed new
+  none_on printed new none past = record { rises = rw none tt; past = rw none past }
 
   sweep_past : (c : SweepCase s) → SweptOn sent client last (swept_by s c).1.lines (swept_by s c).0
   sweep_past (Quiet none) = record { rises = tt; past = h }
   sweep_past (Recovers recovering heard) = record { rises = tt; past = h }
   sweep_past (Expires whose session due) =
-      let none = expiry_applied client (numbers_ending whose endings.Expiry s.rights) whose in
-      let past : PastMaster sent client (swept_by s (Expires whose session due)).0 last =
+      let c : SweepCase s = Expires whose session due in
+      let t = with_locks (expired s whose) (lapses_puts s (lapses_of s whose)) in
+      let past : PastMaster sent client t last =
       same_past sent s.epoch client (kept_of s client) _ last (kept_stays s.sessions whose of_session.ended (λ session. refl) client) h in
-      record { rises = rw none tt; past = rw none past }
+      none_on (swept_by s c).1.lines (swept_by s c).0 (lapses_applied client s whose)
+      (told_past sent t client last (lapses_replies s (lapses_of s whose)) (lapses_from s client last still_from (lapses_of s whose)) past)
+  sweep_past (Reopens instance due) =
+      let c : SweepCase s = Reopens instance due in
+      let turn = reopened (lock_at s.locks instance) in
+      none_on (swept_by s c).1.lines (swept_by s c).0 (reopened_applied client instance turn)
+      (told_past sent (with_locks s (puts_of s instance turn.lock)) client last (turn_replies s turn) (turn_from s client last still_from turn) h)
   sweep_past (AnswersBeat whose session beat due) =
       record { rises = tt; past = same_past sent s.epoch client (kept_of s client) _ last (kept_stays s.sessions whose (answered s.sessions.lease s.clock) (λ session. (answered_so s.sessions.lease s.clock session).kept) client) h }
   sweep_past (TurnedAway front back task principal received turn work may) = record { rises = tt; past = h }
@@ -280,12 +416,30 @@ module _ (sent : List Message) (s : MasterState) (client : ℕ) (last : Option �
       record { rises = tt; past = same_past sent s.epoch client (kept_of s client) _ last (kept_stays s.sessions task.client (prolonged (s.clock + s.sessions.lease)) (λ session. refl) client) h }
   sweep_past (StartedFirst front back task principal received turn work none) =
       record { rises = tt; past = same_past sent s.epoch client (kept_of s client) _ last (kept_begins s.sessions task.client (session_until principal true (s.clock + s.sessions.lease)) none refl client) h }
-  sweep_past (OfEnded front back task call turn work gone) = record { rises = tt; past = h }
-  sweep_past (Ended front back task call note answer turn work live made) =
-      record { rises = tt; past = end_past (rest s front back) task note answer last refl refl live (λ own. above_from last task.number (turn_above front back task call turn work own)) (λ apart. refl) }
-  sweep_past (Applied front back task call note change answer turn work live made) =
-      let t = applied_past (mapped (rest s front back) change) front back task call note answer refl refl live turn work (task.client == client) refl in
-      record { rises = t.0; past = t.1 }
+  sweep_past (OfEnded front back task call sequencer turn work gone) = record { rises = tt; past = h }
+  sweep_past (Ended front back task call sequencer note answer turn work live made) =
+      record { rises = tt; past = unapplied_past (rest s front back) front back task call sequencer note answer refl refl live turn work }
+  sweep_past (Applied front back task call sequencer note change answer turn work live made) =
+      let t = applied_past (mapped (rest s front back) change) front back task call sequencer note answer refl refl live turn work (task.client == client) refl in
+      record { rises = t.rises; past = t.past }
+  sweep_past (Deleted front back task call sequencer change instance waiters answer turn work live made) =
+      let m = mapped (rest s front back) change in
+      let t = applied_past m front back task call sequencer None answer refl refl live turn work (task.client == client) refl in
+      let next : Option ℕ = last_after last (cond (task.client == client) (task.number ∷ []) []) in
+      let answer_all = results.Refused faults.StaleInstance in
+      record { rises = t.rises; past = told_past sent (ended m task None answer) client next (replies_to s answer_all waiters) (claims_from s client next t.from answer_all waiters) t.past }
+  sweep_past (Locked front back task call sequencer put claim answer turn work live made) =
+      record { rises = tt; past = unapplied_past (with_locks (rest s front back) (put ∷ [])) front back task call sequencer None answer refl refl live turn work }
+  sweep_past (Awaited front back task call sequencer put turn work live made) = record { rises = tt; past = h }
+  sweep_past (Left front back task call sequencer note leave answer turn work live made) =
+      let c : SweepCase s = Left front back task call sequencer note leave answer turn work live made in
+      let t = with_locks (rest s front back) (left_put leave ∷ []) in
+      none_on (swept_by s c).1.lines (swept_by s c).0 (left_applied client task.client leave)
+      (told_past sent (ended t task note answer) client last (turn_replies s leave.turn) (turn_from s client last still_from leave.turn)
+      (unapplied_past t front back task call sequencer note answer refl refl live turn work))
+
+telling_past : (sent : List Message) (s : MasterState) (client : ℕ) (last : Option ℕ) (tellings : List Telling) → PastMaster sent client s last → PastMaster sent client (with_tellings s tellings) last
+telling_past sent s client last tellings h = same_past sent s.epoch client (kept_of s client) (kept_of (with_tellings s tellings) client) last (told_kept s tellings client) h
 
 -- ---- a step
 
@@ -293,28 +447,28 @@ record StepsOn (client : ℕ) (last : Option ℕ) (printed : List Line) (new : W
   rises : RisesFrom last (applied client printed)
   past : Past new client (last_after last (applied client printed))
 
-line_silent : (client : ℕ) (line : Line) (numbers : List ℕ) → IsSilentLine line → put_number client line numbers ≡ numbers
-line_silent client (lines.Applied whose number change) numbers h = absurd h
-line_silent client _ numbers h = refl
-
-none_applied : (client : ℕ) (printed : List Line) → IsSilent printed → applied client printed ≡ []
-none_applied client [] h = refl
-none_applied client (line ∷ rest) h = line_silent client line (applied client rest) h.0 ∙ none_applied client rest h.1
-
 silent_on : (client : ℕ) (new : WorldState) (printed : List Line) (last : Option ℕ) → IsSilent printed → Past new client last → StepsOn client last printed new
 silent_on client new printed last silent h =
     let e = none_applied client printed silent in record { rises = rw e tt; past = rw e h }
 
 -- what a sweep applied was sent
-applied_counted : (w : WorldState) (h : IsConsistent w) (s : MasterState) (c : SweepCase s) (client : ℕ) (last : Option ℕ) → FitsMessages w.messages s → IsCounted w client last → IsCounted w client (last_after last (applied client (swept_by s c).1.lines))
-applied_counted w h s (Applied front back task call note change answer turn work live made) client last fits counted =
-    let sent = h.sent task.client task.number (record { client = task.client; epoch = s.epoch; number = task.number; call = call }) (turn_sent w.messages s front task back turn fits call work) in
+counted_put : (w : WorldState) (h : IsConsistent w) (s : MasterState) (front back : List (Waiting Task)) (task : Task) (call : Call) (sequencer : Option (List ℕ)) (client : ℕ) (last : Option ℕ) → IsTurn s front task back → task.work ≡ works.Calls call sequencer → FitsMessages w.messages s → IsCounted w client last → IsCounted w client (last_after last (cond (task.client == client) (task.number ∷ []) []))
+counted_put w h s front back task call sequencer client last turn work fits counted =
+    let sent = h.sent task.client task.number (record { client = task.client; epoch = s.epoch; number = task.number; call = call; sequencer = sequencer }) (turn_sent w.messages s front task back turn fits call sequencer work) in
     (elim (task.client == client) as (λ b. (task.client == client) ≡ b → IsCounted w client (last_after last (cond b (task.number ∷ []) []))) [
       | true ↦ (λ e. let n : task.client ≡ client = same task.client client e in rw (← n) (record { seat = sent.seat; there = sent.joined; more = sent.within }))
       | false ↦ (λ e. counted)
     ]) refl
-applied_counted w h s (Expires whose session due) client last fits counted =
-    rw (expiry_applied client (numbers_ending whose endings.Expiry s.rights) whose) counted
+
+applied_counted : (w : WorldState) (h : IsConsistent w) (s : MasterState) (c : SweepCase s) (client : ℕ) (last : Option ℕ) → FitsMessages w.messages s → IsCounted w client last → IsCounted w client (last_after last (applied client (swept_by s c).1.lines))
+applied_counted w h s (Applied front back task call sequencer _ change answer turn work live made) client last fits counted =
+    counted_put w h s front back task call sequencer client last turn work fits counted
+applied_counted w h s (Deleted front back task call sequencer change instance waiters answer turn work live made) client last fits counted =
+    counted_put w h s front back task call sequencer client last turn work fits counted
+applied_counted w h s (Expires whose session due) client last fits counted = subst (λ numbers. IsCounted w client (last_after last numbers)) (sym (lapses_applied client s whose)) counted
+applied_counted w h s (Reopens instance due) client last fits counted =
+    subst (λ numbers. IsCounted w client (last_after last numbers)) (sym (reopened_applied client instance (reopened (lock_at s.locks instance)))) counted
+applied_counted w h s (Left front back task call sequencer _ leave answer turn work live made) client last fits counted = subst (λ numbers. IsCounted w client (last_after last numbers)) (sym (left_applied client task.client leave)) counted
 applied_counted w h s _ client last fits counted = counted
 
 past_master : (sent : List Message) (client : ℕ) (last : Option ℕ) (m : Option MasterState) (s : MasterState) → m ≡ Some s → PastIn sent client m last → PastMaster sent client s last
@@ -387,7 +541,7 @@ module _ (client : ℕ) (last : Option ℕ) (old : WorldState) (step : Step) (ne
       let fits = noted_fits old h t.master t.is_up in
       let on = sweep_past old.messages s client last fits (past_master old.messages client last old.master t.master t.is_up p.master) t.case in
       let next : Option ℕ = last_after last (applied client (swept_by s t.case).1.lines) in
-      let later = outs_later old.messages (swept_by s t.case).1.outs client (swept_by s t.case).0 next on.past in
+      let later = outs_later old.messages (swept_by s t.case).1.outs client (swept_master s t.case) next (telling_past old.messages (swept_by s t.case).0 client next (first_tellings s) on.past) in
       rw t.tells (record {
         rises = on.rises;
         past = record {
@@ -423,15 +577,6 @@ does_on client last old step new printed h p (inr r) =
     silent_on client new.world printed last (rw r.line (tt, tt)) (subst (λ (x : WorldState). Past x client last) (sym r.left.same) p)
 
 -- ---- a run
-
-put_number_more : (client : ℕ) (line : Line) (xs ys : List ℕ) → put_number client line (xs ++ ys) ≡ put_number client line xs ++ ys
-put_number_more client (lines.Applied whose number change) xs ys =
-    elim (whose == client) as (λ b. cond b (number ∷ (xs ++ ys)) (xs ++ ys) ≡ cond b (number ∷ xs) xs ++ ys) [ true ↦ refl | false ↦ refl ]
-put_number_more client _ xs ys = refl
-
-applied_more : (client : ℕ) (xs ys : List Line) → applied client (xs ++ ys) ≡ applied client xs ++ applied client ys
-applied_more client [] ys = refl
-applied_more client (x ∷ xs) ys = ap (put_number client x) (applied_more client xs ys) ∙ put_number_more client x (applied client xs) (applied client ys)
 
 rises_more : (last : Option ℕ) (xs ys : List ℕ) → RisesFrom last xs → RisesFrom (last_after last xs) ys → RisesFrom last (xs ++ ys)
 rises_more last [] ys h k = k

@@ -240,14 +240,14 @@ module _ (w : WorldState) (number : ℕ) (seat : Seat) (found : seat_of w number
   ask_comes ask (OutOfHandles opening view handle safe is shared last) = tt
   ask_comes ask (Released handle mine safe is found shared) =
       stays (without_handle seat.client then handle) (lines.Done seat.client.number 0 answers.Closed ∷ []) (tt, tt, tt) refl refl refl (SameEpoch refl (λ e. e) (λ e. e))
-  ask_comes ask (OutOfCalls call target sendable last) = tt
-  ask_comes ask (Sent call target sendable room) =
-      let message : CallMessage = record { client = seat.client.number; epoch = seat.client.epoch; number = seat.client.calls + 1; call = call } in
+  ask_comes ask (OutOfCalls call sequencer target sendable last) = tt
+  ask_comes ask (Sent call sequencer target sendable room) =
+      let message : CallMessage = record { client = seat.client.number; epoch = seat.client.epoch; number = seat.client.calls + 1; call = call; sequencer = sequencer } in
       record {
         number = number;
         seat = seat;
         found = found;
-        client = with_call seat.client then call target;
+        client = with_call seat.client then call sequencer target;
         sent = Some (requests.Call message);
         is = refl;
         grown = refl;

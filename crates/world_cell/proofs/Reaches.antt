@@ -13,6 +13,7 @@ use Rattle.world_cell.proofs.ConsistentSteps.{rows_only, LeadsOn}
 use Rattle.world_cell.proofs.SliceCuts.{behind_cut, reached_stays_at_cut_sweep, reached_stays_at_cut_up}
 use Rattle.world_cell.proofs.RepliesSent.{replies_answer}
 use Rattle.world_cell.proofs.HoldsOn.{holds_on}
+use Rattle.world_cell.proofs.TellsOn.{tells_on}
 
 reaches_on : (old : WorldState) (step : Step) (new : WorldState) (printed : List Line) → IsConsistent old → WorldCase old step new printed → (client : ℕ) (name : List ℕ) → Reached (slice client name new)
 reaches_on old step new printed h (ComesUp u) client name = subst (λ z. Reached (slice client name z)) (sym u.is) (reached_behind_up old h client name u.now u.none)
@@ -37,4 +38,5 @@ leads_on old step new printed h case = record {
   holds = holds_on old step new printed h case;
   answers = replies_answer old step new printed h case;
   reached = reaches_on old step new printed h case;
+  tells = tells_on old step new printed h.master h.tells case;
 }

@@ -1,5 +1,6 @@
 -- Of a consistent world, behind each step, each reply that was sent is to a call that was sent before.
-use Rattle.std.proofs.Common.{◌≡◌, ℕ, false, List, [], ◌∷◌, ◌++◌, Option, Some, None, refl, sym, ap, ◌∙◌, inl, inr, subst, map}
+use Rattle.std.proofs.Common.{◌≡◌, ℕ, true, false, List, [], ◌∷◌, ◌++◌, Option, Some, None, refl, sym, ap, ◌∙◌, inl, inr, subst, map}
+use Rattle.std.specs.List.{list_any}
 use Rattle.node_core.specs.declared.refusals.Fault.TheVariants as faults
 use Rattle.node_core.specs.declared.lines.Line.{Line}
 use Rattle.node_core.specs.declared.views.Mod.{Mod}
@@ -7,6 +8,7 @@ use Rattle.node_core.specs.declared.views.Mod.TheVariants.{Put, Gone}
 use Rattle.rows_cell.specs.declared.tables.Rows.{Rows}
 use Rattle.rows_cell.specs.declared.tables.Edit.TheVariants.{NextInstance}
 use Rattle.rows_cell.specs.Rows.{changed_rows}
+use Rattle.tags_cell.specs.declared.calls.Call.{Call}
 use Rattle.tags_cell.specs.declared.requests.Request.{Request}
 use Rattle.tags_cell.specs.declared.requests.Request.TheVariants as requests
 use Rattle.tags_cell.specs.declared.requests.CallMessage.{CallMessage}
@@ -17,13 +19,19 @@ use Rattle.tags_cell.specs.declared.outs.Out.TheVariants as outs
 use Rattle.tags_cell.specs.declared.outs.Reply.{Reply}
 use Rattle.session_core.specs.declared.records.Kept.{Kept}
 use Rattle.cell_core.proofs.Told.{told_is_shown}
-use Rattle.cell_core.specs.State.{MasterState, locks_of}
-use Rattle.cell_core.specs.Deeds.{edit_of}
+use Rattle.lock_core.specs.Turns.{is_of_client, reopened}
+use Rattle.lock_core.specs.Locks.{lock_at}
+use Rattle.cell_core.specs.State.{MasterState}
+use Rattle.cell_core.specs.Deeds.{edit_of, lock_changes}
 use Rattle.cell_core.specs.Step.{kept_of, reply_of, stamped_reply, repeated_reply, with_note, noted}
 use Rattle.cell_core.specs.Cases.{TakeCase, taken_by}
 use Rattle.cell_core.specs.Cases.TakeCase.{StartQueued, BeatParked, Repeated, Recovering, Answered, Granted, Waits}
-use Rattle.over_core.specs.SweepCase.{SweepCase, swept_by, swept_edits}
-use Rattle.over_core.specs.SweepCase.SweepCase.{Quiet, Recovers, Expires, OfEnded, Ended, Applied}
+use Rattle.cell_core.specs.declared.pending.Task.{Task}
+use Rattle.cell_core.specs.declared.pending.Work.TheVariants as works
+use Rattle.gate_core.specs.declared.pending.Waiting.{Waiting}
+use Rattle.over_core.specs.SweepCase.{IsTurn, SweepCase, swept_by, swept_edits}
+use Rattle.over_core.specs.Sweep.{left_put, turn_replies, lapses_of, lapses_puts, lapses_replies, puts_of, replies_to}
+use Rattle.over_core.specs.SweepCase.SweepCase.{Quiet, Recovers, Expires, Reopens, OfEnded, Ended, Applied, Deleted, Locked, Awaited, Left}
 use Rattle.world_cell.specs.declared.mail.Message.{Message}
 use Rattle.world_cell.specs.declared.mail.Message.TheVariants.{ToMaster, ToClient}
 use Rattle.world_cell.specs.declared.steps.Step.{Step}
@@ -31,10 +39,14 @@ use Rattle.world_cell.specs.Messages.{out_at, call_of}
 use Rattle.world_cell.specs.World.{WorldState}
 use Rattle.world_cell.specs.Consistent.{OpensAs, IsAnswer, FitsMessages, IsConsistent}
 use Rattle.world_cell.proofs.MessagesGrow.{out_more, out_among, one_no_out}
-use Rattle.world_cell.proofs.MasterFits.{WasAsked, secret_note, turn_sent}
+use Rattle.world_cell.proofs.LockWaiters.{reopened_comes, waits_at}
+use Rattle.world_cell.proofs.LateReplies.{IsLate, AreLate, replies_late, turn_late, lapses_late}
+use Rattle.world_cell.proofs.MasterFits.{WasAsked, ShowsOwn, secret_note, turn_sent, moved}
+use Rattle.world_cell.proofs.AwaitedCalls.{shows_own}
 use Rattle.world_cell.proofs.AnswersSent.{answer_stays, plain_answer, told_answer, answered_opens, turned_opens, AreAnswers, answer_at}
 use Rattle.world_cell.proofs.OpensNamed.{answer_opens}
-use Rattle.world_cell.proofs.ConsistentSteps.{noted_fits, agrees_at, expired_rows}
+use Rattle.world_cell.proofs.RelockedRows.{let_go, relocked_rows}
+use Rattle.world_cell.proofs.ConsistentSteps.{noted_fits, agrees_at}
 use Rattle.world_cell.proofs.OwnSteps.{IsOwn, sending, asks_own, beats_own, gives_own}
 use Rattle.world_cell.proofs.WorldCases.{WorldCase}
 use Rattle.world_cell.proofs.WorldCases.WorldCase.{ComesUp, Joins, Asks, Beats, Gives, Ticks, Takes, Sweeps, GoesDown, CutsSweep, CutsUp, LosesUp}
@@ -64,23 +76,60 @@ taken_answers sent s request (Answered message note answer new serving answered)
     (sends_plain sent (with_note s note) message.client message.number answer message (asked message new.heard.is_call) (answered_opens s message note answer answered))
 taken_answers sent s request (Granted message note answer name new serving may) h asked = (
   told_answer sent s.secret (stamped_reply (with_note s note) message.client message.number answer) message name (asked message new.heard.is_call)
-      (told_is_shown s message.client message.number message.call name answer may.is_told may.is_answer).0
-      (answer_opens s message.client message.number message.call answer may.is_answer),
+      (told_is_shown s message.client message.number message.call message.sequencer name answer may.is_told may.is_answer).0
+      (answer_opens s message.client message.number message.call message.sequencer answer may.is_answer),
   tt,
 )
-taken_answers sent s request (Waits message note touched new serving admitted) h asked = tt
+taken_answers sent s request (Waits message _ touched new serving admitted) h asked = tt
 taken_answers sent s request _ h asked = (tt, tt)
 
-pub swept_answers : (sent : List Message) (s : MasterState) (c : SweepCase s) → FitsMessages sent s → Sends sent s.secret (swept_by s c).1.outs
-swept_answers sent s (Quiet none) h = tt
-swept_answers sent s (Recovers recovering heard) h = tt
-swept_answers sent s (Expires client session due) h = tt
-swept_answers sent s (OfEnded front back task call turn work gone) h = tt
-swept_answers sent s (Ended front back task call note answer turn work live made) h =
-    sends_plain sent s task.client task.number answer (record { client = task.client; epoch = s.epoch; number = task.number; call = call }) (turn_sent sent s front task back turn h call work) (turned_opens s task.client task.number call _ made)
-swept_answers sent s (Applied front back task call note change answer turn work live made) h =
-    sends_plain sent s task.client task.number answer (record { client = task.client; epoch = s.epoch; number = task.number; call = call }) (turn_sent sent s front task back turn h call work) (turned_opens s task.client task.number call _ made)
-swept_answers sent s _ h = (tt, tt)
+-- to those that waited for a lock
+late_answer : (sent : List Message) (s : MasterState) (reply : Reply) → FitsMessages sent s → IsLate s reply → IsAnswer sent s.secret reply
+late_answer sent s reply h late =
+    let was = h.kept reply.client late.kept late.is_kept in
+    plain_answer sent s.secret reply was.call (ap (call_of sent reply.client) late.same ∙ was.found) late.unstamped (late.opens was.call.call)
+
+late_answers : (sent more : List Message) (s : MasterState) (replies : List Reply) → FitsMessages sent s → AreLate s replies → AreAnswers (sent ++ more) s.secret (map outs.Reply replies)
+late_answers sent more s [] h late = tt
+late_answers sent more s (reply ∷ replies) h late = (answer_stays sent more s.secret reply (late_answer sent s reply h late.0), late_answers sent more s replies h late.1)
+
+sends_late : (sent : List Message) (s : MasterState) (replies : List Reply) → FitsMessages sent s → AreLate s replies → Sends sent s.secret (map outs.Reply replies)
+sends_late sent s replies h late = late_answers sent (map ToClient (map outs.Reply replies)) s replies h late
+
+-- a call that has its turn is answered, and then those that waited for a lock
+module _ (sent : List Message) (s : MasterState) (front : List (Waiting Task)) (task : Task) (back : List (Waiting Task)) (turn : IsTurn s front task back) (h : FitsMessages sent s) (call : Call) (sequencer : Option (List ℕ)) (work : task.work ≡ works.Calls call sequencer) where
+  turn_answers : (answer : CallResult) (replies : List Reply) → OpensAs call answer → AreLate s replies → Sends sent s.secret (outs.Reply (reply_of s task.client task.number answer) ∷ map outs.Reply replies)
+  turn_answers answer replies opens late =
+      let reply = reply_of s task.client task.number answer in
+      let more = map ToClient (outs.Reply reply ∷ map outs.Reply replies) in
+      let found = turn_sent sent s front task back turn h call sequencer work in
+      (answer_stays sent more s.secret reply (plain_answer sent s.secret reply (record { client = task.client; epoch = s.epoch; number = task.number; call = call; sequencer = sequencer }) found refl opens), late_answers sent more s replies h late)
+
+pub swept_answers : (sent : List Message) (s : MasterState) (c : SweepCase s) → FitsMessages sent s → ShowsOwn s → Sends sent s.secret (swept_by s c).1.outs
+swept_answers sent s (Quiet none) h own = tt
+swept_answers sent s (Recovers recovering heard) h own = tt
+swept_answers sent s (Expires client session due) h own = sends_late sent s (lapses_replies s (lapses_of s client)) h (lapses_late s client s.locks (λ q waits. waits))
+swept_answers sent s (Reopens instance due) h own =
+    let lock = lock_at s.locks instance in
+    sends_late sent s (turn_replies s (reopened lock)) h (turn_late s lock.waiters (reopened lock) (reopened_comes lock) (λ q waits. waits_at q instance s.locks waits))
+swept_answers sent s (OfEnded front back task call sequencer turn work gone) h own = tt
+swept_answers sent s (Ended front back task call sequencer _ answer turn work live made) h own =
+    turn_answers sent s front task back turn h call sequencer work answer [] (turned_opens s task.client task.number call sequencer _ answer made refl) tt
+swept_answers sent s (Applied front back task call sequencer _ change answer turn work live made) h own =
+    turn_answers sent s front task back turn h call sequencer work answer [] (turned_opens s task.client task.number call sequencer _ answer made refl) tt
+swept_answers sent s (Deleted front back task call sequencer change instance waiters answer turn work live made) h own =
+    let gone = results.Refused faults.StaleInstance in
+    let same = moved sent s front task back turn h call sequencer work _ made own in
+    turn_answers sent s front task back turn h call sequencer work answer (replies_to s gone waiters) (turned_opens s task.client task.number call sequencer _ answer made refl)
+    (replies_late s gone waiters (λ x. tt) (λ q waits. waits_at q instance s.locks (subst (λ ws. list_any (λ claim. is_of_client q claim.owner) ws ≡ true) same waits)))
+swept_answers sent s (Locked front back task call sequencer put claim answer turn work live made) h own =
+    turn_answers sent s front task back turn h call sequencer work answer [] (turned_opens s task.client task.number call sequencer _ answer made refl) tt
+swept_answers sent s (Awaited front back task call sequencer put turn work live made) h own = tt
+swept_answers sent s (Left front back task call sequencer _ leave answer turn work live made) h own =
+    let comes = moved sent s front task back turn h call sequencer work _ made own in
+    turn_answers sent s front task back turn h call sequencer work answer (turn_replies s leave.turn) (turned_opens s task.client task.number call sequencer _ answer made refl)
+    (turn_late s (lock_at s.locks leave.instance).waiters leave.turn comes (λ q waits. waits_at q leave.instance s.locks waits))
+swept_answers sent s _ h own = (tt, tt)
 
 -- ---- the cell's secret stays
 
@@ -90,8 +139,13 @@ mod_secret rows (Gone name) next = refl
 
 swept_secret : (rows : Rows) (s : MasterState) (c : SweepCase s) → (changed_rows rows (swept_edits s c)).secret ≡ rows.secret
 swept_secret rows s (Expires client session due) =
-    ap (λ (r : Rows). r.secret) (expired_rows rows (locks_of client s.held_locks) client (record { principal = session.principal; live = false })).1
-swept_secret rows s (Applied front back task call note change answer turn work live made) = mod_secret rows change.change change.next_instance
+    (let_go rows (lock_changes s (lapses_puts s (lapses_of s client))) client (record { principal = session.principal; live = false })).beside.secret
+swept_secret rows s (Reopens instance due) = (relocked_rows rows (lock_changes s (puts_of s instance (reopened (lock_at s.locks instance)).lock))).beside.secret
+swept_secret rows s (Applied front back task call sequencer _ change answer turn work live made) = mod_secret rows change.change change.next_instance
+swept_secret rows s (Deleted front back task call sequencer change instance waiters answer turn work live made) = mod_secret rows change.change change.next_instance
+swept_secret rows s (Locked front back task call sequencer put claim answer turn work live made) = (relocked_rows rows (lock_changes s (put ∷ []))).beside.secret
+swept_secret rows s (Awaited front back task call sequencer put turn work live made) = (relocked_rows rows (lock_changes s (put ∷ []))).beside.secret
+swept_secret rows s (Left front back task call sequencer _ leave answer turn work live made) = (relocked_rows rows (lock_changes s (left_put leave ∷ []))).beside.secret
 swept_secret rows s _ = refl
 
 -- ---- the messages behind a step
@@ -145,7 +199,7 @@ replies_answer old step new printed h (Sweeps t) =
     let s = noted t.master old.clock in
     subst AllReplied (sym t.is) (subst (λ (secret : List ℕ). AllAnswer (old.messages ++ map ToClient (swept_by s t.case).1.outs) secret) (sym (swept_secret old.rows s t.case))
     (more_answer old.messages (swept_by s t.case).1.outs old.rows.secret h.answers
-    (subst (λ (secret : List ℕ). Sends old.messages secret (swept_by s t.case).1.outs) (secret_at old h t.master t.is_up) (swept_answers old.messages s t.case (noted_fits old h t.master t.is_up)))))
+    (subst (λ (secret : List ℕ). Sends old.messages secret (swept_by s t.case).1.outs) (secret_at old h t.master t.is_up) (swept_answers old.messages s t.case (noted_fits old h t.master t.is_up) (shows_own s (agrees_at old old.master t.master t.is_up h.master).own)))))
 replies_answer old step new printed h (GoesDown d) = subst AllReplied (sym d.is) h.answers
 replies_answer old step new printed h (CutsSweep k) =
     let t = k.sweeps in

@@ -22,19 +22,23 @@ use Rattle.rights_core.specs.declared.grants.Grant.{Grant}
 use Rattle.rights_core.specs.declared.grants.Grant.TheVariants as grants
 use Rattle.rights_core.specs.declared.totals.Totals.{Totals}
 use Rattle.rights_core.specs.Rights.{held_limit, stands, is_held, is_acknowledged, is_expired, count_held, is_held_at, new_right, answer_beside, grant_answer, with_granted, is_to_ask, next_invalidation, with_next, is_ended_by, ends, status_after, ended, numbers_ending, totals_of, AreNumbered, IsRecorded}
+use Rattle.lock_core.specs.Turns.{reopened}
+use Rattle.lock_core.specs.Locks.{lock_at}
 use Rattle.cell_core.specs.declared.handles.Note.{Note}
 use Rattle.cell_core.specs.State.{MasterState}
 use Rattle.cell_core.specs.Step.{granted_lines, with_call, asking_for, repeated_reply, with_note, noted}
 use Rattle.cell_core.specs.Cases.{TakeCase, taken_by}
 use Rattle.cell_core.specs.Cases.TakeCase.{BeatParked, Repeated, Answered, Granted, Waits}
+use Rattle.over_core.specs.Sweep.{locked_lines, leave_lines, lapses_lines, lapses_of}
 use Rattle.over_core.specs.SweepCase.{SweepCase, swept_by}
-use Rattle.over_core.specs.SweepCase.SweepCase.{Expires, Ended, Applied}
+use Rattle.over_core.specs.SweepCase.SweepCase.{Expires, Reopens, Ended, Applied, Left}
 use Rattle.world_cell.specs.declared.steps.Step.{Step}
 use Rattle.world_cell.specs.World.{WorldState, WorldView, is_of_commit}
 use Rattle.world_cell.specs.Consistent.{IsConsistent}
 use Rattle.world_cell.specs.Runs.{Does, Run, Told, is_held_as, with_status, told_more, told_ended, rights_by, rights_at, told_of, rights_in, is_held_told, is_acknowledged_told, is_expired_told, totals_by, AreRecordedOnce}
 use Rattle.world_cell.proofs.SilentLines.{IsOfNoRight, AreOfNoRight, quiet_rightless}
-use Rattle.world_cell.proofs.WorldCases.{WorldCase, world_case}
+use Rattle.world_cell.proofs.LockLines.{AreOfLocks, reopened_of_locks, left_of_locks, lapses_of_locks}
+use Rattle.world_cell.proofs.WorldCases.{swept_master, WorldCase, world_case}
 use Rattle.world_cell.proofs.WorldCases.WorldCase.{ComesUp, Joins, Asks, Beats, Gives, Ticks, Takes, Sweeps, GoesDown, CutsSweep, CutsUp, LosesUp}
 use Rattle.world_cell.proofs.CutLines.{kept_rights}
 use Rattle.world_cell.proofs.OwnSteps.{IsOwn, asks_own, beats_own, gives_own}
@@ -220,17 +224,28 @@ take_told s request (Granted message note answer name new serving may) h =
     ap (λ rights. rights_at (map told_of rights) (granted_lines message.client name (grant_answer message.client name t.rights))) (sym (note_rights s note)) ∙ granted_told message.client name t.rights
 take_told s request (Waits message note touched new serving admitted) h =
     let t = with_note s note in
-    ap (λ rights. Some (map told_of rights)) (sym (note_rights s note)) ∙ ap (λ told. Some told) (sym (asking_told (with_call t message.client message.number message.call touched) touched))
+    ap (λ rights. Some (map told_of rights)) (sym (note_rights s note)) ∙ ap (λ told. Some told) (sym (asking_told (with_call t message touched) touched))
 take_told s request _ h = refl
+
+locks_told : (rights : List Told) (printed : List Line) → AreOfLocks printed → rights_at rights printed ≡ Some rights
+locks_told rights printed of_locks = same_rights rights printed (quiet_rightless printed of_locks.quiet)
 
 sweep_told : (s : MasterState) (c : SweepCase s) → IsRecorded s.rights → rights_at (map told_of s.rights) (swept_by s c).1.lines ≡ Some (map told_of (swept_by s c).0.rights)
 sweep_told s (Expires client session due) h =
     let later = map told_of (ended client endings.Expiry s.rights) in
-    told_both (map told_of s.rights) later later (map lines.Expired (numbers_ending client endings.Expiry s.rights)) (lines.Ended client ∷ []) (expired_told client s.rights h) refl
-sweep_told s (Ended front back task call None answer turn work live made) h = refl
-sweep_told s (Ended front back task call (Some note) answer turn work live made) h = refl
-sweep_told s (Applied front back task call None change answer turn work live made) h = refl
-sweep_told s (Applied front back task call (Some note) change answer turn work live made) h = refl
+    let others = lapses_lines client (lapses_of s client) in
+    let ends = map lines.Expired (numbers_ending client endings.Expiry s.rights) in
+    told_both (map told_of s.rights) later later (ends ++ others) (lines.Ended client ∷ [])
+    (told_both (map told_of s.rights) later later ends others (expired_told client s.rights h) (locks_told later others (lapses_of_locks client (lapses_of s client)))) refl
+sweep_told s (Reopens instance due) h =
+    let turn = reopened (lock_at s.locks instance) in
+    locks_told (map told_of s.rights) (lines.Reopened instance ∷ locked_lines instance turn) (reopened_of_locks instance turn)
+sweep_told s (Ended front back task call sequencer None answer turn work live made) h = refl
+sweep_told s (Ended front back task call sequencer (Some note) answer turn work live made) h = refl
+sweep_told s (Applied front back task call sequencer None change answer turn work live made) h = refl
+sweep_told s (Applied front back task call sequencer (Some note) change answer turn work live made) h = refl
+sweep_told s (Left front back task call sequencer None leave answer turn work live made) h = locks_told (map told_of s.rights) (leave_lines task.client leave) (left_of_locks task.client leave)
+sweep_told s (Left front back task call sequencer (Some note) leave answer turn work live made) h = locks_told (map told_of s.rights) (leave_lines task.client leave) (left_of_locks task.client leave)
 sweep_told s _ h = refl
 
 -- ---- a step
@@ -262,17 +277,17 @@ case_told old step new printed h (Takes t) =
     (take_told s t.request t.case (agrees_at old old.master t.master t.is_up h.master).recorded)
 case_told old step new printed h (Sweeps t) =
     let s = noted t.master old.clock in
-    master_told old.master new.master printed t.master (swept_by s t.case).0 (swept_by s t.case).1.lines t.is_up (ap (λ (w : WorldState). w.master) t.is) t.tells
+    master_told old.master new.master printed t.master (swept_master s t.case) (swept_by s t.case).1.lines t.is_up (ap (λ (w : WorldState). w.master) t.is) t.tells
     (sweep_told s t.case (agrees_at old old.master t.master t.is_up h.master).recorded)
 case_told old step new printed h (GoesDown d) = rw (d.tells, ap (λ (w : WorldState). w.master) d.is) refl
 case_told old step new printed h (CutsSweep k) =
     let t = k.sweeps in
     let s = noted t.master old.clock in
-    let told : rights_at (rights_in old.master) k.told ≡ Some (rights_in (Some (swept_by s t.case).0)) =
-    master_told old.master (Some (swept_by s t.case).0) k.told t.master (swept_by s t.case).0 (swept_by s t.case).1.lines t.is_up refl t.tells
+    let told : rights_at (rights_in old.master) k.told ≡ Some (rights_in (Some (swept_master s t.case))) =
+    master_told old.master (Some (swept_master s t.case)) k.told t.master (swept_master s t.case) (swept_by s t.case).1.lines t.is_up refl t.tells
     (sweep_told s t.case (agrees_at old old.master t.master t.is_up h.master).recorded) in
     rw (k.tells, ap (λ (w : WorldState). w.master) k.is)
-    (told_both (rights_in old.master) (rights_in (Some (swept_by s t.case).0)) [] (filter is_of_commit k.told) (lines.Down ∷ []) (kept_rights (rights_in old.master) k.told ∙ told) refl)
+    (told_both (rights_in old.master) (rights_in (Some (swept_master s t.case))) [] (filter is_of_commit k.told) (lines.Down ∷ []) (kept_rights (rights_in old.master) k.told ∙ told) refl)
 case_told old step new printed h (CutsUp k) = let u = k.comes in rw (k.tells, ap (λ (w : WorldState). w.master) k.is ∙ u.none, u.tells) refl
 case_told old step new printed h (LosesUp k) = rw (k.tells, ap (λ (w : WorldState). w.master) k.is ∙ k.none) refl
 

@@ -6,32 +6,48 @@ use Rattle.node_core.specs.declared.views.Mod.{Mod}
 use Rattle.node_core.specs.declared.views.Mod.TheVariants.{Put, Gone}
 use Rattle.node_core.specs.Nodes.{Nodes}
 use Rattle.rows_cell.specs.declared.tables.Rows.{Rows}
-use Rattle.rows_cell.specs.declared.tables.Edit.TheVariants.{NextInstance}
+use Rattle.rows_cell.specs.declared.tables.Session.{Session}
+use Rattle.rows_cell.specs.declared.tables.Edit.TheVariants.{NextInstance, PutSession}
+use Rattle.rows_cell.specs.LockRows.{LockChange, locks_edits}
 use Rattle.rows_cell.specs.Rows.{changed_rows, map_of}
 use Rattle.rows_cell.proofs.RowViews.{views_put, views_gone}
 use Rattle.rights_core.specs.declared.endings.Ending.TheVariants as endings
 use Rattle.rights_core.specs.Rights.{numbers_ending}
-use Rattle.cell_core.specs.State.{MasterState, locks_of}
+use Rattle.lock_core.specs.Turns.{reopened}
+use Rattle.lock_core.specs.Locks.{lock_at}
+use Rattle.cell_core.specs.State.{MasterState}
 use Rattle.cell_core.specs.Step.{noted}
-use Rattle.cell_core.specs.Deeds.{edit_of}
+use Rattle.cell_core.specs.Deeds.{edit_of, lock_changes}
+use Rattle.over_core.specs.Sweep.{locked_line, locked_lines, leave_lines, lapses_lines, left_put, lapses_of, lapses_puts, puts_of}
 use Rattle.over_core.specs.SweepCase.{SweepCase, swept_by, swept_edits}
-use Rattle.over_core.specs.SweepCase.SweepCase.{Expires, Applied}
+use Rattle.over_core.specs.SweepCase.SweepCase.{Expires, Reopens, Applied, Deleted, Locked, Awaited, Left}
 use Rattle.world_cell.specs.declared.steps.Step.{Step}
 use Rattle.world_cell.specs.World.{WorldState, WorldView}
 use Rattle.world_cell.specs.Consistent.{IsConsistent}
 use Rattle.world_cell.specs.Runs.{Does, Run, map_by, map_at, epoch_by, epoch_at}
-use Rattle.world_cell.proofs.SilentLines.{IsSilentLine, IsSilent}
+use Rattle.world_cell.proofs.SilentLines.{IsSilentLine, IsSilent, quiet_silent}
+use Rattle.world_cell.proofs.LockLines.{AreOfLocks, reopened_of_locks, left_of_locks, lapses_of_locks}
+use Rattle.world_cell.proofs.RelockedRows.{let_go, relocked_rows}
 use Rattle.world_cell.proofs.CutLines.{cut_map, cut_epoch}
 use Rattle.world_cell.proofs.OnceByRuns.{taken_silent}
 use Rattle.world_cell.proofs.WorldCases.{WorldCase, world_case}
 use Rattle.world_cell.proofs.WorldCases.WorldCase.{ComesUp, Joins, Asks, Beats, Gives, Ticks, Takes, Sweeps, GoesDown, CutsSweep, CutsUp, LosesUp}
 use Rattle.world_cell.proofs.OwnSteps.{IsOwn, own_silent, asks_own, beats_own, gives_own}
-use Rattle.world_cell.proofs.ConsistentSteps.{expired_rows}
 
 -- the new rows are those that the lines make of the former ones
 pub record Tells (old new : Rows) (printed : List Line) : Type 0 where
   pub is_map : map_of new ≡ map_at (map_of old) printed
   pub is_epoch : new.epoch ≡ epoch_at old.epoch printed
+
+-- ---- lines
+
+pub map_more : (nodes : Nodes) (xs ys : List Line) → map_at nodes (xs ++ ys) ≡ map_at (map_at nodes xs) ys
+map_more nodes [] ys = refl
+map_more nodes (x ∷ xs) ys = map_more (map_by nodes x) xs ys
+
+pub epoch_more : (epoch : ℕ) (xs ys : List Line) → epoch_at epoch (xs ++ ys) ≡ epoch_at (epoch_at epoch xs) ys
+epoch_more epoch [] ys = refl
+epoch_more epoch (x ∷ xs) ys = epoch_more (epoch_by epoch x) xs ys
 
 -- ---- silent lines
 
@@ -52,13 +68,13 @@ silent_epoch epoch [] h = refl
 silent_epoch epoch (line ∷ rest) h = ap (λ e. epoch_at e rest) (line_epoch epoch line h.0) ∙ silent_epoch epoch rest h.1
 
 -- an expiry tells of no change and of no master
-expiry_map : (nodes : Nodes) (numbers : List ℕ) (whose : ℕ) → map_at nodes (map lines.Expired numbers ++ lines.Ended whose ∷ []) ≡ nodes
-expiry_map nodes [] whose = refl
-expiry_map nodes (number ∷ numbers) whose = expiry_map nodes numbers whose
+expiry_map : (nodes : Nodes) (numbers : List ℕ) (others : List Line) (whose : ℕ) → IsSilent others → map_at nodes (map lines.Expired numbers ++ others ++ lines.Ended whose ∷ []) ≡ nodes
+expiry_map nodes [] others whose silent = map_more nodes others (lines.Ended whose ∷ []) ∙ silent_map nodes others silent
+expiry_map nodes (number ∷ numbers) others whose silent = expiry_map nodes numbers others whose silent
 
-expiry_epoch : (epoch : ℕ) (numbers : List ℕ) (whose : ℕ) → epoch_at epoch (map lines.Expired numbers ++ lines.Ended whose ∷ []) ≡ epoch
-expiry_epoch epoch [] whose = refl
-expiry_epoch epoch (number ∷ numbers) whose = expiry_epoch epoch numbers whose
+expiry_epoch : (epoch : ℕ) (numbers : List ℕ) (others : List Line) (whose : ℕ) → IsSilent others → epoch_at epoch (map lines.Expired numbers ++ others ++ lines.Ended whose ∷ []) ≡ epoch
+expiry_epoch epoch [] others whose silent = epoch_more epoch others (lines.Ended whose ∷ []) ∙ silent_epoch epoch others silent
+expiry_epoch epoch (number ∷ numbers) others whose silent = expiry_epoch epoch numbers others whose silent
 
 silent_tells : (old new : Rows) (printed : List Line) → IsSilent printed → new ≡ old → Tells old new printed
 silent_tells old new printed silent same = record {
@@ -72,13 +88,34 @@ mod_tells : (rows : Rows) (client number : ℕ) (change : Mod) (next : ℕ) → 
 mod_tells rows client number (Put name view) next = record { is_map = views_put rows.nodes name view; is_epoch = refl }
 mod_tells rows client number (Gone name) next = record { is_map = views_gone rows.nodes name; is_epoch = refl }
 
+-- of locks no line tells of the map
+relocked_tells : (rows : Rows) (changes : List LockChange) (printed : List Line) → AreOfLocks printed → Tells rows (changed_rows rows (locks_edits changes)) printed
+relocked_tells rows changes printed of_locks =
+    let r = relocked_rows rows changes in
+    let silent = quiet_silent printed of_locks.quiet in
+    record { is_map = r.beside.map ∙ sym (silent_map (map_of rows) printed silent); is_epoch = r.beside.epoch ∙ sym (silent_epoch rows.epoch printed silent) }
+
+expiry_tells : (rows : Rows) (changes : List LockChange) (client : ℕ) (row : Session) (numbers : List ℕ) (others : List Line) → AreOfLocks others
+    → Tells rows (changed_rows rows (locks_edits changes ++ PutSession client row ∷ [])) (map lines.Expired numbers ++ others ++ lines.Ended client ∷ [])
+expiry_tells rows changes client row numbers others of_locks =
+    let r = let_go rows changes client row in
+    let silent = quiet_silent others of_locks.quiet in
+    record { is_map = r.beside.map ∙ sym (expiry_map (map_of rows) numbers others client silent); is_epoch = r.beside.epoch ∙ sym (expiry_epoch rows.epoch numbers others client silent) }
+
 -- what a sweep commits is what it prints
 swept_tells : (rows : Rows) (s : MasterState) (c : SweepCase s) → Tells rows (changed_rows rows (swept_edits s c)) (swept_by s c).1.lines
 swept_tells rows s (Expires client session due) =
-    let t = expired_rows rows (locks_of client s.held_locks) client (record { principal = session.principal; live = false }) in
-    let numbers = numbers_ending client endings.Expiry s.rights in
-    record { is_map = ap (λ r. map_of r) t.1 ∙ sym (expiry_map (map_of rows) numbers client); is_epoch = ap (λ (r : Rows). r.epoch) t.1 ∙ sym (expiry_epoch rows.epoch numbers client) }
-swept_tells rows s (Applied front back task call note change answer turn work live made) = mod_tells rows task.client task.number change.change change.next_instance
+    expiry_tells rows (lock_changes s (lapses_puts s (lapses_of s client))) client (record { principal = session.principal; live = false }) (numbers_ending client endings.Expiry s.rights) (lapses_lines client (lapses_of s client)) (lapses_of_locks client (lapses_of s client))
+swept_tells rows s (Reopens instance due) =
+    let turn = reopened (lock_at s.locks instance) in
+    relocked_tells rows (lock_changes s (puts_of s instance turn.lock)) (lines.Reopened instance ∷ locked_lines instance turn) (reopened_of_locks instance turn)
+swept_tells rows s (Applied front back task call sequencer _ change answer turn work live made) = mod_tells rows task.client task.number change.change change.next_instance
+swept_tells rows s (Deleted front back task call sequencer change instance waiters answer turn work live made) = mod_tells rows task.client task.number change.change change.next_instance
+swept_tells rows s (Locked front back task call sequencer put claim answer turn work live made) =
+    relocked_tells rows (lock_changes s (put ∷ [])) (locked_line put.instance put.lock.generation claim ∷ []) (record { quiet = (tt, tt, tt); others = (tt, tt); kept = refl })
+swept_tells rows s (Awaited front back task call sequencer put turn work live made) = relocked_tells rows (lock_changes s (put ∷ [])) [] (record { quiet = tt; others = tt; kept = refl })
+swept_tells rows s (Left front back task call sequencer _ leave answer turn work live made) =
+    relocked_tells rows (lock_changes s (left_put leave ∷ [])) (leave_lines task.client leave) (left_of_locks task.client leave)
 swept_tells rows s _ = record { is_map = refl; is_epoch = refl }
 
 own_tells : (old new : WorldState) (printed : List Line) → IsOwn old new printed → Tells old.rows new.rows printed
@@ -107,14 +144,6 @@ step_tells old step new printed h (inl m) = case_tells old.world step new.world 
 step_tells old step new printed h (inr r) = silent_tells old.world.rows new.world.rows printed (rw r.line (tt, tt)) (ap (λ (w : WorldState). w.rows) r.left.same)
 
 -- ---- a run
-
-pub map_more : (nodes : Nodes) (xs ys : List Line) → map_at nodes (xs ++ ys) ≡ map_at (map_at nodes xs) ys
-map_more nodes [] ys = refl
-map_more nodes (x ∷ xs) ys = map_more (map_by nodes x) xs ys
-
-pub epoch_more : (epoch : ℕ) (xs ys : List Line) → epoch_at epoch (xs ++ ys) ≡ epoch_at (epoch_at epoch xs) ys
-epoch_more epoch [] ys = refl
-epoch_more epoch (x ∷ xs) ys = epoch_more (epoch_by epoch x) xs ys
 
 tells_more : (old mid new : Rows) (xs ys : List Line) → Tells old mid xs → Tells mid new ys → Tells old new (xs ++ ys)
 tells_more old mid new xs ys h k = record {

@@ -55,7 +55,7 @@ seat_answers {X} old new number seat next (Err fault) step found is h all =
 asked_leaves : (s : ClientState) (now : ℕ) (ask : Ask) (c : AskCase s now ask) → AllLeave s (asked_in s now ask c)
 asked_leaves s now ask (AskedTooLate late) fault new h = sym (ap (λ p. p.0) h)
 asked_leaves s now ask (OutOfHandles opening view mine safe is shared last) fault new h = sym (ap (λ p. p.0) h)
-asked_leaves s now ask (OutOfCalls call target sendable last) fault new h = sym (ap (λ p. p.0) h)
+asked_leaves s now ask (OutOfCalls call sequencer target sendable last) fault new h = sym (ap (λ p. p.0) h)
 asked_leaves s now ask c fault new h = let e = ap (λ p. p.1) h in cc
 
 pub ask_leaves : (s : ClientState) (now : ℕ) (ask : Ask) → AllLeave s (ask_step s now ask)

@@ -27,12 +27,15 @@ use Rattle.rights_core.specs.declared.grants.Grant.{Grant}
 use Rattle.rights_core.specs.declared.grants.Grant.TheVariants as grants
 use Rattle.rights_core.specs.Rights.{grant_answer, numbers_ending}
 use Rattle.tags_cell.specs.declared.requests.Request.{Request}
+use Rattle.lock_core.specs.Turns.{reopened}
+use Rattle.lock_core.specs.Locks.{lock_at}
 use Rattle.cell_core.specs.State.{MasterState}
 use Rattle.cell_core.specs.Step.{acknowledgement, granted_lines, repeated_reply, with_note, noted}
 use Rattle.cell_core.specs.Cases.{TakeCase, taken_by}
 use Rattle.cell_core.specs.Cases.TakeCase.{StartRefused, OldBeat, BeatRefused, BeatParked, OldEpoch, NoSession, Repeated, OlderCall, Outstanding as StillOutstanding, Granted}
+use Rattle.over_core.specs.Sweep.{lapses_lines, lapses_of}
 use Rattle.over_core.specs.SweepCase.{SweepCase, swept_by}
-use Rattle.over_core.specs.SweepCase.SweepCase.{Recovers, Expires, Started as StartedFirst, Applied}
+use Rattle.over_core.specs.SweepCase.SweepCase.{Recovers, Expires, Reopens, Started as StartedFirst, Applied, Deleted, Locked, Left}
 use Rattle.client_parts.specs.declared.asks.Ask.{Ask}
 use Rattle.client_parts.specs.declared.sessions.Session.{Session}
 use Rattle.client_parts.specs.declared.sessions.Session.TheVariants as sessions
@@ -54,6 +57,8 @@ use Rattle.world_cell.specs.World.{WorldState, WorldView, IsUndoubted, is_of_com
 use Rattle.world_cell.specs.Slices.{slice, client_of}
 use Rattle.world_cell.specs.Consistent.{IsConsistent}
 use Rattle.world_cell.specs.Runs.{map_by, map_at, Does, WasMade, Run}
+use Rattle.world_cell.proofs.SilentLines.{IsOther, AreOthers, both_others}
+use Rattle.world_cell.proofs.LockLines.{reopened_of_locks, left_of_locks, lapses_of_locks}
 use Rattle.world_cell.proofs.AsRead.{made_doubts, made_sure}
 use Rattle.world_cell.specs.Served.{ServesPresent, ServesPresentByThen}
 use Rattle.world_cell.proofs.Slices.{latest}
@@ -100,14 +105,6 @@ serve_more nodes (x ∷ xs) ys h k = (h.0, serve_more (map_by nodes x) xs ys h.1
 
 -- ---- lines that serve nothing
 
-abbrev IsOther : Line → Type 0
-IsOther (lines.Served client name entry) = ⊥
-IsOther _ = Unit {0}
-
-abbrev AreOthers : List Line → Type 0
-AreOthers [] = Unit {0}
-AreOthers (line ∷ rest) = IsOther line × AreOthers rest
-
 other_line : (nodes : Nodes) (line : Line) → IsOther line → IsPresentLine nodes line
 other_line nodes (lines.Served client name entry) h = absurd h
 other_line nodes _ h = tt
@@ -119,10 +116,6 @@ others_serve nodes (line ∷ rest) h = (other_line nodes line h.0, others_serve 
 others_at : (nodes : Nodes) (printed : List Line) → AreOthers printed → ServeAt nodes printed
 others_at nodes [] h = tt
 others_at nodes (line ∷ rest) h = (other_line nodes line h.0, others_at nodes rest h.1)
-
-both_others : (xs ys : List Line) → AreOthers xs → AreOthers ys → AreOthers (xs ++ ys)
-both_others [] ys h k = k
-both_others (x ∷ xs) ys h k = (h.0, both_others xs ys h.1 k)
 
 each_other : (line : ℕ → Line) → ((number : ℕ) → IsOther (line number)) → (numbers : List ℕ) → AreOthers (map line numbers)
 each_other line other [] = tt
@@ -223,8 +216,8 @@ module _ (w : WorldState) (h : IsConsistent w) (number : ℕ) (seat : Seat) (fou
   ask_serves ask (Shared opening view handle safe is shared room) = served_step _ s.number opening.name (Some view) (lines.Done s.number 0 (answers.Opened (s.opened + 1)) ∷ []) shared.cached (tt, tt)
   ask_serves ask (OutOfHandles opening view handle safe is shared last) = tt
   ask_serves ask (Released handle mine safe is there shared) = others_step w _ (lines.Done s.number 0 answers.Closed ∷ []) (tt, tt)
-  ask_serves ask (OutOfCalls call target sendable last) = tt
-  ask_serves ask (Sent call target sendable room) = others_step w _ [] tt
+  ask_serves ask (OutOfCalls call sequencer target sendable last) = tt
+  ask_serves ask (Sent call sequencer target sendable room) = others_step w _ [] tt
   ask_serves ask (Poisoned handle mine safe is usable) = others_step w _ (poison_lines s handle) (both_others (refused_lines s handle s.outstanding) (lines.Done s.number 0 answers.Poisoned ∷ []) (poison_other s handle s.outstanding) (tt, tt))
 
   beat_serves : (c : BeatCase s seat.clock) → Comes (StepServes w) (beaten w number seat (beaten_in s seat.clock c))
@@ -290,9 +283,16 @@ taken_other s request _ = tt
 
 swept_other : (s : MasterState) (c : SweepCase s) → AreOthers (swept_by s c).1.lines
 swept_other s (Recovers recovering heard) = (tt, tt)
-swept_other s (Expires client session due) = both_others (map lines.Expired (numbers_ending client endings.Expiry s.rights)) (lines.Ended client ∷ []) (each_other lines.Expired (λ number. tt) (numbers_ending client endings.Expiry s.rights)) (tt, tt)
+swept_other s (Expires client session due) =
+    let ends = map lines.Expired (numbers_ending client endings.Expiry s.rights) in
+    both_others (ends ++ lapses_lines client (lapses_of s client)) (lines.Ended client ∷ [])
+    (both_others ends (lapses_lines client (lapses_of s client)) (each_other lines.Expired (λ number. tt) (numbers_ending client endings.Expiry s.rights)) (lapses_of_locks client (lapses_of s client)).others) (tt, tt)
+swept_other s (Reopens instance due) = (reopened_of_locks instance (reopened (lock_at s.locks instance))).others
 swept_other s (StartedFirst front back task principal received turn work none) = (tt, tt)
-swept_other s (Applied front back task call note change answer turn work live made) = (tt, tt)
+swept_other s (Applied front back task call sequencer _ change answer turn work live made) = (tt, tt)
+swept_other s (Deleted front back task call sequencer change instance waiters answer turn work live made) = (tt, tt)
+swept_other s (Locked front back task call sequencer put claim answer turn work live made) = (tt, tt)
+swept_other s (Left front back task call sequencer _ leave answer turn work live made) = (left_of_locks task.client leave).others
 swept_other s _ = tt
 
 -- ---- a step

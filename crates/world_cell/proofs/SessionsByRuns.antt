@@ -2,6 +2,9 @@
 use Rattle.std.proofs.Common.{◌≡◌, ℕ, List, [], ◌∷◌, ◌++◌, Bool, true, false, cond, refl, sym, ap, ◌∙◌, inl, inr, subst, arith, map}
 use Rattle.std.specs.Prelude.{◌==◌}
 use Rattle.std.specs.Option.{option_map_or}
+use Rattle.std.specs.Map.{lookup}
+use Rattle.std.specs.BTreeMap.{is_at}
+use Rattle.std.specs.Ordering.{nat_cmp}
 use Rattle.std.proofs.lemmas.Bool.Decides.{nat_tests}
 use Rattle.plain.proofs.OneKey.{lookup_put, lookup_put_apart}
 use Rattle.node_core.specs.declared.lines.Line.{Line}
@@ -12,29 +15,40 @@ use Rattle.rows_cell.specs.declared.tables.Rows.{Rows}
 use Rattle.rows_cell.specs.declared.tables.Session.{Session}
 use Rattle.rows_cell.specs.declared.tables.Edit.TheVariants.{NextInstance, PutSession}
 use Rattle.rows_cell.specs.Rows.{changed_rows, edited}
+use Rattle.rows_cell.specs.LockRows.{LockChange, locks_edits}
 use Rattle.rows_cell.specs.Sound.{is_live_in}
 use Rattle.rights_core.specs.declared.endings.Ending.TheVariants as endings
 use Rattle.rights_core.specs.Rights.{numbers_ending}
-use Rattle.cell_core.specs.State.{MasterState, locks_of}
+use Rattle.lock_core.specs.Turns.{reopened}
+use Rattle.lock_core.specs.Locks.{lock_at}
+use Rattle.cell_core.specs.State.{MasterState}
 use Rattle.cell_core.specs.Step.{noted}
-use Rattle.cell_core.specs.Deeds.{edit_of}
+use Rattle.cell_core.specs.Deeds.{edit_of, lock_changes}
+use Rattle.over_core.specs.Sweep.{locked_line, locked_lines, leave_lines, lapses_lines, left_put, lapses_of, lapses_puts, puts_of}
 use Rattle.over_core.specs.SweepCase.{SweepCase, swept_by, swept_edits}
-use Rattle.over_core.specs.SweepCase.SweepCase.{Expires, Started as StartedFirst, Applied}
+use Rattle.over_core.specs.SweepCase.SweepCase.{Expires, Reopens, Started as StartedFirst, Applied, Deleted, Locked, Awaited, Left}
 use Rattle.world_cell.specs.declared.steps.Step.{Step}
 use Rattle.world_cell.specs.World.{WorldState, WorldView}
 use Rattle.world_cell.specs.Consistent.{IsConsistent}
 use Rattle.world_cell.specs.Runs.{Does, Run, live_by, live_at}
-use Rattle.world_cell.proofs.SilentLines.{IsSilentLine, IsSilent}
+use Rattle.world_cell.proofs.SilentLines.{IsSilentLine, IsSilent, quiet_silent}
+use Rattle.world_cell.proofs.LockLines.{AreOfLocks, reopened_of_locks, left_of_locks, lapses_of_locks}
+use Rattle.world_cell.proofs.RelockedRows.{let_go, relocked_rows}
 use Rattle.world_cell.proofs.CutLines.{cut_lives}
 use Rattle.world_cell.proofs.OnceByRuns.{taken_silent}
 use Rattle.world_cell.proofs.WorldCases.{WorldCase, world_case}
 use Rattle.world_cell.proofs.WorldCases.WorldCase.{ComesUp, Joins, Asks, Beats, Gives, Ticks, Takes, Sweeps, GoesDown, CutsSweep, CutsUp, LosesUp}
 use Rattle.world_cell.proofs.OwnSteps.{IsOwn, own_silent, asks_own, beats_own, gives_own}
-use Rattle.world_cell.proofs.ConsistentSteps.{expired_rows}
 
 -- a client's session is live in the new rows where the lines make it so
 abbrev Tells : ℕ → Rows → Rows → List Line → Type 0
 Tells client old new printed = is_live_in new client ≡ live_at client (is_live_in old client) printed
+
+-- ---- lines
+
+lives_more : (client : ℕ) (live : Bool) (xs ys : List Line) → live_at client live (xs ++ ys) ≡ live_at client (live_at client live xs) ys
+lives_more client live [] ys = refl
+lives_more client live (x ∷ xs) ys = lives_more client (live_by client live x) xs ys
 
 -- ---- silent lines
 
@@ -48,9 +62,10 @@ silent_lives client live [] h = refl
 silent_lives client live (line ∷ rest) h = ap (λ b. live_at client b rest) (line_lives client live line h.0) ∙ silent_lives client live rest h.1
 
 -- an expiry tells of one session's end
-expiry_lives : (client : ℕ) (live : Bool) (numbers : List ℕ) (whose : ℕ) → live_at client live (map lines.Expired numbers ++ lines.Ended whose ∷ []) ≡ cond (whose == client) false live
-expiry_lives client live [] whose = refl
-expiry_lives client live (number ∷ numbers) whose = expiry_lives client live numbers whose
+expiry_lives : (client : ℕ) (live : Bool) (numbers : List ℕ) (others : List Line) (whose : ℕ) → IsSilent others → live_at client live (map lines.Expired numbers ++ others ++ lines.Ended whose ∷ []) ≡ cond (whose == client) false live
+expiry_lives client live [] others whose silent =
+    lives_more client live others (lines.Ended whose ∷ []) ∙ ap (λ b. live_at client b (lines.Ended whose ∷ [])) (silent_lives client live others silent)
+expiry_lives client live (number ∷ numbers) others whose silent = expiry_lives client live numbers others whose silent
 
 silent_tells : (client : ℕ) (old new : Rows) (printed : List Line) → IsSilent printed → new ≡ old → Tells client old new printed
 silent_tells client old new printed silent same = ap (λ r. is_live_in r client) same ∙ sym (silent_lives client (is_live_in old client) printed silent)
@@ -77,13 +92,35 @@ mod_lives : (client : ℕ) (rows : Rows) (change : Mod) (next : ℕ) → is_live
 mod_lives client rows (Put name view) next = refl
 mod_lives client rows (Gone name) next = refl
 
+by_row : (client : ℕ) (rows new : Rows) → new.sessions ≡ rows.sessions → is_live_in new client ≡ is_live_in rows client
+by_row client rows new same = ap (λ es. option_map_or (λ (x : Session). x.live) (lookup (is_at (nat_cmp client)) es) false) same
+
+-- of locks no line tells of a session
+relocked_tells : (client : ℕ) (rows : Rows) (changes : List LockChange) (printed : List Line) → AreOfLocks printed → Tells client rows (changed_rows rows (locks_edits changes)) printed
+relocked_tells client rows changes printed of_locks =
+    by_row client rows (changed_rows rows (locks_edits changes)) (relocked_rows rows changes).sessions ∙ sym (silent_lives client (is_live_in rows client) printed (quiet_silent printed of_locks.quiet))
+
+expiry_tells : (client : ℕ) (rows : Rows) (changes : List LockChange) (whose : ℕ) (principal : List ℕ) (numbers : List ℕ) (others : List Line) → AreOfLocks others
+    → Tells client rows (changed_rows rows (locks_edits changes ++ PutSession whose (record { principal = principal; live = false }) ∷ [])) (map lines.Expired numbers ++ others ++ lines.Ended whose ∷ [])
+expiry_tells client rows changes whose principal numbers others of_locks =
+    let stored : Session = record { principal = principal; live = false } in
+    by_row client (edited rows (PutSession whose stored)) (changed_rows rows (locks_edits changes ++ PutSession whose stored ∷ [])) (let_go rows changes whose stored).sessions ∙ put_lives client whose stored rows
+    ∙ sym (expiry_lives client (is_live_in rows client) numbers others whose (quiet_silent others of_locks.quiet))
+
 swept_tells : (client : ℕ) (rows : Rows) (s : MasterState) (c : SweepCase s) → Tells client rows (changed_rows rows (swept_edits s c)) (swept_by s c).1.lines
 swept_tells client rows s (Expires whose session due) =
-    let stored : Session = record { principal = session.principal; live = false } in
-    ap (λ r. is_live_in r client) (expired_rows rows (locks_of whose s.held_locks) whose stored).1 ∙ put_lives client whose stored rows
-    ∙ sym (expiry_lives client (is_live_in rows client) (numbers_ending whose endings.Expiry s.rights) whose)
+    expiry_tells client rows (lock_changes s (lapses_puts s (lapses_of s whose))) whose session.principal (numbers_ending whose endings.Expiry s.rights) (lapses_lines whose (lapses_of s whose)) (lapses_of_locks whose (lapses_of s whose))
+swept_tells client rows s (Reopens instance due) =
+    let turn = reopened (lock_at s.locks instance) in
+    relocked_tells client rows (lock_changes s (puts_of s instance turn.lock)) (lines.Reopened instance ∷ locked_lines instance turn) (reopened_of_locks instance turn)
 swept_tells client rows s (StartedFirst front back task principal received turn work none) = put_lives client task.client (record { principal = principal; live = true }) rows
-swept_tells client rows s (Applied front back task call note change answer turn work live made) = mod_lives client rows change.change change.next_instance
+swept_tells client rows s (Applied front back task call sequencer _ change answer turn work live made) = mod_lives client rows change.change change.next_instance
+swept_tells client rows s (Deleted front back task call sequencer change instance waiters answer turn work live made) = mod_lives client rows change.change change.next_instance
+swept_tells client rows s (Locked front back task call sequencer put claim answer turn work live made) =
+    relocked_tells client rows (lock_changes s (put ∷ [])) (locked_line put.instance put.lock.generation claim ∷ []) (record { quiet = (tt, tt, tt); others = (tt, tt); kept = refl })
+swept_tells client rows s (Awaited front back task call sequencer put turn work live made) = relocked_tells client rows (lock_changes s (put ∷ [])) [] (record { quiet = tt; others = tt; kept = refl })
+swept_tells client rows s (Left front back task call sequencer _ leave answer turn work live made) =
+    relocked_tells client rows (lock_changes s (left_put leave ∷ [])) (leave_lines task.client leave) (left_of_locks task.client leave)
 swept_tells client rows s _ = refl
 
 own_tells : (client : ℕ) (old new : WorldState) (printed : List Line) → IsOwn old new printed → Tells client old.rows new.rows printed
@@ -112,10 +149,6 @@ step_tells client old step new printed h (inl m) = case_tells client old.world s
 step_tells client old step new printed h (inr r) = silent_tells client old.world.rows new.world.rows printed (rw r.line (tt, tt)) (ap (λ (w : WorldState). w.rows) r.left.same)
 
 -- ---- a run
-
-lives_more : (client : ℕ) (live : Bool) (xs ys : List Line) → live_at client live (xs ++ ys) ≡ live_at client (live_at client live xs) ys
-lives_more client live [] ys = refl
-lives_more client live (x ∷ xs) ys = lives_more client (live_by client live x) xs ys
 
 -- whether a client's session is live is what the lines tell
 pub run_lives : (client : ℕ) (old : WorldView) (steps : List Step) (printed : List Line) (new : WorldView) → IsConsistent old.world → Run old steps printed new → is_live_in new.world.rows client ≡ live_at client (is_live_in old.world.rows client) printed

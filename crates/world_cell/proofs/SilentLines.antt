@@ -48,3 +48,16 @@ append_quiet (x ∷ xs) ys h k = (h.0, h.1, append_quiet xs ys h.2 k)
 pub silent_numbers : (line : ℕ → Line) → ((number : ℕ) → IsSilentLine (line number)) → (numbers : List ℕ) → IsSilent (map line numbers)
 silent_numbers line silent [] = tt
 silent_numbers line silent (number ∷ numbers) = (silent number, silent_numbers line silent numbers)
+
+-- lines that tell of nothing that is served
+abbrev pub IsOther : Line → Type 0
+IsOther (lines.Served client name entry) = ⊥
+IsOther _ = Unit {0}
+
+abbrev pub AreOthers : List Line → Type 0
+AreOthers [] = Unit {0}
+AreOthers (line ∷ rest) = IsOther line × AreOthers rest
+
+pub both_others : (xs ys : List Line) → AreOthers xs → AreOthers ys → AreOthers (xs ++ ys)
+both_others [] ys h k = k
+both_others (x ∷ xs) ys h k = (h.0, both_others xs ys h.1 k)

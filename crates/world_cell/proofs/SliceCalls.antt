@@ -12,7 +12,6 @@ use Rattle.node_core.specs.Limits.{number_limit}
 use Rattle.node_core.specs.Nodes.{get_node}
 use Rattle.rows_cell.specs.Rows.{map_of}
 use Rattle.plain.proofs.Keys.{same_number, bytes_self, bytes_same, bytes_swap}
-use Rattle.tags_cell.specs.declared.calls.Call.{Call}
 use Rattle.tags_cell.specs.declared.requests.CallMessage.{CallMessage}
 use Rattle.tags_cell.specs.declared.outs.Out.{Out}
 use Rattle.tags_cell.specs.declared.outs.Out.TheVariants as outs
@@ -21,7 +20,7 @@ use Rattle.tags_cell.specs.declared.outs.Reply.{Reply}
 use Rattle.session_core.specs.declared.records.Kept.{Kept}
 use Rattle.session_core.specs.declared.records.Session.{Session}
 use Rattle.session_core.specs.Session.{keeping, issued_through}
-use Rattle.session_core.specs.Sessions.{SessionTable, with_issued, issued_by}
+use Rattle.session_core.specs.Sessions.{SessionTable, has_spent_events, with_issued, issued_by}
 use Rattle.session_core.specs.Sessions.{session_of as session_in}
 use Rattle.session_core.proofs.IssuedBy.{lease_stays_issued}
 use Rattle.rights_core.specs.declared.cache_rights.CacheRight.{CacheRight}
@@ -36,9 +35,8 @@ use Rattle.gate_core.proofs.OneChange.{push_touches, uncachable_is_touched, cach
 use Rattle.cell_core.specs.declared.handles.HandleKey.{HandleKey}
 use Rattle.cell_core.specs.declared.handles.HandleState.{HandleState}
 use Rattle.cell_core.specs.declared.pending.Task.{Task}
-use Rattle.cell_core.specs.declared.pending.Work.TheVariants as works
 use Rattle.cell_core.specs.State.{MasterState, row_of}
-use Rattle.cell_core.specs.Step.{session_of, is_live, reply_of, issued_to, stamped_reply, answered_by, replied, is_cachable, granting, names_of, with_call, waits, is_spent}
+use Rattle.cell_core.specs.Step.{session_of, is_live, reply_of, issued_to, stamped_reply, answered_by, replied, is_cachable, granting, names_of, task_of, with_call, waits, is_spent}
 use Rattle.cell_core.specs.Names.{name_asked, shown_by}
 use Rattle.over_core.specs.Kept.{AreIssued, AreOwned}
 use Rattle.over_core.proofs.OwnedRights.{none_issued}
@@ -207,28 +205,28 @@ module _ (c : ℕ) (x : List ℕ) (w : WorldState) (s : MasterState) (knows : Is
     asking_leads : (bytes_eq x name ≡ true → 0 < n) → AsksLeads
     asking_leads awaited = by_test (is_asked_now c name s.rights) (λ t. by_test (bytes_eq x name) (λ e. asks_own (awaited e) e t) (λ e. asks_other e t)) asks_nobody
 
-  module _ (handles : List (HandleKey × HandleState)) (client number : ℕ) (call : Call) where
+  module _ (handles : List (HandleKey × HandleState)) (message : CallMessage) where
     abbrev call_waiting : Option (List ℕ) → Waiting Task
-    call_waiting touched = record { number = s.gate.pushed + 1; change = record { touched = names_of touched; body = record { client = client; number = number; work = works.Calls call } } }
+    call_waiting touched = record { number = s.gate.pushed + 1; change = record { touched = names_of touched; body = task_of message } }
 
     abbrev kept_call : Kept Reply
-    kept_call = record { number = number; reply = None }
+    kept_call = record { number = message.number; reply = None }
 
     abbrev with_kept_call : SessionTable Reply
-    with_kept_call = (with_call s client number call None).sessions
+    with_kept_call = (with_call s message None).sessions
 
     -- who holds the name that it touches is asked for it
-    call_touches : (name : List ℕ) → s.recovering ≡ false → Comes c x w s (waits (record s { handles = handles }) client number call (Some name)).0 []
+    call_touches : (name : List ℕ) → s.recovering ≡ false → Comes c x w s (waits (record s { handles = handles }) message (Some name)).0 []
     call_touches name serving =
         let led = led_both (shown c x w (here c x w s)) (shown c x w (with_pending (touching x s.gate.waiting + cond (bytes_eq x name) 1 0))) (shown c x w (asked_parts name (touching x s.gate.waiting + cond (bytes_eq x name) 1 0) (right_of c x (asked_back name s.rights))))
         (queue_leads (bytes_eq x name) serving)
         (asking_leads name (touching x s.gate.waiting + cond (bytes_eq x name) 1 0) (above_none (touching x s.gate.waiting) (bytes_eq x name))) in
-        goes c x w s w.rows (waits (record s { handles = handles }) client number call (Some name)).0 [] led.0 (here c x w s) (asked_parts name (touching x s.gate.waiting + cond (bytes_eq x name) 1 0) (right_of c x (asked_back name s.rights))) (alike (here c x w s))
+        goes c x w s w.rows (waits (record s { handles = handles }) message (Some name)).0 [] led.0 (here c x w s) (asked_parts name (touching x s.gate.waiting + cond (bytes_eq x name) 1 0) (right_of c x (asked_back name s.rights))) (alike (here c x w s))
         (record {
           present = refl;
           session = refl;
           epoch = refl;
-          lease = lease_stays_issued (with_kept_call) (clients_to_ask name s.rights) ∙ lease_stays s.sessions client (keeping kept_call);
+          lease = lease_stays_issued (with_kept_call) (clients_to_ask name s.rights) ∙ lease_stays s.sessions message.client (keeping kept_call);
           recovering = refl;
           seen = seen_now;
           starts = no_start c s.gate.waiting (call_waiting (Some name)) refl;
@@ -242,19 +240,19 @@ module _ (c : ℕ) (x : List ℕ) (w : WorldState) (s : MasterState) (knows : Is
         led.1
       where
         seen_now : seen_of (session_in (issued_by (clients_to_ask name s.rights) with_kept_call) c) ≡ seen_of (session_of s c)
-        seen_now = issued_seen (clients_to_ask name s.rights) with_kept_call c ∙ seen_stays (keeping kept_call) (λ session. refl) s.sessions client c
+        seen_now = issued_seen (clients_to_ask name s.rights) with_kept_call c ∙ seen_stays (keeping kept_call) (λ session. refl) s.sessions message.client c
 
-    call_touches_none : Comes c x w s (waits (record s { handles = handles }) client number call None).0 []
-    call_touches_none = comes_unseen c x w s (waits (record s { handles = handles }) client number call None).0 []
-        (lease_stays s.sessions client (keeping kept_call))
+    call_touches_none : Comes c x w s (waits (record s { handles = handles }) message None).0 []
+    call_touches_none = comes_unseen c x w s (waits (record s { handles = handles }) message None).0 []
+        (lease_stays s.sessions message.client (keeping kept_call))
         refl
-        (seen_stays (keeping kept_call) (λ session. refl) s.sessions client c)
+        (seen_stays (keeping kept_call) (λ session. refl) s.sessions message.client c)
         (no_start c s.gate.waiting (call_waiting None) refl)
         refl
         ((push_touches x (call_waiting None).change s.gate).1 ∙ sym (plus_none (touching x s.gate.waiting)))
         refl refl
 
-    pub call_waits : (touched : Option (List ℕ)) → s.recovering ≡ false → Comes c x w s (waits (record s { handles = handles }) client number call touched).0 []
+    pub call_waits : (touched : Option (List ℕ)) → s.recovering ≡ false → Comes c x w s (waits (record s { handles = handles }) message touched).0 []
     call_waits None serving = call_touches_none
     call_waits (Some name) serving = call_touches name serving
 
@@ -278,9 +276,10 @@ no_change : (u r : Bool) → (not u && r) ≡ true → u ≡ false
 no_change true r h = cc
 no_change false r h = refl
 
-no_room : (a b : Bool) → (a || b) ≡ false → b ≡ false
-no_room true b h = cc
-no_room false b h = h
+no_room : (a b c : Bool) → (a || b || c) ≡ false → b ≡ false
+no_room true b c h = cc
+no_room false true c h = cc
+no_room false false c h = refl
 
 -- a grant is refused at the last number alone
 never_spent : (o : Option CacheRight) (rights : List CacheRight) (fault : Fault) → nat_le number_limit (length rights) ≡ false → answer_beside o rights ≢ Err fault
@@ -326,7 +325,7 @@ module _ (w : WorldState) (s : MasterState) (knows : IsKnown w s) (handles : Lis
   not_full h = let e : is_cachable s client name ≡ false = (cachable_is_granted client name s.rights s.gate.waiting unpending).1 h in let k = g.cachable in let z : false ≡ true = sym e ∙ k in cc
 
   not_spent : (fault : Fault) → grant_answer client name s.rights ≢ Err fault
-  not_spent fault = never_spent (find (is_held_at client name) s.rights) s.rights fault (no_room (nat_le number_limit s.gate.pushed) (nat_le number_limit (length s.rights)) g.room)
+  not_spent fault = never_spent (find (is_held_at client name) s.rights) s.rights fault (no_room (nat_le number_limit s.gate.pushed) (nat_le number_limit (length s.rights)) (has_spent_events s.sessions) g.room)
 
   -- the grant that is sent
   abbrev grant_sent : one.Grant Shown

@@ -158,9 +158,9 @@ module _ (c : ℕ) (x : List ℕ) (w : WorldState) (number : ℕ) (seat : Seat) 
   ask_leads ask (Shared opening view handle safe is shared room) = asked_leads ask (Shared opening view handle safe is shared room)
   ask_leads ask (OutOfHandles opening view handle safe is shared last) = tt
   ask_leads ask (Released handle mine safe is there shared) = asked_leads ask (Released handle mine safe is there shared)
-  ask_leads ask (OutOfCalls call target sendable last) = tt
-  ask_leads ask (Sent call target sendable room) =
-      then_sends c x w (with_client w number seat (asked_in seat.client seat.clock ask (Sent call target sendable room)).0) (message_of seat.client call) refl (asked_leads ask (Sent call target sendable room))
+  ask_leads ask (OutOfCalls call sequencer target sendable last) = tt
+  ask_leads ask (Sent call sequencer target sendable room) =
+      then_sends c x w (with_client w number seat (asked_in seat.client seat.clock ask (Sent call sequencer target sendable room)).0) (message_of seat.client call sequencer) refl (asked_leads ask (Sent call sequencer target sendable room))
   ask_leads ask (Poisoned handle mine safe is usable) = asked_leads ask (Poisoned handle mine safe is usable)
 
 -- ---- a client sends a Start or a Beat

@@ -9,31 +9,30 @@ use Rattle.std.specs.Ordering.{nat_cmp}
 use Rattle.std.specs.Str.{bytes_eq}
 use Rattle.std.proofs.lemmas.Bool.Decides.{nat_tests}
 use Rattle.coherence.specs.Slice as one
-use Rattle.coherence.specs.Slice.{IsIn, Slice, Event, KeepReceipts, Admit, SendOffer, Apply, Expire, EndRecovery, Live, Never, Reached, Leads}
+use Rattle.coherence.specs.Slice.{IsIn, Event, KeepReceipts, Admit, SendOffer, Apply, Expire, EndRecovery, Live, Reached}
 use Rattle.node_core.specs.declared.refusals.Fault.TheVariants as faults
 use Rattle.node_core.specs.declared.views.Mod.{Mod}
 use Rattle.node_core.specs.declared.views.Mod.TheVariants.{Put, Gone}
 use Rattle.node_core.specs.Nodes.{get_node, changed, name_of}
-use Rattle.rows_cell.specs.declared.keys.LockKey.{LockKey}
 use Rattle.rows_cell.specs.declared.tables.Session as of_rows
 use Rattle.rows_cell.specs.declared.tables.Rows.{Rows}
-use Rattle.rows_cell.specs.declared.tables.Edit.TheVariants.{NextInstance, PutSession, RemoveLock}
-use Rattle.rows_cell.specs.Rows.{edited, changed_rows, map_of}
+use Rattle.rows_cell.specs.declared.tables.Edit.TheVariants.{NextInstance, PutSession}
+use Rattle.rows_cell.specs.Rows.{changed_rows, map_of}
+use Rattle.rows_cell.specs.LockRows.{LockChange, locks_edits}
 use Rattle.rows_cell.proofs.RowViews.{views_put, views_gone}
 use Rattle.tags_cell.specs.declared.outs.Out.{Out}
-use Rattle.tags_cell.specs.declared.outs.Out.TheVariants as outs
 use Rattle.tags_cell.specs.declared.outs.CallResult.{CallResult}
+use Rattle.tags_cell.specs.declared.outs.CallResult.TheVariants as results
 use Rattle.tags_cell.specs.declared.outs.Reply.{Reply}
 use Rattle.tags_cell.specs.declared.calls.Call.{Call}
 use Rattle.rights_core.specs.declared.endings.Ending.TheVariants as endings
-use Rattle.rights_core.specs.Rights as of_rights
 use Rattle.rights_core.specs.Rights.{holds, invalidations_of}
 use Rattle.rights_core.specs.Laws.{asked_for, number_or_0}
 use Rattle.session_core.specs.declared.records.Parked.{Parked}
 use Rattle.session_core.specs.declared.records.Session.{Session}
 use Rattle.session_core.specs.Session as of_session
-use Rattle.session_core.specs.Session.{session_until, prolonged, answered, keeping, has_heard, offer_to}
-use Rattle.session_core.specs.Sessions.{with_session, with_new, all_heard}
+use Rattle.session_core.specs.Session.{events_of, session_until, prolonged, answered, keeping, has_heard, offer_to}
+use Rattle.session_core.specs.Sessions.{SessionTable, with_session, with_new, all_heard}
 use Rattle.session_core.specs.Sessions.{session_of as session_in}
 use Rattle.session_core.proofs.OneClient.{lookup_put, lookup_put_apart, other_session}
 use Rattle.gate_core.specs.declared.pending.Waiting.{Waiting}
@@ -43,23 +42,31 @@ use Rattle.cell_core.specs.declared.deeds.Change.{Change}
 use Rattle.cell_core.specs.declared.handles.Note.{Note}
 use Rattle.cell_core.specs.declared.pending.Task.{Task}
 use Rattle.cell_core.specs.declared.pending.Work.TheVariants as works
-use Rattle.cell_core.specs.State.{MasterState, row_of, locks_of}
+use Rattle.lock_core.specs.declared.turns.Turn.{Turn}
+use Rattle.lock_core.specs.Turns.{reopened}
+use Rattle.lock_core.specs.Locks.{lock_at}
+use Rattle.cell_core.specs.declared.deeds.LockPut.{LockPut}
+use Rattle.cell_core.specs.State.{MasterState, row_of}
 use Rattle.cell_core.specs.Step.{session_of, noted, reply_of, answered_by, turned_away, names_of}
 use Rattle.cell_core.specs.Names.{name_changed}
-use Rattle.cell_core.specs.Deeds.{edit_of}
+use Rattle.cell_core.specs.Deeds.{edit_of, with_kept_put, with_locks, lock_changes}
 use Rattle.client_parts.specs.Invalidations.{last_number}
 use Rattle.over_core.specs.Effect.{effect}
-use Rattle.over_core.specs.Sweep.{started_out, alive_out, invalidations_for}
-use Rattle.over_core.specs.SweepCase.{IsTurn, IsDueToEnd, IsDue, SweepCase, rest, ended, mapped, swept_by, swept_edits}
-use Rattle.over_core.specs.SweepCase.SweepCase.{Quiet, Recovers, Expires, AnswersBeat, TurnedAway, StartedAgain, Started, OfEnded, Ended, Applied}
+use Rattle.over_core.specs.Sweep.{started_out, alive_out, invalidations_for, sent, kept_puts, replies_to, turn_replies, left_put, puts_of, lapses_of, lapses_puts, lapses_replies}
+use Rattle.over_core.specs.SweepCase.{IsTurn, IsDueToEnd, IsDue, SweepCase, rest, ended, mapped, told, expired, relocking, swept_by, swept_edits}
+use Rattle.over_core.specs.SweepCase.SweepCase.{Quiet, Recovers, Expires, Reopens, AnswersBeat, TurnedAway, StartedAgain, Started, OfEnded, Ended, Applied, Deleted, Locked, Awaited, Left}
 use Rattle.over_core.specs.Kept.{IsKept, names_touched}
+use Rattle.over_core.proofs.SweepCases.{first_tellings}
 use Rattle.over_core.proofs.Touching.{change_is_named}
 use Rattle.over_core.proofs.Unacknowledged.{IsAskedFor, each_is_asked, asked_is_named}
 use Rattle.world_cell.specs.declared.mail.Message.TheVariants.{ToClient}
 use Rattle.world_cell.specs.World.{WorldState}
 use Rattle.world_cell.specs.Slices.{Shown, slice, standing_so, standing_of, standing_in, parked_list, seen_of, heard_from, right_of, put_start, start_of, starts_of, beats_of, name_number, put_offer, offers_of, grants_of}
-use Rattle.world_cell.proofs.GrantsSent.{unstamped}
+use Rattle.world_cell.proofs.RelockedRows.{IsBeside, HasRow, let_go, relocked_rows}
+use Rattle.world_cell.proofs.LockReplies.{AreUnstamped, waiters_unstamped, turn_unstamped, lapses_unstamped, replies_offer_none, replies_grant_none, told_lease, told_seen}
 use Rattle.world_cell.proofs.SliceRights.{no_right, unowned_right, right_of_another, freed_right, expiry_frees}
+use Rattle.world_cell.proofs.WorldCases.{swept_master}
+use Rattle.world_cell.proofs.ToldSweeps.{told_goes}
 use Rattle.world_cell.proofs.SweptNames.{touching_less, free_of_holders, all_at, other_node, last_is_issued, named_number}
 use Rattle.world_cell.proofs.Slices.{LeadsTo, reached_stays, by_test, is_same, is_other, same_test, in_front, in_back, in_either, all_found, beats_stay, grants_then, grants_more, offers_more, UpParts, AreSame, here, there, Goes, goes, goes_unseen, standing_kept, with_found, is_found, with_master, lease_stays, seen_stays, own_found, IsKnown, known, first_of, none_more}
 
@@ -81,23 +88,6 @@ not_empty [] back x h = cc
 not_empty (y ∷ front) back x h = cc
 
 -- ---- what becomes of the rows
-
--- other rows of the same cell: its secret, its epoch, and what its names show
-record IsBeside (rows new : Rows) : Type 0 where
-  map : map_of new ≡ map_of rows
-  secret : new.secret ≡ rows.secret
-  epoch : new.epoch ≡ rows.epoch
-
--- with a session's row, once locks were let go
-record HasRow (rows new : Rows) (client : ℕ) (row : of_rows.Session) : Type 0 where
-  beside : IsBeside rows new
-  sessions : new.sessions ≡ insert_entry nat_cmp rows.sessions client row
-
-let_go : (locks : List LockKey) (rows : Rows) (client : ℕ) (row : of_rows.Session) → HasRow rows (changed_rows rows (map RemoveLock locks ++ PutSession client row ∷ [])) client row
-let_go [] rows client row = record { beside = record { map = refl; secret = refl; epoch = refl }; sessions = refl }
-let_go (key ∷ locks) rows client row =
-    let h = let_go locks (edited rows (RemoveLock key)) client row in
-    record { beside = record { map = h.beside.map; secret = h.beside.secret; epoch = h.beside.epoch }; sessions = h.sessions }
 
 -- with a change of the map
 record IsMapped (rows new : Rows) (change : Mod) : Type 0 where
@@ -167,6 +157,12 @@ module _ (x : List ℕ) (w : WorldState) (s : MasterState) (knows : IsKnown w s)
   nothing_sent : (c : ℕ) → IsSilent c []
   nothing_sent c = record { offers = refl; grants = refl }
 
+  replies_silent : (c : ℕ) (replies : List Reply) → AreUnstamped replies → IsSilent c (sent replies)
+  replies_silent c replies unstamped = record {
+    offers = replies_offer_none c x (offers_of c x w.messages) replies;
+    grants = replies_grant_none c x w.rows.secret (record { before = w.messages; grants = grants_of c x w.rows.secret w.messages }) replies unstamped;
+  }
+
   -- the master behind a sweep, by what is seen of each part
   behind : (c : ℕ) (rows : Rows) (t : MasterState) (sent : List Out) (q : UpParts)
       → get_node (map_of rows) x ≡ q.present → standing_in rows c ≡ q.session → rows.epoch ≡ q.epoch → rows.secret ≡ w.rows.secret → t.sessions.lease ≡ q.lease → t.recovering ≡ q.recovering → seen_of (session_of t c) ≡ q.seen → starts_of c t.gate.waiting ≡ q.starts → heard_from q.recovering q.seen ≡ q.heard → right_of c x t.rights ≡ q.right → touching x t.gate.waiting ≡ q.pending
@@ -200,7 +196,7 @@ module _ (x : List ℕ) (w : WorldState) (s : MasterState) (knows : IsKnown w s)
   -- ---- a recovery ends
 
   heard_of : (c : ℕ) (session : Session Reply) → all_heard s.sessions ≡ true → session_of s c ≡ Some session → session.live ≡ true → nat_le 1 session.newest_beat ≡ true
-  heard_of c session heard found = beaten_if_heard session.live session.events.acknowledged session.newest_beat (all_found c (λ entry. has_heard entry.1) s.sessions.sessions session heard found) (knows.by_beats c session found)
+  heard_of c session heard found = beaten_if_heard session.live (events_of session).acknowledged session.newest_beat (all_found c (λ entry. has_heard entry.1) s.sessions.sessions session heard found) (knows.by_beats c session found)
 
   recovers_by : (c : ℕ) (found : Option (Session Reply)) → session_of s c ≡ found → (standing_of (option_map row_of found) ≡ Live → heard_from s.recovering (seen_of found) ≡ true) → heard_from false (seen_of found) ≡ heard_from s.recovering (seen_of found) → Goes c x w s w.rows (record s { recovering = false }) []
   recovers_by c found is heard same =
@@ -222,42 +218,69 @@ module _ (x : List ℕ) (w : WorldState) (s : MasterState) (knows : IsKnown w s)
     abbrev ended_row : of_rows.Session
     ended_row = record { principal = session.principal; live = false }
 
-    abbrev ended_rows : Rows
-    ended_rows = changed_rows w.rows (map RemoveLock (locks_of client s.held_locks) ++ PutSession client ended_row ∷ [])
+    abbrev changes : List LockChange
+    changes = lock_changes s (lapses_puts s (lapses_of s client))
 
-    abbrev expired : MasterState
-    expired = record s { sessions = with_session s.sessions client of_session.ended; rights = of_rights.ended client endings.Expiry s.rights }
+    abbrev ended_rows : Rows
+    ended_rows = changed_rows w.rows (locks_edits changes ++ PutSession client ended_row ∷ [])
+
+    -- to those that waited for its locks
+    abbrev answers : List Reply
+    answers = lapses_replies s (lapses_of s client)
+
+    abbrev without_session : MasterState
+    without_session = told (with_locks (expired s client) (lapses_puts s (lapses_of s client))) answers
 
     has_row : HasRow w.rows ended_rows client ended_row
-    has_row = let_go (locks_of client s.held_locks) w.rows client ended_row
+    has_row = let_go w.rows changes client ended_row
 
-    own_expiry : Goes client x w s ended_rows expired []
+    silent_expiry : (c : ℕ) → IsSilent c (sent answers)
+    silent_expiry c = replies_silent c answers (lapses_unstamped s (lapses_of s client))
+
+    own_expiry : Goes client x w s ended_rows without_session (sent answers)
     own_expiry =
         let p : UpParts = with_found client x w s (Some session) in
         let q : UpParts = record p { session = one.Ended; seen = seen_of (Some (of_session.ended session)); heard = false; right = freed_right (right_of client x s.rights) } in
-        goes client x w s ended_rows expired [] (Expire ∷ []) p q (is_found client x w s (Some session) knows.sessions knows.epoch due.found)
-        (behind client ended_rows expired [] q
+        goes client x w s ended_rows without_session (sent answers) (Expire ∷ []) p q (is_found client x w s (Some session) knows.sessions knows.epoch due.found)
+        (behind client ended_rows without_session (sent answers) q
         (ap (λ m. get_node m x) has_row.beside.map)
         (standing_by client ended_rows (insert_entry nat_cmp w.rows.sessions client ended_row) has_row.sessions ∙ ap standing_of (lookup_put client w.rows.sessions ended_row))
         (has_row.beside.epoch ∙ sym knows.epoch)
         has_row.beside.secret
-        (lease_stays s.sessions client of_session.ended)
+        (told_lease (with_session s.sessions client of_session.ended) (kept_puts answers) ∙ lease_stays s.sessions client of_session.ended)
         refl
-        (ap seen_of (own_found of_session.ended s.sessions client session due.found))
+        (told_seen (with_session s.sessions client of_session.ended) (kept_puts answers) client ∙ ap seen_of (own_found of_session.ended s.sessions client session due.found))
         refl refl
         (expiry_frees client x s.rights knows.recorded)
-        refl refl refl refl)
+        refl refl (silent_expiry client).offers (silent_expiry client).grants)
         (record { allowed = record { first = record { up = refl; live = ap standing_so due.live; over = subst (λ (z : ℕ). session.timeout ≤ z) knows.clock due.over }; rest = tt }; leads_there = refl })
 
-    other_expiry : (c : ℕ) → (c == client) ≡ false → Goes c x w s ended_rows expired []
-    other_expiry c other = unseen_behind c ended_rows expired [] has_row.beside
+    other_expiry : (c : ℕ) → (c == client) ≡ false → Goes c x w s ended_rows without_session (sent answers)
+    other_expiry c other = unseen_behind c ended_rows without_session (sent answers) has_row.beside
         (standing_by c ended_rows (insert_entry nat_cmp w.rows.sessions client ended_row) has_row.sessions ∙ ap standing_of (lookup_put_apart client c (is_other c client other) w.rows.sessions ended_row))
-        (lease_stays s.sessions client of_session.ended)
+        (told_lease (with_session s.sessions client of_session.ended) (kept_puts answers) ∙ lease_stays s.sessions client of_session.ended)
         refl
-        (ap seen_of (other_session s.sessions client of_session.ended c (is_other c client other)))
+        (told_seen (with_session s.sessions client of_session.ended) (kept_puts answers) c ∙ ap seen_of (other_session s.sessions client of_session.ended c (is_other c client other)))
         refl
         (right_of_another client c x s.rights knows.recorded endings.Expiry (turned c client other))
-        refl refl
+        (silent_expiry c).offers (silent_expiry c).grants
+
+  -- ---- a lock is open again
+
+  reopens : (c instance : ℕ) → Goes c x w s (changed_rows w.rows (relocking s (puts_of s instance (reopened (lock_at s.locks instance)).lock)))
+      (told (with_locks s (puts_of s instance (reopened (lock_at s.locks instance)).lock)) (turn_replies s (reopened (lock_at s.locks instance)))) (sent (turn_replies s (reopened (lock_at s.locks instance))))
+  reopens c instance =
+      let turn : Turn = reopened (lock_at s.locks instance) in
+      let answers : List Reply = turn_replies s turn in
+      let changes : List LockChange = lock_changes s (puts_of s instance turn.lock) in
+      let relocked = relocked_rows w.rows changes in
+      let silent = replies_silent c answers (turn_unstamped s turn) in
+      unseen_behind c (changed_rows w.rows (locks_edits changes)) (told (with_locks s (puts_of s instance turn.lock)) answers) (sent answers) relocked.beside
+      (standing_by c (changed_rows w.rows (locks_edits changes)) w.rows.sessions relocked.sessions)
+      (told_lease s.sessions (kept_puts answers))
+      refl
+      (told_seen s.sessions (kept_puts answers) c)
+      refl refl silent.offers silent.grants
 
   -- ---- a Beat is answered
 
@@ -412,8 +435,18 @@ module _ (x : List ℕ) (w : WorldState) (s : MasterState) (knows : IsKnown w s)
     abbrev reply_at : ℕ → CallResult → Reply
     reply_at epoch answer = record { client = task.client; epoch = epoch; number = task.number; stamp = None; result = answer }
 
-    unstamped_reply : (c epoch : ℕ) (answer : CallResult) → IsSilent c (outs.Reply (reply_at epoch answer) ∷ [])
-    unstamped_reply c epoch answer = record { offers = refl; grants = unstamped c x w.rows.secret w.messages (reply_at epoch answer) (grants_of c x w.rows.secret w.messages) refl }
+    abbrev replied_sessions : MasterState → CallResult → List Reply → SessionTable Reply
+    replied_sessions t answer others = fold with_kept_put (with_session t.sessions task.client (keeping (answered_by (reply_of t task.client task.number answer)))) (kept_puts others)
+
+    replied_lease : (t : MasterState) (answer : CallResult) (others : List Reply) → t.sessions ≡ s.sessions → (replied_sessions t answer others).lease ≡ s.sessions.lease
+    replied_lease t answer others same =
+        told_lease (with_session t.sessions task.client (keeping (answered_by (reply_of t task.client task.number answer)))) (kept_puts others)
+        ∙ lease_stays t.sessions task.client (keeping (answered_by (reply_of t task.client task.number answer))) ∙ ap (λ x. x.lease) same
+
+    replied_seen : (c : ℕ) (t : MasterState) (answer : CallResult) (others : List Reply) → t.sessions ≡ s.sessions → seen_of (session_in (replied_sessions t answer others) c) ≡ seen_of (session_of s c)
+    replied_seen c t answer others same =
+        told_seen (with_session t.sessions task.client (keeping (answered_by (reply_of t task.client task.number answer)))) (kept_puts others) c
+        ∙ seen_stays (keeping (answered_by (reply_of t task.client task.number answer))) (λ session. refl) t.sessions task.client c ∙ ap (λ x. seen_of (session_in x c)) same
 
     -- the rows of a turn
     record HasRows (c : ℕ) (rows : Rows) : Type 0 where
@@ -422,36 +455,37 @@ module _ (x : List ℕ) (w : WorldState) (s : MasterState) (knows : IsKnown w s)
       secret : rows.secret ≡ w.rows.secret
       epoch : rows.epoch ≡ w.rows.epoch
 
-    replies : (c : ℕ) (rows : Rows) (t : MasterState) (note : Option Note) (answer : CallResult) → HasRows c rows → t.sessions ≡ s.sessions → t.recovering ≡ s.recovering → t.rights ≡ s.rights → t.gate.waiting ≡ front ++ back → (epoch : ℕ) → Goes c x w s rows (ended t task note answer) (outs.Reply (reply_at epoch answer) ∷ [])
-    replies c rows t None answer r same is_recovering is_right is_rest epoch = leaves c rows (ended t task None answer) (outs.Reply (reply_at epoch answer) ∷ []) (record {
+    replies : (c : ℕ) (rows : Rows) (t : MasterState) (note : Option Note) (answer : CallResult) (others : List Reply) → HasRows c rows → AreUnstamped others → t.sessions ≡ s.sessions → t.recovering ≡ s.recovering → t.rights ≡ s.rights → t.gate.waiting ≡ front ++ back → (epoch : ℕ)
+        → Goes c x w s rows (told (ended t task note answer) others) (sent (reply_at epoch answer ∷ others))
+    replies c rows t None answer others r unstamped same is_recovering is_right is_rest epoch = leaves c rows (told (ended t task None answer) others) (sent (reply_at epoch answer ∷ others)) (record {
       present = r.present;
       session = r.session;
       secret = r.secret;
       epoch = r.epoch;
-      lease = lease_stays t.sessions task.client (keeping (answered_by (reply_of t task.client task.number answer))) ∙ ap (λ x. x.lease) same;
+      lease = replied_lease t answer others same;
       recovering = is_recovering;
-      seen = seen_stays (keeping (answered_by (reply_of t task.client task.number answer))) (λ session. refl) t.sessions task.client c ∙ ap (λ x. seen_of (session_in x c)) same;
+      seen = replied_seen c t answer others same;
       right = is_right;
       waiting = is_rest;
-      silent = unstamped_reply c epoch answer;
+      silent = replies_silent c (reply_at epoch answer ∷ others) (refl, unstamped);
     })
-    replies c rows t (Some note) answer r same is_recovering is_right is_rest epoch = leaves c rows (ended t task (Some note) answer) (outs.Reply (reply_at epoch answer) ∷ []) (record {
+    replies c rows t (Some note) answer others r unstamped same is_recovering is_right is_rest epoch = leaves c rows (told (ended t task (Some note) answer) others) (sent (reply_at epoch answer ∷ others)) (record {
       present = r.present;
       session = r.session;
       secret = r.secret;
       epoch = r.epoch;
-      lease = lease_stays t.sessions task.client (keeping (answered_by (reply_of t task.client task.number answer))) ∙ ap (λ x. x.lease) same;
+      lease = replied_lease t answer others same;
       recovering = is_recovering;
-      seen = seen_stays (keeping (answered_by (reply_of t task.client task.number answer))) (λ session. refl) t.sessions task.client c ∙ ap (λ x. seen_of (session_in x c)) same;
+      seen = replied_seen c t answer others same;
       right = is_right;
       waiting = is_rest;
-      silent = unstamped_reply c epoch answer;
+      silent = replies_silent c (reply_at epoch answer ∷ others) (refl, unstamped);
     })
 
     -- a change of another name leaves this one
-    other_name : (call : Call) (note : Option Note) (change : Change) (answer : CallResult) → task.work ≡ works.Calls call → effect s task.client task.number call ≡ record { note = note; change = Some change; answer = answer } → touches x at_turn ≡ false → bytes_eq x (name_of change.change) ≡ false
-    other_name call note change answer work made apart =
-        let named : name_changed s.secret call ≡ Some (name_of change.change) = change_is_named s task.client task.number call note change answer made in
+    other_name : (call : Call) (sequencer : Option (List ℕ)) (change : Change) → task.work ≡ works.Calls call sequencer → (effect s task.client task.number call sequencer).change ≡ Some change → touches x at_turn ≡ false → bytes_eq x (name_of change.change) ≡ false
+    other_name call sequencer change work made apart =
+        let named : name_changed s.secret call ≡ Some (name_of change.change) = change_is_named s task.client task.number call sequencer change made in
         let touched : turn.touched ≡ name_of change.change ∷ [] = touched_is ∙ ap (names_touched s.secret) work ∙ ap names_of named in
         sym (one_name (bytes_eq x (name_of change.change))) ∙ ap (list_any (bytes_eq x)) (sym touched) ∙ apart
 
@@ -630,23 +664,42 @@ module _ (x : List ℕ) (w : WorldState) (s : MasterState) (knows : IsKnown w s)
     plain_rows : (c : ℕ) → HasRows c w.rows
     plain_rows c = record { present = λ apart. refl; session = refl; secret = refl; epoch = refl }
 
-    changed_rows_of : (c : ℕ) (call : Call) (note : Option Note) (change : Change) (answer : CallResult) → task.work ≡ works.Calls call → effect s task.client task.number call ≡ record { note = note; change = Some change; answer = answer } → HasRows c (changed_rows w.rows (edit_of change.change ∷ NextInstance change.next_instance ∷ []))
-    changed_rows_of c call note change answer work made =
+    changed_rows_of : (c : ℕ) (call : Call) (sequencer : Option (List ℕ)) (change : Change) → task.work ≡ works.Calls call sequencer → (effect s task.client task.number call sequencer).change ≡ Some change → HasRows c (changed_rows w.rows (edit_of change.change ∷ NextInstance change.next_instance ∷ []))
+    changed_rows_of c call sequencer change work made =
         let rows = changed_rows w.rows (edit_of change.change ∷ NextInstance change.next_instance ∷ []) in
         let m = mapped_rows w.rows change.change change.next_instance in
         record {
-          present = λ apart. ap (λ nodes. get_node nodes x) m.map ∙ other_node (map_of w.rows) change.change x (other_name call note change answer work made apart);
+          present = λ apart. ap (λ nodes. get_node nodes x) m.map ∙ other_node (map_of w.rows) change.change x (other_name call sequencer change work made apart);
           session = standing_by c rows w.rows.sessions m.sessions;
           secret = m.secret;
           epoch = m.epoch;
         }
 
+    relocked_rows_of : (c : ℕ) (puts : List LockPut) → HasRows c (changed_rows w.rows (relocking s puts))
+    relocked_rows_of c puts =
+        let rows = changed_rows w.rows (relocking s puts) in
+        let r = relocked_rows w.rows (lock_changes s puts) in
+        record {
+          present = λ apart. ap (λ nodes. get_node nodes x) r.beside.map;
+          session = standing_by c rows w.rows.sessions r.sessions;
+          secret = r.beside.secret;
+          epoch = r.beside.epoch;
+        }
+
+    -- a call that waits for a lock leaves the gate
+    awaits : (c : ℕ) (puts : List LockPut) → Goes c x w s (changed_rows w.rows (relocking s puts)) (with_locks (rest s front back) puts) []
+    awaits c puts =
+        let r = relocked_rows_of c puts in
+        leaves c (changed_rows w.rows (relocking s puts)) (with_locks (rest s front back) puts) []
+        (record { present = r.present; session = r.session; secret = r.secret; epoch = r.epoch; lease = refl; recovering = refl; seen = refl; right = refl; waiting = refl; silent = nothing_sent c })
+
   sweep_by : (c : ℕ) (case : SweepCase s) → Goes c x w s (changed_rows w.rows (swept_edits s case)) (swept_by s case).0 (swept_by s case).1.outs
   sweep_by c (Quiet none) = unseen_behind c w.rows s [] same_rows refl refl refl refl refl refl refl refl
   sweep_by c (Recovers recovering heard) = recovers c (session_of s c) refl heard
   sweep_by c (Expires client session due) = by_test (c == client)
-      (λ own. subst (λ (z : ℕ). Goes z x w s (ended_rows client session due) (expired client session due) []) (sym (is_same c client own)) (own_expiry client session due))
+      (λ own. subst (λ (z : ℕ). Goes z x w s (ended_rows client session due) (without_session client session due) (sent (answers client session due))) (sym (is_same c client own)) (own_expiry client session due))
       (λ other. other_expiry client session due c other)
+  sweep_by c (Reopens instance due) = reopens c instance
   sweep_by c (AnswersBeat client session beat due) = by_test (c == client)
       (λ own. subst (λ (z : ℕ). Goes z x w s w.rows (answers_beat client session beat due) (alive client session beat due)) (sym (is_same c client own)) (own_answer client session beat due))
       (λ other. other_answer client session beat due c other)
@@ -658,24 +711,33 @@ module _ (x : List ℕ) (w : WorldState) (s : MasterState) (knows : IsKnown w s)
   sweep_by c (Started front back task principal received turn work none) = by_test (c == task.client)
       (λ own. subst (λ (z : ℕ). Goes z x w s (begun_rows front back task turn principal received work) (begun front back task turn principal received work) (granted front back task turn principal received work)) (sym (is_same c task.client own)) (own_begin front back task turn principal received work none))
       (λ other. other_begin front back task turn principal received work c other)
-  sweep_by c (OfEnded front back task call turn work gone) = leaves front back task turn c w.rows (rest s front back) [] (plain_rest front back task turn c [] (nothing_sent c))
-  sweep_by c (Ended front back task call note answer turn work live made) = replies front back task turn c w.rows (rest s front back) note answer (plain_rows front back task turn c) refl refl refl refl s.epoch
-  sweep_by c (Applied front back task call note change answer turn work live made) =
-      replies front back task turn c (changed_rows w.rows (edit_of change.change ∷ NextInstance change.next_instance ∷ [])) (mapped (rest s front back) change) note answer
-      (changed_rows_of front back task turn c call note change answer work made) refl refl refl refl s.epoch
+  sweep_by c (OfEnded front back task call sequencer turn work gone) = leaves front back task turn c w.rows (rest s front back) [] (plain_rest front back task turn c [] (nothing_sent c))
+  sweep_by c (Ended front back task call sequencer note answer turn work live made) = replies front back task turn c w.rows (rest s front back) note answer [] (plain_rows front back task turn c) tt refl refl refl refl s.epoch
+  sweep_by c (Applied front back task call sequencer note change answer turn work live made) =
+      replies front back task turn c (changed_rows w.rows (edit_of change.change ∷ NextInstance change.next_instance ∷ [])) (mapped (rest s front back) change) note answer []
+      (changed_rows_of front back task turn c call sequencer change work (ap (λ e. e.change) made)) tt refl refl refl refl s.epoch
+  sweep_by c (Deleted front back task call sequencer change instance waiters answer turn work live made) =
+      replies front back task turn c (changed_rows w.rows (edit_of change.change ∷ NextInstance change.next_instance ∷ [])) (mapped (rest s front back) change) None answer (replies_to s (results.Refused faults.StaleInstance) waiters)
+      (changed_rows_of front back task turn c call sequencer change work (ap (λ e. e.change) made)) (waiters_unstamped s (results.Refused faults.StaleInstance) waiters) refl refl refl refl s.epoch
+  sweep_by c (Locked front back task call sequencer put claim answer turn work live made) =
+      replies front back task turn c (changed_rows w.rows (relocking s (put ∷ []))) (with_locks (rest s front back) (put ∷ [])) None answer [] (relocked_rows_of front back task turn c (put ∷ [])) tt refl refl refl refl s.epoch
+  sweep_by c (Awaited front back task call sequencer put turn work live made) = awaits front back task turn c (put ∷ [])
+  sweep_by c (Left front back task call sequencer note leave answer turn work live made) =
+      replies front back task turn c (changed_rows w.rows (relocking s (left_put leave ∷ []))) (with_locks (rest s front back) (left_put leave ∷ [])) note answer (turn_replies s leave.turn)
+      (relocked_rows_of front back task turn c (left_put leave ∷ [])) (turn_unstamped s leave.turn) refl refl refl refl s.epoch
 
 -- the world behind the sweep
 abbrev pub behind_sweep : (w : WorldState) (s : MasterState) → SweepCase (noted s w.clock) → WorldState
 behind_sweep w s case = record w {
   rows = changed_rows w.rows (swept_edits (noted s w.clock) case);
-  master = Some (swept_by (noted s w.clock) case).0;
+  master = Some (swept_master (noted s w.clock) case);
   messages = w.messages ++ map ToClient (swept_by (noted s w.clock) case).1.outs;
 }
 
 module _ (c : ℕ) (x : List ℕ) (w : WorldState) (s : MasterState) (case : SweepCase (noted s w.clock)) where
   pub sweep_leads : w.master ≡ Some s → s.clock ≤ w.clock → IsKept w.cell w.rows s → LeadsTo c x w (behind_sweep w s case)
   sweep_leads up early kept =
-      let led = sweep_by x w (noted s w.clock) (known w s kept early) c case in
+      let led = told_goes c x w (noted s w.clock) (changed_rows w.rows (swept_edits (noted s w.clock) case)) (swept_by (noted s w.clock) case).0 (swept_by (noted s w.clock) case).1.outs (first_tellings (noted s w.clock)) (sweep_by x w (noted s w.clock) (known w s kept early) c case) in
       (led.0, with_master c x w s led.0 (slice c x (behind_sweep w s case)) up led.1)
 
   pub reached_stays_at_sweep : w.master ≡ Some s → s.clock ≤ w.clock → IsKept w.cell w.rows s → Reached (slice c x w) → Reached (slice c x (behind_sweep w s case))

@@ -4,7 +4,7 @@ use Rattle.std.specs.Prelude.{◌⊎◌, ◌==◌, ◌&&◌, ◌||◌, not, nat_
 use Rattle.std.specs.BTreeMap.{insert_entry}
 use Rattle.std.proofs.lemmas.Bool.Decides.{nat_tests}
 use Rattle.coherence.specs.Slice as one
-use Rattle.coherence.specs.Slice.{IsIn, Slice, Event, Receive, KeepReceipts, Acknowledge, GiveBack, Reached, Leads}
+use Rattle.coherence.specs.Slice.{IsIn, Event, Receive, KeepReceipts, Acknowledge, GiveBack, Reached, Leads}
 use Rattle.node_core.specs.declared.refusals.Fault.{Fault}
 use Rattle.node_core.specs.declared.refusals.Fault.TheVariants as faults
 use Rattle.node_core.specs.Nodes.{get_node}
@@ -259,9 +259,9 @@ module _ (c : ℕ) (x : List ℕ) (w : WorldState) (s : MasterState) (knows : Is
   replies None client number result = call_replied c x w s s.handles client number result
   replies (Some note) client number result = call_replied c x w s (insert_entry handle_order s.handles note.key note.state) client number result
 
-  queues : (note : Option Note) (message : CallMessage) (touched : Option (List ℕ)) → s.recovering ≡ false → Comes c x w s (waits (with_note s note) message.client message.number message.call touched).0 []
-  queues None message touched serving = call_waits c x w s knows s.handles message.client message.number message.call touched serving
-  queues (Some note) message touched serving = call_waits c x w s knows (insert_entry handle_order s.handles note.key note.state) message.client message.number message.call touched serving
+  queues : (note : Option Note) (message : CallMessage) (touched : Option (List ℕ)) → s.recovering ≡ false → Comes c x w s (waits (with_note s note) message touched).0 []
+  queues None message touched serving = call_waits c x w s knows s.handles message touched serving
+  queues (Some note) message touched serving = call_waits c x w s knows (insert_entry handle_order s.handles note.key note.state) message touched serving
 
   cachable_here : (note : Option Note) (client : ℕ) (name : List ℕ) → is_cachable (with_note s note) client name ≡ is_cachable s client name
   cachable_here None client name = refl
@@ -272,7 +272,7 @@ module _ (c : ℕ) (x : List ℕ) (w : WorldState) (s : MasterState) (knows : Is
   grants at request note message answer name sent heard serving granted = by_note note is_granting
     where
       tells : (name_asked s.secret message.call ≡ Some name) × (shown_by answer ≡ get_node s.nodes name)
-      tells = told_is_shown s message.client message.number message.call name answer granted.is_told granted.is_answer
+      tells = told_is_shown s message.client message.number message.call message.sequencer name answer granted.is_told granted.is_answer
 
       is_granting : IsGranting w s message.client message.number message answer name
       is_granting = record {
@@ -312,7 +312,7 @@ behind_take w s request case = record w { master = Some (taken_by (noted s w.clo
 
 heard_then : (w : WorldState) (s : MasterState) → IsHeardOf w s → IsHeardOf w (noted s w.clock)
 heard_then w s heard_of = record {
-  fits = record { queue = heard_of.fits.queue; kept = heard_of.fits.kept; replies = heard_of.fits.replies; answers = heard_of.fits.answers; turns = heard_of.fits.turns };
+  fits = record { queue = heard_of.fits.queue; kept = heard_of.fits.kept; replies = heard_of.fits.replies; answers = heard_of.fits.answers; turns = heard_of.fits.turns; awaited = heard_of.fits.awaited };
   named = heard_of.named;
   room = heard_of.room;
 }

@@ -106,9 +106,9 @@ unheard true true h = refl
 unheard true false h = absurd (let e : false ≡ true = h refl in cc)
 unheard false recovering h = refl
 
-not_live : (live : Bool) → (not live || false) ≡ true → standing_so live ≡ one.Live → ⊥
-not_live true h k = cc
-not_live false h k = cc
+not_live : (principal : List ℕ) (live : Bool) (now : ℕ) → has_heard {K = Reply} (recovered_session principal live now) ≡ true → standing_so live ≡ one.Live → ⊥
+not_live principal true now h k = cc
+not_live principal false now h k = cc
 
 -- the world behind it
 abbrev pub behind_up : WorldState → ℕ → WorldState
@@ -184,7 +184,7 @@ module _ (c : ℕ) (x : List ℕ) (w : WorldState) (now : ℕ) where
   live_recovers : (row : Option of_rows.Session) → row_here ≡ row → standing_of row ≡ one.Live → not (all_heard new_master.sessions) ≡ true
   live_recovers None is live = absurd (cc)
   live_recovers (Some row) is live = by_test (all_heard new_master.sessions)
-      (λ heard. absurd (not_live row.live (all_found c (λ entry. has_heard entry.1) new_master.sessions.sessions (known_of row) heard (found_known ∙ ap (option_map known_of) is)) live))
+      (λ heard. absurd (not_live row.principal row.live now (all_found c (λ entry. has_heard entry.1) new_master.sessions.sessions (known_of row) heard (found_known ∙ ap (option_map known_of) is)) live))
       (λ unheard_yet. ap not unheard_yet)
 
   up_events : Leads (down_slice row_here (seat_of w c)) (comes_up row_here new_master.recovering ∷ []) (up_found row_here new_master.recovering (seat_of w c)) → Leads (slice c x (record w { master = None })) (comes_up row_here new_master.recovering ∷ []) (slice c x (behind_up w now))

@@ -20,13 +20,14 @@ use Rattle.tags_cell.specs.Messages.{out_client}
 use Rattle.cell_core.specs.declared.pending.Taken.{Taken}
 use Rattle.over_core.specs.declared.sweeps.Swept.{Swept}
 use Rattle.cell_core.specs.State.{MasterState, master_of, row_of}
+use Rattle.cell_core.specs.Notices.{with_tellings}
 use Rattle.cell_core.specs.Step.{take_step, is_past_end, is_spent, noted}
 use Rattle.over_core.specs.Effect.{is_last}
-use Rattle.over_core.specs.Sweep.{sweep_step, sweep_edits}
+use Rattle.over_core.specs.Sweep.{first_action, acted, telling, is_over, sweep_step, sweep_edits}
 use Rattle.cell_core.specs.Cases.{TakeCase, taken_by}
 use Rattle.over_core.specs.SweepCase.{SweepCase, swept_by, swept_edits}
 use Rattle.cell_core.proofs.TakeCases.{taken_case, taken_unspent}
-use Rattle.over_core.proofs.SweepCases.{swept_case}
+use Rattle.over_core.proofs.SweepCases.{first_tellings, swept_case}
 use Rattle.over_core.specs.Kept.{IsKept}
 use Rattle.over_core.specs.Up.{up_step, up_edits, master_by}
 use Rattle.client_parts.specs.declared.asks.Ask.{Ask}
@@ -125,14 +126,20 @@ pub record IsTake (old : WorldState) (step : Step) (new : WorldState) (printed :
   pub is : new ≡ record old { master = Some (taken_by (noted master old.clock) request case).0; messages = old.messages ++ map ToClient (taken_by (noted master old.clock) request case).1.outs }
   pub tells : printed ≡ (taken_by (noted master old.clock) request case).1.lines
 
+-- the master behind the sweep: the clients of handles are told of it last
+abbrev pub swept_master : (s : MasterState) → SweepCase s → MasterState
+swept_master s case = with_tellings (swept_by s case).0 (first_tellings s)
+
 pub record IsSweep (old : WorldState) (step : Step) (new : WorldState) (printed : List Line) : Type 0 where
   pub is_step : step ≡ steps.Sweep
   pub master : MasterState
   pub is_up : old.master ≡ Some master
   pub case : SweepCase (noted master old.clock)
+  -- the map behind it is that of what was planned
+  pub acts : (swept_by (noted master old.clock) case).0.nodes ≡ (acted (noted master old.clock) (first_action (noted master old.clock))).0.nodes
   pub is : new ≡ record old {
     rows = changed_rows old.rows (swept_edits (noted master old.clock) case);
-    master = Some (swept_by (noted master old.clock) case).0;
+    master = Some (swept_master (noted master old.clock) case);
     messages = old.messages ++ map ToClient (swept_by (noted master old.clock) case).1.outs;
   }
   pub tells : printed ≡ (swept_by (noted master old.clock) case).1.lines
@@ -200,6 +207,16 @@ in_order : (w : WorldState) (m : Option MasterState) (s : MasterState) → m ≡
 in_order w m s up agrees =
     let kept = kept_at w m s up agrees in
     subst (λ ks. IsStrictlySortedBy nat_cmp ks) (ap keys_of (sym kept.sessions) ∙ keys_of-map_values row_of s.sessions.sessions) kept.sessions_in_order
+
+-- what a sweep does is what was planned, and then clients are told
+swept_is : (s : MasterState) (now : ℕ) (p : MasterState × Swept) → sweep_step s now ≡ Ok p → p ≡ telling (first_tellings (noted s now)) (acted (noted s now) (first_action (noted s now)))
+unfolding sweep_step
+swept_is s now p h =
+    let planned : MasterState × Swept = telling (first_tellings (noted s now)) (acted (noted s now) (first_action (noted s now))) in
+    (elim (is_over s now) as (λ b. cond {A = Result (MasterState × Swept) Fault} b (Err faults.Exhausted) (Ok planned) ≡ Ok p → p ≡ planned) [
+      | true ↦ (λ e. cc)
+      | false ↦ (λ e. let is : planned ≡ p = cc in sym is)
+    ]) h
 
 module _ (w : WorldState) (step : Step) (new : WorldState) (printed : List Line) where
   -- ---- a master comes up
@@ -295,15 +312,16 @@ module _ (w : WorldState) (step : Step) (new : WorldState) (printed : List Line)
   swept_row master (Err fault) agrees is up step_is h = cc
   swept_row master (Ok p) agrees is up step_is h =
       let t = swept_case master p.0 w.clock p.1 (in_order w w.master master up agrees) (kept_at w w.master master up agrees).orderly step_is in
-      let made : p ≡ swept_by (noted master w.clock) t.0 = t.1 in
+      let made : p ≡ telling (first_tellings (noted master w.clock)) (swept_by (noted master w.clock) t.0) = t.1 in
       let q = ok_pair (record w { rows = changed_rows w.rows (sweep_edits master w.clock); master = Some p.0; messages = w.messages ++ map ToClient p.1.outs }, p.1.lines) new printed h in
       record {
         is_step = is;
         master = master;
         is_up = up;
         case = t.0;
+        acts = ap (λ (x : MasterState × Swept). x.0.nodes) (sym made ∙ swept_is master w.clock p step_is);
         is = sym q.0 ∙ ap (λ (x : MasterState × Swept). record w { rows = changed_rows w.rows (sweep_edits master w.clock); master = Some x.0; messages = w.messages ++ map ToClient x.1.outs }) made
-            ∙ ap (λ (e : List Edit). record w { rows = changed_rows w.rows e; master = Some (swept_by (noted master w.clock) t.0).0; messages = w.messages ++ map ToClient (swept_by (noted master w.clock) t.0).1.outs }) t.2;
+            ∙ ap (λ (e : List Edit). record w { rows = changed_rows w.rows e; master = Some (swept_master (noted master w.clock) t.0); messages = w.messages ++ map ToClient (swept_by (noted master w.clock) t.0).1.outs }) t.2;
         tells = sym q.1 ∙ ap (λ (x : MasterState × Swept). x.1.lines) made;
       }
 

@@ -1,6 +1,6 @@
 -- What holds of every world: how its clients, its messages and its master fit one another.
-use Rattle.std.specs.Prelude.{◌≡◌, ◌⊎◌, ℕ, ◌+◌, ◌*◌, Bool, true, false, ◌<◌, ◌≤◌, ◌==◌, List, [], ◌∷◌, Option, Some, None, if◌then◌else◌}
-use Rattle.std.specs.List.{AllByRecursion}
+use Rattle.std.specs.Prelude.{◌≡◌, ◌⊎◌, ℕ, ◌+◌, ◌*◌, Bool, true, ◌<◌, ◌≤◌, ◌==◌, List, [], ◌∷◌, Option, Some, None, if◌then◌else◌}
+use Rattle.std.specs.List.{AllByRecursion, list_any}
 use Rattle.std.specs.List.Sorted.{IsStrictlySortedBy}
 use Rattle.std.specs.Map.{keys_of}
 use Rattle.std.specs.Ordering.{nat_cmp}
@@ -34,6 +34,8 @@ use Rattle.client_parts.specs.Calls.{call_on}
 use Rattle.client_core.specs.Handles.{handle_of}
 use Rattle.client_core.specs.State.{ClientState}
 use Rattle.gate_core.specs.declared.pending.Waiting.{Waiting}
+use Rattle.lock_core.specs.Turns.{is_of_client, any_waits}
+use Rattle.lock_core.specs.Locks.{LockTable}
 use Rattle.cell_core.specs.declared.pending.Task.{Task}
 use Rattle.cell_core.specs.declared.pending.Work.{Work}
 use Rattle.cell_core.specs.declared.pending.Work.TheVariants as works
@@ -47,6 +49,7 @@ use Rattle.world_cell.specs.Messages.{request_at, out_at, call_of}
 use Rattle.world_cell.specs.Seats.{is_fair}
 use Rattle.world_cell.specs.World.{WorldState, seat_of}
 use Rattle.world_cell.specs.Slices.{Shown, grant_of, grants_of, slice}
+use Rattle.world_cell.specs.Contents.{TellsTrue}
 
 -- ---- clients
 
@@ -100,32 +103,36 @@ pub record HasSent (w : WorldState) (client number : ℕ) (call : CallMessage) :
 
 -- the numbers of a client's calls that wait; the number of a Start is of another count
 abbrev pub put_waiting : ℕ → ℕ → ℕ → Work → List ℕ → List ℕ
-put_waiting client whose number (works.Calls call) numbers = if whose == client then number ∷ numbers else numbers
+put_waiting client whose number (works.Calls call sequencer) numbers = if whose == client then number ∷ numbers else numbers
 put_waiting client whose number (works.Starts principal received) numbers = numbers
 
 abbrev pub waiting : ℕ → List (Waiting Task) → List ℕ
 waiting client [] = []
 waiting client (w ∷ ws) = put_waiting client w.change.body.client w.change.body.number w.change.body.work (waiting client ws)
 
--- the last call of a client waits until it has its reply; once the session has ended, at most until its turn
-abbrev pub IsWaiting : Bool → ℕ → Option Reply → List ℕ → Type 0
-IsWaiting live number (Some reply) numbers = numbers ≡ []
-IsWaiting true number None numbers = numbers ≡ number ∷ []
-IsWaiting false number None numbers = (numbers ≡ number ∷ []) ⊎ (numbers ≡ [])
+-- the last call of a client waits for its turn at most until it has its reply
+abbrev pub IsWaiting : ℕ → Option Reply → List ℕ → Type 0
+IsWaiting number (Some reply) numbers = numbers ≡ []
+IsWaiting number None numbers = (numbers ≡ number ∷ []) ⊎ (numbers ≡ [])
 
-abbrev pub IsLastInTurn : Bool → Option (Kept Reply) → List ℕ → Type 0
-IsLastInTurn live None numbers = numbers ≡ []
-IsLastInTurn live (Some kept) numbers = IsWaiting live kept.number kept.reply numbers
+abbrev pub IsLastInTurn : Option (Kept Reply) → List ℕ → Type 0
+IsLastInTurn None numbers = numbers ≡ []
+IsLastInTurn (Some kept) numbers = IsWaiting kept.number kept.reply numbers
 
 -- and no other call of the client waits
 abbrev pub IsInTurn : Option (Session Reply) → List ℕ → Type 0
 IsInTurn None numbers = numbers ≡ []
-IsInTurn (Some session) numbers = IsLastInTurn session.live session.kept numbers
+IsInTurn (Some session) numbers = IsLastInTurn session.kept numbers
+
+-- a handle of the client waits for a lock
+abbrev pub awaits_lock : ℕ → LockTable → Bool
+awaits_lock client locks = list_any (λ entry. any_waits (is_of_client client) entry.1) locks
 
 -- a call that waits was sent in the master's epoch
 abbrev pub IsOfMessage : List Message → ℕ → ℕ → ℕ → Work → Type 0
 IsOfMessage sent epoch client number (works.Starts principal received) = Unit {0}
-IsOfMessage sent epoch client number (works.Calls call) = call_of sent client number ≡ Some (record { client = client; epoch = epoch; number = number; call = call })
+IsOfMessage sent epoch client number (works.Calls call sequencer) =
+    call_of sent client number ≡ Some (record { client = client; epoch = epoch; number = number; call = call; sequencer = sequencer })
 
 abbrev pub AreOfMessages : List Message → ℕ → List (Waiting Task) → Type 0
 AreOfMessages sent epoch [] = Unit {0}
@@ -167,6 +174,8 @@ pub record FitsMessages (sent : List Message) (s : MasterState) : Type 0 where
   pub replies : (client : ℕ) (kept : Kept Reply) (reply : Reply) → kept_of s client ≡ Some kept → kept.reply ≡ Some reply → IsReplyTo client kept.number reply
   pub answers : (client : ℕ) (kept : Kept Reply) (reply : Reply) → kept_of s client ≡ Some kept → kept.reply ≡ Some reply → IsAnswer sent s.secret reply
   pub turns : (client : ℕ) → IsInTurn (session_of s client) (waiting client s.gate.waiting)
+  -- a call that waits for a lock has had its turn
+  pub awaited : (client : ℕ) → awaits_lock client s.locks ≡ true → waiting client s.gate.waiting ≡ []
 
 -- what it knows of the rows is what they hold
 abbrev pub Agrees : WorldState → Option MasterState → Type 0
@@ -220,3 +229,5 @@ pub record IsConsistent (w : WorldState) : Type 0 where
   pub fair : AreFair w w.master
   -- to each client, and of each name, the world is what some schedule leads to
   pub reached : (client : ℕ) (name : List ℕ) → Reached (slice client name w)
+  -- what clients are to be told of contents stands
+  pub tells : TellsTrue w

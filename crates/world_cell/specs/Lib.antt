@@ -24,6 +24,9 @@ pub mod Messages
 pub mod Seats
 pub mod World
 pub mod Slices
+pub mod Contents
 pub mod Consistent
 pub mod Runs
 pub mod Served
+pub mod Locks
+pub mod Told

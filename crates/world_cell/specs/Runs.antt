@@ -234,7 +234,7 @@ abbrev pub change_of : Effect → Option Mod
 change_of effected = option_map (λ change. change.change) effected.change
 
 -- the master took a call: behind a first part of the steps it was up in that epoch, the next step delivered the call's message and was made, and the others followed
-pub record IsTaken (old : WorldView) (steps : List Step) (printed : List Line) (new : WorldView) (epoch client number : ℕ) (call : Call) : Type 0 where
+pub record IsTaken (old : WorldView) (steps : List Step) (printed : List Line) (new : WorldView) (epoch client number : ℕ) (call : Call) (sequencer : Option (List ℕ)) : Type 0 where
   pub front : List Step
   pub at : ℕ
   pub back : List Step
@@ -248,13 +248,13 @@ pub record IsTaken (old : WorldView) (steps : List Step) (printed : List Line) (
   pub first : Run old front before here
   pub is_made : IsMade here (Take at) next told
   pub last : Run next back after new
-  pub sent : request_at here.world.messages at ≡ Some (requests.Call (record { client = client; epoch = epoch; number = number; call = call }))
+  pub sent : request_at here.world.messages at ≡ Some (requests.Call (record { client = client; epoch = epoch; number = number; call = call; sequencer = sequencer }))
   pub master : MasterState
   pub is_up : here.world.master ≡ Some master
   pub of_epoch : master.epoch ≡ epoch
 
 -- the call waited already in the master of this epoch that was up before the run
-pub record HasWaited (before : Option MasterState) (epoch client number : ℕ) (call : Call) : Type 0 where
+pub record HasWaited (before : Option MasterState) (epoch client number : ℕ) (call : Call) (sequencer : Option (List ℕ)) : Type 0 where
   pub master : MasterState
   pub is_up : before ≡ Some master
   pub of_epoch : master.epoch ≡ epoch
@@ -262,7 +262,7 @@ pub record HasWaited (before : Option MasterState) (epoch client number : ℕ) (
   pub back : List (Waiting Task)
   pub turn : ℕ
   pub touched : List (List ℕ)
-  pub waits : master.gate.waiting ≡ front ++ record { number = turn; change = record { touched = touched; body = record { client = client; number = number; work = works.Calls call } } } ∷ back
+  pub waits : master.gate.waiting ≡ front ++ record { number = turn; change = record { touched = touched; body = record { client = client; number = number; work = works.Calls call sequencer } } } ∷ back
 
 -- a change that a line shows: behind a first part of the steps, with the lines before it, the master was up with the map and the epoch that these lines tell; the next
 -- step was a sweep, or one that a crash cut behind its commit, and was made; and the change is what a call does there, which its client had sent in that epoch, and which
@@ -286,6 +286,7 @@ pub record IsOfCall (old : WorldView) (steps : List Step) (before : List Line) (
   pub nodes : master.nodes ≡ map_at (map_of old.world.rows) before
   pub epoch : master.epoch ≡ epoch_at old.world.rows.epoch before
   pub call : Call
-  pub sent : call_of here.world.messages client number ≡ Some (record { client = client; epoch = master.epoch; number = number; call = call })
-  pub taken : HasWaited old.world.master master.epoch client number call ⊎ IsTaken old front before here master.epoch client number call
-  pub is_effect : change_of (effect master client number call) ≡ Some change
+  pub sequencer : Option (List ℕ)
+  pub sent : call_of here.world.messages client number ≡ Some (record { client = client; epoch = master.epoch; number = number; call = call; sequencer = sequencer })
+  pub taken : HasWaited old.world.master master.epoch client number call sequencer ⊎ IsTaken old front before here master.epoch client number call sequencer
+  pub is_effect : change_of (effect master client number call sequencer) ≡ Some change

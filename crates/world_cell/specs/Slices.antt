@@ -105,7 +105,7 @@ right_of client name rights = record {
 
 abbrev pub put_start : ℕ → ℕ → ℕ → Work → List one.Receipt
 put_start client whose number (works.Starts principal received) = if client == whose then record { number = number; moment = received } ∷ [] else []
-put_start client whose number (works.Calls call) = []
+put_start client whose number (works.Calls call sequencer) = []
 
 abbrev pub start_of : ℕ → Task → List one.Receipt
 start_of client task = put_start client task.client task.number task.work

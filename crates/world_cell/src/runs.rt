@@ -8,6 +8,8 @@ ghost use Rattle.rows_cell.specs.Sound.{is_live_in};
 ghost use Rattle.world_cell.specs.World.{IsUndoubted};
 ghost use Rattle.world_cell.specs.Runs.{WasRefused, AnyStep, AnyRun, map_at, epoch_at, live_at, LeasesKeepSessions, AreJoint, KeepsClocksFair, AreRecordedOnce, applied, Rises, IsOfCall};
 ghost use Rattle.world_cell.specs.Served.{ServesPresentByThen};
+ghost use Rattle.world_cell.specs.Locks.{HasLegalLocks, NoGenerationTwice};
+ghost use Rattle.world_cell.specs.Told.{ShowsNoOlder};
 
 use crate::steps::Step;
 use crate::worlds::World;
@@ -48,6 +50,13 @@ impl<R: Records + Drop> World<R> {
         // From each point of the run to its end, where one master was up from first to last, its clock moved by a
         // sixteenth more than a client's at most, and a millisecond.
         ensures clocks { IsUndoubted self.new → KeepsClocksFair self.old steps.now self.new }
+        // After any steps each lock has one exclusive holder, or shared ones alone, or is closed, or free.
+        ensures locks { IsUndoubted self.new → HasLegalLocks self.old.world self.new.world }
+        // Whichever masters were up: no lock's generation falls, and no two holds of a lock from free share one.
+        ensures generations { IsUndoubted self.new → NoGenerationTwice self.old steps.now self.new }
+        // From any point on: where anybody was told of a content before, no call that is asked later on shows an older one,
+        // by whichever handle, and nobody serves one from a cache.
+        ensures told { IsUndoubted self.new → ShowsNoOlder self.old steps.now self.new }
     {
         self.consistent();
         let mut lines = Items::new(self.alloc());

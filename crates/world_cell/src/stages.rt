@@ -2,7 +2,6 @@
 ghost use Rattle.lease_core.specs.Lease.{longest_lease};
 ghost use Rattle.std.specs.Prelude.{◌≡◌, ◌≤◌, ◌<◌, ◌+◌, ◌∷◌, ◌++◌, [], length, filter, false, Some, None, Ok, Err, IfOk, IfErr, OnOk, OnErr, is_some};
 ghost use Rattle.std.specs.Vec.{vec_len, vec_capacity};
-ghost use Rattle.rights_core.specs.Rights.{held_limit};
 ghost use Rattle.world_cell.specs.World.{opened, store_in, with_refusal, world_join, world_ask, world_beat, world_tick, world_take, world_give, world_sweep, world_down, without_master, is_of_commit, world_cut_sweep, moves_nobody, are_fair, goes_past_end, ticked, step_edits, IsStored, IsLeft, MayRefuseStep};
 ghost use Rattle.world_cell.specs.Runs.{WasMade, WasRefused};
 ghost use Rattle.world_cell.specs.Consistent.{Agrees};
@@ -17,17 +16,13 @@ use names_cell::Principal;
 use node_core::{Fault, Line};
 use over_core::Cell;
 use plain::Items;
-use rights_core::HELD_LIMIT;
 use rows_cell::{Records, Settings};
 use std::alloc::{AllocError, Global};
 use std::marker::Model;
 use tags_cell::ClientNumber;
 
-/// The most messages that one step of a master sends.
-const MESSAGES_A_STEP: usize = 1;
-
-/// The most lines that a sweep prints: one for each right that ends, and that of a session's end.
-const LINES_A_SWEEP: usize = HELD_LIMIT + 1;
+/// The most messages that a master sends at once to one that came.
+const MESSAGES_A_TAKE: usize = 1;
 
 /// The most lines that a client prints beside its refusal of a call or a message: that of its noting the time.
 const LINES_BESIDE_A_REFUSAL: usize = 1;
@@ -92,7 +87,6 @@ impl<R: Records + Drop> Stage<R> {
         }
     }
 
-    #[tactic(auto, using(crate::proofs::OneMessage::sweep_few))]
     pub(crate) fn sweep(&mut self) -> Result<Turn, Fault>
         ensures ok { IfOk result (λ turn. world_sweep self.old.world self.old.world.master ≡ Ok (self.new.world, turn)) }
         ensures stored { OnOk result (IsStored (step_edits self.old.world Step.Sweep) self.old self.new) }
@@ -102,8 +96,7 @@ impl<R: Records + Drop> Stage<R> {
         let Some(cell) = &mut self.master else {
             return Err(Fault::MasterDown);
         };
-        self.messages.reserve(MESSAGES_A_STEP)?;
-        let swept = cell.sweep(self.clock)?;
+        let swept = cell.sweep_with_room(self.clock, &mut self.messages)?;
         mail::send_all(&mut self.messages, swept.outs);
         Ok(Turn {
             lines: swept.lines,
@@ -210,7 +203,6 @@ impl<R: Records + Drop> Stage<R> {
     }
 
     // Its commit stands. The room for its lines is made before it.
-    #[tactic(auto, using(crate::proofs::SweepLines::sweep_short))]
     fn cut_kept_sweep(&mut self) -> Result<Items<Line>, Fault>
         ensures ok { IfOk result (λ lines. world_cut_sweep self.old.world Commit.Kept ≡ Ok (self.new.world, lines)) }
         ensures stored { OnOk result (IsStored (step_edits self.old.world (Step.CutSweep Commit.Kept)) self.old self.new) }
@@ -220,9 +212,8 @@ impl<R: Records + Drop> Stage<R> {
         let Some(cell) = &mut self.master else {
             return Err(Fault::MasterDown);
         };
-        let room = room_for_sweep(self.alloc)?;
-        cell.kept();
-        let swept = cell.sweep(self.clock)?;
+        let mut room = Vec::new(self.alloc);
+        let swept = cell.sweep_with_room(self.clock, &mut room)?;
         drop(swept.outs);
         self.let_go();
         Ok(cut_lines(swept.lines, room))
@@ -430,7 +421,7 @@ impl<R: Records + Drop> Stage<R> {
         match &mut self.master {
             None => Err(Fault::MasterDown),
             Some(cell) => {
-                self.messages.reserve(MESSAGES_A_STEP)?;
+                self.messages.reserve(MESSAGES_A_TAKE)?;
                 let Some(request) = mail::request_at(self.messages.as_slice(), number) else {
                     return Err(Fault::NoSuchMessage);
                 };
@@ -461,16 +452,6 @@ impl<R: Records + Drop> Stage<R> {
             },
         }
     }
-}
-
-// Room for a sweep's lines and one behind them.
-fn room_for_sweep(alloc: Global) -> Result<Vec<Line>, AllocError>
-    ensures empty { IfOk result (λ room. room.items ≡ []) }
-    ensures room { IfOk result (λ room. vec_len room + (held_limit + 1) < vec_capacity room) }
-{
-    let mut room = Vec::new(alloc);
-    room.reserve(LINES_A_SWEEP + 1)?;
-    Ok(room)
 }
 
 // The lines of a sweep's commit, and that the master is gone; takes no memory.

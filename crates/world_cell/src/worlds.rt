@@ -4,6 +4,7 @@ ghost use Rattle.rows_cell.specs.Rows.{map_of};
 ghost use Rattle.world_cell.specs.World.{opened, store_in, world_sweep, step_edits, IsUndoubted, IsStored, IsLeft, MayRefuseStep};
 ghost use Rattle.world_cell.specs.Runs.{WasMade, WasRefused};
 ghost use Rattle.world_cell.specs.Served.{ServesPresent};
+ghost use Rattle.world_cell.specs.Locks.{HasLegalLocks, CountsHolds};
 
 use crate::mail::Message;
 use crate::stages::Stage;
@@ -62,6 +63,10 @@ impl<R: Records + Drop> World<R> {
         ensures refused { IfErr result (λ e. WasRefused self.old step.now self.new (Line.Refused e ∷ [])) }
         // Whatever a client serves from its cache is what the rows hold of that name.
         ensures served { IfOk result (λ lines. IsUndoubted self.new → ServesPresent (map_of self.new.world.rows) lines) }
+        // Each lock has one exclusive holder, or shared ones alone, or is closed, or free.
+        ensures locks { IsUndoubted self.new → HasLegalLocks self.old.world self.new.world }
+        // A lock's generation is one more if it came from free to held, and else the same.
+        ensures generations { IsUndoubted self.new → CountsHolds self.old.world.rows self.new.world.rows }
     {
         let told = self.stage.step(step);
         self.stage.kept();

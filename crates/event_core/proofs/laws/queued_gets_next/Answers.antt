@@ -4,6 +4,6 @@ use Rattle.event_core.proofs.Numbers.{numbered_push}
 use Rattle.event_core.proofs.laws.queued_gets_next.Goals as goal
 
 pub returns : goal.returns
-returns c = λ queue event.
+returns c = λ queue event room.
     let same : (queue.acknowledged + 1) + length queue.waiting ≡ (queue.acknowledged + length queue.waiting) + 1 = omega arith in
-    numbered_push (queue.acknowledged + 1) queue.waiting event ∙ ap (λ m. unacked queue ++ record { number = m; event = event } ∷ []) same
+    rw room (numbered_push (queue.acknowledged + 1) queue.waiting event ∙ ap (λ m. unacked queue ++ record { number = m; event = event } ∷ []) same)

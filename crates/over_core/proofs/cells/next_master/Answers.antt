@@ -10,4 +10,4 @@ commit_epoch-requires g c = search rules
 
 pub returns-in-Ok-clause-kept : goal.returns-in-Ok-clause-kept
 returns-in-Ok-clause-kept g c =
-    up_stands (g.R.Records.store c.next_rows.new.records) (g.R.Records.store c.commit_epoch.new.records) c.in_ok-rows.rows c.in_ok-master.master c.args.lease c.args.now c.in_ok-rows.ensures.sound c.in_ok-rows.ensures.next c.in_ok-rows.ensures.sessions c.in_ok-rows.ensures.locks c.in_ok-master.ensures c.in-Ok.ensures
+    up_stands (g.R.Records.store c.next_rows.new.records) (g.R.Records.store c.commit_epoch.new.records) c.in_ok-rows.rows c.in_ok-master.master c.args.lease c.args.now c.in_ok-rows.ensures.sound c.in_ok-rows.ensures.next c.in_ok-rows.ensures.sessions c.in_ok-rows.ensures.locks c.in_ok-rows.ensures.names c.in_ok-master.ensures c.in-Ok.ensures

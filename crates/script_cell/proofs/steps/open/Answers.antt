@@ -11,8 +11,8 @@ returns-in_err-create c =
 pub returns-in_err-name : goal.returns-in_err-name
 returns-in_err-name c =
     unnamed _ _ c.from_residual-in_err-name.result c.in_err-name.field-0.0 BadName _ _ c.from_residual-in_err-name.ensures c.in_err-name.ensures
-    (unnamed_open _ _ _ _ c.in-Some.mode c.in_ok-create.create c.in-Some.ensures.some.0 c.in-Some.ensures.some.1 (after_two c.args.words.now c.in-len2-up.len_at_least) c.in_ok-create.ensures.0)
+    (unnamed_open _ _ _ _ c.in-Some.mode c.in_ok-create.create c.in_ok-create.delay c.in_ok-create.events c.in-Some.ensures.some.0 c.in-Some.ensures.some.1 (after_two c.args.words.now c.in-len2-up.len_at_least) c.in_ok-create.ensures.0)
 
 pub returns : goal.returns
 returns c =
-    opened _ _ _ c.in_ok-name.name _ c.in-Some.mode c.in_ok-create.create c.in-Some.ensures.some.0 c.in-Some.ensures.some.1 (after_two c.args.words.now c.in-len2-up.len_at_least) c.in_ok-create.ensures.0 c.in_ok-create.ensures.1 c.in_ok-name.ensures
+    opened _ _ _ c.in_ok-name.name _ c.in-Some.mode c.in_ok-create.create c.in_ok-create.delay c.in_ok-create.events c.in-Some.ensures.some.0 c.in-Some.ensures.some.1 (after_two c.args.words.now c.in-len2-up.len_at_least) c.in_ok-create.ensures.0 c.in_ok-create.ensures.1 c.in_ok-name.ensures

@@ -4,5 +4,5 @@ use Rattle.session_core.proofs.sessions.Sessions.issue_through.Goals as goal
 
 pub invariant_of-self : goal.invariant_of-self
 invariant_of-self g c =
-    kept_changed c.self.inside.lease c.self.inside.quiet c.quiet_until.result c.min-self-inside.result c.args.client c.issue_through.new.self c.self.inside.map.entries (c.get_mut.follows.lender c.issue_through.new.self).entries c.self.invariant
+    kept_changed c.self.inside.lease c.self.inside.bounds.quiet c.self.inside.bounds.most_events c.with-self-inside.result.quiet c.with-self-inside.result.most_events c.args.client c.issue_through.new.self c.self.inside.map.entries (c.get_mut.follows.lender c.issue_through.new.self).entries c.self.invariant
     (search rules) (search rules) (search rules)

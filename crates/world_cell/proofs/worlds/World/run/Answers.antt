@@ -8,6 +8,9 @@ use Rattle.world_cell.proofs.RightsByRuns.{run_records}
 use Rattle.world_cell.proofs.SliceLeases.{leases_keep_sessions, joint_everywhere}
 use Rattle.world_cell.proofs.ServedLines.{run_serves}
 use Rattle.world_cell.proofs.ClocksByRuns.{run_consistent, run_fair}
+use Rattle.world_cell.proofs.AsRead.{run_sure}
+use Rattle.world_cell.proofs.LocksByRuns.{run_legal, run_generations}
+use Rattle.world_cell.proofs.ToldByRuns.{run_shows}
 use Rattle.world_cell.proofs.worlds.World.run.Goals as goal
 
 pub returns-in_err-here-clause-part : goal.returns-in_err-here-clause-part
@@ -94,3 +97,48 @@ pub returns-in_err-append-clause-clocks : goal.returns-in_err-append-clause-cloc
 returns-in_err-append-clause-clocks g c = λ none.
     let run = run_more c.args.self.now c.loop-step.self c.line_step.new.self c.args.steps.now c.loop-step.step-index c.step-item.result c.loop-step.lines _ (omega arith) c.step-item.is c.loop-step.invariant c.in_ok-here.ensures.ok c.line_step.ensures.consistent in
     run_fair c.args.self.now c.args.steps.now c.line_step.new.self (began_consistent c.args.self.now c.line_step.new.self _ _ c.consistent.ensures run none)
+
+pub returns-clause-locks : goal.returns-clause-locks
+returns-clause-locks g c = λ none.
+    let run = whole_sure c.args.self.now c.loop-step.self c.args.steps.now c.loop-step.step-index c.loop-step.lines (omega arith) c.consistent.ensures c.loop-step.invariant none in
+    run_legal c.args.self.now c.args.steps.now c.loop-step.lines c.loop-step.self run.0 run.1
+
+pub returns-in_err-here-clause-locks : goal.returns-in_err-here-clause-locks
+returns-in_err-here-clause-locks g c = λ none.
+    let run = run_more c.args.self.now c.loop-step.self c.line_step.new.self c.args.steps.now c.loop-step.step-index c.step-item.result c.loop-step.lines _ (omega arith) c.step-item.is c.loop-step.invariant (inr c.in_err-here.ensures.err.1) c.line_step.ensures.consistent in
+    run_legal c.args.self.now _ _ c.line_step.new.self (began_consistent c.args.self.now c.line_step.new.self _ _ c.consistent.ensures run none) (run_sure c.args.self.now _ _ c.line_step.new.self run none)
+
+pub returns-in_err-append-clause-locks : goal.returns-in_err-append-clause-locks
+returns-in_err-append-clause-locks g c = λ none.
+    let run = run_more c.args.self.now c.loop-step.self c.line_step.new.self c.args.steps.now c.loop-step.step-index c.step-item.result c.loop-step.lines _ (omega arith) c.step-item.is c.loop-step.invariant c.in_ok-here.ensures.ok c.line_step.ensures.consistent in
+    run_legal c.args.self.now _ _ c.line_step.new.self (began_consistent c.args.self.now c.line_step.new.self _ _ c.consistent.ensures run none) (run_sure c.args.self.now _ _ c.line_step.new.self run none)
+
+pub returns-clause-generations : goal.returns-clause-generations
+returns-clause-generations g c = λ none.
+    let run = whole_sure c.args.self.now c.loop-step.self c.args.steps.now c.loop-step.step-index c.loop-step.lines (omega arith) c.consistent.ensures c.loop-step.invariant none in
+    run_generations c.args.self.now c.args.steps.now c.loop-step.self run.0
+
+pub returns-in_err-here-clause-generations : goal.returns-in_err-here-clause-generations
+returns-in_err-here-clause-generations g c = λ none.
+    let run = run_more c.args.self.now c.loop-step.self c.line_step.new.self c.args.steps.now c.loop-step.step-index c.step-item.result c.loop-step.lines _ (omega arith) c.step-item.is c.loop-step.invariant (inr c.in_err-here.ensures.err.1) c.line_step.ensures.consistent in
+    run_generations c.args.self.now c.args.steps.now c.line_step.new.self (began_consistent c.args.self.now c.line_step.new.self _ _ c.consistent.ensures run none)
+
+pub returns-in_err-append-clause-generations : goal.returns-in_err-append-clause-generations
+returns-in_err-append-clause-generations g c = λ none.
+    let run = run_more c.args.self.now c.loop-step.self c.line_step.new.self c.args.steps.now c.loop-step.step-index c.step-item.result c.loop-step.lines _ (omega arith) c.step-item.is c.loop-step.invariant c.in_ok-here.ensures.ok c.line_step.ensures.consistent in
+    run_generations c.args.self.now c.args.steps.now c.line_step.new.self (began_consistent c.args.self.now c.line_step.new.self _ _ c.consistent.ensures run none)
+
+pub returns-clause-told : goal.returns-clause-told
+returns-clause-told g c = λ none.
+    let run = whole_sure c.args.self.now c.loop-step.self c.args.steps.now c.loop-step.step-index c.loop-step.lines (omega arith) c.consistent.ensures c.loop-step.invariant none in
+    run_shows c.args.self.now c.args.steps.now c.loop-step.self run.0
+
+pub returns-in_err-here-clause-told : goal.returns-in_err-here-clause-told
+returns-in_err-here-clause-told g c = λ none.
+    let run = run_more c.args.self.now c.loop-step.self c.line_step.new.self c.args.steps.now c.loop-step.step-index c.step-item.result c.loop-step.lines _ (omega arith) c.step-item.is c.loop-step.invariant (inr c.in_err-here.ensures.err.1) c.line_step.ensures.consistent in
+    run_shows c.args.self.now c.args.steps.now c.line_step.new.self (began_consistent c.args.self.now c.line_step.new.self _ _ c.consistent.ensures run none)
+
+pub returns-in_err-append-clause-told : goal.returns-in_err-append-clause-told
+returns-in_err-append-clause-told g c = λ none.
+    let run = run_more c.args.self.now c.loop-step.self c.line_step.new.self c.args.steps.now c.loop-step.step-index c.step-item.result c.loop-step.lines _ (omega arith) c.step-item.is c.loop-step.invariant c.in_ok-here.ensures.ok c.line_step.ensures.consistent in
+    run_shows c.args.self.now c.args.steps.now c.line_step.new.self (began_consistent c.args.self.now c.line_step.new.self _ _ c.consistent.ensures run none)

@@ -1,0 +1,8 @@
+use Rattle.std.proofs.Common.{rules}
+use Rattle.session_core.proofs.Quiet.{kept_changed}
+use Rattle.session_core.proofs.sessions.Sessions.tell.Goals as goal
+
+pub invariant_of-self : goal.invariant_of-self
+invariant_of-self g c =
+    kept_changed c.self.inside.lease c.self.inside.bounds.quiet c.self.inside.bounds.most_events c.with-self-inside.result.quiet c.with-self-inside.result.most_events c.args.client c.tell.new.self c.self.inside.map.entries (c.get_mut.follows.lender c.tell.new.self).entries c.self.invariant
+    (search rules) (search rules) (search rules)
