@@ -6,3 +6,7 @@ mod ToldHandles
 mod TakenOver
 pub mod TakeCases
 pub mod Told
+pub mod Found
+mod OpenOn
+mod NamedNodes
+mod FirstIdle

@@ -1,7 +1,7 @@
 -- The handles that are open on a node, by their places.
-use Rattle.std.proofs.Common.{◌≡◌, ◌≢◌, ℕ, Result, Ok, Err, List, [], ◌∷◌, Bool, nat_eq, ◌⊎◌, inl, inr, ⊎_elim, true, false, cond, Option, Some, None, Ordering, Less, Equal, Greater, refl, sym, ap, subst, ◌∙◌, arith}
-use Rattle.std.specs.Prelude.{◌&&◌, not, ◌+◌, nat_lt, filter, is_some, OnOk, OnErr}
-use Rattle.std.specs.Ordering.{is_eq, is_le, nat_cmp, ordering_then, match_ordering}
+use Rattle.std.proofs.Common.{◌≡◌, ℕ, Result, Ok, Err, List, [], ◌∷◌, Bool, nat_eq, ◌⊎◌, inl, inr, ⊎_elim, true, false, cond, Option, Some, None, Ordering, Less, Equal, Greater, refl, sym, ap, subst, ◌∙◌, arith}
+use Rattle.std.specs.Prelude.{◌+◌, nat_lt, is_some, OnOk, OnErr}
+use Rattle.std.specs.Ordering.{is_le, nat_cmp, ordering_then}
 use Rattle.std.specs.List.Sorted.{IsStrictlySortedBy}
 use Rattle.std.specs.Cmp.{IsTotalOrder, tied_itself, nat_cmp_total}
 use Rattle.std.proofs.lemmas.Cmp.{then_total, on_total}
@@ -11,7 +11,6 @@ use Rattle.std.specs.declared.ops.Bound.TheVariants.{Included, Excluded}
 use Rattle.std.specs.BTreeMap.Range.{entries_between, range_contains}
 use Rattle.std.proofs.lemmas.Bool.Decides.{nat_tests}
 use Rattle.std.proofs.lemmas.Map.Lookups.{CmpEqualImpliesEq, exact_unsigned}
-use Rattle.std.proofs.lemmas.Map.Entries.{option_filter}
 use Rattle.plain.specs.Tables.{with_former}
 use Rattle.plain.proofs.Entries.{eq_at, lookup_put}
 use Rattle.rows_cell.proofs.SortedLookups.{lookup_gone, lookup_kept}
@@ -222,7 +221,7 @@ from_zero n =
 next_greater : (n : ℕ) → nat_cmp (n + 1) n ≡ Greater
 next_greater n = grind (arith, nat_tests)
 
-on_instance : (instance : ℕ) (key : HandleKey) → range_contains place_order (Included (first_place instance)) (Excluded (first_place (instance + 1))) (place_of instance key) ≡ true
+pub on_instance : (instance : ℕ) (key : HandleKey) → range_contains place_order (Included (first_place instance)) (Excluded (first_place (instance + 1))) (place_of instance key) ≡ true
 on_instance instance key =
     let from : is_le (ordering_then (nat_cmp 0 key.client) (nat_cmp 0 key.number)) ≡ true = zero_first (nat_cmp 0 key.client) (nat_cmp 0 key.number) (from_zero key.client) (from_zero key.number) in
     rw (same_number instance, next_greater instance, from) refl

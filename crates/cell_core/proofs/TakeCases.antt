@@ -16,6 +16,7 @@ use Rattle.cell_core.specs.declared.admissions.Admission.{Admission}
 use Rattle.cell_core.specs.declared.pending.Taken.{Taken}
 use Rattle.session_core.specs.declared.records.Kept.{Kept}
 use Rattle.session_core.specs.Session.{beat_fault, kept_answer}
+use Rattle.cell_core.specs.declared.pending.Task.TheVariants as tasks
 use Rattle.cell_core.specs.declared.pending.Work.TheVariants as works
 use Rattle.cell_core.specs.State.{MasterState}
 use Rattle.cell_core.specs.Step.{session_of, kept_of, is_live, is_full, may_start, turned_away, refusal, queued, replied, is_cachable, granting, telling, waits, nothing, with_note, admission_for, admit_step, new_call_by, new_call, kept_step, call_step, start_step, beat_by, beat_step, take_at, take_step, is_past_end, is_spent, noted}
@@ -112,7 +113,7 @@ call_case s request message is =
 
 start_case : (s : MasterState) (request : Request) (start : Start) → request ≡ requests.Start start → IsCase s request (start_step s start)
 start_case s request start is =
-    let waits : MasterState × Taken = (queued s [] (record { client = start.client; number = start.number; work = works.Starts start.principal s.clock }), nothing) in
+    let waits : MasterState × Taken = (queued s [] (tasks.Asked (record { client = start.client; number = start.number; work = works.Starts start.principal s.clock })), nothing) in
     let room = cond (is_full s) (s, turned_away s start.client start.number faults.Busy) waits in
     let serving = cond s.recovering (s, turned_away s start.client start.number faults.Recovering) room in
     either s request (may_start s start.client start.principal) serving (s, refusal s start.client start.number faults.NoSession) (λ may.

@@ -14,6 +14,7 @@ use Rattle.cell_core.specs.declared.handles.Note.{Note}
 use Rattle.cell_core.specs.declared.pending.Taken.{Taken}
 use Rattle.session_core.specs.declared.records.Kept.{Kept}
 use Rattle.session_core.specs.Session.{beat_fault}
+use Rattle.cell_core.specs.declared.pending.Task.TheVariants as tasks
 use Rattle.cell_core.specs.declared.pending.Work.TheVariants as works
 use Rattle.cell_core.specs.State.{MasterState}
 use Rattle.cell_core.specs.Step.{session_of, kept_of, is_live, is_full, may_start, nothing, turned_away, refusal, repeated, queued, parked, acked, replied, is_cachable, granting, waits, with_note, admission_for}
@@ -88,7 +89,7 @@ taken_by s request (StartRefused start is may) = (s, refusal s start.client star
 taken_by s request (StartRecovering start is may recovering) = (s, turned_away s start.client start.number faults.Recovering)
 taken_by s request (StartFull start is may serving full) = (s, turned_away s start.client start.number faults.Busy)
 taken_by s request (StartQueued start is may serving room) =
-    (queued s [] (record { client = start.client; number = start.number; work = works.Starts start.principal s.clock }), nothing)
+    (queued s [] (tasks.Asked (record { client = start.client; number = start.number; work = works.Starts start.principal s.clock })), nothing)
 taken_by s request (OldBeat beat is other) = (s, refusal s beat.client beat.number (faults.OldEpoch s.epoch))
 taken_by s request (BeatRefused beat fault is same refused) = (s, refusal s beat.client beat.number fault)
 taken_by s request (BeatParked beat is same taken) = (parked s beat, acked s beat)

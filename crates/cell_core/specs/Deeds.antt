@@ -140,7 +140,7 @@ without_lock s (Some instance) = record s { locks = remove_entry (is_at (nat_cmp
 
 abbrev pub recovered : MasterState → Bool → MasterState
 recovered s false = s
-recovered s true = record s { recovering = false }
+recovered s true = record s { recovering = false; serving_from = s.clock }
 
 -- the change of this number leaves the gate
 abbrev pub left : MasterState → Option ℕ → MasterState

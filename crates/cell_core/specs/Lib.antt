@@ -17,3 +17,5 @@ pub mod Cases
 pub mod Deeds
 pub mod Notices
 pub mod Concerned
+pub mod Ephemerals
+pub mod EphemeralNames

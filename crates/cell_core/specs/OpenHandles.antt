@@ -1,9 +1,12 @@
 -- Where the handles that are open on a node are found.
-use Rattle.std.specs.Prelude.{◌≡◌, ◌≢◌, ℕ, Bool, true, List, Option, Some, is_some}
+use Rattle.std.specs.Prelude.{◌≡◌, ◌≢◌, ◌==◌, ◌&&◌, ℕ, Bool, true, false, List, Option, Some, is_some}
 use Rattle.std.specs.declared.cmp.Ordering.{Ordering}
 use Rattle.std.specs.Ordering.{nat_cmp, ordering_then}
 use Rattle.std.specs.Map.{lookup}
+use Rattle.std.specs.Option.{option_map_or}
 use Rattle.std.specs.BTreeMap.{is_at, insert_entry}
+use Rattle.session_core.specs.Sessions.{SessionTable, is_live}
+use Rattle.tags_cell.specs.declared.outs.Reply.{Reply}
 use Rattle.cell_core.specs.declared.handles.HandleKey.{HandleKey}
 use Rattle.cell_core.specs.declared.handles.HandleState.{HandleState}
 use Rattle.cell_core.specs.declared.handles.HandleState.TheVariants as states
@@ -64,3 +67,12 @@ HasAll entries keys = (key : HandleKey) (state : HandleState) → state_at entri
 abbrev pub HasOpenOn : List (HandleKey × HandleState) → ℕ → List (HandleKey × Unit {0}) → Type 0
 HasOpenOn entries instance keys =
     (key : HandleKey) (noted : NotedHandle) → state_at entries key ≡ Some (states.Open noted) → noted.handle.instance ≡ instance → is_among keys key ≡ true
+
+-- a handle of a live session is open on the instance
+abbrev pub is_open_in : SessionTable Reply → ℕ → HandleKey → HandleState → Bool
+is_open_in sessions instance key (states.Open noted) = noted.handle.instance == instance && is_live sessions key.client
+is_open_in sessions instance key states.Closed = false
+
+-- what is known of the handle of a key says so
+abbrev pub is_known_open : List (HandleKey × HandleState) → SessionTable Reply → ℕ → HandleKey → Bool
+is_known_open entries sessions instance key = option_map_or (is_open_in sessions instance key) (state_at entries key) false

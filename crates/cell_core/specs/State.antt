@@ -20,7 +20,7 @@ use Rattle.cell_core.specs.Locks.{locks_of}
 
 -- name: the cell's. secret: what check digits are made over. nodes: the map. locks: by instance. sessions: also those
 -- that have ended, each with the last call of its client and the reply to it. recovering: some session of an earlier master has neither been heard from nor expired. handles: those that
--- were opened, shown or closed in this epoch. rights: those to cache a name that it granted in this epoch, in order of granting, those that have ended included. gate: the changes that wait, in order of their coming. clock: the last moment that the master was told
+-- were opened, shown or closed in this epoch. rights: those to cache a name that it granted in this epoch, in order of granting, those that have ended included. gate: the changes that wait, in order of their coming. clock: the last moment that the master was told. serving_from: the moment at which its recovery ended, or at which it came up without one
 pub record MasterState : Type 0 where
   pub name : List ℕ
   pub secret : List ℕ
@@ -34,6 +34,7 @@ pub record MasterState : Type 0 where
   pub rights : List CacheRight
   pub gate : GateState Task
   pub clock : ℕ
+  pub serving_from : ℕ
 
 -- ---- the changes that wait
 
@@ -76,4 +77,5 @@ master_of rows lease now = record {
   rights = [];
   gate = record { waiting = []; pushed = 0 };
   clock = now;
+  serving_from = now;
 }

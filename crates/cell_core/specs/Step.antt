@@ -55,7 +55,9 @@ use Rattle.session_core.specs.Sessions as of_sessions
 use Rattle.session_core.specs.Sessions.{with_session, issued_by, has_spent_events}
 use Rattle.lock_core.specs.State.{LockState, hold_of}
 use Rattle.lock_core.specs.Locks.{lock_at, sequencer_of, checked}
+use Rattle.cell_core.specs.declared.pending.Asked.{Asked}
 use Rattle.cell_core.specs.declared.pending.Task.{Task}
+use Rattle.cell_core.specs.declared.pending.Task.TheVariants as tasks
 use Rattle.cell_core.specs.declared.pending.Work.TheVariants as works
 use Rattle.cell_core.specs.declared.handles.HandleState.{HandleState}
 use Rattle.cell_core.specs.declared.handles.HandleState.TheVariants as states
@@ -184,7 +186,7 @@ start_step s start =
     if may_start s start.client start.principal
     then (if s.recovering then (s, turned_away s start.client start.number faults.Recovering)
     else if is_full s then (s, turned_away s start.client start.number faults.Busy)
-    else (queued s [] (record { client = start.client; number = start.number; work = works.Starts start.principal s.clock }), nothing))
+    else (queued s [] (tasks.Asked (record { client = start.client; number = start.number; work = works.Starts start.principal s.clock })), nothing))
     else (s, refusal s start.client start.number faults.NoSession)
 
 -- ---- Beats
@@ -527,11 +529,11 @@ names_of None = []
 names_of (Some name) = name ∷ []
 
 -- what waits of a call: its sequencer is tested again when its turn comes
-abbrev pub task_of : CallMessage → Task
+abbrev pub task_of : CallMessage → Asked
 task_of message = record { client = message.client; number = message.number; work = works.Calls message.call message.sequencer }
 
 abbrev pub with_call : MasterState → CallMessage → Option (List ℕ) → MasterState
-with_call s message touched = queued (recorded s message.client (record { number = message.number; reply = None })) (names_of touched) (task_of message)
+with_call s message touched = queued (recorded s message.client (record { number = message.number; reply = None })) (names_of touched) (tasks.Asked (task_of message))
 
 -- who holds the name that it touches is asked for it
 abbrev pub waits : MasterState → CallMessage → Option (List ℕ) → MasterState × Taken

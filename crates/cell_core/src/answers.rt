@@ -76,7 +76,7 @@ impl Cell {
             return Ok(denied(Right::Read));
         }
         match view.kind {
-            Kind::Directory => Ok(CallResult::Names(self.map.children(&handle.name)?)),
+            Kind::Directory => Ok(CallResult::Names(self.map().children(&handle.name)?)),
             Kind::File => Ok(CallResult::Refused(Fault::WrongKind(Kind::File))),
         }
     }

@@ -4,6 +4,7 @@ ghost use Rattle.lease_core.specs.Lease.{IsMoment, least_lease, longest_lease};
 ghost use Rattle.cell_core.specs.State.{sessions_of};
 ghost use Rattle.cell_core.specs.Locks.{locks_of, generations_of, with_row, holder_of};
 
+use crate::nodes::Nodes;
 use crate::open_handles::Handles;
 use crate::pending::Task;
 use gate_core::Gate;
@@ -28,7 +29,7 @@ pub struct Cell {
     pub(crate) secret: Secret,
     pub(crate) epoch: u64,
     pub(crate) next_instance: u64,
-    pub(crate) map: Map,
+    pub(crate) nodes: Nodes,
     pub(crate) locks: Locks,
     pub(crate) sessions: Sessions<Reply>,
     pub(crate) recovering: bool,
@@ -36,6 +37,8 @@ pub struct Cell {
     pub(crate) rights: Rights,
     pub(crate) gate: Gate<Task>,
     pub(crate) clock: u64,
+    // When its recovery ended, or when it came up without one.
+    pub(crate) serving_from: u64,
 }
 
 impl Model for Cell {
@@ -49,7 +52,7 @@ impl Model for Cell {
       secret = c.secret;
       epoch = c.epoch;
       next_instance = c.next_instance;
-      nodes = c.map;
+      nodes = c.nodes;
       locks = c.locks;
       sessions = c.sessions;
       recovering = c.recovering;
@@ -57,6 +60,7 @@ impl Model for Cell {
       rights = c.rights;
       gate = c.gate;
       clock = c.clock;
+      serving_from = c.serving_from;
     } };
 
     ghost invariant = { λ c. IsMoment c.clock };
@@ -76,7 +80,7 @@ impl Cell {
         requires moment { IsMoment now }
         ensures { IfOk result (λ cell. cell ≡ master_of rows lease now) }
     {
-        let map = rows.map(alloc)?;
+        let nodes = Nodes::of_map(alloc, rows.map(alloc)?)?;
         let locks = locks_of(alloc, &rows, now)?;
         let sessions = sessions_of(alloc, &rows, lease, now)?;
         let recovering = !sessions.all_heard();
@@ -93,7 +97,7 @@ impl Cell {
             secret,
             epoch,
             next_instance,
-            map,
+            nodes,
             locks,
             sessions,
             recovering,
@@ -101,6 +105,7 @@ impl Cell {
             rights: Rights::new(alloc),
             gate: Gate::new(alloc),
             clock: now,
+            serving_from: now,
         })
     }
 
@@ -207,7 +212,7 @@ impl Cell {
     pub fn map(&self) -> &Map
         ensures { result.now ≡ self.now.nodes }
     {
-        &self.map
+        self.nodes.map()
     }
 }
 

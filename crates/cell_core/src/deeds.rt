@@ -217,6 +217,7 @@ impl Cell {
         }
         if recovers {
             self.recovering = false;
+            self.serving_from = self.clock;
         }
         if let Some(number) = leaves {
             drop(self.gate.take(number));
@@ -302,7 +303,7 @@ impl Cell {
                 next_instance,
             } = rest;
             if let Some(name) = gone {
-                drop(self.map.unset(&name));
+                drop(self.nodes.unset(&name));
             }
             self.next_instance = next_instance;
         }
@@ -480,7 +481,7 @@ impl Cell {
         ensures err { OnErr result (self.new ≡ self.old) }
     {
         let key = name.clone()?;
-        let former = self.map.set(name, view)?;
+        let former = self.nodes.set(name, view)?;
         Ok((key, former))
     }
 
@@ -496,7 +497,7 @@ impl Cell {
         ensures { self.new ≡ without_node self.old former }
     {
         if let Some((name, view)) = former {
-            self.map.restore(&name, view);
+            self.nodes.restore(&name, view);
         }
     }
 }

@@ -48,7 +48,7 @@ impl Cell {
     fn instance_at(&self, name: &Name) -> Option<u64>
         ensures { result ≡ instance_at self.now name.now }
     {
-        let view = self.map.get(name)?;
+        let view = self.map().get(name)?;
         Some(view.instance)
     }
 

@@ -1,17 +1,20 @@
 //! What a master knows of handles, and which are open on a node.
 ghost use Rattle.std.specs.Prelude.{◌≡◌, ◌+◌, [], true, false, IfOk, OnOk, OnErr, length};
 ghost use Rattle.std.specs.Option.{option_copied};
+ghost use Rattle.std.specs.List.{list_any};
 ghost use Rattle.std.specs.List.Sorted.{IsStrictlySortedBy};
 ghost use Rattle.std.specs.Map.{keys_of};
 ghost use Rattle.std.specs.BTreeMap.{insert_entry};
 ghost use Rattle.plain.specs.Tables.{with_former};
 ghost use Rattle.cell_core.specs.Keys.{handle_order};
-ghost use Rattle.cell_core.specs.OpenHandles.{place_of, with_place, state_at, IsPlaced, IsNotOpenOn, AreAmong, HasPlaced, HasAll, HasOpenOn};
+ghost use Rattle.cell_core.specs.OpenHandles.{place_of, with_place, state_at, ArePlaced, IsPlaced, IsNotOpenOn, AreAmong, HasPlaced, HasAll, HasOpenOn, is_open_in, is_known_open};
 
 use crate::handles::{HandleKey, HandleState};
 use plain::Table;
+use session_core::Sessions;
 use std::alloc::{AllocError, Global};
 use std::marker::Model;
+use tags_cell::Reply;
 
 /// Where a handle stands: its node's instance first, so that all handles on a node stand next to each other.
 #[derive(Clone, Copy, Debug, PartialEq, Eq, PartialOrd, Ord)]
@@ -136,6 +139,20 @@ impl Handles {
         self.places.remove(&Place::of(instance, key));
     }
 
+    /// Whether a handle of a live session is open on an instance.
+    pub fn is_open_in(&self, instance: u64, sessions: &Sessions<Reply>) -> bool
+        ensures { result ≡ list_any (λ entry. is_open_in sessions.now instance entry.0 entry.1) self.now }
+    {
+        let Some(next) = instance.checked_add(1) else {
+            return any_open_in(&self.states, instance, sessions);
+        };
+        if self.complete {
+            any_placed_open(&self.states, &self.places, instance, next, sessions)
+        } else {
+            any_open_in(&self.states, instance, sessions)
+        }
+    }
+
     /// Adds the keys of the handles that are open on an instance, and maybe of others, whose states are looked up.
     pub fn add_open_on(
         &self,
@@ -191,6 +208,76 @@ fn is_open_on(state: Option<&HandleState>, instance: u64) -> bool
     match state {
         Some(HandleState::Open(noted)) => noted.instance() == instance,
         _ => false,
+    }
+}
+
+// Whether a handle of a live session is open on an instance.
+fn is_open_in(
+    instance: u64,
+    sessions: &Sessions<Reply>,
+    key: &HandleKey,
+    state: &HandleState,
+) -> bool
+    ensures { result ≡ is_open_in sessions.now instance key.now state.now }
+{
+    match state {
+        HandleState::Open(noted) => {
+            noted.instance() == instance && sessions.is_live(key.client.get())
+        }
+        HandleState::Closed => false,
+    }
+}
+
+fn any_open_in(
+    states: &Table<HandleKey, HandleState>,
+    instance: u64,
+    sessions: &Sessions<Reply>,
+) -> bool
+    ensures { result ≡ list_any (λ entry. is_open_in sessions.now instance entry.0 entry.1) states.now }
+{
+    for (key, state) in states.as_map() {
+        if is_open_in(instance, sessions, key, state) {
+            return true;
+        }
+    }
+    false
+}
+
+// The same by the places of the instance.
+fn any_placed_open(
+    states: &Table<HandleKey, HandleState>,
+    places: &Table<Place, HandleKey>,
+    instance: u64,
+    next: u64,
+    sessions: &Sessions<Reply>,
+) -> bool
+    requires next { next ≡ instance + 1 }
+    requires placed { ArePlaced states.now places.now }
+    ensures { result ≡ list_any (λ entry. is_open_in sessions.now instance entry.0 entry.1) states.now }
+{
+    let _count = states.as_map().len();
+    let first = Place::first(instance);
+    let end = Place::first(next);
+    for (_, key) in places.as_map().range(first..end) {
+        if is_known_open(states, instance, sessions, key) {
+            return true;
+        }
+    }
+    false
+}
+
+// Whether the handle of a key is open on an instance, and its session live.
+fn is_known_open(
+    states: &Table<HandleKey, HandleState>,
+    instance: u64,
+    sessions: &Sessions<Reply>,
+    key: &HandleKey,
+) -> bool
+    ensures { result ≡ is_known_open states.now sessions.now instance key.now }
+{
+    match states.get(key) {
+        Some(state) => is_open_in(instance, sessions, key, state),
+        None => false,
     }
 }
 

@@ -67,7 +67,7 @@ impl Cell {
     ) -> Result<Result<Handle, Fault>, AllocError>
         ensures { IfOk result (λ opened. opened ≡ plain_open self.now client number opening.now) }
     {
-        match self.map.get(&opening.name) {
+        match self.map().get(&opening.name) {
             None => Ok(Err(Fault::NotFound)),
             Some(view) => self.open_present(client, number, opening, view),
         }

@@ -2,7 +2,7 @@
 ghost use Rattle.std.specs.Prelude.{◌≡◌};
 ghost use Rattle.cell_core.specs.Step.{answered_by};
 
-use names_cell::Principal;
+use names_cell::{Name, Principal};
 use node_core::Line;
 use plain::{Bytes, Items, Same};
 use session_core::Kept;
@@ -37,24 +37,69 @@ impl Same for Work {
     ghost exact = { λ x y h. h };
 }
 
-/// What a client asked for that waits for its turn (Burrows 2006, section 2.7: a modification is held until every cache
-/// has let go).
+/// What a client asked for.
 #[derive(Debug, Drop)]
-pub struct Task {
+pub struct Asked {
     pub client: ClientNumber,
     /// The number of the Start or of the call.
     pub number: MessageNumber,
     pub work: Work,
 }
 
+impl Clone for Asked {
+    ghost is_clone = { λ s t. t ≡ s };
+
+    fn clone(&self) -> Result<Asked, AllocError> {
+        Ok(Asked {
+            client: self.client,
+            number: self.number,
+            work: self.work.clone()?,
+        })
+    }
+}
+
+impl Same for Asked {
+    ghost exact = { λ x y h. h };
+}
+
+/// An ephemeral node that nobody holds open (Burrows 2006, section 2.3).
+#[derive(Debug, Drop)]
+pub struct Idle {
+    pub name: Name,
+    pub instance: u64,
+}
+
+impl Clone for Idle {
+    ghost is_clone = { λ s t. t ≡ s };
+
+    fn clone(&self) -> Result<Idle, AllocError> {
+        Ok(Idle {
+            name: self.name.clone()?,
+            instance: self.instance,
+        })
+    }
+}
+
+impl Same for Idle {
+    ghost exact = { λ x y h. h };
+}
+
+/// What waits for its turn (Burrows 2006, section 2.7: a modification is held until every cache has let go).
+#[derive(Debug, Drop)]
+pub enum Task {
+    /// A client asked for it.
+    Asked(Asked),
+    /// The cell deletes the node by itself, unless somebody holds it open again by then.
+    Tidies(Idle),
+}
+
 impl Clone for Task {
     ghost is_clone = { λ s t. t ≡ s };
 
     fn clone(&self) -> Result<Task, AllocError> {
-        Ok(Task {
-            client: self.client,
-            number: self.number,
-            work: self.work.clone()?,
+        Ok(match self {
+            Task::Asked(asked) => Task::Asked(asked.clone()?),
+            Task::Tidies(idle) => Task::Tidies(idle.clone()?),
         })
     }
 }

@@ -14,7 +14,7 @@ impl Cell {
     {
         match self.sessions.get(client.get()) {
             None => Ok(false),
-            Some(session) => permitted(&self.map, &session.principal, view, right),
+            Some(session) => permitted(self.map(), &session.principal, view, right),
         }
     }
 

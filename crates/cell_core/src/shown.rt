@@ -126,7 +126,7 @@ impl Cell {
     pub fn node_of(&self, handle: &Handle) -> Option<&View>
         ensures { option_copied result ≡ node_of_handle self.now handle.now }
     {
-        let view = self.map.get(&handle.name)?;
+        let view = self.map().get(&handle.name)?;
         if view.instance == handle.instance.get() {
             Some(view)
         } else {

@@ -2,11 +2,13 @@
 ghost use Rattle.std.specs.Prelude.{◌≡◌, ◌≢◌, true, false, Some, None, Ok, Err, IfOk, IfErr, OnOk, OnErr};
 ghost use Rattle.cell_core.specs.Step.{take_step, take_at, start_step, beat_step, call_step, kept_step, kept_of, new_call, with_note, admit_step, telling, granting, is_cachable, waits, recorded, queued, is_full, is_spent, replied, task_of};
 ghost use Rattle.session_core.specs.Session.{kept_answer};
+ghost use Rattle.gate_core.specs.Gate.{push_answer};
+ghost use Rattle.cell_core.specs.Ephemerals.{is_ok};
 
 use crate::admissions::Admission;
 use crate::cells::Cell;
 use crate::handles::Note;
-use crate::pending::{Taken, Task, Work, answered_by};
+use crate::pending::{Asked, Taken, Task, Work, answered_by};
 use gate_core::Pending;
 use lease_core::MOMENT_LIMIT;
 use names_cell::Name;
@@ -67,7 +69,12 @@ impl Cell {
             return self.turned_away(start.client, start.number, Fault::Busy);
         }
         let work = Work::Starts(start.principal.clone()?, self.clock);
-        self.queue(start.client, start.number, work, Items::new(self.alloc))?;
+        let asked = Asked {
+            client: start.client,
+            number: start.number,
+            work,
+        };
+        self.queue(Items::new(self.alloc), Task::Asked(asked))?;
         Ok(self.nothing())
     }
 
@@ -270,13 +277,18 @@ impl Cell {
     fn queue_call(&mut self, message: &CallMessage, touched: Items<Name>) -> Result<(), AllocError>
         requires room { is_full self.old ≡ false }
         requires more { is_spent self.old ≡ false }
-        ensures ok { OnOk result (self.new ≡ queued (recorded self.old message.now.client (record { number = message.now.number; reply = None })) touched (task_of message.now)) }
+        ensures ok { OnOk result (self.new ≡ queued (recorded self.old message.now.client (record { number = message.now.number; reply = None })) touched (Task.Asked (task_of message.now))) }
         ensures err { OnErr result (self.new ≡ self.old) }
     {
         let client = message.client;
         let number = message.number;
         let work = work_of(message)?;
-        self.queue(client, number, work, touched)?;
+        let asked = Asked {
+            client,
+            number,
+            work,
+        };
+        self.queue(touched, Task::Asked(asked))?;
         let kept = Kept {
             number,
             reply: None,
@@ -286,24 +298,15 @@ impl Cell {
     }
 
     // What waits stands behind all others.
-    fn queue(
-        &mut self,
-        client: ClientNumber,
-        number: MessageNumber,
-        work: Work,
-        touched: Items<Name>,
-    ) -> Result<(), AllocError>
-        requires room { is_full self.old ≡ false }
-        requires more { is_spent self.old ≡ false }
-        ensures ok { OnOk result (self.new ≡ queued self.old touched (record { client = client; number = number; work = work })) }
+    pub(crate) fn queue(&mut self, touched: Items<Name>, task: Task) -> Result<(), AllocError>
+        requires { is_ok (push_answer self.old.gate) ≡ true }
+        ensures ok { OnOk result (self.new ≡ queued self.old touched task) }
         ensures err { OnErr result (self.new ≡ self.old) }
     {
-        let body = Task {
-            client,
-            number,
-            work,
-        };
-        match self.gate.push(Pending { touched, body }) {
+        match self.gate.push(Pending {
+            touched,
+            body: task,
+        }) {
             Ok(_) => Ok(()),
             Err(_) => Err(AllocError),
         }

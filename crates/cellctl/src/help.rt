@@ -24,10 +24,11 @@ Steps, one a line, with one space between two words; blank lines and lines that 
 
 Calls; H is the client's own handle number, 1, 2, .. in the order in which its Opens succeed:
   open NAME MODE    opens the node of this name; MODE is some letters of rwc, in this order
-  open NAME MODE may|must file permanent CONTENT [acl R W C]
-                    the same, and makes a file where there is none; must is refused where there is one
-  open NAME MODE may|must dir permanent [acl R W C]
-                    the same with a directory
+  open NAME MODE may|must file permanent|ephemeral CONTENT [acl R W C]
+                    the same, and makes a file where there is none; must is refused where there is one;
+                    an ephemeral one goes once nobody holds it open
+  open NAME MODE may|must dir permanent|ephemeral [acl R W C]
+                    the same with a directory, which goes once it is empty too
   open .. delay N   each of these, with a handle of a lock-delay of N milliseconds
   close H           closes the handle
   poison H          every later call on the handle but close is refused

@@ -102,7 +102,7 @@ module _ (s : MasterState) where
   of_kind : (client number : ℕ) (opening : Open) (create : Create) (above : View) (kind : Kind) → HasShape (create_in s client number opening create above kind)
   of_kind client number opening create above File = of_fault (faults.WrongKind File)
   of_kind client number opening create above Directory =
-      let view : View = new_view above s.next_instance create.node (acls_of above create.acls) in
+      let view : View = new_view s.next_instance create.node create.life (acls_of above create.acls) in
       either (may s client above rights.Write) (create_permitted s client number opening view) (refused (faults.Denied rights.Write)) (of_permitted client number opening view)
       (of_fault (faults.Denied rights.Write))
 

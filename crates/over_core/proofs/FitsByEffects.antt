@@ -1,18 +1,19 @@
 -- What a change that waits puts or takes away, when its turn comes, fits the rows.
 use Rattle.std.proofs.Common.{◌≡◌, ℕ, ◌+◌, ◌≤◌, List, [], length, Bool, true, false, cond, Option, Some, None, Result, Ok, Err, refl, sym, ◌∙◌, ap, subst, arith}
-use Rattle.std.specs.Prelude.{◌&&◌, ◌||◌, ◌==◌, nat_lt, nat_le, is_none}
+use Rattle.std.specs.Prelude.{◌&&◌, ◌||◌, ◌==◌, not, nat_lt, nat_le, is_none}
 use Rattle.std.specs.Option.{option_map, option_map_or}
 use Rattle.std.specs.Str.{bytes_eq}
-use Rattle.std.proofs.lemmas.Bool.{eq-eqb, eqb-true}
+use Rattle.std.proofs.lemmas.Bool.{and_parts, not-true, eq-eqb, eqb-true}
 use Rattle.std.proofs.lemmas.Bool.Decides.{nat_tests}
 use Rattle.std.proofs.lemmas.Slice.Eq.{bytes_eq-Decides}
 use Rattle.names_cell.specs.Text.{parent_of, cell_of}
 use Rattle.node_core.specs.declared.refusals.Fault.{Fault}
 use Rattle.node_core.specs.declared.refusals.Fault.TheVariants as faults
 use Rattle.node_core.specs.declared.views.View.{View}
-use Rattle.node_core.specs.declared.views.Mod.TheVariants.{Put}
+use Rattle.node_core.specs.declared.views.Mod.TheVariants.{Put, Gone}
 use Rattle.node_core.specs.declared.kinds.Kind.{Kind}
 use Rattle.node_core.specs.declared.kinds.Kind.TheVariants.{File, Directory}
+use Rattle.node_core.specs.declared.kinds.Life.{Life}
 use Rattle.node_core.specs.declared.kinds.Right.{Right}
 use Rattle.node_core.specs.declared.kinds.Right.TheVariants as rights
 use Rattle.node_core.specs.Nodes.{Nodes, get_node, has_children}
@@ -38,14 +39,18 @@ use Rattle.tags_cell.specs.declared.calls.Call.TheVariants as calls
 use Rattle.tags_cell.specs.declared.outs.CallResult.{CallResult}
 use Rattle.tags_cell.specs.declared.outs.CallResult.TheVariants as results
 use Rattle.tags_cell.specs.Numbers.{is_client_number}
+use Rattle.lock_core.specs.Locks.{lock_at}
+use Rattle.cell_core.specs.declared.pending.Idle.{Idle}
 use Rattle.cell_core.specs.declared.pending.Work.TheVariants as works
 use Rattle.over_core.specs.declared.effects.Effect.{Effect}
 use Rattle.cell_core.specs.State.{MasterState}
 use Rattle.cell_core.specs.Step.{is_live, may, missing_right, is_of_cell, node_of_handle, new_handle, content_fault, node_fault, delay_fault, create_fault, write_fault, needing, sequencer_fault, answer_on_node, answer_under}
+use Rattle.cell_core.specs.Ephemerals.{is_ephemeral, has_open, has_to_stay, is_idle_node, is_still_idle}
 use Rattle.over_core.specs.Effect.{answered, refused, changes_to, is_last, new_view, acls_of, create_made, create_numbered, create_permitted, create_in, create_under, create_new, create_over, create_effect, create_under_sequencer, open_effect, generation_fits, with_content, with_acls, put_at, deleted, delete_at, change_at, close_under, effect_on, handle_effect, effect}
 use Rattle.over_core.specs.Kept.{IsKept, IsOwnCall}
 use Rattle.over_core.proofs.LockEffects.{IsOwnHandle, own_handle_read, acquire_fits, try_fits, release_fits, close_fits}
-use Rattle.over_core.proofs.LockingFits.{TurnFits, EffectFits}
+use Rattle.over_core.specs.SweepCase.{gone_change}
+use Rattle.over_core.proofs.LockingFits.{GoesFit, TurnFits, EffectFits}
 
 -- ---- the node that stands at a name
 
@@ -122,13 +127,13 @@ within : (content : List ℕ) → content_fault content ≡ None → nat_le (len
 within content h = grind (arith, nat_tests)
 
 -- what a new node holds fits
-new_content : (node : NewNode) (above : View) (instance : ℕ) (acls : AclNames) → node_fault node ≡ None → content_fits (new_view above instance node acls).kind (new_view above instance node acls) ≡ true
-new_content (made.File content) above instance acls h = within content h
-new_content made.Directory above instance acls h = refl
+new_content : (node : NewNode) (instance : ℕ) (life : Life) (acls : AclNames) → node_fault node ≡ None → content_fits (new_view instance node life acls).kind (new_view instance node life acls) ≡ true
+new_content (made.File content) instance life acls h = within content h
+new_content made.Directory instance life acls h = refl
 
-new_number : (node : NewNode) (above : View) (instance : ℕ) (acls : AclNames) → is_number (new_view above instance node acls).content_generation ≡ true
-new_number (made.File content) above instance acls = refl
-new_number made.Directory above instance acls = refl
+new_number : (node : NewNode) (instance : ℕ) (life : Life) (acls : AclNames) → is_number (new_view instance node life acls).content_generation ≡ true
+new_number (made.File content) instance life acls = refl
+new_number made.Directory instance life acls = refl
 
 -- another content of a file fits
 written_content : (kind : Kind) (view : View) (content : List ℕ) → write_fault kind content ≡ None → content_fits kind (with_content view content) ≡ true
@@ -160,12 +165,48 @@ node_here view found instance h =
       | false ↦ (λ c e. absurd cc)
     ]) refl h
 
+module _ (cell : List ℕ) (rows : Rows) (s : MasterState) (k : IsKept cell rows s) where
+  stored : (name : List ℕ) (o : Option View) → get_node s.nodes name ≡ o → option_map (λ (node : Node). node.view) (stored_node rows.nodes name) ≡ o
+  stored name o h = sym (views_get rows.nodes name) ∙ (sym (ap (λ (n : Nodes). get_node n name) k.nodes) ∙ h)
+
+  -- ---- a node that goes, and its lock with it
+
+  goes_fits : (name : List ℕ) (instance : ℕ) (w : Node) → stored_node rows.nodes name ≡ Some w → w.view.instance ≡ instance → has_to_stay s name ≡ false → GoesFit rows s (record { change = Gone name; next_instance = s.next_instance }) instance (lock_at s.locks instance).waiters
+  goes_fits name instance w found present free =
+      let t = neither (has_children s.nodes name) (is_none (parent_of name)) free in
+      let next = k.next_instance in
+      let P : Nodes → Type 0 = λ n. has_children n name ≡ false in
+      record {
+        name = name;
+        node = w;
+        is = refl;
+        found = found;
+        of_node = present;
+        all = refl;
+        fits = record {
+          least = not_less rows.next_instance s.next_instance k.next_instance;
+          most = rw next (sound_numbers cell rows k.sound_rows).2;
+          no_children = subst P k.nodes t.0;
+          no_root = t.1;
+        };
+      }
+
+  -- an ephemeral node that nobody holds open
+  still_fits : (idle : Idle) (o : Option View) → get_node s.nodes idle.name ≡ o → option_map_or (λ view. view.instance == idle.instance && is_idle_node s idle.name view) o false ≡ true → GoesFit rows s (gone_change s idle) idle.instance (lock_at s.locks idle.instance).waiters
+  still_fits idle None found h = absurd cc
+  still_fits idle (Some view) found h =
+      let t = and_parts (view.instance == idle.instance) (is_idle_node s idle.name view) h in
+      let stays : Bool = has_to_stay s idle.name in
+      let goes = (and_parts (is_ephemeral view.life && not (has_open s view.instance)) (not stays) t.1).1 in
+      let w = some_node (stored_node rows.nodes idle.name) view (stored idle.name (Some view) found) in
+      goes_fits idle.name idle.instance w.0 w.1 (ap (λ (v : View). v.instance) w.2 ∙ eqb-true view.instance idle.instance t.0) (not-true stays goes)
+
+  pub tidied_fits : (idle : Idle) → is_still_idle s idle ≡ true → GoesFit rows s (gone_change s idle) idle.instance (lock_at s.locks idle.instance).waiters
+  tidied_fits idle still = still_fits idle (get_node s.nodes idle.name) refl still
+
 module _ (cell : List ℕ) (rows : Rows) (s : MasterState) (k : IsKept cell rows s) (client : ℕ) (live : is_live s client ≡ true) (numbered : is_client_number client ≡ true) where
   abbrev Fits : Effect → Type 0
   Fits effected = EffectFits rows s client effected
-
-  stored : (name : List ℕ) (o : Option View) → get_node s.nodes name ≡ o → option_map (λ (node : Node). node.view) (stored_node rows.nodes name) ≡ o
-  stored name o h = sym (views_get rows.nodes name) ∙ (sym (ap (λ (n : Nodes). get_node n name) k.nodes) ∙ h)
 
   of_cell : (name : List ℕ) → is_of_cell s name ≡ true → bytes_eq (cell_of name) rows.cell ≡ true
   of_cell name h = let same = k.name in rw same at h
@@ -178,8 +219,8 @@ module _ (cell : List ℕ) (rows : Rows) (s : MasterState) (k : IsKept cell rows
 
   -- ---- a new node under a directory
 
-  node_put_fits : (name parent : List ℕ) (node : NewNode) (acls : AclNames) (w : Node) → is_of_cell s name ≡ true → node_fault node ≡ None → stored_node rows.nodes name ≡ None → parent_of name ≡ Some parent → stored_node rows.nodes parent ≡ Some w → w.view.kind ≡ Directory → is_last s.next_instance ≡ false → PutFits rows name (new_view w.view s.next_instance node acls) (s.next_instance + 1)
-  node_put_fits name parent node acls w named short absent p found kind room =
+  node_put_fits : (name parent : List ℕ) (node : NewNode) (life : Life) (acls : AclNames) (w : Node) → is_of_cell s name ≡ true → node_fault node ≡ None → stored_node rows.nodes name ≡ None → parent_of name ≡ Some parent → stored_node rows.nodes parent ≡ Some w → w.view.kind ≡ Directory → is_last s.next_instance ≡ false → PutFits rows name (new_view s.next_instance node life acls) (s.next_instance + 1)
+  node_put_fits name parent node life acls w named short absent p found kind room =
       let parts = parts_of_node cell rows parent w k.sound_rows found in
       record {
         least = rises rows.next_instance s.next_instance k.next_instance;
@@ -188,9 +229,9 @@ module _ (cell : List ℕ) (rows : Rows) (s : MasterState) (k : IsKept cell rows
         parent = rw (p, found) (directory_kind w.view.kind kind);
         first = above_first w.view.instance rows.next_instance s.next_instance k.next_instance parts.given;
         given = just_given s.next_instance;
-        content_number = new_number node w.view s.next_instance acls;
+        content_number = new_number node s.next_instance life acls;
         acl_number = refl;
-        content = new_content node w.view s.next_instance acls short;
+        content = new_content node s.next_instance life acls short;
         kind = λ d. absurd (no_directory (stored_node rows.nodes name) absent d);
         own = rw absent (not_given rows.next_instance s.next_instance k.next_instance);
       }
@@ -208,14 +249,14 @@ module _ (cell : List ℕ) (rows : Rows) (s : MasterState) (k : IsKept cell rows
   in_fits : (number : ℕ) (opening : Open) (create : Create) (parent : List ℕ) (w : Node) (kind : Kind) → is_of_cell s opening.name ≡ true → node_fault create.node ≡ None → stored_node rows.nodes opening.name ≡ None → parent_of opening.name ≡ Some parent → stored_node rows.nodes parent ≡ Some w → w.view.kind ≡ kind → Fits (create_in s client number opening create w.view kind)
   in_fits number opening create parent w File named short absent p found kind = tt
   in_fits number opening create parent w Directory named short absent p found kind =
-      let view : View = new_view w.view s.next_instance create.node (acls_of w.view create.acls) in
+      let view : View = new_view s.next_instance create.node create.life (acls_of w.view create.acls) in
       then_fits rows s client (may s client w.view rights.Write) (create_permitted s client number opening view) (refused (faults.Denied rights.Write))
-      (λ allowed. permitted_fits number opening view (λ room. node_put_fits opening.name parent create.node (acls_of w.view create.acls) w named short absent p found kind room)) tt
+      (λ allowed. permitted_fits number opening view (λ room. node_put_fits opening.name parent create.node create.life (acls_of w.view create.acls) w named short absent p found kind room)) tt
 
   under_fits : (number : ℕ) (opening : Open) (create : Create) (parent : List ℕ) (o : Option View) → is_of_cell s opening.name ≡ true → node_fault create.node ≡ None → stored_node rows.nodes opening.name ≡ None → parent_of opening.name ≡ Some parent → get_node s.nodes parent ≡ o → Fits (create_under s client number opening create o)
   under_fits number opening create parent None named short absent p found = tt
   under_fits number opening create parent (Some above) named short absent p found =
-      let t = some_node (stored_node rows.nodes parent) above (stored parent (Some above) found) in
+      let t = some_node (stored_node rows.nodes parent) above (stored cell rows s k parent (Some above) found) in
       let P : View → Type 0 = λ view. Fits (create_in s client number opening create view view.kind) in
       subst P t.2 (in_fits number opening create parent t.0 t.0.view.kind named short absent p t.1 refl)
 
@@ -230,7 +271,7 @@ module _ (cell : List ℕ) (rows : Rows) (s : MasterState) (k : IsKept cell rows
 
   create_fits : (number : ℕ) (opening : Open) (create : Create) (o : Option View) → is_of_cell s opening.name ≡ true → node_fault create.node ≡ None → get_node s.nodes opening.name ≡ o → Fits (option_map_or (λ view. create_over s client number opening create.disposition view) o (create_new s client number opening create))
   create_fits number opening create None named short found =
-      let absent = no_node (stored_node rows.nodes opening.name) (stored opening.name None found) in
+      let absent = no_node (stored_node rows.nodes opening.name) (stored cell rows s k opening.name None found) in
       new_fits number opening create (parent_of opening.name) named short absent refl
   create_fits number opening create (Some view) named short found = over_fits number opening create.disposition view
 
@@ -289,24 +330,7 @@ module _ (cell : List ℕ) (rows : Rows) (s : MasterState) (k : IsKept cell rows
   delete_fits : (handle : Handle) (w : Node) → stored_node rows.nodes handle.name ≡ Some w → w.view.instance ≡ handle.instance → Fits (delete_at s handle)
   delete_fits handle w found present =
       else_fits rows s client (has_children s.nodes handle.name || is_none (parent_of handle.name)) (refused faults.NotEmpty) (deleted s handle) tt
-      (λ free.
-      let t = neither (has_children s.nodes handle.name) (is_none (parent_of handle.name)) free in
-      let next = k.next_instance in
-      let P : Nodes → Type 0 = λ n. has_children n handle.name ≡ false in
-      record {
-        name = handle.name;
-        node = w;
-        is = refl;
-        found = found;
-        of_node = present;
-        all = refl;
-        fits = record {
-          least = not_less rows.next_instance s.next_instance k.next_instance;
-          most = rw next (sound_numbers cell rows k.sound_rows).2;
-          no_children = subst P k.nodes t.0;
-          no_root = t.1;
-        };
-      })
+      (λ free. goes_fits cell rows s k handle.name handle.instance w found present free)
 
   change_fits : (handle : Handle) (call : Call) (w : Node) → IsOwnHandle client handle → stored_node rows.nodes handle.name ≡ Some w → w.view.instance ≡ handle.instance → answer_on_node s handle call w.view ≡ None → Fits (change_at s handle call w.view)
   change_fits handle (calls.Set bytes content generation) w shown found present h =
@@ -329,7 +353,7 @@ module _ (cell : List ℕ) (rows : Rows) (s : MasterState) (k : IsKept cell rows
   view_fits : (handle : Handle) (call : Call) (view : View) (f : Option Fault) → IsOwnHandle client handle → get_node s.nodes handle.name ≡ Some view → view.instance ≡ handle.instance → Fits (option_map_or (λ answer. answered answer) (answer_under s handle call view f) (change_at s handle call view))
   view_fits handle call view (Some fault) shown found present = tt
   view_fits handle call view None shown found present =
-      let t = some_node (stored_node rows.nodes handle.name) view (stored handle.name (Some view) found) in
+      let t = some_node (stored_node rows.nodes handle.name) view (stored cell rows s k handle.name (Some view) found) in
       let P : View → Type 0 = λ v. Fits (option_map_or (λ answer. answered answer) (answer_on_node s handle call v) (change_at s handle call v)) in
       subst P t.2
       (unless_fits rows s client (answer_on_node s handle call t.0.view) (λ answer. answered answer) (change_at s handle call t.0.view) (λ answer. tt)
@@ -349,7 +373,7 @@ module _ (cell : List ℕ) (rows : Rows) (s : MasterState) (k : IsKept cell rows
   close_here handle (Some view) None shown found is = cc
   close_here handle (Some view) (Some there) shown found is =
       let t = node_here there view handle.instance is in
-      let u = some_node (stored_node rows.nodes handle.name) view (stored handle.name (Some view) (found ∙ ap (λ v. Some v) t.0)) in
+      let u = some_node (stored_node rows.nodes handle.name) view (stored cell rows s k handle.name (Some view) (found ∙ ap (λ v. Some v) t.0)) in
       close_fits cell rows s k client live numbered handle shown u.0 u.1 (ap (λ (v : View). v.instance) u.2 ∙ t.1)
 
   call_fits : (handle : Handle) (call : Call) (sequencer : Option (List ℕ)) → IsOwnHandle client handle → Fits (effect_on s handle call sequencer)

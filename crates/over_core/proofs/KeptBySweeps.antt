@@ -1,16 +1,19 @@
 -- What a sweep commits is sound, and leaves the master beside its rows.
-use Rattle.std.proofs.Common.{◌≡◌, ℕ, List, [], ◌∷◌, true, false, Option, Some, None, Result, Ok, Err, refl, sym, ◌∙◌, ap, subst, inl, inr, arith}
-use Rattle.std.specs.Prelude.{◌⊎◌, ◌+◌, ◌≤◌, max, if◌then◌else◌, IfOk, IfErr, OnOk, OnErr}
+use Rattle.std.proofs.Common.{◌≡◌, ℕ, List, [], ◌∷◌, Bool, true, false, cond, Option, Some, None, Result, Ok, Err, length, refl, sym, ◌∙◌, ap, subst, inl, inr, arith}
+use Rattle.std.specs.Prelude.{◌⊎◌, ◌+◌, ◌≤◌, ◌&&◌, not, nat_le, max, if◌then◌else◌, IfOk, IfErr, OnOk, OnErr}
 use Rattle.std.specs.Option.{option_map_or}
 use Rattle.std.specs.List.Sorted.{IsStrictlySortedBy}
 use Rattle.std.specs.Map.{keys_of}
 use Rattle.std.specs.BTreeMap.{insert_entry}
 use Rattle.std.specs.Ordering.{nat_cmp}
 use Rattle.std.specs.Cmp.{nat_cmp_total}
+use Rattle.std.proofs.lemmas.Bool.{and_parts, not-true}
 use Rattle.std.proofs.lemmas.Bool.Decides.{nat_tests}
 use Rattle.std.proofs.lemmas.Map.Made.{keys_of-map_values}
 use Rattle.node_core.specs.declared.events.Event.{Event}
 use Rattle.node_core.specs.declared.refusals.Fault.{Fault}
+use Rattle.node_core.specs.declared.refusals.Fault.TheVariants as faults
+use Rattle.node_core.specs.Limits.{number_limit}
 use Rattle.rows_cell.specs.declared.tables.Session as stored
 use Rattle.rows_cell.specs.declared.tables.Rows.{Rows}
 use Rattle.rows_cell.specs.declared.tables.Edit.{Edit}
@@ -24,6 +27,7 @@ use Rattle.tags_cell.specs.Numbers.{is_client_number}
 use Rattle.tags_cell.specs.declared.calls.Call.{Call}
 use Rattle.tags_cell.specs.declared.outs.Reply.{Reply}
 use Rattle.gate_core.specs.declared.pending.Waiting.{Waiting}
+use Rattle.gate_core.specs.Gate.{pending_limit, push_answer}
 use Rattle.session_core.specs.declared.records.Parked.{Parked}
 use Rattle.session_core.specs.declared.records.Session.{Session}
 use Rattle.session_core.specs.Session as of_session
@@ -32,26 +36,30 @@ use Rattle.session_core.specs.Sessions.{with_new, is_live}
 use Rattle.session_core.proofs.RowsOfSessions.{rows_of-insert_entry}
 use Rattle.cell_core.specs.declared.notices.Telling.{Telling}
 use Rattle.cell_core.specs.Notices.{with_tellings}
+use Rattle.cell_core.specs.declared.pending.Asked.{Asked}
+use Rattle.cell_core.specs.declared.pending.Idle.{Idle}
 use Rattle.cell_core.specs.declared.pending.Task.{Task}
+use Rattle.cell_core.specs.declared.pending.Task.TheVariants as tasks
 use Rattle.cell_core.specs.declared.pending.Work.{Work}
 use Rattle.cell_core.specs.declared.pending.Work.TheVariants as works
 use Rattle.cell_core.specs.State.{MasterState, row_of}
-use Rattle.cell_core.specs.Step.{session_of, noted}
+use Rattle.cell_core.specs.Step.{session_of, noted, queued}
+use Rattle.cell_core.specs.Ephemerals.{spared_for, is_ok, may_tidy, next_idle, tidied}
 use Rattle.over_core.specs.declared.effects.Effect.{Effect}
 use Rattle.over_core.specs.declared.sweeps.Swept.{Swept}
 use Rattle.over_core.specs.Effect.{effect}
 use Rattle.over_core.specs.Kept.{IsKept, AreLocksKept, IsOwnCall, is_call}
 use Rattle.over_core.specs.Sweep.{action_edits, first_action, is_over, sweep_edits, sweep_step}
 use Rattle.over_core.specs.SweepCase.{IsTurn, SweepCase, rest, swept_by, swept_edits}
-use Rattle.over_core.specs.SweepCase.SweepCase.{Quiet, Recovers, Expires, AnswersBeat, TurnedAway, StartedAgain, Started, Reopens, OfEnded, Ended, Applied, Deleted, Locked, Awaited, Left}
+use Rattle.over_core.specs.SweepCase.SweepCase.{Quiet, Recovers, Expires, AnswersBeat, TurnedAway, StartedAgain, Started, Reopens, Tidies, Spared, Tidied, OfEnded, Ended, Applied, Deleted, Locked, Awaited, Left}
 use Rattle.over_core.proofs.FitsByEffects.{effect_fits}
 use Rattle.over_core.proofs.EachSession.{new_each, new_without}
-use Rattle.over_core.proofs.KeptByTakes.{IsByBeats, IsIssued, HasNoRight, stays, same_call_kept, clock_kept}
-use Rattle.over_core.proofs.KeptByTurns.{turn_client, turn_own, rest_kept, ended_turn, applied_turn, deleted_turn, locked_turn, awaited_turn, left_turn}
+use Rattle.over_core.proofs.KeptByTakes.{IsByBeats, IsIssued, HasNoRight, stays, same_call_kept, queued_kept, asked_kept, clock_kept}
+use Rattle.over_core.proofs.KeptByTurns.{turn_client, turn_own, rest_kept, tidied_turn, ended_turn, applied_turn, deleted_turn, locked_turn, awaited_turn, left_turn}
 use Rattle.over_core.proofs.LockingFits.{EffectFits}
 use Rattle.over_core.proofs.LocksKept.{locks_stay}
 use Rattle.over_core.proofs.LocksSwept.{reopened_kept, expired_kept}
-use Rattle.over_core.proofs.OneCall.{one_same}
+use Rattle.over_core.proofs.OneCall.{one_same, one_started}
 use Rattle.over_core.proofs.OwnedRights.{none_issued}
 use Rattle.over_core.proofs.SessionReads.{lives_in, keeps_in, reads_new, lives_new}
 use Rattle.over_core.proofs.SweepCases.{HasSessionsInOrder, first_tellings, sweep_case, swept_case}
@@ -95,7 +103,30 @@ stored_number n h = grind (arith, nat_tests)
 none_of : {P : Type 0} → 1 ≤ 0 → P
 none_of h = absurd (omega arith)
 
+-- ---- the deletion of an ephemeral node that is queued
+
+where_some : {X : Type 0} (b : Bool) (o : Option X) (x : X) → cond b o None ≡ Some x → b ≡ true
+where_some true o x h = refl
+where_some false o x h = absurd cc
+
+has_room : (full spent : Bool) (number : ℕ) → is_ok (cond full (Err faults.Busy) (cond spent (Err faults.Exhausted) (Ok number))) ≡ true → (full ≡ false) × (spent ≡ false)
+has_room true spent number h = absurd cc
+has_room false true number h = absurd cc
+has_room false false number h = (refl, refl)
+
 module _ (cell : List ℕ) (rows : Rows) where
+  -- no recovery goes on, and there is room for one more change
+  tidies_kept : (s : MasterState) (idle : Idle) → next_idle s ≡ Some idle → IsKept cell rows s → IsKept cell rows (tidied s idle)
+  tidies_kept s idle due k =
+      let may : may_tidy s ≡ true = where_some (may_tidy s) _ idle due in
+      let t = and_parts (not s.recovering && nat_le (s.serving_from + spared_for) s.clock) (is_ok (push_answer s.gate)) may in
+      let serving : s.recovering ≡ false = not-true s.recovering (and_parts (not s.recovering) (nat_le (s.serving_from + spared_for) s.clock) t.0).0 in
+      let room = has_room (nat_le pending_limit (length s.gate.waiting)) (nat_le number_limit s.gate.pushed) (s.gate.pushed + 1) t.1 in
+      let task : Task = tasks.Tidies idle in
+      let w : Waiting Task = record { number = s.gate.pushed + 1; change = record { touched = idle.name ∷ []; body = task } } in
+      asked_kept cell rows (queued s (idle.name ∷ []) task) idle.name
+      (queued_kept cell rows s (idle.name ∷ []) task serving room.0 room.1 refl tt refl (one_started s.gate.waiting s.locks s.sessions w (λ q. refl) k.one_call) k)
+
   -- its client was granted nothing, and waits for nothing
   begun_kept : (s : MasterState) (client : ℕ) (principal : List ℕ) (timeout : ℕ) → session_of s client ≡ None → is_number client ≡ true → IsKept cell rows s → IsKept cell (changed_rows rows (PutSession client (record { principal = principal; live = true }) ∷ [])) (record s { sessions = with_new s.sessions client (session_until principal true timeout) })
   begun_kept s client principal timeout none number k =
@@ -129,15 +160,15 @@ module _ (cell : List ℕ) (rows : Rows) where
   -- ---- every arm
 
   -- what a call that waited does fits
-  turn_fits : (s : MasterState) → IsKept cell rows s → (front back : List (Waiting Task)) (task : Task) (call : Call) (sequencer : Option (List ℕ)) (effected : Effect) → IsTurn s front task back → task.work ≡ works.Calls call sequencer → is_live s.sessions task.client ≡ true → effect s task.client task.number call sequencer ≡ effected → EffectFits rows s task.client effected
-  turn_fits s k front back task call sequencer effected turn work live made =
-      let P : Effect → Type 0 = EffectFits rows s task.client in
-      let Q : Work → Type 0 = IsOwnCall s.secret task.client in
-      subst P made (effect_fits cell rows s k task.client task.number call sequencer live (turn_client cell rows s k front back task turn) (subst Q work (turn_own cell rows s k front back task turn)))
+  turn_fits : (s : MasterState) → IsKept cell rows s → (front back : List (Waiting Task)) (asked : Asked) (call : Call) (sequencer : Option (List ℕ)) (effected : Effect) → IsTurn s front (tasks.Asked asked) back → asked.work ≡ works.Calls call sequencer → is_live s.sessions asked.client ≡ true → effect s asked.client asked.number call sequencer ≡ effected → EffectFits rows s asked.client effected
+  turn_fits s k front back asked call sequencer effected turn work live made =
+      let P : Effect → Type 0 = EffectFits rows s asked.client in
+      let Q : Work → Type 0 = IsOwnCall s.secret asked.client in
+      subst P made (effect_fits cell rows s k asked.client asked.number call sequencer live (turn_client cell rows s k front back asked turn) (subst Q work (turn_own cell rows s k front back asked turn)))
 
   pub case_kept : (s : MasterState) (c : SweepCase s) → IsKept cell rows s → IsKept cell (changed_rows rows (swept_edits s c)) (swept_by s c).0
   case_kept s (Quiet none) k = k
-  case_kept s (Recovers recovering heard) k = stays cell rows s (record s { recovering = false }) k (record {
+  case_kept s (Recovers recovering heard) k = stays cell rows s (record s { recovering = false; serving_from = s.clock }) k (record {
     name = refl;
     secret = refl;
     epoch = refl;
@@ -160,24 +191,27 @@ module _ (cell : List ℕ) (rows : Rows) where
   case_kept s (Expires client session due) k = expired_kept cell rows s k client session due.found
   case_kept s (AnswersBeat client session beat due) k =
       same_call_kept cell rows s client (answered s.sessions.lease s.clock) (answered_row s.sessions.lease s.clock) (answered_issued s.sessions.lease s.clock) (λ before there. answered_by_beats s.sessions.lease s.clock client before) (answered_lives s.sessions.lease s.clock) (answered_keeps s.sessions.lease s.clock) k
-  case_kept s (TurnedAway front back task principal received turn work may) k = rest_kept cell rows s k front back task turn
-  case_kept s (StartedAgain front back task principal received session turn work found live) k =
-      same_call_kept cell rows (rest s front back) task.client (prolonged (s.clock + s.sessions.lease)) (λ before. refl) (λ before. refl) (λ before there is. is) (λ before. refl) (λ before. refl) (rest_kept cell rows s k front back task turn)
-  case_kept s (Started front back task principal received turn work none) k =
-      begun_kept (rest s front back) task.client principal (s.clock + s.sessions.lease) none (stored_number task.client (turn_client cell rows s k front back task turn)) (rest_kept cell rows s k front back task turn)
+  case_kept s (TurnedAway front back asked principal received turn work may) k = rest_kept cell rows s k front back (tasks.Asked asked) turn
+  case_kept s (StartedAgain front back asked principal received session turn work found live) k =
+      same_call_kept cell rows (rest s front back) asked.client (prolonged (s.clock + s.sessions.lease)) (λ before. refl) (λ before. refl) (λ before there is. is) (λ before. refl) (λ before. refl) (rest_kept cell rows s k front back (tasks.Asked asked) turn)
+  case_kept s (Started front back asked principal received turn work none) k =
+      begun_kept (rest s front back) asked.client principal (s.clock + s.sessions.lease) none (stored_number asked.client (turn_client cell rows s k front back asked turn)) (rest_kept cell rows s k front back (tasks.Asked asked) turn)
   case_kept s (Reopens instance due) k = reopened_kept cell rows s k instance due.lowest_due
-  case_kept s (OfEnded front back task call sequencer turn work gone) k = rest_kept cell rows s k front back task turn
-  case_kept s (Ended front back task call sequencer noted answer turn work live made) k = ended_turn cell rows s k front back task turn noted answer (ap is_call work)
-  case_kept s (Applied front back task call sequencer noted change answer turn work live made) k =
-      applied_turn cell rows s k front back task turn noted change answer (ap is_call work) (turn_fits s k front back task call sequencer _ turn work live made)
-  case_kept s (Deleted front back task call sequencer change instance waiters answer turn work live made) k =
-      deleted_turn cell rows s k front back task turn change instance waiters answer (ap is_call work) (turn_fits s k front back task call sequencer _ turn work live made)
-  case_kept s (Locked front back task call sequencer put claim answer turn work live made) k =
-      locked_turn cell rows s k front back task turn put answer (ap is_call work) (turn_fits s k front back task call sequencer _ turn work live made)
-  case_kept s (Awaited front back task call sequencer put turn work live made) k =
-      awaited_turn cell rows s k front back task turn put (ap is_call work) (turn_fits s k front back task call sequencer _ turn work live made)
-  case_kept s (Left front back task call sequencer noted leave answer turn work live made) k =
-      left_turn cell rows s k front back task turn noted leave answer (ap is_call work) (turn_fits s k front back task call sequencer _ turn work live made)
+  case_kept s (Tidies idle due) k = tidies_kept s idle due.first_idle k
+  case_kept s (Spared front back idle turn held) k = rest_kept cell rows s k front back (tasks.Tidies idle) turn
+  case_kept s (Tidied front back idle turn still) k = tidied_turn cell rows s k front back idle turn still
+  case_kept s (OfEnded front back asked call sequencer turn work gone) k = rest_kept cell rows s k front back (tasks.Asked asked) turn
+  case_kept s (Ended front back asked call sequencer noted answer turn work live made) k = ended_turn cell rows s k front back asked turn noted answer (ap is_call work)
+  case_kept s (Applied front back asked call sequencer noted change answer turn work live made) k =
+      applied_turn cell rows s k front back asked turn noted change answer (ap is_call work) (turn_fits s k front back asked call sequencer _ turn work live made)
+  case_kept s (Deleted front back asked call sequencer change instance waiters answer turn work live made) k =
+      deleted_turn cell rows s k front back asked turn change instance waiters answer (ap is_call work) (turn_fits s k front back asked call sequencer _ turn work live made)
+  case_kept s (Locked front back asked call sequencer put claim answer turn work live made) k =
+      locked_turn cell rows s k front back asked turn put answer (ap is_call work) (turn_fits s k front back asked call sequencer _ turn work live made)
+  case_kept s (Awaited front back asked call sequencer put turn work live made) k =
+      awaited_turn cell rows s k front back asked turn put (ap is_call work) (turn_fits s k front back asked call sequencer _ turn work live made)
+  case_kept s (Left front back asked call sequencer noted leave answer turn work live made) k =
+      left_turn cell rows s k front back asked turn noted leave answer (ap is_call work) (turn_fits s k front back asked call sequencer _ turn work live made)
 
 -- ---- what clients are told
 

@@ -40,7 +40,9 @@ use Rattle.session_core.proofs.IssuedBy.{rows_stay_issued}
 use Rattle.session_core.proofs.RowsOfSessions.{rows_stay}
 use Rattle.cell_core.specs.declared.handles.Note.{Note}
 use Rattle.cell_core.specs.declared.pending.Taken.{Taken}
+use Rattle.cell_core.specs.declared.pending.Asked.{Asked}
 use Rattle.cell_core.specs.declared.pending.Task.{Task}
+use Rattle.cell_core.specs.declared.pending.Task.TheVariants as tasks
 use Rattle.cell_core.specs.declared.pending.Work.TheVariants as works
 use Rattle.cell_core.specs.State.{MasterState, row_of, session_rows}
 use Rattle.cell_core.specs.Step.{is_full, queued, acknowledgement, parked, recorded, answered_by, stamped_reply, with_right, granting, asking, asking_for, names_of, task_of, with_call, waits, with_note, noted, take_step}
@@ -49,7 +51,7 @@ use Rattle.cell_core.specs.Cases.{IsBehind, IsNew, IsAdmitted, TakeCase, taken_b
 use Rattle.cell_core.specs.Cases.TakeCase.{StartRefused, StartRecovering, StartFull, StartQueued, OldBeat, BeatRefused, BeatParked, OldEpoch, NoSession, Repeated, OlderCall, Outstanding, Recovering, Answered, Granted, Waits}
 use Rattle.cell_core.proofs.TakeCases.{taken_case, taken_unspent}
 use Rattle.cell_core.proofs.Told.{touched_is_changed}
-use Rattle.over_core.specs.Kept.{IsKept, AreByBeats, AreIssued, AreOwned, AreTouching, AreOwnCalls, IsOwnCall, HaveOneCall, is_of, names_touched, outstanding, unanswered, waiting_fits}
+use Rattle.over_core.specs.Kept.{IsKept, AreByBeats, AreIssued, AreOwned, AreTouching, AreOwnCalls, IsOwnCall, IsOwnTask, HaveOneCall, is_of, task_fits, names_touched_by, outstanding, unanswered, waiting_fits}
 use Rattle.over_core.proofs.EachSession.{step_each, step_without, issued_each, issued_without}
 use Rattle.over_core.proofs.LocksKept.{locks_stay}
 use Rattle.over_core.proofs.OneCall.{none_counts, one_same, one_recorded, one_started, one_called}
@@ -280,7 +282,7 @@ module _ (cell : List ℕ) (rows : Rows) where
     own = k.own;
   })
 
-  queued_kept : (s : MasterState) (touched : List (List ℕ)) (task : Task) → s.recovering ≡ false → is_full s ≡ false → nat_le number_limit s.gate.pushed ≡ false → touched ≡ names_touched s.secret task.work → IsOwnCall s.secret task.client task.work → is_client_number task.client ≡ true → HaveOneCall (queued s touched task) → IsKept cell rows s → IsKept cell rows (queued s touched task)
+  pub queued_kept : (s : MasterState) (touched : List (List ℕ)) (task : Task) → s.recovering ≡ false → is_full s ≡ false → nat_le number_limit s.gate.pushed ≡ false → touched ≡ names_touched_by s.secret task → IsOwnTask s.secret task → task_fits task ≡ true → HaveOneCall (queued s touched task) → IsKept cell rows s → IsKept cell rows (queued s touched task)
   queued_kept s touched task serving room spare names own in_range one k =
       let change : Pending Task = record { touched = touched; body = task } in
       let w : Waiting Task = record { number = s.gate.pushed + 1; change = change } in
@@ -294,19 +296,19 @@ module _ (cell : List ℕ) (rows : Rows) where
         locks = refl;
         lives = λ q live. live;
         one_call = one;
-        waiting = all_push (λ (x : Waiting Task). is_client_number x.change.body.client) s.gate.waiting w k.waiting in_range;
+        waiting = all_push (λ (x : Waiting Task). task_fits x.change.body) s.gate.waiting w k.waiting in_range;
         recovery_is_empty = λ recovering. absurd (cc);
         by_beats = k.by_beats;
         recorded = k.recorded;
         issued = k.issued;
         owned = k.owned;
         orderly = orderly_more s.gate change room spare k.orderly;
-        touching = All-push (λ (x : Waiting Task). x.change.touched ≡ names_touched s.secret x.change.body.work) s.gate.waiting w k.touching names;
-        own = All-push (λ (x : Waiting Task). IsOwnCall s.secret x.change.body.client x.change.body.work) s.gate.waiting w k.own own;
+        touching = All-push (λ (x : Waiting Task). x.change.touched ≡ names_touched_by s.secret x.change.body) s.gate.waiting w k.touching names;
+        own = All-push (λ (x : Waiting Task). IsOwnTask s.secret x.change.body) s.gate.waiting w k.own own;
       })
 
   -- who holds the name is asked for it
-  asked_kept : (s : MasterState) (name : List ℕ) → IsKept cell rows s → IsKept cell rows (asking s name)
+  pub asked_kept : (s : MasterState) (name : List ℕ) → IsKept cell rows s → IsKept cell rows (asking s name)
   asked_kept s name k =
       let asked = clients_to_ask name s.rights in
       let once = k.recorded.once in
@@ -380,10 +382,9 @@ module _ (cell : List ℕ) (rows : Rows) where
       ap names_of (admitted.is_touched ∙ touched_is_changed s client message.number message.call message.sequencer admitted.passes ∙ ap (λ x. name_changed x message.call) (sym secret)) in
       let Q : List ℕ → Type 0 = λ code. IsOwnCall code client (works.Calls message.call message.sequencer) in
       let own : Q t.secret = subst Q (sym secret) (own_call s client message.number message.call message.sequencer admitted.passes) in
-      let w : Waiting Task = record { number = t.gate.pushed + 1; change = record { touched = names_of touched; body = task_of message } } in
-      let one : HaveOneCall (with_call t message touched) = one_called t.gate.waiting t.locks t.sessions client last w refl refl live_noted none_noted noted.one_call in
+      let one : HaveOneCall (with_call t message touched) = one_called t.gate.waiting t.locks t.sessions client last (t.gate.pushed + 1) (names_of touched) (task_of message) refl refl live_noted none_noted noted.one_call in
       asking_kept (with_call t message touched) touched
-      (queued_kept before (names_of touched) (task_of message) (unnoted (λ x. x.recovering) (λ x n. refl) s note ∙ serving) admitted.room (unnoted (λ x. nat_le number_limit x.gate.pushed) (λ x n. refl) s note ∙ spare) names own in_range one
+      (queued_kept before (names_of touched) (tasks.Asked (task_of message)) (unnoted (λ x. x.recovering) (λ x n. refl) s note ∙ serving) admitted.room (unnoted (λ x. nat_le number_limit x.gate.pushed) (λ x n. refl) s note ∙ spare) names own in_range one
       (recorded_kept t client last none_noted noted))
 
   -- a call that is answered at once
@@ -405,8 +406,9 @@ module _ (cell : List ℕ) (rows : Rows) where
   case_kept s request (StartRecovering start is may recovering) spare k in_range = k
   case_kept s request (StartFull start is may serving full) spare k in_range = k
   case_kept s request (StartQueued start is may serving room) spare k in_range =
-      let task : Task = record { client = start.client; number = start.number; work = works.Starts start.principal s.clock } in
-      queued_kept s [] task serving room spare refl tt (client_of request _ is in_range) (one_started s.gate.waiting s.locks s.sessions (record { number = s.gate.pushed + 1; change = record { touched = []; body = task } }) refl k.one_call) k
+      let started : Asked = record { client = start.client; number = start.number; work = works.Starts start.principal s.clock } in
+      let task : Task = tasks.Asked started in
+      queued_kept s [] task serving room spare refl tt (client_of request _ is in_range) (one_started s.gate.waiting s.locks s.sessions (record { number = s.gate.pushed + 1; change = record { touched = []; body = task } }) (λ q. refl) k.one_call) k
   case_kept s request (OldBeat beat is other) spare k in_range = k
   case_kept s request (BeatRefused beat fault is same refused) spare k in_range = k
   case_kept s request (BeatParked beat is same taken) spare k in_range = parked_kept s beat taken k

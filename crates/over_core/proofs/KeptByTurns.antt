@@ -39,20 +39,25 @@ use Rattle.lock_core.specs.Locks.{LockTable, lock_at}
 use Rattle.cell_core.specs.declared.deeds.Change.{Change}
 use Rattle.cell_core.specs.declared.deeds.LockPut.{LockPut}
 use Rattle.cell_core.specs.declared.handles.Note.{Note}
+use Rattle.cell_core.specs.declared.pending.Asked.{Asked}
+use Rattle.cell_core.specs.declared.pending.Idle.{Idle}
 use Rattle.cell_core.specs.declared.pending.Task.{Task}
+use Rattle.cell_core.specs.declared.pending.Task.TheVariants as tasks
 use Rattle.cell_core.specs.State.{MasterState}
 use Rattle.cell_core.specs.Step.{reply_of, answered_by, recorded, with_note}
 use Rattle.cell_core.specs.Deeds.{edit_of, with_locks, without_lock}
+use Rattle.cell_core.specs.Ephemerals.{is_still_idle}
 use Rattle.over_core.specs.declared.effects.Leave.{Leave}
-use Rattle.over_core.specs.Kept.{IsKept, AreTouching, AreOwnCalls, IsOwnCall, HaveOneCall, names_touched, waiting_fits, is_call, call_count, claim_count, waits_count, outstanding, unanswered, is_unanswered}
+use Rattle.over_core.specs.Kept.{IsKept, AreTouching, AreOwnCalls, IsOwnCall, IsOwnTask, HaveOneCall, task_fits, names_touched_by, waiting_fits, is_call, call_count, claim_count, waits_count, outstanding, unanswered, is_unanswered}
 use Rattle.over_core.specs.Sweep.{replies_to, turn_replies, left_put}
-use Rattle.over_core.specs.SweepCase.{IsTurn, rest, ended, mapped, told, relocking}
+use Rattle.over_core.specs.SweepCase.{IsTurn, rest, ended, mapped, told, relocking, gone_change, gone_replies}
+use Rattle.over_core.proofs.FitsByEffects.{tidied_fits}
 use Rattle.over_core.proofs.KeptByTakes.{stays, recorded_kept, note_kept, unnoted}
 use Rattle.over_core.proofs.LockingFits.{PutsFit, GoesFit, TakesFit, WaitsFit, LeavesFit}
 use Rattle.over_core.proofs.LocksLapsed.{told_and_waiting}
 use Rattle.over_core.proofs.LocksOfNodes.{put_generations, put_each, gone_generations, gone_rows, gone_each, gone_in_order}
 use Rattle.over_core.proofs.LocksSwept.{one_relocked, none_put, told_put, turn_one}
-use Rattle.over_core.proofs.OneCall.{AreOne, at_most_one, one_if, count_in, sum_gone, one_less, one_put, one_awaited, none_beside}
+use Rattle.over_core.proofs.OneCall.{AreOne, at_most_one, one_if, asked_waiting, count_in, sum_gone, one_less, one_put, one_awaited, none_beside}
 use Rattle.over_core.proofs.OrderlyChanges.{orderly_less, all_less}
 use Rattle.over_core.proofs.RepliesKept.{claims_count, told_of, replies_are_to, turn_replies_are_to, told_kept}
 
@@ -179,29 +184,26 @@ same_less a b h = omega (arith, h)
 own_count : (work : Bool) (a b q : ℕ) → work ≡ true → a ≡ b → one_if (a == q) ≡ one_if (work && b == q)
 own_count work a b q h same = ap (λ x. one_if (x == q)) same ∙ ap (λ c. one_if (c && b == q)) (sym h)
 
+-- how many calls of a client wait for a lock
+abbrev waits_in : ℕ → LockTable → ℕ
+waits_in q locks = sum_by (waits_count q) (values_of locks)
+
 module _ (cell : List ℕ) (rows : Rows) (s : MasterState) (k : IsKept cell rows s) (front back : List (Waiting Task)) (task : Task) (turn : IsTurn s front task back) where
-  abbrev w : Waiting Task
-  w = record { number = turn.number; change = record { touched = turn.touched; body = task } }
+  abbrev here : Waiting Task
+  here = record { number = turn.number; change = record { touched = turn.touched; body = task } }
 
-  abbrev t : MasterState
-  t = rest s front back
-
-  one_before : AreOne (front ++ w ∷ back) s.locks s.sessions
+  one_before : AreOne (front ++ here ∷ back) s.locks s.sessions
   one_before = let P : List (Waiting Task) → Type 0 = λ ws. AreOne ws s.locks s.sessions in subst P turn.waited k.one_call
 
-  parts : (is_client_number task.client ≡ true) × (waiting_fits (front ++ back) ≡ true)
+  parts : (task_fits task ≡ true) × (waiting_fits (front ++ back) ≡ true)
   parts =
       let P : List (Waiting Task) → Type 0 = λ ws. waiting_fits ws ≡ true in
-      all_middle (λ (x : Waiting Task). is_client_number x.change.body.client) front w back (subst P turn.waited k.waiting)
+      all_middle (λ (x : Waiting Task). task_fits x.change.body) front here back (subst P turn.waited k.waiting)
 
-  pub turn_client : is_client_number task.client ≡ true
-  turn_client = parts.0
-
-  -- it shows a handle of its client
-  pub turn_own : IsOwnCall s.secret task.client task.work
-  turn_own =
+  own_before : IsOwnTask s.secret task
+  own_before =
       let P : List (Waiting Task) → Type 0 = λ ws. AreOwnCalls s.secret ws in
-      all_at (λ (x : Waiting Task). IsOwnCall s.secret x.change.body.client x.change.body.work) front w back (subst P turn.waited k.own)
+      all_at (λ (x : Waiting Task). IsOwnTask s.secret x.change.body) front here back (subst P turn.waited k.own)
 
   pub rest_kept : IsKept cell rows (rest s front back)
   rest_kept =
@@ -216,88 +218,127 @@ module _ (cell : List ℕ) (rows : Rows) (s : MasterState) (k : IsKept cell rows
         sessions = refl;
         locks = refl;
         lives = λ q live. live;
-        one_call = one_less front w back s.locks s.sessions one_before;
+        one_call = one_less front here back s.locks s.sessions one_before;
         waiting = parts.1;
-        recovery_is_empty = λ recovering. absurd (some_wait front w back (sym turn.waited ∙ k.recovery_is_empty recovering));
+        recovery_is_empty = λ recovering. absurd (some_wait front here back (sym turn.waited ∙ k.recovery_is_empty recovering));
         by_beats = k.by_beats;
         recorded = k.recorded;
         issued = k.issued;
         owned = k.owned;
-        orderly = orderly_less s.gate.waiting front w back s.gate.pushed turn.waited k.orderly;
-        touching = all_less (λ (x : Waiting Task). x.change.touched ≡ names_touched s.secret x.change.body.work) front w back (subst Q turn.waited k.touching);
-        own = all_less (λ (x : Waiting Task). IsOwnCall s.secret x.change.body.client x.change.body.work) front w back (subst R turn.waited k.own);
+        orderly = orderly_less s.gate.waiting front here back s.gate.pushed turn.waited k.orderly;
+        touching = all_less (λ (x : Waiting Task). x.change.touched ≡ names_touched_by s.secret x.change.body) front here back (subst Q turn.waited k.touching);
+        own = all_less (λ (x : Waiting Task). IsOwnTask s.secret x.change.body) front here back (subst R turn.waited k.own);
       })
 
+  -- none of those waits any longer who waited for the lock of a node that goes
+  none_waits : (instance : ℕ) (waiters : List Claim) → waiters ≡ (lock_at s.locks instance).waiters → (q : ℕ) → 1 ≤ claims_count q waiters → sum_by (call_count q) (front ++ back) + waits_in q (remove_entry (is_at (nat_cmp instance)) s.locks) ≡ 0
+  none_waits instance waiters all q some =
+      let W : List Claim → Type 0 = λ ws. 1 ≤ claims_count q ws in
+      told_gone (sum_by (call_count q) (front ++ back)) (waits_in q (remove_entry (is_at (nat_cmp instance)) s.locks)) (waits_count q (lock_at s.locks instance)) (waits_in q s.locks) (unanswered (kept_of s.sessions q))
+      (sum_gone q s.locks instance) (rest_kept.one_call q) (at_most_one (is_unanswered (kept_of s.sessions q))) (subst W all some)
+
+-- ---- a node that goes by itself
+
+pub tidied_turn : (cell : List ℕ) (rows : Rows) (s : MasterState) (k : IsKept cell rows s) (front back : List (Waiting Task)) (idle : Idle) (turn : IsTurn s front (tasks.Tidies idle) back) → is_still_idle s idle ≡ true
+    → IsKept cell (changed_rows rows (edit_of (Gone idle.name) ∷ NextInstance s.next_instance ∷ [])) (without_lock (told (mapped (rest s front back) (gone_change s idle)) (gone_replies s idle)) (Some idle.instance))
+tidied_turn cell rows s k front back idle turn still =
+    let after : Rows = changed_rows rows (edit_of (Gone idle.name) ∷ NextInstance s.next_instance ∷ []) in
+    let gone : MasterState = without_lock (mapped (rest s front back) (gone_change s idle)) (Some idle.instance) in
+    let waiters : List Claim = (lock_at s.locks idle.instance).waiters in
+    let kept : IsKept cell rows (rest s front back) = rest_kept cell rows s k front back (tasks.Tidies idle) turn in
+    let fits : GoesFit rows s (gone_change s idle) idle.instance waiters = tidied_fits cell rows s k idle still in
+    told_kept cell after (gone_replies s idle) gone
+    (replies_are_to (λ q. outstanding gone q ≡ 0) s (results.Refused faults.StaleInstance) waiters (none_waits cell rows s k front back (tasks.Tidies idle) turn idle.instance waiters refl))
+    (gone_kept cell rows (rest s front back) kept (gone_change s idle) idle.instance fits.name fits.node fits.is fits.found fits.of_node fits.fits)
+
+-- ---- what a client asked for
+
+module _ (cell : List ℕ) (rows : Rows) (s : MasterState) (k : IsKept cell rows s) (front back : List (Waiting Task)) (asked : Asked) (turn : IsTurn s front (tasks.Asked asked) back) where
+  abbrev w : Waiting Task
+  w = asked_waiting turn.number turn.touched asked
+
+  abbrev t : MasterState
+  t = rest s front back
+
+  beside : IsKept cell rows (rest s front back)
+  beside = rest_kept cell rows s k front back (tasks.Asked asked) turn
+
+  before : AreOne (front ++ w ∷ back) s.locks s.sessions
+  before = one_before cell rows s k front back (tasks.Asked asked) turn
+
+  pub turn_client : is_client_number asked.client ≡ true
+  turn_client = (parts cell rows s k front back (tasks.Asked asked) turn).0
+
+  -- it shows a handle of its client
+  pub turn_own : IsOwnCall s.secret asked.client asked.work
+  turn_own = own_before cell rows s k front back (tasks.Asked asked) turn
+
   -- no other call of its client waits
-  none_else : is_call task.work ≡ true → count_in (front ++ back) s.locks task.client ≡ 0
-  none_else call = none_beside front w back s.locks s.sessions call one_before
+  none_else : is_call asked.work ≡ true → count_in (front ++ back) s.locks asked.client ≡ 0
+  none_else call = none_beside front turn.number turn.touched asked back s.locks s.sessions call before
 
   -- a call that ends
-  pub ended_turn : (note : Option Note) (answer : CallResult) → is_call task.work ≡ true → IsKept cell rows (ended (rest s front back) task note answer)
+  pub ended_turn : (note : Option Note) (answer : CallResult) → is_call asked.work ≡ true → IsKept cell rows (ended (rest s front back) asked note answer)
   ended_turn note answer call =
-      let kept : Kept Reply = answered_by (reply_of t task.client task.number answer) in
-      note_kept cell rows (recorded t task.client kept) note (recorded_kept cell rows t task.client kept (none_else call) rest_kept)
+      let kept : Kept Reply = answered_by (reply_of t asked.client asked.number answer) in
+      note_kept cell rows (recorded t asked.client kept) note (recorded_kept cell rows t asked.client kept (none_else call) beside)
 
-  pub applied_turn : (note : Option Note) (change : Change) (answer : CallResult) → is_call task.work ≡ true → PutsFit rows change → IsKept cell (changed_rows rows (edit_of change.change ∷ NextInstance change.next_instance ∷ [])) (ended (mapped (rest s front back) change) task note answer)
+  pub applied_turn : (note : Option Note) (change : Change) (answer : CallResult) → is_call asked.work ≡ true → PutsFit rows change → IsKept cell (changed_rows rows (edit_of change.change ∷ NextInstance change.next_instance ∷ [])) (ended (mapped (rest s front back) change) asked note answer)
   applied_turn note change answer call fits =
       let after : Rows = changed_rows rows (edit_of change.change ∷ NextInstance change.next_instance ∷ []) in
-      let kept : Kept Reply = answered_by (reply_of t task.client task.number answer) in
-      note_kept cell after (recorded (mapped t change) task.client kept) note (recorded_kept cell after (mapped t change) task.client kept (none_else call) (mapped_kept cell rows t rest_kept change fits))
+      let kept : Kept Reply = answered_by (reply_of t asked.client asked.number answer) in
+      note_kept cell after (recorded (mapped t change) asked.client kept) note (recorded_kept cell after (mapped t change) asked.client kept (none_else call) (mapped_kept cell rows t beside change fits))
 
-  pub deleted_turn : (change : Change) (instance : ℕ) (waiters : List Claim) (answer : CallResult) → is_call task.work ≡ true → GoesFit rows s change instance waiters
-      → IsKept cell (changed_rows rows (edit_of change.change ∷ NextInstance change.next_instance ∷ [])) (without_lock (told (ended (mapped (rest s front back) change) task None answer) (replies_to s (results.Refused faults.StaleInstance) waiters)) (Some instance))
+  pub deleted_turn : (change : Change) (instance : ℕ) (waiters : List Claim) (answer : CallResult) → is_call asked.work ≡ true → GoesFit rows s change instance waiters
+      → IsKept cell (changed_rows rows (edit_of change.change ∷ NextInstance change.next_instance ∷ [])) (without_lock (told (ended (mapped (rest s front back) change) asked None answer) (replies_to s (results.Refused faults.StaleInstance) waiters)) (Some instance))
   deleted_turn change instance waiters answer call fits =
       let after : Rows = changed_rows rows (edit_of change.change ∷ NextInstance change.next_instance ∷ []) in
-      let kept : Kept Reply = answered_by (reply_of t task.client task.number answer) in
+      let kept : Kept Reply = answered_by (reply_of t asked.client asked.number answer) in
       let gone : MasterState = without_lock (mapped t change) (Some instance) in
       let left : LockTable = remove_entry (is_at (nat_cmp instance)) s.locks in
-      let waits : ℕ → LockTable → ℕ = λ q locks. sum_by (waits_count q) (values_of locks) in
-      let own : outstanding gone task.client ≡ 0 =
-      none_gone (sum_by (call_count task.client) (front ++ back)) (waits task.client left) (waits_count task.client (lock_at s.locks instance)) (waits task.client s.locks) (sum_gone task.client s.locks instance) (none_else call) in
-      let others : (q : ℕ) → 1 ≤ claims_count q waiters → outstanding (recorded gone task.client kept) q ≡ 0 = λ q some.
-      let W : List Claim → Type 0 = λ ws. 1 ≤ claims_count q ws in
-      told_gone (sum_by (call_count q) (front ++ back)) (waits q left) (waits_count q (lock_at s.locks instance)) (waits q s.locks) (unanswered (kept_of s.sessions q)) (sum_gone q s.locks instance) (rest_kept.one_call q) (at_most_one (is_unanswered (kept_of s.sessions q))) (subst W fits.all some) in
-      told_kept cell after (replies_to s (results.Refused faults.StaleInstance) waiters) (recorded gone task.client kept)
-      (replies_are_to (λ q. outstanding (recorded gone task.client kept) q ≡ 0) s (results.Refused faults.StaleInstance) waiters others)
-      (recorded_kept cell after gone task.client kept own (gone_kept cell rows t rest_kept change instance fits.name fits.node fits.is fits.found fits.of_node fits.fits))
+      let own : outstanding gone asked.client ≡ 0 =
+      none_gone (sum_by (call_count asked.client) (front ++ back)) (waits_in asked.client left) (waits_count asked.client (lock_at s.locks instance)) (waits_in asked.client s.locks) (sum_gone asked.client s.locks instance) (none_else call) in
+      told_kept cell after (replies_to s (results.Refused faults.StaleInstance) waiters) (recorded gone asked.client kept)
+      (replies_are_to (λ q. outstanding (recorded gone asked.client kept) q ≡ 0) s (results.Refused faults.StaleInstance) waiters (none_waits cell rows s k front back (tasks.Asked asked) turn instance waiters fits.all))
+      (recorded_kept cell after gone asked.client kept own (gone_kept cell rows t beside change instance fits.name fits.node fits.is fits.found fits.of_node fits.fits))
 
   -- the lock is held by the caller
-  pub locked_turn : (put : LockPut) (answer : CallResult) → is_call task.work ≡ true → TakesFit rows s put → IsKept cell (changed_rows rows (relocking s (put ∷ []))) (ended (with_locks (rest s front back) (put ∷ [])) task None answer)
+  pub locked_turn : (put : LockPut) (answer : CallResult) → is_call asked.work ≡ true → TakesFit rows s put → IsKept cell (changed_rows rows (relocking s (put ∷ []))) (ended (with_locks (rest s front back) (put ∷ [])) asked None answer)
   locked_turn put answer call fits =
       let after : Rows = changed_rows rows (relocking s (put ∷ [])) in
-      let kept : Kept Reply = answered_by (reply_of t task.client task.number answer) in
+      let kept : Kept Reply = answered_by (reply_of t asked.client asked.number answer) in
       let less : (q : ℕ) → waits_count q put.lock ≤ waits_count q (lock_at s.locks put.instance) = λ q. same_less (waits_count q put.lock) (waits_count q (lock_at s.locks put.instance)) (ap (claims_count q) fits.same) in
-      recorded_kept cell after (with_locks t (put ∷ [])) task.client kept (none_put (front ++ back) s.locks put.instance put.lock task.client k.locks.in_order (less task.client) (none_else call))
-      (one_relocked cell rows t put rest_kept fits.is_put (one_put (front ++ back) s.locks s.sessions put.instance put.lock k.locks.in_order less rest_kept.one_call))
+      recorded_kept cell after (with_locks t (put ∷ [])) asked.client kept (none_put (front ++ back) s.locks put.instance put.lock asked.client k.locks.in_order (less asked.client) (none_else call))
+      (one_relocked cell rows t put beside fits.is_put (one_put (front ++ back) s.locks s.sessions put.instance put.lock k.locks.in_order less beside.one_call))
 
   -- the caller waits for it
-  pub awaited_turn : (put : LockPut) → is_call task.work ≡ true → WaitsFit rows s task.client put → IsKept cell (changed_rows rows (relocking s (put ∷ []))) (with_locks (rest s front back) (put ∷ []))
+  pub awaited_turn : (put : LockPut) → is_call asked.work ≡ true → WaitsFit rows s asked.client put → IsKept cell (changed_rows rows (relocking s (put ∷ []))) (with_locks (rest s front back) (put ∷ []))
   awaited_turn put call fits =
       let more : (q : ℕ) → waits_count q put.lock ≡ waits_count q (lock_at s.locks put.instance) + call_count q w = λ q.
       ap (claims_count q) fits.more ∙ sum_by_push (claim_count q) (lock_at s.locks put.instance).waiters fits.claim
-      ∙ ap (λ n. waits_count q (lock_at s.locks put.instance) + n) (own_count (is_call task.work) fits.claim.owner.client task.client q call fits.own) in
-      one_relocked cell rows t put rest_kept fits.is_put (one_awaited front w back s.locks s.sessions put.instance put.lock k.locks.in_order more one_before)
+      ∙ ap (λ n. waits_count q (lock_at s.locks put.instance) + n) (own_count (is_call asked.work) fits.claim.owner.client asked.client q call fits.own) in
+      one_relocked cell rows t put beside fits.is_put (one_awaited front w back s.locks s.sessions put.instance put.lock k.locks.in_order more before)
 
   -- the caller leaves it, and others get it
-  pub left_turn : (note : Option Note) (leave : Leave) (answer : CallResult) → is_call task.work ≡ true → LeavesFit rows s leave
-      → IsKept cell (changed_rows rows (relocking s (left_put leave ∷ []))) (told (ended (with_locks (rest s front back) (left_put leave ∷ [])) task note answer) (turn_replies s leave.turn))
+  pub left_turn : (note : Option Note) (leave : Leave) (answer : CallResult) → is_call asked.work ≡ true → LeavesFit rows s leave
+      → IsKept cell (changed_rows rows (relocking s (left_put leave ∷ []))) (told (ended (with_locks (rest s front back) (left_put leave ∷ [])) asked note answer) (turn_replies s leave.turn))
   left_turn note leave answer call fits =
       let after : Rows = changed_rows rows (relocking s (left_put leave ∷ [])) in
-      let kept : Kept Reply = answered_by (reply_of t task.client task.number answer) in
+      let kept : Kept Reply = answered_by (reply_of t asked.client asked.number answer) in
       let relocked : MasterState = with_locks t (left_put leave ∷ []) in
       let waited : (q : ℕ) → told_of q leave.turn + waits_count q leave.turn.lock ≤ waits_count q (lock_at s.locks leave.instance) = λ q.
       let P : ℕ → Type 0 = λ n. n ≤ waits_count q (lock_at s.locks leave.instance) in
       subst P (sym (told_and_waiting q leave.turn)) (fits.waited q) in
       let less : (q : ℕ) → waits_count q leave.turn.lock ≤ waits_count q (lock_at s.locks leave.instance) = λ q. second (told_of q leave.turn) (waits_count q leave.turn.lock) (waits_count q (lock_at s.locks leave.instance)) (waited q) in
-      let one : HaveOneCall relocked = turn_one (front ++ back) s.locks s.sessions leave.instance leave.turn k.locks.in_order waited rest_kept.one_call in
-      let own : outstanding relocked task.client ≡ 0 = none_put (front ++ back) s.locks leave.instance leave.turn.lock task.client k.locks.in_order (less task.client) (none_else call) in
-      let others : (q : ℕ) → 1 ≤ told_of q leave.turn → outstanding (with_note (recorded relocked task.client kept) note) q ≡ 0 = λ q some.
-      unnoted (λ x. outstanding x q) (λ x n. refl) (recorded relocked task.client kept) note ∙ told_put (front ++ back) s.locks s.sessions leave.instance leave.turn k.locks.in_order waited rest_kept.one_call q some in
-      told_kept cell after (turn_replies s leave.turn) (with_note (recorded relocked task.client kept) note)
-      (turn_replies_are_to (λ q. outstanding (with_note (recorded relocked task.client kept) note) q ≡ 0) s leave.turn others)
-      (note_kept cell after (recorded relocked task.client kept) note
-      (recorded_kept cell after relocked task.client kept own
-      (one_relocked cell rows t (left_put leave) rest_kept fits.is_put one)))
+      let one : HaveOneCall relocked = turn_one (front ++ back) s.locks s.sessions leave.instance leave.turn k.locks.in_order waited beside.one_call in
+      let own : outstanding relocked asked.client ≡ 0 = none_put (front ++ back) s.locks leave.instance leave.turn.lock asked.client k.locks.in_order (less asked.client) (none_else call) in
+      let others : (q : ℕ) → 1 ≤ told_of q leave.turn → outstanding (with_note (recorded relocked asked.client kept) note) q ≡ 0 = λ q some.
+      unnoted (λ x. outstanding x q) (λ x n. refl) (recorded relocked asked.client kept) note ∙ told_put (front ++ back) s.locks s.sessions leave.instance leave.turn k.locks.in_order waited beside.one_call q some in
+      told_kept cell after (turn_replies s leave.turn) (with_note (recorded relocked asked.client kept) note)
+      (turn_replies_are_to (λ q. outstanding (with_note (recorded relocked asked.client kept) note) q ≡ 0) s leave.turn others)
+      (note_kept cell after (recorded relocked asked.client kept) note
+      (recorded_kept cell after relocked asked.client kept own
+      (one_relocked cell rows t (left_put leave) beside fits.is_put one)))
     where
       second : (a b c : ℕ) → a + b ≤ c → b ≤ c
       second a b c h = omega (arith, h)

@@ -26,7 +26,7 @@ use Rattle.session_core.proofs.RowsOfSessions.{rows_of}
 use Rattle.cell_core.specs.declared.pending.Task.{Task}
 use Rattle.cell_core.specs.Locks.{locks_of}
 use Rattle.cell_core.specs.State.{MasterState, taken_over, sessions_of, row_of, master_of}
-use Rattle.over_core.specs.Kept.{IsKept, IsOwnCall, names_touched, waits_count, unanswered}
+use Rattle.over_core.specs.Kept.{IsKept, IsOwnTask, names_touched_by, waits_count, unanswered}
 use Rattle.over_core.specs.Up.{up_edits}
 use Rattle.over_core.proofs.LocksRebuilt.{nobody_outstanding, locks_rebuilt}
 
@@ -78,8 +78,8 @@ up_kept cell rows lease now h sessions locks names = record {
   issued = λ client session found. none_counted (λ x. x.invalidations.issued) now (λ e. refl) rows.sessions client session found;
   owned = λ client none. refl;
   orderly = record { rising = omega arith; counted = omega arith; few = omega arith };
-  touching = All-nil (λ (w : Waiting Task). w.change.touched ≡ names_touched rows.secret w.change.body.work);
-  own = All-nil (λ (w : Waiting Task). IsOwnCall rows.secret w.change.body.client w.change.body.work);
+  touching = All-nil (λ (w : Waiting Task). w.change.touched ≡ names_touched_by rows.secret w.change.body);
+  own = All-nil (λ (w : Waiting Task). IsOwnTask rows.secret w.change.body);
 }
 
 -- the same of a store that was read and then commits the epoch

@@ -21,8 +21,10 @@ use Rattle.session_core.specs.Sessions.{SessionTable, session_of, kept_of, is_li
 use Rattle.session_core.proofs.OneClient.{kept_session, other_session}
 use Rattle.lock_core.specs.State.{LockState, lock_of}
 use Rattle.lock_core.specs.Locks.{LockTable, lock_at, with_lock}
+use Rattle.cell_core.specs.declared.pending.Asked.{Asked}
 use Rattle.cell_core.specs.declared.pending.Task.{Task}
-use Rattle.over_core.specs.Kept.{is_call, call_count, waits_count, is_unanswered, unanswered}
+use Rattle.cell_core.specs.declared.pending.Task.TheVariants as tasks
+use Rattle.over_core.specs.Kept.{is_call, is_call_by, call_count, waits_count, is_unanswered, unanswered}
 use Rattle.over_core.proofs.SessionReads.{keeps_in}
 
 -- how many calls of a client wait
@@ -90,11 +92,15 @@ plus_none a b c d e h k l = omega (arith, h, k, l)
 plus_one : (a b c d e : ℕ) → a ≡ b + c → c ≤ 1 → b + d ≡ 0 → e ≡ 1 → a + d ≤ e
 plus_one a b c d e h k l m = omega (arith, h, k, l, m)
 
--- a Start that waits
-pub one_started : (waiting : List (Waiting Task)) (locks : LockTable) (sessions : SessionTable Reply) (w : Waiting Task) → is_call w.change.body.work ≡ false → AreOne waiting locks sessions → AreOne (waiting ++ w ∷ []) locks sessions
+-- what a client asked for, where it waits
+abbrev pub asked_waiting : ℕ → List (List ℕ) → Asked → Waiting Task
+asked_waiting number touched asked = record { number = number; change = record { touched = touched; body = tasks.Asked asked } }
+
+-- a change that waits and is no call
+pub one_started : (waiting : List (Waiting Task)) (locks : LockTable) (sessions : SessionTable Reply) (w : Waiting Task) → ((q : ℕ) → is_call_by q w.change.body ≡ false) → AreOne waiting locks sessions → AreOne (waiting ++ w ∷ []) locks sessions
 one_started waiting locks sessions w none h q =
     plus_none (sum_by (call_count q) (waiting ++ w ∷ [])) (sum_by (call_count q) waiting) (call_count q w) (sum_by (waits_count q) (values_of locks)) (unanswered (kept_of sessions q))
-    (sum_by_push (call_count q) waiting w) (rw none refl) (h q)
+    (sum_by_push (call_count q) waiting w) (ap one_if (none q)) (h q)
 
 there : (sessions : SessionTable Reply) (client : ℕ) → is_live sessions client ≡ true → is_some (session_of sessions client) ≡ true
 there sessions client live =
@@ -107,9 +113,10 @@ unreplied : (kept : Kept Reply) → kept.reply ≡ None → unanswered (Some kep
 unreplied kept h = rw h refl
 
 -- a call that waits, of a client of which none waited
-pub one_called : (waiting : List (Waiting Task)) (locks : LockTable) (sessions : SessionTable Reply) (client : ℕ) (kept : Kept Reply) (w : Waiting Task) → w.change.body.client ≡ client → kept.reply ≡ None → is_live sessions client ≡ true → count_in waiting locks client ≡ 0
-    → AreOne waiting locks sessions → AreOne (waiting ++ w ∷ []) locks (with_session sessions client (keeping kept))
-one_called waiting locks sessions client kept w own pending live none h q =
+pub one_called : (waiting : List (Waiting Task)) (locks : LockTable) (sessions : SessionTable Reply) (client : ℕ) (kept : Kept Reply) (number : ℕ) (touched : List (List ℕ)) (asked : Asked) → asked.client ≡ client → kept.reply ≡ None → is_live sessions client ≡ true → count_in waiting locks client ≡ 0
+    → AreOne waiting locks sessions → AreOne (waiting ++ asked_waiting number touched asked ∷ []) locks (with_session sessions client (keeping kept))
+one_called waiting locks sessions client kept number touched asked own pending live none h q =
+    let w : Waiting Task = asked_waiting number touched asked in
     let after : SessionTable Reply = with_session sessions client (keeping kept) in
     let locked : ℕ = sum_by (waits_count q) (values_of locks) in
     (elim (client == q) as (λ b. (client == q) ≡ b → sum_by (call_count q) (waiting ++ w ∷ []) + locked ≤ unanswered (kept_of after q)) [
@@ -117,11 +124,11 @@ one_called waiting locks sessions client kept w own pending live none h q =
           let is : client ≡ q = same_client client q c in
           let own_kept : kept_of after q ≡ Some kept = ap (λ n. kept_of after n) (sym is) ∙ kept_session sessions client kept (there sessions client live) in
           plus_one (sum_by (call_count q) (waiting ++ w ∷ [])) (sum_by (call_count q) waiting) (call_count q w) locked (unanswered (kept_of after q))
-          (sum_by_push (call_count q) waiting w) (at_most_one (is_call w.change.body.work && w.change.body.client == q)) (ap (count_in waiting locks) (sym is) ∙ none) (ap unanswered own_kept ∙ unreplied kept pending))
+          (sum_by_push (call_count q) waiting w) (at_most_one (is_call asked.work && asked.client == q)) (ap (count_in waiting locks) (sym is) ∙ none) (ap unanswered own_kept ∙ unreplied kept pending))
       | false ↦ (λ c.
-          let apart : (w.change.body.client == q) ≡ false = ap (λ n. n == q) own ∙ c in
+          let apart : (asked.client == q) ≡ false = ap (λ n. n == q) own ∙ c in
           plus_none (sum_by (call_count q) (waiting ++ w ∷ [])) (sum_by (call_count q) waiting) (call_count q w) locked (unanswered (kept_of after q))
-          (sum_by_push (call_count q) waiting w) (not_counted (is_call w.change.body.work) (w.change.body.client == q) apart)
+          (sum_by_push (call_count q) waiting w) (not_counted (is_call asked.work) (asked.client == q) apart)
           (one_recorded waiting locks sessions client kept none h q))
     ]) refl
 
@@ -150,11 +157,13 @@ own_call : (work : Bool) (client : ℕ) → work ≡ true → one_if (work && cl
 own_call work client h = rw (h, one_itself client) refl
 
 -- a call that has left the gate: no other of its client waits
-pub none_beside : (front : List (Waiting Task)) (w : Waiting Task) (back : List (Waiting Task)) (locks : LockTable) (sessions : SessionTable Reply) → is_call w.change.body.work ≡ true → AreOne (front ++ w ∷ back) locks sessions → count_in (front ++ back) locks w.change.body.client ≡ 0
-none_beside front w back locks sessions call h =
-    let q : ℕ = w.change.body.client in
+pub none_beside : (front : List (Waiting Task)) (number : ℕ) (touched : List (List ℕ)) (asked : Asked) (back : List (Waiting Task)) (locks : LockTable) (sessions : SessionTable Reply) → is_call asked.work ≡ true → AreOne (front ++ asked_waiting number touched asked ∷ back) locks sessions
+    → count_in (front ++ back) locks asked.client ≡ 0
+none_beside front number touched asked back locks sessions call h =
+    let w : Waiting Task = asked_waiting number touched asked in
+    let q : ℕ = asked.client in
     none_left (sum_by (call_count q) (front ++ w ∷ back)) (sum_by (call_count q) (front ++ back)) (call_count q w) (sum_by (waits_count q) (values_of locks)) (unanswered (kept_of sessions q))
-    (gate_less q front w back) (own_call (is_call w.change.body.work) q call) (at_most_one (is_unanswered (kept_of sessions q))) (h q)
+    (gate_less q front w back) (own_call (is_call asked.work) q call) (at_most_one (is_unanswered (kept_of sessions q))) (h q)
 
 -- ---- locks
 

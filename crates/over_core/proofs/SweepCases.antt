@@ -32,14 +32,18 @@ use Rattle.lock_core.specs.Locks.{lock_at, due}
 use Rattle.cell_core.specs.declared.deeds.LockPut.{LockPut}
 use Rattle.cell_core.specs.declared.deeds.SessionDeed.TheVariants.{Answers}
 use Rattle.cell_core.specs.declared.handles.Note.{Note}
+use Rattle.cell_core.specs.declared.pending.Asked.{Asked}
+use Rattle.cell_core.specs.declared.pending.Idle.{Idle}
 use Rattle.cell_core.specs.declared.pending.Task.{Task}
+use Rattle.cell_core.specs.declared.pending.Task.TheVariants as tasks
 use Rattle.cell_core.specs.declared.pending.Work.{Work}
 use Rattle.cell_core.specs.declared.pending.Work.TheVariants as works
 use Rattle.cell_core.specs.State.{MasterState, next_change, task_at}
 use Rattle.cell_core.specs.Step.{session_of, is_live, may_start, turned_away, noted}
 use Rattle.cell_core.specs.Deeds.{edits_of}
+use Rattle.cell_core.specs.Ephemerals.{next_idle, is_still_idle}
 use Rattle.cell_core.specs.declared.notices.Telling.{Telling}
-use Rattle.over_core.specs.Effect.{effect}
+use Rattle.over_core.specs.Effect.{effect, gone_by_itself}
 use Rattle.over_core.specs.Notices.{tellings_of}
 use Rattle.over_core.specs.declared.effects.Effect.{Effect}
 use Rattle.over_core.specs.declared.effects.Leave.{Leave}
@@ -47,9 +51,9 @@ use Rattle.over_core.specs.declared.actions.Action.{Action}
 use Rattle.over_core.specs.declared.actions.Action.TheVariants as actions
 use Rattle.over_core.specs.declared.plans.Plan.{Plan}
 use Rattle.over_core.specs.declared.sweeps.Swept.{Swept}
-use Rattle.over_core.specs.Sweep.{no_deed, no_plan, session_plan, alive_out, leaving, plan_session, plan_start, plan_effect, plan_asked, plan_call, plan_of, plan_work, left_put, puts_of, lapses_of, expiry_plan, answer_or_quiet, reopen_or_later, apply_or_later, first_action, swept_by_plan, acted, telling, swept, action_edits, is_over, sweep_edits, sweep_step}
+use Rattle.over_core.specs.Sweep.{no_deed, no_plan, session_plan, alive_out, leaving, plan_session, plan_start, plan_effect, plan_asked, plan_call, plan_of, plan_work, plan_task, left_put, puts_of, lapses_of, expiry_plan, answer_or_quiet, tidy_or_later, reopen_or_later, apply_or_later, first_action, swept_by_plan, acted, telling, swept, action_edits, is_over, sweep_edits, sweep_step}
 use Rattle.over_core.specs.SweepCase.{IsTurn, IsDueToEnd, IsDue, SweepCase, swept_by, relocking, swept_edits}
-use Rattle.over_core.specs.SweepCase.SweepCase.{Quiet, Recovers, Expires, AnswersBeat, TurnedAway, StartedAgain, Started, Reopens, OfEnded, Ended, Applied, Deleted, Locked, Awaited, Left}
+use Rattle.over_core.specs.SweepCase.SweepCase.{Quiet, Recovers, Expires, AnswersBeat, TurnedAway, StartedAgain, Started, Reopens, Tidies, Spared, Tidied, OfEnded, Ended, Applied, Deleted, Locked, Awaited, Left}
 use Rattle.over_core.proofs.EffectShapes.{Shape, effect_by, shape_of}
 use Rattle.over_core.proofs.EffectShapes.Shape.{Ends, Applies, Deletes, Locks, Awaits, Leaves}
 
@@ -122,8 +126,9 @@ numbered low high (v ∷ vs) w back r =
     (rw e t.0, rw e (ap (λ ws. v ∷ ws) t.1))
 
 module _ (s : MasterState) (front : List (Waiting Task)) (w : Waiting Task) (back : List (Waiting Task)) (stands : s.gate.waiting ≡ front ++ w ∷ back) (free : is_free s.rights w ≡ true) (orderly : IsOrderly s.gate) where
-  turn : IsTurn s front w.change.body back
-  turn = record { number = w.number; touched = w.change.touched; waited = stands; free = free }
+  turn_of : (task : Task) → w.change.body ≡ task → IsTurn s front task back
+  turn_of task body =
+      let P : Task → Type 0 = λ t. IsTurn s front t back in subst P body (record { number = w.number; touched = w.change.touched; waited = stands; free = free })
 
   rising : AreRising 0 (front ++ w ∷ back) s.gate.pushed
   rising = let P : List (Waiting Task) → Type 0 = λ ws. AreRising 0 ws s.gate.pushed in subst P stands orderly.rising
@@ -131,54 +136,70 @@ module _ (s : MasterState) (front : List (Waiting Task)) (w : Waiting Task) (bac
   left_behind : without w.number s.gate.waiting ≡ front ++ back
   left_behind = ap (without w.number) stands ∙ (numbered 0 s.gate.pushed front w back rising).1
 
-  again_case : (principal : List ℕ) (received : ℕ) → w.change.body.work ≡ works.Starts principal received → is_live s w.change.body.client ≡ true → IsPlan s w.number (plan_session s w.change.body.client w.change.body.number principal received)
+  found : task_at w.number s.gate.waiting ≡ Some w.change.body
+  found = ap (task_at w.number) stands ∙ (numbered 0 s.gate.pushed front w back rising).0
+
+  spared_case : (idle : Idle) → w.change.body ≡ tasks.Tidies idle → is_still_idle s idle ≡ false → IsPlan s w.number no_plan
+  spared_case idle body held = (Spared front back idle (turn_of (tasks.Tidies idle) body) held, rw left_behind refl, refl)
+
+  tidied_case : (idle : Idle) → w.change.body ≡ tasks.Tidies idle → is_still_idle s idle ≡ true → IsPlan s w.number (plan_effect s 0 0 (gone_by_itself s idle))
+  tidied_case idle body still = (Tidied front back idle (turn_of (tasks.Tidies idle) body) still, rw left_behind refl, refl)
+
+module _ (s : MasterState) (front : List (Waiting Task)) (w : Waiting Task) (back : List (Waiting Task)) (stands : s.gate.waiting ≡ front ++ w ∷ back) (free : is_free s.rights w ≡ true) (orderly : IsOrderly s.gate) (asked : Asked) (body : w.change.body ≡ tasks.Asked asked) where
+  turn : IsTurn s front (tasks.Asked asked) back
+  turn = turn_of s front w back stands free orderly (tasks.Asked asked) body
+
+  behind : without w.number s.gate.waiting ≡ front ++ back
+  behind = left_behind s front w back stands free orderly
+
+  again_case : (principal : List ℕ) (received : ℕ) → asked.work ≡ works.Starts principal received → is_live s asked.client ≡ true → IsPlan s w.number (plan_session s asked.client asked.number principal received)
   again_case principal received work live =
-      let t = some_passes (λ session. session.live) (session_of s w.change.body.client) live in
-      rw live (StartedAgain front back w.change.body principal received t.0 turn work t.1 t.2, rw left_behind refl, refl)
+      let t = some_passes (λ session. session.live) (session_of s asked.client) live in
+      rw live (StartedAgain front back asked principal received t.0 turn work t.1 t.2, rw behind refl, refl)
 
-  fresh_case : (principal : List ℕ) (received : ℕ) → w.change.body.work ≡ works.Starts principal received → may_start s w.change.body.client principal ≡ true → is_live s w.change.body.client ≡ false → IsPlan s w.number (plan_session s w.change.body.client w.change.body.number principal received)
+  fresh_case : (principal : List ℕ) (received : ℕ) → asked.work ≡ works.Starts principal received → may_start s asked.client principal ≡ true → is_live s asked.client ≡ false → IsPlan s w.number (plan_session s asked.client asked.number principal received)
   fresh_case principal received work may live =
-      let none = no_session principal (session_of s w.change.body.client) may live in
-      rw live (Started front back w.change.body principal received turn work none, rw left_behind refl, refl)
+      let none = no_session principal (session_of s asked.client) may live in
+      rw live (Started front back asked principal received turn work none, rw behind refl, refl)
 
-  start_case : (principal : List ℕ) (received : ℕ) → w.change.body.work ≡ works.Starts principal received → IsPlan s w.number (plan_start s w.change.body.client w.change.body.number principal received)
+  start_case : (principal : List ℕ) (received : ℕ) → asked.work ≡ works.Starts principal received → IsPlan s w.number (plan_start s asked.client asked.number principal received)
   start_case principal received work =
-      let client = w.change.body.client in
-      let number = w.change.body.number in
+      let client = asked.client in
+      let number = asked.number in
       let away : Plan = record { deed = no_deed; taken = turned_away s client number faults.NoSession; contested = None } in
       either s w.number (may_start s client principal) (plan_session s client number principal received) away
       (λ may. (elim (is_live s client) as (λ b. is_live s client ≡ b → IsPlan s w.number (plan_session s client number principal received)) [ true ↦ again_case principal received work | false ↦ fresh_case principal received work may ]) refl)
-      (λ may. (TurnedAway front back w.change.body principal received turn work may, rw left_behind refl, refl))
+      (λ may. (TurnedAway front back asked principal received turn work may, rw behind refl, refl))
 
   -- what the plan for a call of this shape does
   abbrev IsDoneBy : Call → Option (List ℕ) → Shape → Type 0
   IsDoneBy call sequencer shape =
-      w.change.body.work ≡ works.Calls call sequencer → is_live s w.change.body.client ≡ true → effect s w.change.body.client w.change.body.number call sequencer ≡ effect_by shape
-      → IsPlan s w.number (plan_effect s w.change.body.client w.change.body.number (effect_by shape))
+      asked.work ≡ works.Calls call sequencer → is_live s asked.client ≡ true → effect s asked.client asked.number call sequencer ≡ effect_by shape
+      → IsPlan s w.number (plan_effect s asked.client asked.number (effect_by shape))
 
   ended_case : (call : Call) (sequencer : Option (List ℕ)) (note : Option Note) (answer : CallResult) → IsDoneBy call sequencer (Ends note answer)
-  ended_case call sequencer None answer work live made = (Ended front back w.change.body call sequencer None answer turn work live made, rw left_behind refl, refl)
-  ended_case call sequencer (Some note) answer work live made = (Ended front back w.change.body call sequencer (Some note) answer turn work live made, rw left_behind refl, refl)
+  ended_case call sequencer None answer work live made = (Ended front back asked call sequencer None answer turn work live made, rw behind refl, refl)
+  ended_case call sequencer (Some note) answer work live made = (Ended front back asked call sequencer (Some note) answer turn work live made, rw behind refl, refl)
 
   applied_case : (call : Call) (sequencer : Option (List ℕ)) (note : Option Note) (change : Mod) (next : ℕ) (answer : CallResult) → IsDoneBy call sequencer (Applies note (record { change = change; next_instance = next }) answer)
-  applied_case call sequencer None (Put name view) next answer work live made = (Applied front back w.change.body call sequencer None (record { change = Put name view; next_instance = next }) answer turn work live made, rw left_behind refl, refl)
-  applied_case call sequencer None (Gone name) next answer work live made = (Applied front back w.change.body call sequencer None (record { change = Gone name; next_instance = next }) answer turn work live made, rw left_behind refl, refl)
-  applied_case call sequencer (Some note) (Put name view) next answer work live made = (Applied front back w.change.body call sequencer (Some note) (record { change = Put name view; next_instance = next }) answer turn work live made, rw left_behind refl, refl)
-  applied_case call sequencer (Some note) (Gone name) next answer work live made = (Applied front back w.change.body call sequencer (Some note) (record { change = Gone name; next_instance = next }) answer turn work live made, rw left_behind refl, refl)
+  applied_case call sequencer None (Put name view) next answer work live made = (Applied front back asked call sequencer None (record { change = Put name view; next_instance = next }) answer turn work live made, rw behind refl, refl)
+  applied_case call sequencer None (Gone name) next answer work live made = (Applied front back asked call sequencer None (record { change = Gone name; next_instance = next }) answer turn work live made, rw behind refl, refl)
+  applied_case call sequencer (Some note) (Put name view) next answer work live made = (Applied front back asked call sequencer (Some note) (record { change = Put name view; next_instance = next }) answer turn work live made, rw behind refl, refl)
+  applied_case call sequencer (Some note) (Gone name) next answer work live made = (Applied front back asked call sequencer (Some note) (record { change = Gone name; next_instance = next }) answer turn work live made, rw behind refl, refl)
 
   deleted_case : (call : Call) (sequencer : Option (List ℕ)) (change : Mod) (next instance : ℕ) (waiters : List Claim) (answer : CallResult) → IsDoneBy call sequencer (Deletes (record { change = change; next_instance = next }) instance waiters answer)
-  deleted_case call sequencer (Put name view) next instance waiters answer work live made = (Deleted front back w.change.body call sequencer (record { change = Put name view; next_instance = next }) instance waiters answer turn work live made, rw left_behind refl, refl)
-  deleted_case call sequencer (Gone name) next instance waiters answer work live made = (Deleted front back w.change.body call sequencer (record { change = Gone name; next_instance = next }) instance waiters answer turn work live made, rw left_behind refl, refl)
+  deleted_case call sequencer (Put name view) next instance waiters answer work live made = (Deleted front back asked call sequencer (record { change = Put name view; next_instance = next }) instance waiters answer turn work live made, rw behind refl, refl)
+  deleted_case call sequencer (Gone name) next instance waiters answer work live made = (Deleted front back asked call sequencer (record { change = Gone name; next_instance = next }) instance waiters answer turn work live made, rw behind refl, refl)
 
   locked_case : (call : Call) (sequencer : Option (List ℕ)) (put : LockPut) (claim : Claim) (answer : CallResult) → IsDoneBy call sequencer (Locks put claim answer)
-  locked_case call sequencer put claim answer work live made = (Locked front back w.change.body call sequencer put claim answer turn work live made, rw left_behind refl, bare (relocking s (put ∷ [])))
+  locked_case call sequencer put claim answer work live made = (Locked front back asked call sequencer put claim answer turn work live made, rw behind refl, bare (relocking s (put ∷ [])))
 
   awaited_case : (call : Call) (sequencer : Option (List ℕ)) (put : LockPut) → IsDoneBy call sequencer (Awaits put)
-  awaited_case call sequencer put work live made = (Awaited front back w.change.body call sequencer put turn work live made, rw left_behind refl, bare (relocking s (put ∷ [])))
+  awaited_case call sequencer put work live made = (Awaited front back asked call sequencer put turn work live made, rw behind refl, bare (relocking s (put ∷ [])))
 
   left_case : (call : Call) (sequencer : Option (List ℕ)) (note : Option Note) (leave : Leave) (answer : CallResult) → IsDoneBy call sequencer (Leaves note leave answer)
-  left_case call sequencer None leave answer work live made = (Left front back w.change.body call sequencer None leave answer turn work live made, rw left_behind refl, bare (relocking s (left_put leave ∷ [])))
-  left_case call sequencer (Some note) leave answer work live made = (Left front back w.change.body call sequencer (Some note) leave answer turn work live made, rw left_behind refl, bare (relocking s (left_put leave ∷ [])))
+  left_case call sequencer None leave answer work live made = (Left front back asked call sequencer None leave answer turn work live made, rw behind refl, bare (relocking s (left_put leave ∷ [])))
+  left_case call sequencer (Some note) leave answer work live made = (Left front back asked call sequencer (Some note) leave answer turn work live made, rw behind refl, bare (relocking s (left_put leave ∷ [])))
 
   shape_case : (call : Call) (sequencer : Option (List ℕ)) (shape : Shape) → IsDoneBy call sequencer shape
   shape_case call sequencer (Ends note answer) = ended_case call sequencer note answer
@@ -188,31 +209,35 @@ module _ (s : MasterState) (front : List (Waiting Task)) (w : Waiting Task) (bac
   shape_case call sequencer (Awaits put) = awaited_case call sequencer put
   shape_case call sequencer (Leaves note leave answer) = left_case call sequencer note leave answer
 
-  effect_case : (call : Call) (sequencer : Option (List ℕ)) → w.change.body.work ≡ works.Calls call sequencer → is_live s w.change.body.client ≡ true → IsPlan s w.number (plan_effect s w.change.body.client w.change.body.number (effect s w.change.body.client w.change.body.number call sequencer))
+  effect_case : (call : Call) (sequencer : Option (List ℕ)) → asked.work ≡ works.Calls call sequencer → is_live s asked.client ≡ true → IsPlan s w.number (plan_effect s asked.client asked.number (effect s asked.client asked.number call sequencer))
   effect_case call sequencer work live =
-      let t = shape_of s w.change.body.client w.change.body.number call sequencer in
-      let P : Effect → Type 0 = λ effected. IsPlan s w.number (plan_effect s w.change.body.client w.change.body.number effected) in
+      let t = shape_of s asked.client asked.number call sequencer in
+      let P : Effect → Type 0 = λ effected. IsPlan s w.number (plan_effect s asked.client asked.number effected) in
       subst P (sym t.1) (shape_case call sequencer t.0 work live t.1)
 
-  call_case : (call : Call) (sequencer : Option (List ℕ)) → w.change.body.work ≡ works.Calls call sequencer → IsPlan s w.number (plan_call s w.change.body.client w.change.body.number call sequencer)
+  call_case : (call : Call) (sequencer : Option (List ℕ)) → asked.work ≡ works.Calls call sequencer → IsPlan s w.number (plan_call s asked.client asked.number call sequencer)
   call_case call sequencer work =
-      let client = w.change.body.client in
-      either s w.number (is_live s client) (plan_asked s client w.change.body.number call (effect s client w.change.body.number call sequencer)) no_plan (effect_case call sequencer work)
-      (λ gone. (OfEnded front back w.change.body call sequencer turn work gone, rw left_behind refl, refl))
+      let client = asked.client in
+      either s w.number (is_live s client) (plan_asked s client asked.number call (effect s client asked.number call sequencer)) no_plan (effect_case call sequencer work)
+      (λ gone. (OfEnded front back asked call sequencer turn work gone, rw behind refl, refl))
 
-  work_case : (work : Work) → w.change.body.work ≡ work → IsPlan s w.number (plan_work s w.change.body.client w.change.body.number work)
+  work_case : (work : Work) → asked.work ≡ work → IsPlan s w.number (plan_work s asked.client asked.number work)
   work_case (works.Starts principal received) work = start_case principal received work
   work_case (works.Calls call sequencer) work = call_case call sequencer work
 
-  found : task_at w.number s.gate.waiting ≡ Some w.change.body
-  found = ap (task_at w.number) stands ∙ (numbered 0 s.gate.pushed front w back rising).0
+module _ (s : MasterState) (front : List (Waiting Task)) (w : Waiting Task) (back : List (Waiting Task)) (stands : s.gate.waiting ≡ front ++ w ∷ back) (free : is_free s.rights w ≡ true) (orderly : IsOrderly s.gate) where
+  task_case : (task : Task) → w.change.body ≡ task → IsPlan s w.number (plan_task s task)
+  task_case (tasks.Asked asked) body = work_case s front w back stands free orderly asked body asked.work refl
+  task_case (tasks.Tidies idle) body =
+      either s w.number (is_still_idle s idle) (plan_effect s 0 0 (gone_by_itself s idle)) no_plan (tidied_case s front w back stands free orderly idle body)
+      (spared_case s front w back stands free orderly idle body)
 
   apply_case : IsSwept s (acted s (actions.Apply w.number)) (action_edits s (actions.Apply w.number))
   apply_case =
       let P : Option Task → Type 0 = λ o.
-      let plan = option_map_or (λ (task : Task). leaving w.number (plan_work s task.client task.number task.work)) o no_plan in
+      let plan = option_map_or (λ (task : Task). leaving w.number (plan_task s task)) o no_plan in
       IsSwept s (swept_by_plan s plan false) (edits_of s plan.deed) in
-      subst P (sym found) (work_case w.change.body.work refl)
+      subst P (sym (found s front w back stands free orderly)) (task_case w.change.body refl)
 
 -- ---- what becomes of one session
 
@@ -273,12 +298,16 @@ module _ (s : MasterState) (order : HasSessionsInOrder s) (orderly : IsOrderly s
 
   -- ---- the first action that there is
 
-  late_case : (o : Option ℕ) → lowest s.sessions (is_client_due s.sessions.lease s.clock) ≡ o → due s.locks s.clock ≡ None → next_change s ≡ None → lowest s.sessions (is_client_expired s.clock) ≡ None → (s.recovering && all_heard s.sessions) ≡ false → IsDone s (option_map_or actions.Answer o actions.Quiet)
-  late_case None parked closed none live going = (Quiet (rw (going, live, none, closed, parked) refl), refl, refl)
-  late_case (Some client) parked closed none live going = answer_case client parked
+  late_case : (o : Option ℕ) → lowest s.sessions (is_client_due s.sessions.lease s.clock) ≡ o → next_idle s ≡ None → due s.locks s.clock ≡ None → next_change s ≡ None → lowest s.sessions (is_client_expired s.clock) ≡ None → (s.recovering && all_heard s.sessions) ≡ false → IsDone s (option_map_or actions.Answer o actions.Quiet)
+  late_case None parked kept closed none live going = (Quiet (rw (going, live, none, closed, kept, parked) refl), refl, refl)
+  late_case (Some client) parked kept closed none live going = answer_case client parked
 
-  closed_case : (o : Option ℕ) → due s.locks s.clock ≡ o → next_change s ≡ None → lowest s.sessions (is_client_expired s.clock) ≡ None → (s.recovering && all_heard s.sessions) ≡ false → IsDone s (option_map_or actions.Reopen o (answer_or_quiet s))
-  closed_case None is none live going = late_case (lowest s.sessions (is_client_due s.sessions.lease s.clock)) refl is none live going
+  idle_case : (o : Option Idle) → next_idle s ≡ o → due s.locks s.clock ≡ None → next_change s ≡ None → lowest s.sessions (is_client_expired s.clock) ≡ None → (s.recovering && all_heard s.sessions) ≡ false → IsDone s (option_map_or actions.Tidy o (answer_or_quiet s))
+  idle_case None is closed none live going = late_case (lowest s.sessions (is_client_due s.sessions.lease s.clock)) refl is closed none live going
+  idle_case (Some idle) is closed none live going = (Tidies idle (record { first_idle = is }), refl, refl)
+
+  closed_case : (o : Option ℕ) → due s.locks s.clock ≡ o → next_change s ≡ None → lowest s.sessions (is_client_expired s.clock) ≡ None → (s.recovering && all_heard s.sessions) ≡ false → IsDone s (option_map_or actions.Reopen o (tidy_or_later s))
+  closed_case None is none live going = idle_case (next_idle s) refl is none live going
   closed_case (Some instance) is none live going = reopen_case instance is
 
   waiting_case : (o : Option (Waiting Task)) → find (is_free s.rights) s.gate.waiting ≡ o → lowest s.sessions (is_client_expired s.clock) ≡ None → (s.recovering && all_heard s.sessions) ≡ false → IsDone s (option_map_or actions.Apply (option_map (λ (w : Waiting Task). w.number) o) (reopen_or_later s))

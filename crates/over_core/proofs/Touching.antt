@@ -69,7 +69,7 @@ module _ (s : MasterState) where
   in_touches : (client number : ℕ) (opening : Open) (create : Create) (above : View) (kind : Kind) → Touches (Some opening.name) (create_in s client number opening create above kind)
   in_touches client number opening create above File = tt
   in_touches client number opening create above Directory =
-      let view : View = new_view above s.next_instance create.node (acls_of above create.acls) in
+      let view : View = new_view s.next_instance create.node create.life (acls_of above create.acls) in
       either (Some opening.name) (may s client above rights.Write) (create_permitted s client number opening view) (refused (faults.Denied rights.Write)) (permitted_touches client number opening view) tt
 
   under_touches : (client number : ℕ) (opening : Open) (create : Create) (o : Option View) → Touches (Some opening.name) (create_under s client number opening create o)

@@ -10,7 +10,7 @@ use Rattle.node_core.specs.declared.views.Mod.TheVariants.{Put, Gone}
 use Rattle.node_core.specs.declared.kinds.Kind.{Kind}
 use Rattle.node_core.specs.declared.kinds.Kind.TheVariants as kinds
 use Rattle.node_core.specs.declared.kinds.LockMode.{LockMode}
-use Rattle.node_core.specs.declared.kinds.Life.TheVariants.{Permanent}
+use Rattle.node_core.specs.declared.kinds.Life.{Life}
 use Rattle.node_core.specs.declared.kinds.Right.TheVariants as rights
 use Rattle.node_core.specs.Limits.{number_limit}
 use Rattle.node_core.specs.Nodes.{get_node, has_children}
@@ -29,6 +29,7 @@ use Rattle.tags_cell.specs.declared.outs.CallResult.{CallResult}
 use Rattle.tags_cell.specs.declared.outs.CallResult.TheVariants as results
 use Rattle.over_core.specs.declared.effects.Effect.{Effect}
 use Rattle.cell_core.specs.declared.handles.HandleState.TheVariants as states
+use Rattle.cell_core.specs.declared.pending.Idle.{Idle}
 use Rattle.over_core.specs.declared.effects.Locking.{Locking}
 use Rattle.over_core.specs.declared.effects.Locking.TheVariants.{Nothing, Takes, Waits, Leaves, Goes}
 use Rattle.lock_core.specs.declared.claims.Claim.{Claim}
@@ -36,6 +37,7 @@ use Rattle.lock_core.specs.declared.turns.Turn.{Turn}
 use Rattle.lock_core.specs.declared.turns.Acquired.{Acquired}
 use Rattle.lock_core.specs.declared.turns.Acquired.TheVariants as asked
 use Rattle.lock_core.specs.State.{LockState}
+use Rattle.lock_core.specs.Locks.{lock_at}
 use Rattle.lock_core.specs.Turns.{tried, acquired, released, closed_by}
 use Rattle.cell_core.specs.declared.deeds.LockPut.{LockPut}
 use Rattle.cell_core.specs.Locks.{owner_of, claim_of}
@@ -79,9 +81,9 @@ abbrev pub acls_of : View → Option AclNames → AclNames
 acls_of above (Some acls) = acls
 acls_of above None = record { read = above.read; write = above.write; change = above.change }
 
--- a new permanent node under a directory
-abbrev pub new_view : View → ℕ → NewNode → AclNames → View
-new_view above instance node acls = record {
+-- a new node under a directory
+abbrev pub new_view : ℕ → NewNode → Life → AclNames → View
+new_view instance node life acls = record {
   kind = kind_of node;
   instance = instance;
   content_generation = first_generation node;
@@ -89,7 +91,7 @@ new_view above instance node acls = record {
   read = acls.read;
   write = acls.write;
   change = acls.change;
-  life = Permanent;
+  life = life;
   content = content_of node;
 }
 
@@ -117,7 +119,7 @@ abbrev pub create_in : MasterState → ℕ → ℕ → Open → Create → View 
 create_in s client number opening create above kinds.File = refused (faults.WrongKind kinds.File)
 create_in s client number opening create above kinds.Directory =
     if may s client above rights.Write
-    then create_permitted s client number opening (new_view above s.next_instance create.node (acls_of above create.acls))
+    then create_permitted s client number opening (new_view s.next_instance create.node create.life (acls_of above create.acls))
     else refused (faults.Denied rights.Write)
 
 abbrev pub create_under : MasterState → ℕ → ℕ → Open → Create → Option View → Effect
@@ -260,6 +262,17 @@ change_at s handle _ view = refused faults.BadHandle
 
 abbrev pub change_on : MasterState → Handle → Call → Effect
 change_on s handle call = option_map_or (λ view. change_at s handle call view) (node_of_handle s handle) (refused faults.StaleInstance)
+
+-- ---- by the cell itself
+
+-- an ephemeral node that nobody holds open goes as one that is deleted, and nobody asked for it
+abbrev pub gone_by_itself : MasterState → Idle → Effect
+gone_by_itself s idle = record {
+  note = None;
+  change = Some (record { change = Gone idle.name; next_instance = s.next_instance });
+  locking = Goes idle.instance (lock_at s.locks idle.instance).waiters;
+  answer = None;
+}
 
 -- ---- by the call
 

@@ -1,5 +1,5 @@
 -- A master beside its rows.
-use Rattle.std.specs.Prelude.{◌≡◌, ℕ, ◌+◌, ◌≤◌, ◌==◌, nat_le, Bool, true, false, ◌&&◌, ◌||◌, List, [], All, Option, Some, None, is_none, if◌then◌else◌}
+use Rattle.std.specs.Prelude.{◌≡◌, ℕ, ◌+◌, ◌≤◌, ◌==◌, nat_le, Bool, true, false, ◌&&◌, ◌||◌, List, [], ◌∷◌, All, Option, Some, None, is_none, if◌then◌else◌}
 use Rattle.std.specs.Option.{option_map_or}
 use Rattle.std.specs.List.{list_all, list_any, sum_by}
 use Rattle.std.specs.List.Sorted.{IsStrictlySortedBy}
@@ -19,6 +19,7 @@ use Rattle.rights_core.specs.Rights.{invalidations_of, IsRecorded}
 use Rattle.gate_core.specs.declared.pending.Waiting.{Waiting}
 use Rattle.gate_core.specs.Gate.{IsOrderly}
 use Rattle.cell_core.specs.declared.pending.Task.{Task}
+use Rattle.cell_core.specs.declared.pending.Task.TheVariants as tasks
 use Rattle.cell_core.specs.declared.pending.Work.{Work}
 use Rattle.cell_core.specs.declared.pending.Work.TheVariants as works
 use Rattle.cell_core.specs.Step.{names_of, bytes_of}
@@ -46,9 +47,13 @@ pub record CellState : Type 0 where
   pub master : MasterState
   pub store : Store
 
--- each change that waits is of a client whose number a client can have
+-- a change that a client asked for is of a number that a client can have
+abbrev pub task_fits : Task → Bool
+task_fits (tasks.Asked asked) = is_client_number asked.client
+task_fits (tasks.Tidies idle) = true
+
 abbrev pub waiting_fits : List (Waiting Task) → Bool
-waiting_fits waiting = list_all (λ w. is_client_number w.change.body.client) waiting
+waiting_fits waiting = list_all (λ w. task_fits w.change.body) waiting
 
 -- who acknowledged an event did so by a Beat
 abbrev pub AreByBeats : SessionTable Reply → Type 0
@@ -70,17 +75,25 @@ abbrev pub names_touched : List ℕ → Work → List (List ℕ)
 names_touched secret (works.Starts principal received) = []
 names_touched secret (works.Calls call sequencer) = names_of (name_changed secret call)
 
+abbrev pub names_touched_by : List ℕ → Task → List (List ℕ)
+names_touched_by secret (tasks.Asked asked) = names_touched secret asked.work
+names_touched_by secret (tasks.Tidies idle) = idle.name ∷ []
+
 -- each change that waits touches the name that it may change
 abbrev pub AreTouching : List ℕ → List (Waiting Task) → Type 0
-AreTouching secret waiting = All (λ w. w.change.touched ≡ names_touched secret w.change.body.work) waiting
+AreTouching secret waiting = All (λ w. w.change.touched ≡ names_touched_by secret w.change.body) waiting
 
 -- a call that waits shows a handle of its client
 abbrev pub IsOwnCall : List ℕ → ℕ → Work → Type 0
 IsOwnCall secret client (works.Starts principal received) = Unit {0}
 IsOwnCall secret client (works.Calls call sequencer) = (handle : Handle) → read_handle secret (bytes_of call) ≡ Some handle → handle.client ≡ client
 
+abbrev pub IsOwnTask : List ℕ → Task → Type 0
+IsOwnTask secret (tasks.Asked asked) = IsOwnCall secret asked.client asked.work
+IsOwnTask secret (tasks.Tidies idle) = Unit {0}
+
 abbrev pub AreOwnCalls : List ℕ → List (Waiting Task) → Type 0
-AreOwnCalls secret waiting = All (λ w. IsOwnCall secret w.change.body.client w.change.body.work) waiting
+AreOwnCalls secret waiting = All (λ w. IsOwnTask secret w.change.body) waiting
 
 -- ---- locks
 
@@ -132,9 +145,13 @@ abbrev pub is_call : Work → Bool
 is_call (works.Starts principal received) = false
 is_call (works.Calls call sequencer) = true
 
+abbrev pub is_call_by : ℕ → Task → Bool
+is_call_by client (tasks.Asked asked) = is_call asked.work && asked.client == client
+is_call_by client (tasks.Tidies idle) = false
+
 -- one, where a change that waits in the gate is a call of the client
 abbrev pub call_count : ℕ → Waiting Task → ℕ
-call_count client waiting = if is_call waiting.change.body.work && waiting.change.body.client == client then 1 else 0
+call_count client waiting = if is_call_by client waiting.change.body then 1 else 0
 
 -- one, where it is the client that waits for a lock
 abbrev pub claim_count : ℕ → Claim → ℕ

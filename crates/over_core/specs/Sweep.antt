@@ -36,6 +36,9 @@ use Rattle.over_core.specs.declared.effects.Leave.{Leave}
 use Rattle.over_core.specs.declared.effects.Locking.{Locking}
 use Rattle.over_core.specs.declared.effects.Locking.TheVariants.{Takes, Waits, Leaves, Goes}
 use Rattle.cell_core.specs.declared.deeds.Change.{Change}
+use Rattle.cell_core.specs.declared.pending.Idle.{Idle}
+use Rattle.cell_core.specs.declared.pending.Task.{Task}
+use Rattle.cell_core.specs.declared.pending.Task.TheVariants as tasks
 use Rattle.cell_core.specs.declared.pending.Work.{Work}
 use Rattle.cell_core.specs.declared.pending.Work.TheVariants as works
 use Rattle.cell_core.specs.State.{MasterState, next_change, task_at}
@@ -44,9 +47,10 @@ use Rattle.cell_core.specs.Deeds.{done, edits_of}
 use Rattle.cell_core.specs.declared.notices.Telling.{Telling}
 use Rattle.cell_core.specs.Notices.{with_tellings}
 use Rattle.over_core.specs.Notices.{contested_by, tellings_of}
-use Rattle.over_core.specs.Effect.{effect}
+use Rattle.cell_core.specs.Ephemerals.{next_idle, tidied, is_still_idle}
+use Rattle.over_core.specs.Effect.{effect, gone_by_itself}
 use Rattle.over_core.specs.declared.actions.Action.{Action}
-use Rattle.over_core.specs.declared.actions.Action.TheVariants.{Recover, Expire, Apply, Reopen, Answer, Quiet}
+use Rattle.over_core.specs.declared.actions.Action.TheVariants.{Recover, Expire, Apply, Reopen, Tidy, Answer, Quiet}
 use Rattle.over_core.specs.declared.plans.Plan.{Plan}
 use Rattle.over_core.specs.declared.sweeps.Swept.{Swept}
 
@@ -56,15 +60,20 @@ use Rattle.over_core.specs.declared.sweeps.Swept.{Swept}
 abbrev pub answer_or_quiet : MasterState → Action
 answer_or_quiet s = option_map_or Answer (lowest s.sessions (is_client_due s.sessions.lease s.clock)) Quiet
 
+-- the first ephemeral node, by name, that nobody holds open
+abbrev pub tidy_or_later : MasterState → Action
+tidy_or_later s = option_map_or Tidy (next_idle s) (answer_or_quiet s)
+
 -- the lowest instance whose lock was closed long enough
 abbrev pub reopen_or_later : MasterState → Action
-reopen_or_later s = option_map_or Reopen (due s.locks s.clock) (answer_or_quiet s)
+reopen_or_later s = option_map_or Reopen (due s.locks s.clock) (tidy_or_later s)
 
 -- the lowest change that no right holds up, by its number
 abbrev pub apply_or_later : MasterState → Action
 apply_or_later s = option_map_or Apply (next_change s) (reopen_or_later s)
 
--- a recovery ends, the lowest client's session expires that is due to, a change has its turn, a lock is open again, a Beat is answered, or there is nothing to do
+-- a recovery ends, the lowest client's session expires that is due to, a change has its turn, a lock is open again, the deletion of a node that nobody holds open is queued, a Beat is
+-- answered, or there is nothing to do
 abbrev pub first_action : MasterState → Action
 first_action s =
     if s.recovering && all_heard s.sessions then Recover
@@ -224,6 +233,15 @@ abbrev pub plan_work : MasterState → ℕ → ℕ → Work → Plan
 plan_work s client number (works.Starts principal received) = plan_start s client number principal received
 plan_work s client number (works.Calls call sequencer) = plan_call s client number call sequencer
 
+-- an ephemeral node goes, unless somebody holds it open again
+abbrev pub plan_tidied : MasterState → Idle → Plan
+plan_tidied s idle = if is_still_idle s idle then plan_effect s 0 0 (gone_by_itself s idle) else no_plan
+
+-- what a client asked for, or what the cell does by itself, of client 0 and number 0
+abbrev pub plan_task : MasterState → Task → Plan
+plan_task s (tasks.Asked asked) = plan_work s asked.client asked.number asked.work
+plan_task s (tasks.Tidies idle) = plan_tidied s idle
+
 -- the change of this number leaves the gate
 abbrev pub leaving : ℕ → Plan → Plan
 leaving number plan = record plan { deed = record plan.deed { leaves = Some number } }
@@ -305,8 +323,9 @@ plan_answer s client = option_map_or (λ offer. session_plan (Answers client) []
 abbrev pub plan_of : MasterState → Action → Plan
 plan_of s Recover = record no_plan { deed = record no_deed { recovers = true }; taken = record { lines = lines.Recovered ∷ []; outs = [] } }
 plan_of s (Expire client) = plan_expiry s client
-plan_of s (Apply number) = option_map_or (λ task. leaving number (plan_work s task.client task.number task.work)) (task_at number s.gate.waiting) no_plan
+plan_of s (Apply number) = option_map_or (λ task. leaving number (plan_task s task)) (task_at number s.gate.waiting) no_plan
 plan_of s (Reopen instance) = plan_reopen s instance
+plan_of s (Tidy idle) = no_plan
 plan_of s (Answer client) = plan_answer s client
 plan_of s Quiet = no_plan
 
@@ -320,7 +339,9 @@ is_quiet _ = false
 abbrev pub swept_by_plan : MasterState → Plan → Bool → MasterState × Swept
 swept_by_plan s plan quiet = (done s plan.deed, record { lines = plan.taken.lines; outs = plan.taken.outs; quiet = quiet })
 
+-- what is queued commits nothing yet
 abbrev pub acted : MasterState → Action → MasterState × Swept
+acted s (Tidy idle) = (tidied s idle, record { lines = []; outs = []; quiet = false })
 acted s action = swept_by_plan s (plan_of s action) (is_quiet action)
 
 -- behind all else the clients of open handles are told of it
@@ -329,6 +350,9 @@ telling tellings done = (with_tellings done.0 tellings, done.1)
 
 abbrev pub swept : MasterState → Action → MasterState × Swept
 swept s action = telling (tellings_of s (plan_of s action)) (acted s action)
+
+abbrev pub done_and_told : MasterState → Plan → Bool → MasterState × Swept
+done_and_told s plan quiet = telling (tellings_of s plan) (swept_by_plan s plan quiet)
 
 -- what an action commits
 abbrev pub action_edits : MasterState → Action → List Edit

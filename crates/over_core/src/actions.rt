@@ -1,13 +1,14 @@
 //! What a master does by itself first.
-ghost use Rattle.std.specs.Prelude.{◌≡◌};
-ghost use Rattle.over_core.specs.Sweep.{first_action, apply_or_later, reopen_or_later, answer_or_quiet};
+ghost use Rattle.std.specs.Prelude.{◌≡◌, IfOk};
+ghost use Rattle.over_core.specs.Sweep.{first_action, apply_or_later, reopen_or_later, tidy_or_later, answer_or_quiet};
 
-use cell_core::Cell as Master;
+use cell_core::{Cell as Master, Idle};
+use std::alloc::AllocError;
 use tags_cell::ClientNumber;
 
 /// What a sweep does, one thing at a time, in this order: what is told to clients of their time comes last, so that an
 /// answer never stands before an end or a change that was due.
-#[derive(Clone, Copy, Debug, PartialEq, Eq)]
+#[derive(Debug, Drop)]
 pub enum Action {
     /// The recovery is over: each session of an earlier master has acknowledged the fail-over, or has ended.
     Recover,
@@ -19,6 +20,8 @@ pub enum Action {
     Apply(u64),
     /// The lock of this instance was closed for its delay, and is open again (Burrows 2006, section 2.4).
     Reopen(u64),
+    /// The deletion of this ephemeral node is queued: nobody holds it open (Burrows 2006, section 2.3).
+    Tidy(Idle),
     /// The parked Beat of this client is answered (Burrows 2006, section 2.8: a KeepAlive is held until the lease is
     /// close to its end, or something has to be told).
     Answer(ClientNumber),
@@ -27,35 +30,45 @@ pub enum Action {
 }
 
 // The first that there is.
-pub(crate) fn first_action(master: &Master) -> Action
-    ensures { result ≡ first_action master.now }
+pub(crate) fn first_action(master: &Master) -> Result<Action, AllocError>
+    ensures { IfOk result (λ action. action ≡ first_action master.now) }
 {
     if master.recovering() && master.sessions().all_heard() {
-        return Action::Recover;
+        return Ok(Action::Recover);
     }
     match master.sessions().expired(master.clock()) {
-        Some(client) => Action::Expire(client),
+        Some(client) => Ok(Action::Expire(client)),
         None => apply_or_later(master),
     }
 }
 
 // The lowest change that no right holds up has its turn.
-fn apply_or_later(master: &Master) -> Action
-    ensures { result ≡ apply_or_later master.now }
+fn apply_or_later(master: &Master) -> Result<Action, AllocError>
+    ensures { IfOk result (λ action. action ≡ apply_or_later master.now) }
 {
     match master.next_change() {
-        Some(number) => Action::Apply(number),
+        Some(number) => Ok(Action::Apply(number)),
         None => reopen_or_later(master),
     }
 }
 
 // The lowest instance whose lock was closed long enough.
-fn reopen_or_later(master: &Master) -> Action
-    ensures { result ≡ reopen_or_later master.now }
+fn reopen_or_later(master: &Master) -> Result<Action, AllocError>
+    ensures { IfOk result (λ action. action ≡ reopen_or_later master.now) }
 {
     match master.locks().due(master.clock()) {
-        Some(instance) => Action::Reopen(instance),
-        None => answer_or_quiet(master),
+        Some(instance) => Ok(Action::Reopen(instance)),
+        None => tidy_or_later(master),
+    }
+}
+
+// The first ephemeral node, by name, that nobody holds open.
+fn tidy_or_later(master: &Master) -> Result<Action, AllocError>
+    ensures { IfOk result (λ action. action ≡ tidy_or_later master.now) }
+{
+    match master.next_idle()? {
+        Some(idle) => Ok(Action::Tidy(idle)),
+        None => Ok(answer_or_quiet(master)),
     }
 }
 

@@ -7,7 +7,7 @@ ghost use Rattle.cell_core.specs.Step.{may};
 use crate::effects::{Effect, Locking, opened_effect};
 use cell_core::{Cell as Master, Change};
 use names_cell::Name;
-use node_core::{Fault, Kind, Life, Mod, NUMBER_LIMIT, Right, View};
+use node_core::{Fault, Kind, Mod, NUMBER_LIMIT, Right, View};
 use plain::Bytes;
 use std::alloc::{AllocError, Global};
 use tags_cell::{
@@ -163,9 +163,9 @@ fn made_change(master: &Master, name: Name, view: View) -> Change
     }
 }
 
-// A new permanent node under a directory.
+// A new node under a directory.
 fn new_view(master: &Master, above: &View, create: &Create) -> Result<View, AllocError>
-    ensures { IfOk result (λ view. view ≡ new_view above.now master.now.next_instance create.now.node (acls_of above.now create.now.acls)) }
+    ensures { IfOk result (λ view. view ≡ new_view master.now.next_instance create.now.node create.now.life (acls_of above.now create.now.acls)) }
 {
     let AclNames {
         read,
@@ -180,7 +180,7 @@ fn new_view(master: &Master, above: &View, create: &Create) -> Result<View, Allo
         read,
         write,
         change,
-        life: Life::Permanent,
+        life: create.life,
         content: content_of(master.alloc(), &create.node)?,
     })
 }

@@ -2,11 +2,11 @@
 ghost use Rattle.std.specs.Prelude.{◌≡◌, Some, None, IfOk};
 ghost use Rattle.lock_core.specs.Locks.{lock_at};
 ghost use Rattle.cell_core.specs.Step.{node_of_handle};
-ghost use Rattle.over_core.specs.Effect.{lock_put, lock_taken, lock_awaited, leaving_by, acquire_at, try_at, release_at, close_under, close_at, deleted};
+ghost use Rattle.over_core.specs.Effect.{lock_put, lock_taken, lock_awaited, leaving_by, acquire_at, try_at, release_at, close_under, close_at, deleted, gone_by_itself};
 
 use crate::effects::{Effect, Leave, Locking};
 use cell_core::{
-    Cell as Master, Change, HandleKey, HandleState, LockPut, Note, claim_of, owner_of,
+    Cell as Master, Change, HandleKey, HandleState, Idle, LockPut, Note, claim_of, owner_of,
 };
 use lock_core::{Acquired, Claim, Lock, Turn};
 use node_core::{Fault, LockMode, Mod};
@@ -108,6 +108,23 @@ pub(crate) fn deleted(master: &Master, handle: &Handle) -> Result<Effect, AllocE
         }),
         locking: Locking::Goes(handle.instance.get(), waiters),
         answer: Some(CallResult::Done),
+    })
+}
+
+// An ephemeral node that nobody holds open goes as one that is deleted, and nobody asked for it.
+pub(crate) fn gone_by_itself(master: &Master, idle: &Idle) -> Result<Effect, AllocError>
+    ensures { IfOk result (λ done. done ≡ gone_by_itself master.now idle.now) }
+{
+    let waiters = waiters_of(master, idle.instance)?;
+    let change = Mod::Gone(idle.name.clone()?);
+    Ok(Effect {
+        note: None,
+        change: Some(Change {
+            change,
+            next_instance: master.next_instance(),
+        }),
+        locking: Locking::Goes(idle.instance, waiters),
+        answer: None,
     })
 }
 

@@ -2,14 +2,18 @@
 ghost use Rattle.std.specs.Prelude.{◌≡◌, [], ◌∷◌, ◌++◌, Some, None, map, IfOk};
 ghost use Rattle.node_core.specs.declared.lines.Line.TheVariants as lines;
 ghost use Rattle.over_core.specs.declared.actions.Action.TheVariants as actions;
-ghost use Rattle.over_core.specs.Sweep.{no_deed, started_out, alive_out, applied_lines, plan_session, plan_start, plan_effect, effect_replies, plan_call, plan_asked, plan_work, own_replies, locking_lines, lock_ended, locking_puts, left_put, plan_expiry, invalidation_of, plan_answer, plan_of};
+ghost use Rattle.over_core.specs.Effect.{gone_by_itself};
+ghost use Rattle.over_core.specs.Sweep.{no_deed, started_out, alive_out, applied_lines, plan_session, plan_start, plan_effect, effect_replies, plan_call, plan_asked, plan_work, plan_tidied, plan_task, own_replies, locking_lines, lock_ended, locking_puts, left_put, plan_expiry, invalidation_of, plan_answer, plan_of};
 
 use crate::actions::Action;
 use crate::effects::{Effect, Leave, Locking, effect_of};
 use crate::lapses::{expiry_plan, plan_reopen};
+use crate::locks::gone_by_itself;
 use crate::notices::contested_by;
 use crate::replies::{Told, locking_lines, locking_replies, told_by};
-use cell_core::{Cell as Master, Change, Deed, LockPut, SessionDeed, Taken, Task, Work};
+use cell_core::{
+    Asked, Cell as Master, Change, Deed, Idle, LockPut, SessionDeed, Taken, Task, Work,
+};
 use lock_core::Turn;
 use names_cell::{Name, Principal};
 use node_core::{Fault, Line, Mod};
@@ -83,7 +87,7 @@ pub(crate) fn plan_of(master: &Master, action: &Action) -> Result<Plan, AllocErr
         Action::Apply(number) => plan_apply(master, *number),
         Action::Reopen(instance) => plan_reopen(master, *instance),
         Action::Answer(client) => plan_answer(master, *client),
-        Action::Quiet => Ok(Plan::of(master.alloc(), None, master.nothing())),
+        Action::Tidy(_) | Action::Quiet => Ok(Plan::of(master.alloc(), None, master.nothing())),
     }
 }
 
@@ -130,17 +134,63 @@ fn plan_apply(master: &Master, number: u64) -> Result<Plan, AllocError>
     Ok(plan)
 }
 
+// What a client asked for, or what the cell does by itself.
 fn plan_task(master: &Master, task: &Task) -> Result<Plan, AllocError>
-    ensures { IfOk result (λ plan. plan ≡ plan_work master.now task.now.client task.now.number task.now.work) }
+    ensures { IfOk result (λ plan. plan ≡ plan_task master.now task.now) }
 {
-    let client = task.client;
-    let number = task.number;
-    match &task.work {
+    match task {
+        Task::Asked(asked) => plan_work(master, asked),
+        Task::Tidies(idle) => plan_tidied(master, idle),
+    }
+}
+
+fn plan_work(master: &Master, asked: &Asked) -> Result<Plan, AllocError>
+    ensures { IfOk result (λ plan. plan ≡ plan_work master.now asked.now.client asked.now.number asked.now.work) }
+{
+    let client = asked.client;
+    let number = asked.number;
+    match &asked.work {
         Work::Starts(principal, received) => {
             plan_start(master, client, number, principal, *received)
         }
         Work::Calls(call, sequencer) => plan_call(master, client, number, call, sequencer),
     }
+}
+
+// ---- ephemeral nodes
+
+// An ephemeral node goes, unless somebody holds it open again.
+fn plan_tidied(master: &Master, idle: &Idle) -> Result<Plan, AllocError>
+    ensures { IfOk result (λ plan. plan ≡ plan_tidied master.now idle.now) }
+{
+    if !master.is_still_idle(idle)? {
+        return Ok(Plan::of(master.alloc(), None, master.nothing()));
+    }
+    plan_gone(master, idle)
+}
+
+fn plan_gone(master: &Master, idle: &Idle) -> Result<Plan, AllocError>
+    ensures { IfOk result (λ plan. plan ≡ plan_effect master.now 0 0 (gone_by_itself master.now idle.now)) }
+{
+    let effect = gone_by_itself(master, idle)?;
+    match unasked_told(master, &effect) {
+        Ok(told) => effect_plan(master.alloc(), effect, told),
+        Err(error) => {
+            drop(effect);
+            Err(error)
+        }
+    }
+}
+
+// What is kept, printed and sent where nobody asked: no client has the number 0.
+fn unasked_told(master: &Master, effect: &Effect) -> Result<Told, AllocError>
+    requires { effect.now.answer ≡ None }
+    ensures kept { IfOk result (λ told. told.kept ≡ (plan_effect master.now 0 0 effect.now).deed.kept) }
+    ensures taken { IfOk result (λ told. told.taken ≡ (plan_effect master.now 0 0 effect.now).taken) }
+{
+    let lines = effect_lines(master.alloc(), 0, 0, effect)?;
+    let replies = locking_replies(master, &effect.locking)?;
+    told_by(master.alloc(), lines, replies)
 }
 
 // ---- Starts
@@ -293,7 +343,7 @@ fn effect_told(
     ensures kept { IfOk result (λ told. told.kept ≡ (plan_effect master.now client number effect.now).deed.kept) }
     ensures taken { IfOk result (λ told. told.taken ≡ (plan_effect master.now client number effect.now).taken) }
 {
-    let lines = effect_lines(master.alloc(), client, number, effect)?;
+    let lines = effect_lines(master.alloc(), client.get(), number.get(), effect)?;
     let replies = effect_replies(master, client, number, effect)?;
     told_by(master.alloc(), lines, replies)
 }
@@ -369,17 +419,17 @@ fn own_replies(
     Ok(replies)
 }
 
-// What is printed of a call.
+// What is printed of a change or a lock.
 fn effect_lines(
     alloc: Global,
-    client: ClientNumber,
-    number: MessageNumber,
+    client: u64,
+    number: u64,
     effect: &Effect,
 ) -> Result<Items<Line>, AllocError>
     ensures { IfOk result (λ printed. printed ≡ applied_lines client number effect.now.change ++ locking_lines client effect.now.locking) }
 {
     let mut printed = applied_lines(alloc, client, number, &effect.change)?;
-    printed.append(locking_lines(alloc, client.get(), &effect.locking)?)?;
+    printed.append(locking_lines(alloc, client, &effect.locking)?)?;
     Ok(printed)
 }
 
@@ -430,8 +480,8 @@ fn left_put(leave: Leave) -> LockPut
 // The line of a change of the map, if there is one.
 fn applied_lines(
     alloc: Global,
-    client: ClientNumber,
-    number: MessageNumber,
+    client: u64,
+    number: u64,
     change: &Option<Change>,
 ) -> Result<Items<Line>, AllocError>
     ensures { IfOk result (λ printed. printed ≡ applied_lines client number change.now) }
@@ -439,7 +489,7 @@ fn applied_lines(
     let mut printed = Items::new(alloc);
     if let Some(applied) = change {
         let shown = applied.change.clone()?;
-        printed.push(Line::Applied(client.get(), number.get(), shown))?;
+        printed.push(Line::Applied(client, number, shown))?;
     }
     Ok(printed)
 }

@@ -1,18 +1,20 @@
 //! What a master does by itself.
-ghost use Rattle.std.specs.Prelude.{◌≡◌, ◌⊎◌, ◌≤◌, ◌<◌, ◌+◌, length, true, Ok, Err, IfOk, IfErr, OnOk, OnErr};
+ghost use Rattle.std.specs.Prelude.{◌≡◌, ◌⊎◌, ◌≤◌, ◌<◌, ◌+◌, [], length, true, false, Ok, Err, IfOk, IfErr, OnOk, OnErr};
 ghost use Rattle.std.specs.Vec.{vec_len, vec_capacity};
 ghost use Rattle.rows_cell.specs.Rows.{changed_rows};
 ghost use Rattle.rows_cell.specs.Sound.{sound};
 ghost use Rattle.rows_cell.specs.Stores.{Commits, IsCommitted, IsRefused};
+ghost use Rattle.gate_core.specs.Gate.{push_answer};
 ghost use Rattle.cell_core.specs.Deeds.{BeginsNew, edits_of, done};
+ghost use Rattle.cell_core.specs.Ephemerals.{is_ok, tidied};
 ghost use Rattle.over_core.specs.Notices.{tellings_of};
-ghost use Rattle.over_core.specs.Sweep.{first_action, is_quiet, plan_of, swept, action_edits, is_over, sweep_edits, sweep_step};
+ghost use Rattle.over_core.specs.Sweep.{first_action, is_quiet, plan_of, done_and_told, swept, action_edits, is_over, sweep_edits, sweep_step};
 
 use crate::actions::{Action, first_action};
 use crate::edits::edits_of;
 use crate::notices::tellings_of;
 use crate::plans::{Plan, plan_of};
-use cell_core::{Cell as Master, Deed, Grown, Taken, Telling};
+use cell_core::{Cell as Master, Deed, Grown, Idle, Taken, Telling};
 use lease_core::MOMENT_LIMIT;
 use node_core::{Fault, Line};
 use plain::Items;
@@ -98,10 +100,51 @@ fn sweep_at<R: Records, T>(
     ensures outs { IfOk result (λ swept. vec_len room.new + length swept.outs ≤ vec_capacity room.new) }
     ensures lines { IfOk result (λ swept. vec_len room.new + length swept.lines < vec_capacity room.new) }
 {
-    let action = first_action(master);
-    note_if_quiet(master, &action);
-    let Prepared { plan, tellings } = planned(master, &action, room)?;
-    match carry_out(master, records, plan, is_quiet(&action)) {
+    match first_action(master)? {
+        Action::Tidy(idle) => Ok(tidy(master, idle, room)?),
+        action => {
+            let swept = act(master, records, &action, room);
+            drop(action);
+            swept
+        }
+    }
+}
+
+// The deletion of an ephemeral node is queued. Nothing is printed, nothing sent, and nobody is told.
+fn tidy<T>(master: &mut Master, idle: Idle, room: &mut Vec<T>) -> Result<Swept, AllocError>
+    requires { is_ok (push_answer master.old.gate) ≡ true }
+    ensures ok { OnOk result (master.new ≡ tidied master.old idle) }
+    ensures nothing { IfOk result (λ swept. swept ≡ record { lines = []; outs = []; quiet = false }) }
+    ensures err { OnErr result (master.new ≡ master.old) }
+    ensures items { room.new.items ≡ room.old.items }
+    ensures room { OnOk result (vec_len room.new < vec_capacity room.new) }
+{
+    if room.reserve(1).is_err() {
+        drop(idle);
+        return Err(AllocError);
+    }
+    master.tidy(idle)?;
+    Ok(Swept::of(master.nothing(), false))
+}
+
+// Does what is planned for any other action, and behind all else the clients of open handles are told of it.
+fn act<R: Records, T>(
+    master: &mut Master,
+    records: &mut R,
+    action: &Action,
+    room: &mut Vec<T>,
+) -> Result<Swept, Fault>
+    requires { sound (R.store records.old).cell (changed_rows (R.store records.old).rows (action_edits master.old action.now)) ≡ true }
+    ensures ok { IfOk result (λ done. done_and_told master.old (plan_of master.old action.now) (is_quiet action.now) ≡ (master.new, done)) }
+    ensures store { Commits (action_edits master.old action.now) (R.store records.old) (R.store records.new) result }
+    ensures err { OnErr result (master.new ≡ master.old) }
+    ensures items { room.new.items ≡ room.old.items }
+    ensures outs { IfOk result (λ swept. vec_len room.new + length swept.outs ≤ vec_capacity room.new) }
+    ensures lines { IfOk result (λ swept. vec_len room.new + length swept.lines < vec_capacity room.new) }
+{
+    note_if_quiet(master, action);
+    let Prepared { plan, tellings } = planned(master, action, room)?;
+    match carry_out(master, records, plan, is_quiet(action)) {
         Ok(swept) => {
             master.tell(tellings);
             Ok(swept)

@@ -9,7 +9,7 @@ use Rattle.tags_cell.specs.declared.calls.Disposition.TheVariants.{May, Must}
 use Rattle.tags_cell.specs.declared.calls.NewNode.{NewNode}
 use Rattle.tags_cell.specs.declared.calls.NewNode.TheVariants.{File, Directory}
 use Rattle.tags_cell.specs.declared.masks.Events.{Events}
-use Rattle.script_cell.specs.Steps.{WritesCreate, WritesNode, WritesMaking, WritesOptions, IsOptionWord, BeginsOptions, WritesSomeCreate, WritesSomeNode, WritesSomeFile, WritesSomeAcls, IsCut, new_acl_words, disposition_word, create_fault, texts}
+use Rattle.script_cell.specs.Steps.{life_word, WritesCreate, WritesNode, WritesMaking, WritesOptions, IsOptionWord, BeginsOptions, WritesSomeCreate, WritesSomeNode, WritesSomeFile, WritesSomeAcls, IsCut, new_acl_words, disposition_word, create_fault, texts}
 use Rattle.script_cell.proofs.Lifts.{IsPart}
 use Rattle.script_cell.proofs.Written.{head, tail, no_word, other}
 
@@ -88,41 +88,41 @@ file words rest content count shape acls = record {
       omega (arith, inner, outer);
 }
 
-two : (kind : List ℕ) (rest : List (List ℕ)) (count : ℕ) → length rest ≡ count → length (kind ∷ (codes "permanent" ∷ rest)) ≡ 2 + count
-two kind rest count h = omega (arith, h)
+two : (kind life : List ℕ) (rest : List (List ℕ)) (count : ℕ) → length rest ≡ count → length (kind ∷ (life ∷ rest)) ≡ 2 + count
+two kind life rest count h = omega (arith, h)
 
 pub file_node : (words rest : List (List ℕ)) (kind life : List ℕ) (count : ℕ) → words ≡ kind ∷ (life ∷ rest) → kind ≡ codes "file" → IsCut WritesSomeFile rest count → IsCut WritesSomeNode words (2 + count)
 file_node words rest kind life count shape is inner = record {
   fits = let long = ap length shape in let few = inner.fits in omega (arith, long, few);
-  cut = λ part last whole p w. those part last whole p.1.node p.1.acls p.2.0 p.2.1 p.2.2 p.2.3.1 w;
+  cut = λ part last whole p w. those part last whole p.1.node p.1.acls p.2.0 (life_word p.1.life) p.2.1 p.2.2 p.2.3.1 w;
 } where
-  those : (part last : List (List ℕ)) → words ≡ part ++ last → (node : NewNode) (acls : Option AclNames) (k : List ℕ) (r : List (List ℕ)) → part ≡ k ∷ (codes "permanent" ∷ r) → WritesNode k r node acls → BeginsOptions last → length part ≡ 2 + count
-  those part last whole (File bytes) acls k r p n w =
+  those : (part last : List (List ℕ)) → words ≡ part ++ last → (node : NewNode) (acls : Option AclNames) (k l : List ℕ) (r : List (List ℕ)) → part ≡ k ∷ (l ∷ r) → WritesNode k r node acls → BeginsOptions last → length part ≡ 2 + count
+  those part last whole (File bytes) acls k l r p n w =
       let same : rest ≡ r ++ last = ap (λ x. tail (tail x)) (sym shape ∙ whole ∙ ap (λ x. x ++ last) p) in
-      ap length p ∙ two k r count (inner.cut r last same (n.1.0, acls, n.1.1) w)
-  those part last whole Directory acls k r p n w =
+      ap length p ∙ two k l r count (inner.cut r last same (n.1.0, acls, n.1.1) w)
+  those part last whole Directory acls k l r p n w =
       let first : kind ≡ k = ap head (sym shape ∙ whole ∙ ap (λ x. x ++ last) p) in
       absurd (other (codes "file") (codes "dir") refl_bytes is (first ∙ n.0))
 
 pub other_node : (words rest : List (List ℕ)) (kind life : List ℕ) (count : ℕ) → words ≡ kind ∷ (life ∷ rest) → kind ≢ codes "file" → IsCut WritesSomeAcls rest count → IsCut WritesSomeNode words (2 + count)
 other_node words rest kind life count shape differs inner = record {
   fits = let long = ap length shape in let few = inner.fits in omega (arith, long, few);
-  cut = λ part last whole p w. those part last whole p.1.node p.1.acls p.2.0 p.2.1 p.2.2 p.2.3.1 w;
+  cut = λ part last whole p w. those part last whole p.1.node p.1.acls p.2.0 (life_word p.1.life) p.2.1 p.2.2 p.2.3.1 w;
 } where
-  those : (part last : List (List ℕ)) → words ≡ part ++ last → (node : NewNode) (acls : Option AclNames) (k : List ℕ) (r : List (List ℕ)) → part ≡ k ∷ (codes "permanent" ∷ r) → WritesNode k r node acls → BeginsOptions last → length part ≡ 2 + count
-  those part last whole (File bytes) acls k r p n w =
+  those : (part last : List (List ℕ)) → words ≡ part ++ last → (node : NewNode) (acls : Option AclNames) (k l : List ℕ) (r : List (List ℕ)) → part ≡ k ∷ (l ∷ r) → WritesNode k r node acls → BeginsOptions last → length part ≡ 2 + count
+  those part last whole (File bytes) acls k l r p n w =
       let first : kind ≡ k = ap head (sym shape ∙ whole ∙ ap (λ x. x ++ last) p) in
       absurd (differs (first ∙ n.0))
-  those part last whole Directory acls k r p n w =
+  those part last whole Directory acls k l r p n w =
       let same : rest ≡ r ++ last = ap (λ x. tail (tail x)) (sym shape ∙ whole ∙ ap (λ x. x ++ last) p) in
-      ap length p ∙ two k r count (inner.cut r last same (acls, n.1) w)
+      ap length p ∙ two k l r count (inner.cut r last same (acls, n.1) w)
 
 pub short_node : (words : List (List ℕ)) (count : ℕ) → length words < 2 → count ≡ length words → IsCut WritesSomeNode words count
 short_node words count few is = record {
   fits = omega (arith, is);
   cut = λ part last whole p w.
       let long : length words ≡ length part + length last = ap length whole ∙ length-append part last in
-      let two_more : length part ≡ length (p.2.0 ∷ (codes "permanent" ∷ p.2.1)) = ap length p.2.2 in
+      let two_more : length part ≡ length (p.2.0 ∷ (life_word p.1.life ∷ p.2.1)) = ap length p.2.2 in
       absurd (omega (arith, long, two_more, few));
 }
 

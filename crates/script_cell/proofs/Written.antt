@@ -9,6 +9,8 @@ use Rattle.names_cell.specs.Text.{is_component, is_name}
 use Rattle.names_cell.specs.declared.faults.NameFault.{NameFault}
 use Rattle.names_cell.specs.declared.faults.NameFault.TheVariants as names
 use Rattle.node_core.specs.declared.refusals.Fault.{Fault}
+use Rattle.node_core.specs.declared.kinds.Life.{Life}
+use Rattle.node_core.specs.declared.kinds.Life.TheVariants.{Permanent, Ephemeral}
 use Rattle.node_core.specs.declared.refusals.Fault.TheVariants.{BadName, BadPrincipal}
 use Rattle.tags_cell.specs.Numbers.{IsClientNumber}
 use Rattle.tags_cell.specs.declared.calls.AclNames.{AclNames}
@@ -28,7 +30,7 @@ use Rattle.script_cell.specs.declared.steps.Flaw.{Flaw}
 use Rattle.script_cell.specs.declared.steps.Flaw.TheVariants.{Bad, Refused, NoMemory}
 use Rattle.tags_cell.specs.Modes.{Rights}
 use Rattle.script_cell.specs.Words.{letters_of, HasRight}
-use Rattle.script_cell.specs.Steps.{WritesStep, WritesCall, IsHandleCall, WritesOpen, WritesMaking, WritesCreate, WritesPermanent, WritesMade, WritesNode, WritesNodeCall, IsPlainCall, WritesGeneration, IsFileContent, IsHex, IsNumber, acl_words, new_acl_words, disposition_word, fault_unless, step_fault, call_fault, open_fault, create_fault, made_fault, new_acls_fault, acls_fault, node_call_fault}
+use Rattle.script_cell.specs.Steps.{WritesStep, WritesCall, IsHandleCall, WritesOpen, WritesMaking, WritesCreate, WritesLiving, WritesMade, WritesMadeAs, WritesNode, WritesNodeCall, IsPlainCall, WritesGeneration, IsFileContent, IsHex, IsNumber, acl_words, new_acl_words, disposition_word, life_word, fault_unless, step_fault, call_fault, open_fault, create_fault, made_fault, new_acls_fault, acls_fault, node_call_fault}
 use Rattle.script_cell.specs.Readings.{Reads, flaw_of}
 use Rattle.script_cell.proofs.Decimals.{unlike, same_text}
 use Rattle.script_cell.proofs.Lifts.{IsPart}
@@ -106,59 +108,69 @@ file_content (File bytes) acls words rest content shape w =
     let same : w.1.0 ≡ content = ap head (sym w.1.1 ∙ shape) in (bytes, subst (λ c. IsFileContent c bytes) same w.1.2)
 file_content Directory acls words rest content shape w = absurd (other (codes "file") (codes "dir") refl refl w.0)
 
-pub content_out : (words rest : List (List ℕ)) (content word : List ℕ) → words ≡ content ∷ rest → (b : Create) → WritesMade word (codes "file") words b → (bytes : List ℕ) × IsFileContent content bytes
-content_out words rest content word shape b w = file_content b.node b.acls words rest content shape w.1
+pub content_out : (words rest : List (List ℕ)) (content word : List ℕ) (life : Life) → words ≡ content ∷ rest → (b : Create) → WritesMadeAs life word (codes "file") words b → (bytes : List ℕ) × IsFileContent content bytes
+content_out words rest content word life shape b w = file_content b.node b.acls words rest content shape w.1.1
 
 file_acls : (node : NewNode) (acls : Option AclNames) (words rest : List (List ℕ)) (content : List ℕ) → words ≡ content ∷ rest → WritesNode (codes "file") words node acls → new_acl_words acls ≡ rest
 file_acls (File bytes) acls words rest content shape w = ap tail (sym w.1.1 ∙ shape)
 file_acls Directory acls words rest content shape w = absurd (other (codes "file") (codes "dir") refl refl w.0)
 
-pub file_part : (words rest : List (List ℕ)) (content bytes : List ℕ) (disposition : Disposition) → words ≡ content ∷ rest → IsFileContent content bytes → IsPart {A = Option AclNames} {B = Create} (λ acls. new_acl_words acls ≡ rest) new_acls_fault (WritesMade (disposition_word disposition) (codes "file") words) made_fault
-file_part words rest content bytes disposition shape fits = record {
-  out = λ b w. (b.acls, file_acls b.node b.acls words rest content shape w.1);
-  make = λ acls p. (record { disposition = disposition; node = File bytes; acls = acls }, (refl, (refl, (content, shape ∙ ap (λ x. content ∷ x) (sym p), fits))), λ fault h. h);
+pub file_part : (words rest : List (List ℕ)) (content bytes : List ℕ) (disposition : Disposition) (life : Life) → words ≡ content ∷ rest → IsFileContent content bytes → IsPart {A = Option AclNames} {B = Create} (λ acls. new_acl_words acls ≡ rest) new_acls_fault (WritesMadeAs life (disposition_word disposition) (codes "file") words) made_fault
+file_part words rest content bytes disposition life shape fits = record {
+  out = λ b w. (b.acls, file_acls b.node b.acls words rest content shape w.1.1);
+  make = λ acls p. (record { disposition = disposition; node = File bytes; life = life; acls = acls }, (refl, (refl, (refl, (content, shape ∙ ap (λ x. content ∷ x) (sym p), fits)))), λ fault h. h);
 }
 
 dir_acls : (node : NewNode) (acls : Option AclNames) (kind : List ℕ) (words : List (List ℕ)) → kind ≡ codes "dir" → WritesNode kind words node acls → new_acl_words acls ≡ words
 dir_acls (File bytes) acls kind words is w = absurd (other (codes "dir") (codes "file") refl is w.0)
 dir_acls Directory acls kind words is w = sym w.1
 
-pub dir_part : (words : List (List ℕ)) (word kind : List ℕ) (disposition : Disposition) → kind ≡ codes "dir" → disposition_word disposition ≡ word → IsPart {A = Option AclNames} {B = Create} (λ acls. new_acl_words acls ≡ words) new_acls_fault (WritesMade word kind words) made_fault
-dir_part words word kind disposition is told = record {
-  out = λ b w. (b.acls, dir_acls b.node b.acls kind words is w.1);
-  make = λ acls p. (record { disposition = disposition; node = Directory; acls = acls }, (told, (is, sym p)), λ fault h. h);
+pub dir_part : (words : List (List ℕ)) (word kind : List ℕ) (disposition : Disposition) (life : Life) → kind ≡ codes "dir" → disposition_word disposition ≡ word → IsPart {A = Option AclNames} {B = Create} (λ acls. new_acl_words acls ≡ words) new_acls_fault (WritesMadeAs life word kind words) made_fault
+dir_part words word kind disposition life is told = record {
+  out = λ b w. (b.acls, dir_acls b.node b.acls kind words is w.1.1);
+  make = λ acls p. (record { disposition = disposition; node = Directory; life = life; acls = acls }, (refl, (told, (is, sym p))), λ fault h. h);
 }
 
-permanent_again : {word word2 : List ℕ} {rest rest2 : List (List ℕ)} (create : Create) → word ≡ word2 → rest ≡ rest2 → WritesPermanent word rest create → WritesPermanent word2 rest2 create
-permanent_again {word} {word2} {rest} {rest2} create e f w = subst (λ x. WritesPermanent word2 x create) f (subst (λ x. WritesPermanent x rest create) e w)
+living_again : {word word2 : List ℕ} {rest rest2 : List (List ℕ)} (create : Create) → word ≡ word2 → rest ≡ rest2 → WritesLiving word rest create → WritesLiving word2 rest2 create
+living_again {word} {word2} {rest} {rest2} create e f w = subst (λ x. WritesLiving word2 x create) f (subst (λ x. WritesLiving x rest create) e w)
 
-made_out : (b : Option Create) (words rest : List (List ℕ)) (word : List ℕ) → words ≡ word ∷ rest → WritesCreate words b → (create : Create) × WritesPermanent word rest create
+made_out : (b : Option Create) (words rest : List (List ℕ)) (word : List ℕ) → words ≡ word ∷ rest → WritesCreate words b → (create : Create) × WritesLiving word rest create
 made_out None words rest word shape w = absurd (no_word (sym w ∙ shape))
 made_out (Some create) words rest word shape w =
     let same = sym w.2 ∙ shape in
-    (create, permanent_again create (ap head same) (ap tail same) w.3)
+    (create, living_again create (ap head same) (ap tail same) w.3)
 
-pub create_part : (words rest : List (List ℕ)) (word : List ℕ) → words ≡ word ∷ rest → IsPart {A = Create} {B = Option Create} (WritesPermanent word rest) made_fault (WritesCreate words) create_fault
+pub create_part : (words rest : List (List ℕ)) (word : List ℕ) → words ≡ word ∷ rest → IsPart {A = Create} {B = Option Create} (WritesLiving word rest) made_fault (WritesCreate words) create_fault
 create_part words rest word shape = record {
   out = λ b w. made_out b words rest word shape w;
   make = λ create p. (Some create, (word, rest, shape, p), λ fault h. h);
 }
 
-pub permanent : (words rest : List (List ℕ)) (word kind permanence : List ℕ) (shown : Bool) → shown ≡ not (bytes_eq permanence (codes "permanent")) → shown ≡ false → words ≡ kind ∷ (permanence ∷ rest) → (r : Result Create Flaw) → Reads (WritesMade word kind rest) made_fault r → Reads (WritesPermanent word words) made_fault r
-permanent words rest word kind permanence shown is quiet shape r h =
-    let same : permanence ≡ codes "permanent" = same_text permanence (codes "permanent") shown is quiet in
-    let shape2 : words ≡ kind ∷ (codes "permanent" ∷ rest) = shape ∙ ap (λ x. kind ∷ (x ∷ rest)) same in
-    behind words rest word kind shape2 r h where
-      out : (words rest : List (List ℕ)) (word kind : List ℕ) → words ≡ kind ∷ (codes "permanent" ∷ rest) → (b : Create) → WritesPermanent word words b → WritesMade word kind rest b
-      out words rest word kind shape b w =
-          let equal = sym w.2 ∙ shape in
-          subst (λ x. WritesMade word kind x b) (ap (λ x. tail (tail x)) equal) (subst (λ x. WritesMade word x w.1 b) (ap head equal) w.3)
+same_life : (a b : Life) → life_word a ≡ life_word b → a ≡ b
+same_life Permanent Permanent e = refl
+same_life Permanent Ephemeral e = absurd (other (codes "permanent") (codes "ephemeral") refl refl e)
+same_life Ephemeral Permanent e = absurd (other (codes "ephemeral") (codes "permanent") refl refl e)
+same_life Ephemeral Ephemeral e = refl
 
-      behind : (words rest : List (List ℕ)) (word kind : List ℕ) → words ≡ kind ∷ (codes "permanent" ∷ rest) → (r : Result Create Flaw) → Reads (WritesMade word kind rest) made_fault r → Reads (WritesPermanent word words) made_fault r
-      behind words rest word kind shape (Ok create) h = ((kind, rest, shape, h.0), h.1)
-      behind words rest word kind shape (Err Bad) h = λ b w. h b (out words rest word kind shape b w)
-      behind words rest word kind shape (Err (Refused fault)) h = (h.0, (kind, rest, shape, h.1), h.2)
-      behind words rest word kind shape (Err NoMemory) h = tt
+-- the second word is that of a life
+pub life_out : (words rest : List (List ℕ)) (word kind word2 : List ℕ) → words ≡ kind ∷ (word2 ∷ rest) → (b : Create) → WritesLiving word words b → (life : Life) × (life_word life ≡ word2)
+life_out words rest word kind word2 shape b w = (b.life, ap (λ x. head (tail x)) (sym w.2 ∙ shape))
+
+pub living : (words rest : List (List ℕ)) (word kind word2 : List ℕ) (life : Life) → life_word life ≡ word2 → words ≡ kind ∷ (word2 ∷ rest) → (r : Result Create Flaw) → Reads (WritesMadeAs life word kind rest) made_fault r → Reads (WritesLiving word words) made_fault r
+living words rest word kind word2 life is shape r h = behind r h where
+  given : (b : Create) → b.life ≡ life → words ≡ kind ∷ (life_word b.life ∷ rest)
+  given b e = shape ∙ ap (λ x. kind ∷ (x ∷ rest)) (sym is ∙ ap life_word (sym e))
+
+  out : (b : Create) → WritesLiving word words b → WritesMadeAs life word kind rest b
+  out b w =
+      let equal = sym w.2 ∙ shape in
+      (same_life b.life life (ap (λ x. head (tail x)) equal ∙ sym is), subst (λ x. WritesMade word kind x b) (ap (λ x. tail (tail x)) equal) (subst (λ x. WritesMade word x w.1 b) (ap head equal) w.3))
+
+  behind : (r : Result Create Flaw) → Reads (WritesMadeAs life word kind rest) made_fault r → Reads (WritesLiving word words) made_fault r
+  behind (Ok create) h = ((kind, rest, given create h.0.0, h.0.1), h.1)
+  behind (Err Bad) h = λ b w. h b (out b w)
+  behind (Err (Refused fault)) h = (h.0, (kind, rest, given h.0 h.1.0, h.1.1), h.2)
+  behind (Err NoMemory) h = tt
 
 -- ---- opens
 

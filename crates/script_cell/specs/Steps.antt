@@ -6,6 +6,8 @@ use Rattle.hex.specs.Hex.{IsBytes}
 use Rattle.names_cell.specs.Text.{is_component, is_name}
 use Rattle.node_core.specs.declared.refusals.Fault.{Fault}
 use Rattle.node_core.specs.declared.refusals.Fault.TheVariants.{BadName, BadPrincipal}
+use Rattle.node_core.specs.declared.kinds.Life.{Life}
+use Rattle.node_core.specs.declared.kinds.Life.TheVariants.{Permanent, Ephemeral}
 use Rattle.node_core.specs.Words.{lock_mode_text}
 use Rattle.tags_cell.specs.Masks.{no_events, is_no_events}
 use Rattle.tags_cell.specs.Numbers.{IsClientNumber}
@@ -58,7 +60,11 @@ abbrev pub disposition_word : Disposition → List ℕ
 disposition_word May = codes "may"
 disposition_word Must = codes "must"
 
--- the node that an `open` makes: the word of its kind, and the words behind `permanent`
+abbrev pub life_word : Life → List ℕ
+life_word Permanent = codes "permanent"
+life_word Ephemeral = codes "ephemeral"
+
+-- the node that an `open` makes: the word of its kind, and the words behind its life
 abbrev pub WritesNode : List ℕ → List (List ℕ) → NewNode → Option AclNames → Type 0
 WritesNode kind rest (File bytes) acls = (kind ≡ codes "file") × ((content : List ℕ) × (rest ≡ content ∷ new_acl_words acls) × IsFileContent content bytes)
 WritesNode kind rest Directory acls = (kind ≡ codes "dir") × (rest ≡ new_acl_words acls)
@@ -66,14 +72,18 @@ WritesNode kind rest Directory acls = (kind ≡ codes "dir") × (rest ≡ new_ac
 abbrev pub WritesMade : List ℕ → List ℕ → List (List ℕ) → Create → Type 0
 WritesMade word kind rest create = (disposition_word create.disposition ≡ word) × WritesNode kind rest create.node create.acls
 
-abbrev pub WritesPermanent : List ℕ → List (List ℕ) → Create → Type 0
-WritesPermanent word words create = (kind : List ℕ) × (rest : List (List ℕ)) × (words ≡ kind ∷ (codes "permanent" ∷ rest)) × WritesMade word kind rest create
+-- of this life
+abbrev pub WritesMadeAs : Life → List ℕ → List ℕ → List (List ℕ) → Create → Type 0
+WritesMadeAs life word kind rest create = (create.life ≡ life) × WritesMade word kind rest create
 
--- what an `open` makes: nothing, or a permanent node
+abbrev pub WritesLiving : List ℕ → List (List ℕ) → Create → Type 0
+WritesLiving word words create = (kind : List ℕ) × (rest : List (List ℕ)) × (words ≡ kind ∷ (life_word create.life ∷ rest)) × WritesMade word kind rest create
+
+-- what an `open` makes: nothing, or a node, permanent or ephemeral
 abbrev pub WritesCreate : List (List ℕ) → Option Create → Type 0
 WritesCreate words None = words ≡ []
 WritesCreate words (Some create) =
-    (word : List ℕ) × (rest : List (List ℕ)) × (words ≡ word ∷ rest) × WritesPermanent word rest create
+    (word : List ℕ) × (rest : List (List ℕ)) × (words ≡ word ∷ rest) × WritesLiving word rest create
 
 -- the lock-delay in milliseconds, and the words behind it; 0 may be left out
 abbrev pub WritesDelay : List (List ℕ) → ℕ → List (List ℕ) → Type 0
@@ -103,7 +113,7 @@ WritesSomeCreate words = (create : Option Create) × WritesCreate words create
 
 -- behind the disposition
 abbrev pub WritesSomeNode : List (List ℕ) → Type 0
-WritesSomeNode words = (word : List ℕ) × (create : Create) × WritesPermanent word words create
+WritesSomeNode words = (word : List ℕ) × (create : Create) × WritesLiving word words create
 
 -- a content, and ACL names
 abbrev pub WritesSomeFile : List (List ℕ) → Type 0

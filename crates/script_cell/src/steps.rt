@@ -2,13 +2,13 @@
 ghost use Rattle.std.specs.Prelude.{◌≡◌, ◌∷◌, [], codes, IfOk, decimal, None};
 ghost use Rattle.std.specs.Str.Lossy.{utf8_lossy};
 ghost use Rattle.node_core.specs.Words.{lock_mode_text};
-ghost use Rattle.script_cell.specs.Steps.{WritesLine, WritesStep, WritesCall, WritesOpen, WritesMaking, WritesOptions, WritesEvents, IsCut, WritesSomeCreate, WritesSomeNode, WritesSomeFile, WritesSomeAcls, IsHex, WritesCreate, WritesPermanent, WritesMade, WritesNumber, WritesNodeCall, IsPlainCall, WritesGeneration, IsHandleCall, IsFileContent, IsNumber, WritesTicks, WritesOwn, IsOwn, own_word, commit_word, acl_words, new_acl_words, disposition_word, texts, step_fault, call_fault, open_fault, create_fault, made_fault, new_acls_fault, acls_fault, node_call_fault};
+ghost use Rattle.script_cell.specs.Steps.{WritesLine, WritesStep, WritesCall, WritesOpen, WritesMaking, WritesOptions, WritesEvents, IsCut, WritesSomeCreate, WritesSomeNode, WritesSomeFile, WritesSomeAcls, IsHex, WritesCreate, WritesLiving, WritesMadeAs, WritesNumber, WritesNodeCall, IsPlainCall, WritesGeneration, IsHandleCall, IsFileContent, IsNumber, WritesTicks, WritesOwn, IsOwn, own_word, commit_word, acl_words, new_acl_words, disposition_word, life_word, texts, step_fault, call_fault, open_fault, create_fault, made_fault, new_acls_fault, acls_fault, node_call_fault};
 ghost use Rattle.script_cell.specs.Readings.{Reads, IsParsed, flaw_of};
 
 use crate::words::{content, events, mode, number, written};
 use client_core::{Ask, NodeCall};
 use names_cell::{Component, Name, NameFault, Principal};
-use node_core::{Fault, LockMode};
+use node_core::{Fault, Life, LockMode};
 use plain::{Bytes, Items};
 use std::alloc::{AllocError, Global};
 use std::str;
@@ -328,37 +328,36 @@ fn events_of(words: &[&str]) -> Result<Events, Flaw>
     }
 }
 
-// What an Open makes: a disposition, a permanent node and its ACL names. Without words it makes nothing.
+// What an Open makes: a disposition, a node with its life, and its ACL names. Without words it makes nothing.
 fn create_of(alloc: Global, words: &[&str]) -> Result<Option<Create>, Flaw>
     ensures { Reads (WritesCreate (texts words.now)) create_fault result }
 {
     match words {
         [] => Ok(None),
-        [word, rest @ ..] => Ok(Some(permanent_of(alloc, word, rest)?)),
+        [word, rest @ ..] => Ok(Some(living_of(alloc, word, rest)?)),
     }
 }
 
-fn permanent_of(alloc: Global, word: &str, words: &[&str]) -> Result<Create, Flaw>
-    ensures { Reads (WritesPermanent word.now (texts words.now)) made_fault result }
+fn living_of(alloc: Global, word: &str, words: &[&str]) -> Result<Create, Flaw>
+    ensures { Reads (WritesLiving word.now (texts words.now)) made_fault result }
 {
-    let [kind, permanence, rest @ ..] = words else {
+    let [kind, life, rest @ ..] = words else {
         return Err(Flaw::Bad);
     };
-    if *permanence != "permanent" {
-        return Err(Flaw::Bad);
-    }
-    made_of(alloc, word, kind, rest)
+    let life = life_of(life)?;
+    made_of(alloc, word, kind, life, rest)
 }
 
-fn made_of(alloc: Global, word: &str, kind: &str, rest: &[&str]) -> Result<Create, Flaw>
-    ensures { Reads (WritesMade word.now kind.now (texts rest.now)) made_fault result }
+fn made_of(alloc: Global, word: &str, kind: &str, life: Life, rest: &[&str]) -> Result<Create, Flaw>
+    ensures { Reads (WritesMadeAs life word.now kind.now (texts rest.now)) made_fault result }
 {
     let disposition = disposition_of(word)?;
     match kind {
-        "file" => file_of(alloc, disposition, rest),
+        "file" => file_of(alloc, disposition, life, rest),
         "dir" => Ok(Create {
             disposition,
             node: NewNode::Directory,
+            life,
             acls: new_acls(alloc, rest)?,
         }),
         _ => Err(Flaw::Bad),
@@ -366,8 +365,13 @@ fn made_of(alloc: Global, word: &str, kind: &str, rest: &[&str]) -> Result<Creat
 }
 
 // A file of a content.
-fn file_of(alloc: Global, disposition: Disposition, words: &[&str]) -> Result<Create, Flaw>
-    ensures { Reads (WritesMade (disposition_word disposition) (codes "file") (texts words.now)) made_fault result }
+fn file_of(
+    alloc: Global,
+    disposition: Disposition,
+    life: Life,
+    words: &[&str],
+) -> Result<Create, Flaw>
+    ensures { Reads (WritesMadeAs life (disposition_word disposition) (codes "file") (texts words.now)) made_fault result }
 {
     let [content, acls @ ..] = words else {
         return Err(Flaw::Bad);
@@ -376,6 +380,7 @@ fn file_of(alloc: Global, disposition: Disposition, words: &[&str]) -> Result<Cr
     Ok(Create {
         disposition,
         node: NewNode::File(content),
+        life,
         acls: new_acls(alloc, acls)?,
     })
 }
@@ -386,6 +391,16 @@ fn disposition_of(word: &str) -> Result<Disposition, Flaw>
     match word {
         "may" => Ok(Disposition::May),
         "must" => Ok(Disposition::Must),
+        _ => Err(Flaw::Bad),
+    }
+}
+
+fn life_of(word: &str) -> Result<Life, Flaw>
+    ensures { Reads (λ life. life_word life ≡ word.now) (λ _. None) result }
+{
+    match word {
+        "permanent" => Ok(Life::Permanent),
+        "ephemeral" => Ok(Life::Ephemeral),
         _ => Err(Flaw::Bad),
     }
 }

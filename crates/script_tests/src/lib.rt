@@ -4,6 +4,8 @@
 #[cfg(test)]
 mod caches;
 #[cfg(test)]
+mod ephemerals;
+#[cfg(test)]
 mod events;
 #[cfg(test)]
 mod fail_overs;

@@ -10,9 +10,10 @@ use Rattle.lock_core.specs.declared.claims.Claim.{Claim}
 use Rattle.lock_core.specs.Turns.{is_of_client, any_waits}
 use Rattle.lock_core.specs.Locks.{LockTable}
 use Rattle.cell_core.specs.declared.pending.Task.{Task}
+use Rattle.cell_core.specs.declared.pending.Task.TheVariants as tasks
 use Rattle.cell_core.specs.State.{MasterState}
 use Rattle.cell_core.specs.Step.{kept_of}
-use Rattle.over_core.specs.Kept.{claim_count, waits_count, call_count, is_unanswered, HaveOneCall, IsOwnCall, AreOwnCalls}
+use Rattle.over_core.specs.Kept.{claim_count, waits_count, call_count, is_unanswered, HaveOneCall, IsOwnCall, IsOwnTask, AreOwnCalls}
 use Rattle.world_cell.specs.Consistent.{awaits_lock}
 use Rattle.world_cell.proofs.LockWaiters.{or_cases}
 use Rattle.world_cell.proofs.MasterFits.{AreUnanswered, ShowsOwn, waits_as}
@@ -68,8 +69,8 @@ all_at P (y ∷ front) x back h = all_at P front x back (All-tail P y (front ++ 
 
 -- each shows a handle of its client
 pub shows_own : (s : MasterState) → AreOwnCalls s.secret s.gate.waiting → ShowsOwn s
-shows_own s own front back task call sequencer handle turn work shown =
-    let w : Waiting Task = waits_as turn.number turn.touched task in
+shows_own s own front back asked call sequencer handle turn work shown =
+    let w : Waiting Task = waits_as turn.number turn.touched (tasks.Asked asked) in
     let all : AreOwnCalls s.secret (front ++ w ∷ back) = subst (AreOwnCalls s.secret) turn.waited own in
-    let here : IsOwnCall s.secret task.client task.work = all_at (λ (x : Waiting Task). IsOwnCall s.secret x.change.body.client x.change.body.work) front w back all in
-    subst (IsOwnCall s.secret task.client) work here handle shown
+    let here : IsOwnCall s.secret asked.client asked.work = all_at (λ (x : Waiting Task). IsOwnTask s.secret x.change.body) front w back all in
+    subst (IsOwnCall s.secret asked.client) work here handle shown

@@ -1,7 +1,9 @@
--- Why each applied change is the effect of a call that was sent and taken.
-use Rattle.std.proofs.Common.{◌≡◌, ℕ, ◌+◌, List, [], ◌∷◌, ◌++◌, Option, Some, None, Result, Ok, Err, refl, sym, ap, ◌∙◌, inl, inr, append_assoc, subst, map}
-use Rattle.std.specs.Prelude.{◌⊎◌, filter}
+-- Why each applied change is the effect of a call that was sent and taken, or the cell deletes a node that nobody holds open.
+use Rattle.std.proofs.Common.{◌≡◌, ℕ, ◌+◌, ◌≤◌, true, false, List, [], ◌∷◌, ◌++◌, Option, Some, None, Result, Ok, Err, refl, sym, ap, ◌∙◌, inl, inr, append_assoc, arith, subst, map}
+use Rattle.std.specs.Prelude.{◌⊎◌, ◌&&◌, ◌==◌, filter, nat_le}
 use Rattle.std.specs.Option.{option_map_or}
+use Rattle.std.proofs.lemmas.Bool.{and_parts}
+use Rattle.std.proofs.lemmas.Bool.Decides.{nat_tests}
 use Rattle.std.proofs.lemmas.List.{append-nil}
 use Rattle.node_core.specs.declared.kinds.LockMode.{LockMode}
 use Rattle.node_core.specs.declared.refusals.Fault.{Fault}
@@ -9,6 +11,10 @@ use Rattle.node_core.specs.declared.refusals.Fault.TheVariants as faults
 use Rattle.node_core.specs.declared.lines.Line.{Line}
 use Rattle.node_core.specs.declared.lines.Line.TheVariants as lines
 use Rattle.node_core.specs.declared.views.Mod.{Mod}
+use Rattle.node_core.specs.declared.views.Mod.TheVariants.{Gone}
+use Rattle.node_core.specs.declared.views.View.{View}
+use Rattle.node_core.specs.Nodes.{get_node}
+use Rattle.tags_cell.specs.Numbers.{is_client_number}
 use Rattle.tags_cell.specs.Handles.{read_handle}
 use Rattle.tags_cell.specs.declared.handles.Handle.{Handle}
 use Rattle.tags_cell.specs.declared.calls.Call.{Call}
@@ -27,10 +33,14 @@ use Rattle.lock_core.specs.Turns.{reopened, tried}
 use Rattle.lock_core.specs.Locks.{lock_at}
 use Rattle.cell_core.specs.Deeds.{with_locks}
 use Rattle.cell_core.specs.Locks.{claim_of}
+use Rattle.cell_core.specs.declared.pending.Asked.{Asked}
+use Rattle.cell_core.specs.declared.pending.Idle.{Idle}
 use Rattle.cell_core.specs.declared.pending.Task.{Task}
+use Rattle.cell_core.specs.declared.pending.Task.TheVariants as tasks
 use Rattle.cell_core.specs.declared.pending.Work.{Work}
 use Rattle.cell_core.specs.declared.pending.Work.TheVariants as works
 use Rattle.cell_core.specs.State.{MasterState}
+use Rattle.cell_core.specs.Ephemerals.{is_idle_node, is_still_idle}
 use Rattle.cell_core.specs.Step.{names_of, task_of, with_call, asking_for, with_note, noted, lock_under, node_of_handle, answer_on}
 use Rattle.over_core.specs.declared.effects.Effect.{Effect}
 use Rattle.over_core.specs.Effect.{answered, refused, try_by, try_at, change_at, change_on, handle_effect, effect}
@@ -38,15 +48,15 @@ use Rattle.over_core.specs.Sweep.{locked_line, locked_lines, leave_lines, lapses
 use Rattle.cell_core.specs.Cases.{TakeCase, taken_by}
 use Rattle.over_core.specs.SweepCase.{IsTurn, SweepCase, swept_by, rest, ended, mapped}
 use Rattle.cell_core.specs.Cases.TakeCase.{StartQueued, Answered, Granted, Waits}
-use Rattle.over_core.specs.SweepCase.SweepCase.{Quiet, Recovers, Expires, Reopens, AnswersBeat, TurnedAway, StartedAgain, Started as StartedFirst, OfEnded, Ended, Applied, Deleted, Locked, Awaited, Left}
-use Rattle.over_core.specs.Kept.{IsKept}
+use Rattle.over_core.specs.SweepCase.SweepCase.{Quiet, Recovers, Expires, Reopens, Tidies, Spared, Tidied, AnswersBeat, TurnedAway, StartedAgain, Started as StartedFirst, OfEnded, Ended, Applied, Deleted, Locked, Awaited, Left}
+use Rattle.over_core.specs.Kept.{IsKept, task_fits, waiting_fits}
 use Rattle.world_cell.specs.declared.steps.Step.{Step}
 use Rattle.world_cell.specs.declared.steps.Step.TheVariants.{Take, Sweep, CutSweep}
 use Rattle.world_cell.specs.declared.steps.Commit.TheVariants.{Kept}
 use Rattle.world_cell.specs.Messages.{call_of}
 use Rattle.world_cell.specs.World.{WorldState, WorldView, is_of_commit}
 use Rattle.world_cell.specs.Consistent.{Agrees, IsConsistent}
-use Rattle.world_cell.specs.Runs.{IsMade, Does, Run, change_of, IsTaken, HasWaited, IsOfCall}
+use Rattle.world_cell.specs.Runs.{IsMade, Does, Run, change_of, IsTaken, HasWaited, IsApplied, IsOfCall, IsOfIdle}
 use Rattle.world_cell.proofs.SilentLines.{IsSilent, quiet_silent}
 use Rattle.world_cell.proofs.LockLines.{reopened_of_locks, left_of_locks, lapses_of_locks}
 use Rattle.world_cell.proofs.PartsOfRuns.{run_push}
@@ -57,7 +67,7 @@ use Rattle.world_cell.proofs.OwnSteps.{own_silent, asks_own, beats_own, gives_ow
 use Rattle.world_cell.proofs.ConsistentSteps.{noted_fits}
 use Rattle.world_cell.proofs.CutLines.{cut_lines, swept_kept}
 use Rattle.world_cell.proofs.OnceByRuns.{taken_silent}
-use Rattle.world_cell.proofs.RowsByRuns.{run_tells}
+use Rattle.world_cell.proofs.RowsByRuns.{Tells, run_tells}
 
 -- ---- lists
 
@@ -133,9 +143,13 @@ abbrev IsCalled : Ground → ℕ → ℕ → ℕ → Work → Type 0
 IsCalled g epoch client number (works.Starts principal received) = Unit {0}
 IsCalled g epoch client number (works.Calls call sequencer) = WasTaken g epoch client number call sequencer
 
+abbrev IsTaskCalled : Ground → ℕ → Task → Type 0
+IsTaskCalled g epoch (tasks.Asked asked) = IsCalled g epoch asked.client asked.number asked.work
+IsTaskCalled g epoch (tasks.Tidies idle) = Unit {0}
+
 abbrev AreCalled : Ground → ℕ → List (Waiting Task) → Type 0
 AreCalled g epoch [] = Unit {0}
-AreCalled g epoch (w ∷ ws) = IsCalled g epoch w.change.body.client w.change.body.number w.change.body.work × AreCalled g epoch ws
+AreCalled g epoch (w ∷ ws) = IsTaskCalled g epoch w.change.body × AreCalled g epoch ws
 
 abbrev Queued : Ground → Option MasterState → Type 0
 Queued g None = Unit {0}
@@ -177,15 +191,19 @@ module _ (g : Ground) (step : Step) (printed : List Line) (new : WorldView) (doe
   work_later epoch client number (works.Calls call sequencer) (inl waited) = inl waited
   work_later epoch client number (works.Calls call sequencer) (inr taken) = inr (taken_later epoch client number call sequencer taken)
 
+  task_later : (epoch : ℕ) (task : Task) → IsTaskCalled g epoch task → IsTaskCalled (ground_after g step printed new) epoch task
+  task_later epoch (tasks.Asked asked) called = work_later epoch asked.client asked.number asked.work called
+  task_later epoch (tasks.Tidies idle) called = tt
+
   calls_later : (epoch : ℕ) (queue : List (Waiting Task)) → AreCalled g epoch queue → AreCalled (ground_after g step printed new) epoch queue
   calls_later epoch [] called = tt
-  calls_later epoch (w ∷ ws) called = (work_later epoch w.change.body.client w.change.body.number w.change.body.work called.0, calls_later epoch ws called.1)
+  calls_later epoch (w ∷ ws) called = (task_later epoch w.change.body called.0, calls_later epoch ws called.1)
 
   queued_later : (m : Option MasterState) → Queued g m → Queued (ground_after g step printed new) m
   queued_later None called = tt
   queued_later (Some s) called = calls_later s.epoch s.gate.waiting called
 
-calls_push : (g : Ground) (epoch : ℕ) (ws : List (Waiting Task)) (w : Waiting Task) → AreCalled g epoch ws → IsCalled g epoch w.change.body.client w.change.body.number w.change.body.work → AreCalled g epoch (ws ++ w ∷ [])
+calls_push : (g : Ground) (epoch : ℕ) (ws : List (Waiting Task)) (w : Waiting Task) → AreCalled g epoch ws → IsTaskCalled g epoch w.change.body → AreCalled g epoch (ws ++ w ∷ [])
 calls_push g epoch [] w h k = (k, tt)
 calls_push g epoch (x ∷ xs) w h k = (h.0, calls_push g epoch xs w h.1 k)
 
@@ -206,50 +224,53 @@ asking_calls g s (Some name) h = h
 -- only a call of the master's own epoch may wait, and it was taken
 take_calls : (g : Ground) (s : MasterState) (request : Request) (c : TakeCase s request) → AreCalled g s.epoch s.gate.waiting → ((message : CallMessage) → request ≡ requests.Call message → message.epoch ≡ s.epoch → WasTaken g s.epoch message.client message.number message.call message.sequencer) → AreCalled g (taken_by s request c).0.epoch (taken_by s request c).0.gate.waiting
 take_calls g s request (StartQueued start is may serving room) h k =
-    calls_push g s.epoch s.gate.waiting (waits_as (s.gate.pushed + 1) [] (record { client = start.client; number = start.number; work = works.Starts start.principal s.clock })) h tt
+    calls_push g s.epoch s.gate.waiting (waits_as (s.gate.pushed + 1) [] (tasks.Asked (record { client = start.client; number = start.number; work = works.Starts start.principal s.clock }))) h tt
 take_calls g s request (Answered message note answer new serving answered) h k = note_calls g s note h
 take_calls g s request (Granted message note answer name new serving may) h k = note_calls g s note h
 take_calls g s request (Waits message note touched new serving admitted) h k =
     let t = with_note s note in
     let taken : WasTaken g t.epoch message.client message.number message.call message.sequencer = rw (epoch_note s note) (k message new.heard.is_call new.heard.epoch) in
     asking_calls g (with_call t message touched) touched
-    (calls_push g t.epoch t.gate.waiting (waits_as (t.gate.pushed + 1) (names_of touched) (task_of message)) (note_calls g s note h) taken)
+    (calls_push g t.epoch t.gate.waiting (waits_as (t.gate.pushed + 1) (names_of touched) (tasks.Asked (task_of message))) (note_calls g s note h) taken)
 take_calls g s request _ h k = h
 
 -- ---- a sweep
 
-parted_calls : (g : Ground) (epoch : ℕ) (front : List (Waiting Task)) (w : Waiting Task) (back : List (Waiting Task)) → AreCalled g epoch (front ++ w ∷ back) → IsCalled g epoch w.change.body.client w.change.body.number w.change.body.work × AreCalled g epoch (front ++ back)
+parted_calls : (g : Ground) (epoch : ℕ) (front : List (Waiting Task)) (w : Waiting Task) (back : List (Waiting Task)) → AreCalled g epoch (front ++ w ∷ back) → IsTaskCalled g epoch w.change.body × AreCalled g epoch (front ++ back)
 parted_calls g epoch [] w back h = (h.0, h.1)
 parted_calls g epoch (x ∷ front) w back h = let t = parted_calls g epoch front w back h.1 in (t.0, (h.0, t.1))
 
 -- the change that has its turn, and the others
-turn_calls : (g : Ground) (s : MasterState) (front : List (Waiting Task)) (task : Task) (back : List (Waiting Task)) → IsTurn s front task back → AreCalled g s.epoch s.gate.waiting → IsCalled g s.epoch task.client task.number task.work × AreCalled g s.epoch (front ++ back)
+turn_calls : (g : Ground) (s : MasterState) (front : List (Waiting Task)) (task : Task) (back : List (Waiting Task)) → IsTurn s front task back → AreCalled g s.epoch s.gate.waiting → IsTaskCalled g s.epoch task × AreCalled g s.epoch (front ++ back)
 turn_calls g s front task back turn h = parted_calls g s.epoch front (waits_as turn.number turn.touched task) back (subst (λ ws. AreCalled g s.epoch ws) turn.waited h)
 
-ended_calls : (g : Ground) (s : MasterState) (task : Task) (note : Option Note) (answer : CallResult) → AreCalled g s.epoch s.gate.waiting → AreCalled g (ended s task note answer).epoch (ended s task note answer).gate.waiting
-ended_calls g s task None answer h = h
-ended_calls g s task (Some note) answer h = h
+ended_calls : (g : Ground) (s : MasterState) (asked : Asked) (note : Option Note) (answer : CallResult) → AreCalled g s.epoch s.gate.waiting → AreCalled g (ended s asked note answer).epoch (ended s asked note answer).gate.waiting
+ended_calls g s asked None answer h = h
+ended_calls g s asked (Some note) answer h = h
 
 sweep_calls : (g : Ground) (s : MasterState) (c : SweepCase s) → AreCalled g s.epoch s.gate.waiting → AreCalled g (swept_by s c).0.epoch (swept_by s c).0.gate.waiting
 sweep_calls g s (Quiet none) h = h
 sweep_calls g s (Recovers recovering heard) h = h
 sweep_calls g s (Expires client session due) h = h
 sweep_calls g s (Reopens instance due) h = h
+sweep_calls g s (Tidies idle due) h = calls_push g s.epoch s.gate.waiting (waits_as (s.gate.pushed + 1) (idle.name ∷ []) (tasks.Tidies idle)) h tt
+sweep_calls g s (Spared front back idle turn held) h = (turn_calls g s front (tasks.Tidies idle) back turn h).1
+sweep_calls g s (Tidied front back idle turn still) h = (turn_calls g s front (tasks.Tidies idle) back turn h).1
 sweep_calls g s (AnswersBeat client session beat due) h = h
-sweep_calls g s (TurnedAway front back task principal received turn work may) h = (turn_calls g s front task back turn h).1
-sweep_calls g s (StartedAgain front back task principal received session turn work found live) h = (turn_calls g s front task back turn h).1
-sweep_calls g s (StartedFirst front back task principal received turn work none) h = (turn_calls g s front task back turn h).1
-sweep_calls g s (OfEnded front back task call sequencer turn work gone) h = (turn_calls g s front task back turn h).1
-sweep_calls g s (Ended front back task call sequencer note answer turn work live made) h = ended_calls g (rest s front back) task note answer (turn_calls g s front task back turn h).1
-sweep_calls g s (Applied front back task call sequencer note change answer turn work live made) h =
-    ended_calls g (mapped (rest s front back) change) task note answer (turn_calls g s front task back turn h).1
-sweep_calls g s (Deleted front back task call sequencer change instance waiters answer turn work live made) h =
-    ended_calls g (mapped (rest s front back) change) task None answer (turn_calls g s front task back turn h).1
-sweep_calls g s (Locked front back task call sequencer put claim answer turn work live made) h =
-    ended_calls g (with_locks (rest s front back) (put ∷ [])) task None answer (turn_calls g s front task back turn h).1
-sweep_calls g s (Awaited front back task call sequencer put turn work live made) h = (turn_calls g s front task back turn h).1
-sweep_calls g s (Left front back task call sequencer note leave answer turn work live made) h =
-    ended_calls g (with_locks (rest s front back) (left_put leave ∷ [])) task note answer (turn_calls g s front task back turn h).1
+sweep_calls g s (TurnedAway front back asked principal received turn work may) h = (turn_calls g s front (tasks.Asked asked) back turn h).1
+sweep_calls g s (StartedAgain front back asked principal received session turn work found live) h = (turn_calls g s front (tasks.Asked asked) back turn h).1
+sweep_calls g s (StartedFirst front back asked principal received turn work none) h = (turn_calls g s front (tasks.Asked asked) back turn h).1
+sweep_calls g s (OfEnded front back asked call sequencer turn work gone) h = (turn_calls g s front (tasks.Asked asked) back turn h).1
+sweep_calls g s (Ended front back asked call sequencer note answer turn work live made) h = ended_calls g (rest s front back) asked note answer (turn_calls g s front (tasks.Asked asked) back turn h).1
+sweep_calls g s (Applied front back asked call sequencer note change answer turn work live made) h =
+    ended_calls g (mapped (rest s front back) change) asked note answer (turn_calls g s front (tasks.Asked asked) back turn h).1
+sweep_calls g s (Deleted front back asked call sequencer change instance waiters answer turn work live made) h =
+    ended_calls g (mapped (rest s front back) change) asked None answer (turn_calls g s front (tasks.Asked asked) back turn h).1
+sweep_calls g s (Locked front back asked call sequencer put claim answer turn work live made) h =
+    ended_calls g (with_locks (rest s front back) (put ∷ [])) asked None answer (turn_calls g s front (tasks.Asked asked) back turn h).1
+sweep_calls g s (Awaited front back asked call sequencer put turn work live made) h = (turn_calls g s front (tasks.Asked asked) back turn h).1
+sweep_calls g s (Left front back asked call sequencer note leave answer turn work live made) h =
+    ended_calls g (with_locks (rest s front back) (left_put leave ∷ [])) asked note answer (turn_calls g s front (tasks.Asked asked) back turn h).1
 
 -- ---- a step
 
@@ -372,64 +393,88 @@ noted_change s now client number (calls.CheckSequencer bytes) sequencer = refl
 agreed : (w : WorldState) (m : Option MasterState) (s : MasterState) → m ≡ Some s → Agrees w m → IsKept w.cell w.rows s
 agreed w m s e h = rw e at h
 
--- a change that a sweep tells of comes first, and is what the call whose turn it is does
-record IsOfTurn (s : MasterState) (before : List Line) (client number : ℕ) (change : Mod) : Type 0 where
-  first : before ≡ []
+-- what the call does whose turn it is
+record IsByCall (s : MasterState) (client number : ℕ) (change : Mod) : Type 0 where
   front : List (Waiting Task)
   back : List (Waiting Task)
-  task : Task
-  turn : IsTurn s front task back
+  asked : Asked
+  turn : IsTurn s front (tasks.Asked asked) back
   call : Call
   sequencer : Option (List ℕ)
-  work : task.work ≡ works.Calls call sequencer
-  own : task.client ≡ client
-  same : task.number ≡ number
+  work : asked.work ≡ works.Calls call sequencer
+  own : asked.client ≡ client
+  same : asked.number ≡ number
   is_effect : change_of (effect s client number call sequencer) ≡ Some change
 
-of_call : (s : MasterState) (front back : List (Waiting Task)) (task : Task) (call : Call) (sequencer : Option (List ℕ)) (made : Mod) (before told : List Line) (client number : ℕ) (change : Mod) → IsTurn s front task back → task.work ≡ works.Calls call sequencer → change_of (effect s task.client task.number call sequencer) ≡ Some made → lines.Applied task.client task.number made ∷ [] ≡ before ++ lines.Applied client number change ∷ told → IsOfTurn s before client number change
-of_call s front back task call sequencer made before told client number change turn work does e =
-    let t = one_split (lines.Applied task.client task.number made) before told (lines.Applied client number change) e in
-    let line : lines.Applied task.client task.number made ≡ lines.Applied client number change = t.1 in
-    let c : task.client ≡ client = cc in
-    let n : task.number ≡ number = cc in
+-- what the cell does by itself
+record IsByItself (s : MasterState) (client number : ℕ) (change : Mod) : Type 0 where
+  gone : Idle
+  still : is_still_idle s gone ≡ true
+  nobody : client ≡ 0
+  unnumbered : number ≡ 0
+  goes : change ≡ Gone gone.name
+
+-- a change that a sweep tells of comes first
+record IsOfTurn (s : MasterState) (before : List Line) (client number : ℕ) (change : Mod) : Type 0 where
+  first : before ≡ []
+  does : IsByCall s client number change ⊎ IsByItself s client number change
+
+of_call : (s : MasterState) (front back : List (Waiting Task)) (asked : Asked) (call : Call) (sequencer : Option (List ℕ)) (made : Mod) (before told : List Line) (client number : ℕ) (change : Mod) → IsTurn s front (tasks.Asked asked) back → asked.work ≡ works.Calls call sequencer → change_of (effect s asked.client asked.number call sequencer) ≡ Some made → lines.Applied asked.client asked.number made ∷ [] ≡ before ++ lines.Applied client number change ∷ told → IsOfTurn s before client number change
+of_call s front back asked call sequencer made before told client number change turn work does e =
+    let t = one_split (lines.Applied asked.client asked.number made) before told (lines.Applied client number change) e in
+    let line : lines.Applied asked.client asked.number made ≡ lines.Applied client number change = t.1 in
+    let c : asked.client ≡ client = cc in
+    let n : asked.number ≡ number = cc in
     let m : made ≡ change = cc in
     record {
       first = t.0;
-      front = front;
-      back = back;
-      task = task;
-      turn = turn;
-      call = call;
-      sequencer = sequencer;
-      work = work;
-      own = c;
-      same = n;
-      is_effect = rw (← c, ← n) (does ∙ ap (λ x. Some x) m);
+      does = inl (record {
+        front = front;
+        back = back;
+        asked = asked;
+        turn = turn;
+        call = call;
+        sequencer = sequencer;
+        work = work;
+        own = c;
+        same = n;
+        is_effect = rw (← c, ← n) (does ∙ ap (λ x. Some x) m);
+      });
     }
 
+of_itself : (s : MasterState) (idle : Idle) (before told : List Line) (client number : ℕ) (change : Mod) → is_still_idle s idle ≡ true → lines.Applied 0 0 (Gone idle.name) ∷ [] ≡ before ++ lines.Applied client number change ∷ told → IsOfTurn s before client number change
+of_itself s idle before told client number change still e =
+    let t = one_split (lines.Applied 0 0 (Gone idle.name)) before told (lines.Applied client number change) e in
+    let line : lines.Applied 0 0 (Gone idle.name) ≡ lines.Applied client number change = t.1 in
+    let c : client ≡ 0 = cc in
+    let n : number ≡ 0 = cc in
+    let m : change ≡ Gone idle.name = cc in
+    record { first = t.0; does = inr (record { gone = idle; still = still; nobody = c; unnumbered = n; goes = m }) }
+
 of_turn : (s : MasterState) (c : SweepCase s) (before told : List Line) (client number : ℕ) (change : Mod) → (swept_by s c).1.lines ≡ before ++ lines.Applied client number change ∷ told → IsOfTurn s before client number change
-of_turn s (Applied front back task call sequencer _ made answer turn work live does) before told client number change e =
-    of_call s front back task call sequencer made.change before told client number change turn work (ap change_of does) e
-of_turn s (Deleted front back task call sequencer made instance waiters answer turn work live does) before told client number change e =
-    of_call s front back task call sequencer made.change before told client number change turn work (ap change_of does) e
+of_turn s (Applied front back asked call sequencer _ made answer turn work live does) before told client number change e =
+    of_call s front back asked call sequencer made.change before told client number change turn work (ap change_of does) e
+of_turn s (Deleted front back asked call sequencer made instance waiters answer turn work live does) before told client number change e =
+    of_call s front back asked call sequencer made.change before told client number change turn work (ap change_of does) e
+of_turn s (Tidied front back idle turn still) before told client number change e = of_itself s idle before told client number change still e
 of_turn s (Recovers recovering heard) before told client number change e =
     let t = one_split lines.Recovered before told (lines.Applied client number change) e in
     let line : lines.Recovered ≡ lines.Applied client number change = t.1 in cc
 of_turn s (Expires whose session due) before told client number change e =
     let others = lapses_lines whose (lapses_of s whose) in
     absurd (expiry_split (numbers_ending whose endings.Expiry s.rights) others whose before told client number change (quiet_silent others (lapses_of_locks whose (lapses_of s whose)).quiet) e)
-of_turn s (StartedFirst front back task principal received turn work none) before told client number change e =
-    let t = one_split (lines.Started task.client) before told (lines.Applied client number change) e in
-    let line : lines.Started task.client ≡ lines.Applied client number change = t.1 in cc
+of_turn s (StartedFirst front back asked principal received turn work none) before told client number change e =
+    let t = one_split (lines.Started asked.client) before told (lines.Applied client number change) e in
+    let line : lines.Started asked.client ≡ lines.Applied client number change = t.1 in cc
 of_turn s (Reopens instance due) before told client number change e =
     let turn = reopened (lock_at s.locks instance) in
     let printed = lines.Reopened instance ∷ locked_lines instance turn in
     absurd (silent_split printed before told client number change (quiet_silent printed (reopened_of_locks instance turn).quiet) e)
-of_turn s (Locked front back task call sequencer put claim answer turn work live made) before told client number change e =
+of_turn s (Locked front back asked call sequencer put claim answer turn work live made) before told client number change e =
     absurd (silent_split (locked_line put.instance put.lock.generation claim ∷ []) before told client number change (tt, tt) e)
-of_turn s (Left front back task call sequencer _ leave answer turn work live made) before told client number change e =
-    let printed = leave_lines task.client leave in
-    absurd (silent_split printed before told client number change (quiet_silent printed (left_of_locks task.client leave).quiet) e)
+of_turn s (Left front back asked call sequencer _ leave answer turn work live made) before told client number change e =
+    let printed = leave_lines asked.client leave in
+    absurd (silent_split printed before told client number change (quiet_silent printed (left_of_locks asked.client leave).quiet) e)
 of_turn s _ before told client number change e = absurd (no_split before told (lines.Applied client number change) e)
 
 -- the same of a sweep that was cut
@@ -445,43 +490,105 @@ of_cut s c before told client number change e =
           let line : lines.Down ≡ lines.Applied client number change = t.1 in cc)
     ]
 
--- s: the master that sweeps, at this moment
-of_sweep : (g : Ground) (step : Step) (next : WorldView) (printed before told later : List Line) (client number : ℕ) (change : Mod) (steps : List Step) (rest : List Line) (new : WorldView) → Stands g → (step ≡ Sweep) ⊎ (step ≡ CutSweep Kept) → (master : MasterState) → g.here.world.master ≡ Some master → IsOfTurn (noted master g.here.world.clock) before client number change → IsMade g.here step next printed → Run next steps later new → printed ≡ before ++ lines.Applied client number change ∷ told → rest ≡ told ++ later → IsOfCall g.old (g.past ++ step ∷ steps) (g.told ++ before) client number change rest new
-of_sweep g step next printed before told later client number change steps rest new h sweeps master is_up turn made run e r =
-    let s = noted master g.here.world.clock in
-    let kept = agreed g.here.world g.here.world.master master is_up h.consistent.master in
-    let tells = run_tells g.old g.past g.told g.here h.began h.run in
-    let is_line : printed ≡ lines.Applied client number change ∷ told = e ∙ ap (λ l. l ++ lines.Applied client number change ∷ told) turn.first in
-    rw (turn.first, append-nil g.told) (record {
-      front = g.past;
-      at = step;
-      sweeps = sweeps;
-      back = steps;
-      is_split = refl;
-      told = told;
-      after = later;
-      are_lines = r;
-      here = g.here;
-      next = next;
-      first = h.run;
-      is_made = let m = made in rw is_line at m;
-      last = run;
-      master = master;
-      is_up = is_up;
-      nodes = kept.nodes ∙ tells.is_map;
-      epoch = kept.epoch ∙ tells.is_epoch;
-      call = turn.call;
-      sequencer = turn.sequencer;
-      sent = subst (λ k. call_of g.here.world.messages client k ≡ Some (record { client = client; epoch = master.epoch; number = k; call = turn.call; sequencer = turn.sequencer })) turn.same
-          (subst (λ k. call_of g.here.world.messages k turn.task.number ≡ Some (record { client = k; epoch = master.epoch; number = turn.task.number; call = turn.call; sequencer = turn.sequencer })) turn.own
-          (turn_sent g.here.world.messages s turn.front turn.task turn.back turn.turn (noted_fits g.here.world h.consistent master is_up) turn.call turn.sequencer turn.work));
-      taken = subst (λ k. WasTaken g master.epoch client k turn.call turn.sequencer) turn.same
-          (subst (λ k. WasTaken g master.epoch k turn.task.number turn.call turn.sequencer) turn.own
-          (subst (λ x. IsCalled g master.epoch turn.task.client turn.task.number x) turn.work (turn_calls g s turn.front turn.task turn.back turn.turn (queued_at g g.here.world.master master is_up h.queue)).0));
-      is_effect = sym (noted_change master g.here.world.clock client number turn.call turn.sequencer) ∙ turn.is_effect;
-    })
+-- ---- what it is of
 
-made_here : (g : Ground) (step : Step) (next : WorldView) (printed before told later : List Line) (client number : ℕ) (change : Mod) (steps : List Step) (rest : List Line) (new : WorldView) → Stands g → Does g.here step next printed → Run next steps later new → printed ≡ before ++ lines.Applied client number change ∷ told → rest ≡ told ++ later → IsOfCall g.old (g.past ++ step ∷ steps) (g.told ++ before) client number change rest new
+-- a client's number is no 0
+some_number : (n : ℕ) → is_client_number n ≡ true → 1 ≤ n
+some_number n h = let t : nat_le 1 n ≡ true = (and_parts (nat_le 1 n) _ h).0 in grind (arith, nat_tests, t)
+
+it_fits : (front : List (Waiting Task)) (w : Waiting Task) (back : List (Waiting Task)) → waiting_fits (front ++ w ∷ back) ≡ true → task_fits w.change.body ≡ true
+it_fits [] w back h = (and_parts (task_fits w.change.body) (waiting_fits back) h).0
+it_fits (x ∷ front) w back h = it_fits front w back (and_parts (task_fits x.change.body) (waiting_fits (front ++ w ∷ back)) h).1
+
+asked_counts : (s : MasterState) (front back : List (Waiting Task)) (asked : Asked) → waiting_fits s.gate.waiting ≡ true → IsTurn s front (tasks.Asked asked) back → 1 ≤ asked.client
+asked_counts s front back asked fits turn =
+    some_number asked.client (it_fits front (waits_as turn.number turn.touched (tasks.Asked asked)) back (subst (λ ws. waiting_fits ws ≡ true) turn.waited fits))
+
+-- the node that goes is there, and nobody holds it open
+record IsIdleAt (s : MasterState) (name : List ℕ) : Type 0 where
+  view : View
+  found : get_node s.nodes name ≡ Some view
+  idle : is_idle_node s name view ≡ true
+
+idle_at : (s : MasterState) (gone : Idle) (o : Option View) → get_node s.nodes gone.name ≡ o → option_map_or (λ view. view.instance == gone.instance && is_idle_node s gone.name view) o false ≡ true → IsIdleAt s gone.name
+idle_at s gone None found h = cc
+idle_at s gone (Some view) found h = record { view = view; found = found; idle = (and_parts (view.instance == gone.instance) (is_idle_node s gone.name view) h).1 }
+
+-- of a client's call, or the cell's own
+abbrev IsOfOne : WorldView → List Step → List Line → ℕ → ℕ → Mod → List Line → WorldView → Type 0
+IsOfOne old steps before client number change rest new =
+    ((1 ≤ client) × IsOfCall old steps before client number change rest new) ⊎ ((client ≡ 0) × IsOfIdle old steps before number change rest new)
+
+-- the sweep of this master tells of the change first
+module _ (g : Ground) (step : Step) (next : WorldView) (printed told later : List Line) (change : Mod) (steps : List Step) (rest : List Line) (new : WorldView) (h : Stands g) (sweeps : (step ≡ Sweep) ⊎ (step ≡ CutSweep Kept)) (master : MasterState) (is_up : g.here.world.master ≡ Some master) (made : IsMade g.here step next printed) (run : Run next steps later new) (behind : rest ≡ told ++ later) where
+  -- at this moment
+  abbrev s : MasterState
+  s = noted master g.here.world.clock
+
+  kept : IsKept g.here.world.cell g.here.world.rows master
+  kept = agreed g.here.world g.here.world.master master is_up h.consistent.master
+
+  tells : Tells g.old.world.rows g.here.world.rows g.told
+  tells = run_tells g.old g.past g.told g.here h.began h.run
+
+  abbrev at_sweep : (client number : ℕ) → printed ≡ lines.Applied client number change ∷ told → IsApplied g.old (g.past ++ step ∷ steps) g.told client number change rest new
+  at_sweep client number is_line = record {
+    front = g.past;
+    at = step;
+    sweeps = sweeps;
+    back = steps;
+    is_split = refl;
+    told = told;
+    after = later;
+    are_lines = behind;
+    here = g.here;
+    next = next;
+    first = h.run;
+    is_made = subst (IsMade g.here step next) is_line made;
+    last = run;
+    master = master;
+    is_up = is_up;
+    nodes = kept.nodes ∙ tells.is_map;
+    epoch = kept.epoch ∙ tells.is_epoch;
+  }
+
+  by_call : (client number : ℕ) → printed ≡ lines.Applied client number change ∷ told → IsByCall s client number change → IsOfCall g.old (g.past ++ step ∷ steps) g.told client number change rest new
+  by_call client number is_line turn = record {
+    made = at_sweep client number is_line;
+    call = turn.call;
+    sequencer = turn.sequencer;
+    sent = subst (λ k. call_of g.here.world.messages client k ≡ Some (record { client = client; epoch = master.epoch; number = k; call = turn.call; sequencer = turn.sequencer })) turn.same
+        (subst (λ k. call_of g.here.world.messages k turn.asked.number ≡ Some (record { client = k; epoch = master.epoch; number = turn.asked.number; call = turn.call; sequencer = turn.sequencer })) turn.own
+        (turn_sent g.here.world.messages s turn.front turn.asked turn.back turn.turn (noted_fits g.here.world h.consistent master is_up) turn.call turn.sequencer turn.work));
+    taken = subst (λ k. WasTaken g master.epoch client k turn.call turn.sequencer) turn.same
+        (subst (λ k. WasTaken g master.epoch k turn.asked.number turn.call turn.sequencer) turn.own
+        (subst (λ x. IsCalled g master.epoch turn.asked.client turn.asked.number x) turn.work (turn_calls g s turn.front (tasks.Asked turn.asked) turn.back turn.turn (queued_at g g.here.world.master master is_up h.queue)).0));
+    is_effect = sym (noted_change master g.here.world.clock client number turn.call turn.sequencer) ∙ turn.is_effect;
+  }
+
+  by_itself : (client number : ℕ) → printed ≡ lines.Applied client number change ∷ told → IsByItself s client number change → IsOfIdle g.old (g.past ++ step ∷ steps) g.told number change rest new
+  by_itself client number is_line turn =
+      let at = idle_at master turn.gone (get_node master.nodes turn.gone.name) refl turn.still in
+      record {
+        made = at_sweep 0 number (is_line ∙ ap (λ n. lines.Applied n number change ∷ told) turn.nobody);
+        unnumbered = turn.unnumbered;
+        name = turn.gone.name;
+        goes = turn.goes;
+        view = at.view;
+        found = at.found;
+        idle = at.idle;
+      }
+
+  by_one : (client number : ℕ) → printed ≡ lines.Applied client number change ∷ told → IsByCall s client number change ⊎ IsByItself s client number change → IsOfOne g.old (g.past ++ step ∷ steps) g.told client number change rest new
+  by_one client number is_line (inl turn) = inl (subst (λ n. 1 ≤ n) turn.own (asked_counts s turn.front turn.back turn.asked kept.waiting turn.turn), by_call client number is_line turn)
+  by_one client number is_line (inr turn) = inr (turn.nobody, by_itself client number is_line turn)
+
+of_sweep : (g : Ground) (step : Step) (next : WorldView) (printed before told later : List Line) (client number : ℕ) (change : Mod) (steps : List Step) (rest : List Line) (new : WorldView) → Stands g → (step ≡ Sweep) ⊎ (step ≡ CutSweep Kept) → (master : MasterState) → g.here.world.master ≡ Some master → IsOfTurn (noted master g.here.world.clock) before client number change → IsMade g.here step next printed → Run next steps later new → printed ≡ before ++ lines.Applied client number change ∷ told → rest ≡ told ++ later → IsOfOne g.old (g.past ++ step ∷ steps) (g.told ++ before) client number change rest new
+of_sweep g step next printed before told later client number change steps rest new h sweeps master is_up turn made run e r =
+    let is_line : printed ≡ lines.Applied client number change ∷ told = e ∙ ap (λ l. l ++ lines.Applied client number change ∷ told) turn.first in
+    rw (turn.first, append-nil g.told) (by_one g step next printed told later change steps rest new h sweeps master is_up made run r client number is_line turn.does)
+
+made_here : (g : Ground) (step : Step) (next : WorldView) (printed before told later : List Line) (client number : ℕ) (change : Mod) (steps : List Step) (rest : List Line) (new : WorldView) → Stands g → Does g.here step next printed → Run next steps later new → printed ≡ before ++ lines.Applied client number change ∷ told → rest ≡ told ++ later → IsOfOne g.old (g.past ++ step ∷ steps) (g.told ++ before) client number change rest new
 made_here g step next printed before told later client number change steps rest new h (inr refused) run e r =
     absurd (silent_split printed before told client number change (rw refused.line (tt, tt)) e)
 made_here g step next printed before told later client number change steps rest new h (inl made) run e r =
@@ -508,11 +615,11 @@ made_here g step next printed before told later client number change steps rest 
 
 -- ---- a run
 
-run_on : (g : Ground) (steps : List Step) (printed : List Line) (new : WorldView) → Stands g → Run g.here steps printed new → (before rest : List Line) (client number : ℕ) (change : Mod) → printed ≡ before ++ lines.Applied client number change ∷ rest → IsOfCall g.old (g.past ++ steps) (g.told ++ before) client number change rest new
+run_on : (g : Ground) (steps : List Step) (printed : List Line) (new : WorldView) → Stands g → Run g.here steps printed new → (before rest : List Line) (client number : ℕ) (change : Mod) → printed ≡ before ++ lines.Applied client number change ∷ rest → IsOfOne g.old (g.past ++ steps) (g.told ++ before) client number change rest new
 run_on g [] printed new h run before rest client number change e =
     absurd (no_split before rest (lines.Applied client number change) (sym run.0 ∙ e))
 run_on g (step ∷ steps) printed new h run before rest client number change e =
-    (elim (split run.1 run.2 before rest (lines.Applied client number change) (sym run.6 ∙ e)) as (λ s. IsOfCall g.old (g.past ++ step ∷ steps) (g.told ++ before) client number change rest new) [
+    (elim (split run.1 run.2 before rest (lines.Applied client number change) (sym run.6 ∙ e)) as (λ s. IsOfOne g.old (g.past ++ step ∷ steps) (g.told ++ before) client number change rest new) [
       | inl k ↦ made_here g step run.0 run.1 before k.0 run.2 client number change steps rest new h run.3 run.5 k.1 k.2
       | inr k ↦
           let there = run_on (ground_after g step run.1 run.0) steps run.2 new (step_stands g step run.0 run.1 h run.3 run.4) run.5 k.0 rest client number change k.2 in
@@ -522,11 +629,11 @@ run_on g (step ∷ steps) printed new h run before rest client number change e =
 -- what waits in a master waited there from the beginning
 have_waited : (g : Ground) (s : MasterState) → g.old.world.master ≡ Some s → (front queue : List (Waiting Task)) → s.gate.waiting ≡ front ++ queue → AreCalled g s.epoch queue
 have_waited g s up front [] is = tt
-have_waited g s up front (w ∷ ws) is = (it_waited g s up front w ws w.change.body.work refl is, have_waited g s up (front ++ w ∷ []) ws (is ∙ sym (append_assoc front (w ∷ []) ws)))
+have_waited g s up front (w ∷ ws) is = (it_waited g s up front w ws w.change.body refl is, have_waited g s up (front ++ w ∷ []) ws (is ∙ sym (append_assoc front (w ∷ []) ws)))
   where
-    it_waited : (g : Ground) (s : MasterState) → g.old.world.master ≡ Some s → (front : List (Waiting Task)) (w : Waiting Task) (ws : List (Waiting Task)) (work : Work) → w.change.body.work ≡ work → s.gate.waiting ≡ front ++ w ∷ ws → IsCalled g s.epoch w.change.body.client w.change.body.number work
-    it_waited g s up front w ws (works.Starts principal received) work is = tt
-    it_waited g s up front w ws (works.Calls call sequencer) work is =
+    call_waited : (g : Ground) (s : MasterState) → g.old.world.master ≡ Some s → (front : List (Waiting Task)) (w : Waiting Task) (ws : List (Waiting Task)) (asked : Asked) (work : Work) → w.change.body ≡ tasks.Asked asked → asked.work ≡ work → s.gate.waiting ≡ front ++ w ∷ ws → IsCalled g s.epoch asked.client asked.number work
+    call_waited g s up front w ws asked (works.Starts principal received) body work is = tt
+    call_waited g s up front w ws asked (works.Calls call sequencer) body work is =
         inl (record {
           master = s;
           is_up = up;
@@ -535,15 +642,34 @@ have_waited g s up front (w ∷ ws) is = (it_waited g s up front w ws w.change.b
           back = ws;
           turn = w.number;
           touched = w.change.touched;
-          waits = is ∙ ap (λ x. front ++ waits_as w.number w.change.touched (record w.change.body { work = x }) ∷ ws) work;
+          waits = is ∙ ap (λ x. front ++ waits_as w.number w.change.touched x ∷ ws) (body ∙ ap (λ x. tasks.Asked (record asked { work = x })) work);
         })
+
+    it_waited : (g : Ground) (s : MasterState) → g.old.world.master ≡ Some s → (front : List (Waiting Task)) (w : Waiting Task) (ws : List (Waiting Task)) (task : Task) → w.change.body ≡ task → s.gate.waiting ≡ front ++ w ∷ ws → IsTaskCalled g s.epoch task
+    it_waited g s up front w ws (tasks.Asked asked) body is = call_waited g s up front w ws asked asked.work body refl is
+    it_waited g s up front w ws (tasks.Tidies idle) body is = tt
 
 first_queue : (g : Ground) (m : Option MasterState) → g.old.world.master ≡ m → Queued g m
 first_queue g None up = tt
 first_queue g (Some s) up = have_waited g s up [] s.gate.waiting refl
 
--- each change that the lines show is the effect of a call that was sent and taken
-pub run_calls : (old : WorldView) (steps : List Step) (printed : List Line) (new : WorldView) → Run old steps printed new → IsConsistent old.world → (before rest : List Line) (client number : ℕ) (change : Mod) → printed ≡ before ++ lines.Applied client number change ∷ rest → IsOfCall old steps before client number change rest new
-run_calls old steps printed new run h before rest client number change e =
+run_ones : (old : WorldView) (steps : List Step) (printed : List Line) (new : WorldView) → Run old steps printed new → IsConsistent old.world → (before rest : List Line) (client number : ℕ) (change : Mod) → printed ≡ before ++ lines.Applied client number change ∷ rest → IsOfOne old steps before client number change rest new
+run_ones old steps printed new run h before rest client number change e =
     let g : Ground = record { old = old; past = []; told = []; here = old } in
     run_on g steps printed new (record { began = h; run = (refl, refl); consistent = h; queue = first_queue g old.world.master refl }) run before rest client number change e
+
+-- each change that the lines show of a client is the effect of a call that was sent and taken
+pub run_calls : (old : WorldView) (steps : List Step) (printed : List Line) (new : WorldView) → Run old steps printed new → IsConsistent old.world → (before rest : List Line) (client number : ℕ) (change : Mod) → printed ≡ before ++ lines.Applied client number change ∷ rest → 1 ≤ client → IsOfCall old steps before client number change rest new
+run_calls old steps printed new run h before rest client number change e some =
+    elim (run_ones old steps printed new run h before rest client number change e) [
+      | inl t ↦ t.1
+      | inr t ↦ (let none = t.0 in absurd (omega arith))
+    ]
+
+-- and what is of no client is that a node goes which nobody held open
+pub run_own : (old : WorldView) (steps : List Step) (printed : List Line) (new : WorldView) → Run old steps printed new → IsConsistent old.world → (before rest : List Line) (number : ℕ) (change : Mod) → printed ≡ before ++ lines.Applied 0 number change ∷ rest → IsOfIdle old steps before number change rest new
+run_own old steps printed new run h before rest number change e =
+    elim (run_ones old steps printed new run h before rest 0 number change e) [
+      | inl t ↦ (let some = t.0 in absurd (omega arith))
+      | inr t ↦ t.1
+    ]

@@ -44,8 +44,8 @@ use Rattle.cell_core.specs.Cases.TakeCase.{StartQueued, BeatParked, Repeated, Re
 use Rattle.over_core.specs.declared.effects.Effect.{Effect}
 use Rattle.over_core.specs.Effect.{effect}
 use Rattle.over_core.specs.Sweep.{kept_puts, sent, replies_to, reply_to, turn_replies, lapses_replies, lapses_of}
-use Rattle.over_core.specs.SweepCase.{SweepCase, swept_by}
-use Rattle.over_core.specs.SweepCase.SweepCase.{Quiet, Recovers, Expires, Reopens, AnswersBeat, StartedAgain, Started, OfEnded, Ended, Applied, Deleted, Locked, Awaited, Left}
+use Rattle.over_core.specs.SweepCase.{SweepCase, swept_by, gone_replies}
+use Rattle.over_core.specs.SweepCase.SweepCase.{Quiet, Recovers, Expires, Reopens, Tidies, Spared, Tidied, AnswersBeat, StartedAgain, Started, OfEnded, Ended, Applied, Deleted, Locked, Awaited, Left}
 use Rattle.world_cell.proofs.OneSession.{kept_in, each_session, each_with_new, each_issued}
 use Rattle.world_cell.proofs.EffectContents.{IsShown, IsShownIf, answer_shown, effect_faithful}
 
@@ -269,21 +269,24 @@ module _ (R : Reply → Type 0) (E : Event → Type 0) where
   swept_outs_hold s (Recovers recovering heard) shows h = tt
   swept_outs_hold s (Expires client session due) shows h = sent_hold (lapses_replies s (lapses_of s client)) (lapses_hold s shows (lapses_of s client))
   swept_outs_hold s (Reopens instance due) shows h = sent_hold (turn_replies s (reopened (lock_at s.locks instance))) (turn_hold s shows (reopened (lock_at s.locks instance)))
+  swept_outs_hold s (Tidies idle due) shows h = tt
+  swept_outs_hold s (Spared front back idle turn held) shows h = tt
+  swept_outs_hold s (Tidied front back idle turn still) shows h = sent_hold (gone_replies s idle) (late_hold s shows (results.Refused faults.StaleInstance) (lock_at s.locks idle.instance).waiters tt)
   swept_outs_hold s (AnswersBeat client session beat due) shows h = (unacked_hold s.sessions h client, tt)
-  swept_outs_hold s (OfEnded front back task call sequencer turn work gone) shows h = tt
-  swept_outs_hold s (Ended front back task call sequencer _ answer turn work live made) shows h =
-      (own_holds s shows task.client task.number call sequencer _ answer made refl, tt)
-  swept_outs_hold s (Applied front back task call sequencer _ change answer turn work live made) shows h =
-      (own_holds s shows task.client task.number call sequencer _ answer made refl, tt)
-  swept_outs_hold s (Deleted front back task call sequencer change instance waiters answer turn work live made) shows h = (
-    own_holds s shows task.client task.number call sequencer _ answer made refl,
+  swept_outs_hold s (OfEnded front back asked call sequencer turn work gone) shows h = tt
+  swept_outs_hold s (Ended front back asked call sequencer _ answer turn work live made) shows h =
+      (own_holds s shows asked.client asked.number call sequencer _ answer made refl, tt)
+  swept_outs_hold s (Applied front back asked call sequencer _ change answer turn work live made) shows h =
+      (own_holds s shows asked.client asked.number call sequencer _ answer made refl, tt)
+  swept_outs_hold s (Deleted front back asked call sequencer change instance waiters answer turn work live made) shows h = (
+    own_holds s shows asked.client asked.number call sequencer _ answer made refl,
     sent_hold (replies_to s (results.Refused faults.StaleInstance) waiters) (late_hold s shows (results.Refused faults.StaleInstance) waiters tt),
   )
-  swept_outs_hold s (Locked front back task call sequencer put claim answer turn work live made) shows h =
-      (own_holds s shows task.client task.number call sequencer _ answer made refl, tt)
-  swept_outs_hold s (Awaited front back task call sequencer put turn work live made) shows h = tt
-  swept_outs_hold s (Left front back task call sequencer _ leave answer turn work live made) shows h = (
-    own_holds s shows task.client task.number call sequencer _ answer made refl,
+  swept_outs_hold s (Locked front back asked call sequencer put claim answer turn work live made) shows h =
+      (own_holds s shows asked.client asked.number call sequencer _ answer made refl, tt)
+  swept_outs_hold s (Awaited front back asked call sequencer put turn work live made) shows h = tt
+  swept_outs_hold s (Left front back asked call sequencer _ leave answer turn work live made) shows h = (
+    own_holds s shows asked.client asked.number call sequencer _ answer made refl,
     sent_hold (turn_replies s leave.turn) (turn_hold s shows leave.turn),
   )
   swept_outs_hold s _ shows h = (tt, tt)
@@ -292,27 +295,29 @@ module _ (R : Reply → Type 0) (E : Event → Type 0) where
   swept_hold s (Expires client session due) h k =
       replies_hold (with_session s.sessions client of_session.ended) (lapses_replies s (lapses_of s client)) (stepped_holds s.sessions h client of_session.ended (λ session g. (g.0, tt))) k
   swept_hold s (Reopens instance due) h k = replies_hold s.sessions (turn_replies s (reopened (lock_at s.locks instance))) h k
+  swept_hold s (Tidies idle due) h k = issued_holds s.sessions h (clients_to_ask idle.name s.rights)
+  swept_hold s (Tidied front back idle turn still) h k = replies_hold s.sessions (gone_replies s idle) h k
   swept_hold s (AnswersBeat client session beat due) h k = stepped_holds s.sessions h client (answered s.sessions.lease s.clock) (answered_holds s.sessions.lease s.clock)
-  swept_hold s (StartedAgain front back task principal received session turn work found live) h k =
-      stepped_holds s.sessions h task.client (prolonged (s.clock + s.sessions.lease)) (λ session g. g)
-  swept_hold s (Started front back task principal received turn work none) h k = begun_holds s.sessions h task.client principal (s.clock + s.sessions.lease)
-  swept_hold s (Ended front back task call sequencer None answer turn work live made) h k =
-      keeping_holds s.sessions h task.client (answered_by (reply_of s task.client task.number answer)) k.0
-  swept_hold s (Ended front back task call sequencer (Some note) answer turn work live made) h k =
-      keeping_holds s.sessions h task.client (answered_by (reply_of s task.client task.number answer)) k.0
-  swept_hold s (Applied front back task call sequencer None change answer turn work live made) h k =
-      keeping_holds s.sessions h task.client (answered_by (reply_of s task.client task.number answer)) k.0
-  swept_hold s (Applied front back task call sequencer (Some note) change answer turn work live made) h k =
-      keeping_holds s.sessions h task.client (answered_by (reply_of s task.client task.number answer)) k.0
-  swept_hold s (Deleted front back task call sequencer change instance waiters answer turn work live made) h k =
-      replies_hold (with_session s.sessions task.client (keeping (answered_by (reply_of s task.client task.number answer)))) (replies_to s (results.Refused faults.StaleInstance) waiters)
-      (keeping_holds s.sessions h task.client (answered_by (reply_of s task.client task.number answer)) k.0) k.1
-  swept_hold s (Locked front back task call sequencer put claim answer turn work live made) h k =
-      keeping_holds s.sessions h task.client (answered_by (reply_of s task.client task.number answer)) k.0
-  swept_hold s (Left front back task call sequencer None leave answer turn work live made) h k =
-      replies_hold (with_session s.sessions task.client (keeping (answered_by (reply_of s task.client task.number answer)))) (turn_replies s leave.turn)
-      (keeping_holds s.sessions h task.client (answered_by (reply_of s task.client task.number answer)) k.0) k.1
-  swept_hold s (Left front back task call sequencer (Some note) leave answer turn work live made) h k =
-      replies_hold (with_session s.sessions task.client (keeping (answered_by (reply_of s task.client task.number answer)))) (turn_replies s leave.turn)
-      (keeping_holds s.sessions h task.client (answered_by (reply_of s task.client task.number answer)) k.0) k.1
+  swept_hold s (StartedAgain front back asked principal received session turn work found live) h k =
+      stepped_holds s.sessions h asked.client (prolonged (s.clock + s.sessions.lease)) (λ session g. g)
+  swept_hold s (Started front back asked principal received turn work none) h k = begun_holds s.sessions h asked.client principal (s.clock + s.sessions.lease)
+  swept_hold s (Ended front back asked call sequencer None answer turn work live made) h k =
+      keeping_holds s.sessions h asked.client (answered_by (reply_of s asked.client asked.number answer)) k.0
+  swept_hold s (Ended front back asked call sequencer (Some note) answer turn work live made) h k =
+      keeping_holds s.sessions h asked.client (answered_by (reply_of s asked.client asked.number answer)) k.0
+  swept_hold s (Applied front back asked call sequencer None change answer turn work live made) h k =
+      keeping_holds s.sessions h asked.client (answered_by (reply_of s asked.client asked.number answer)) k.0
+  swept_hold s (Applied front back asked call sequencer (Some note) change answer turn work live made) h k =
+      keeping_holds s.sessions h asked.client (answered_by (reply_of s asked.client asked.number answer)) k.0
+  swept_hold s (Deleted front back asked call sequencer change instance waiters answer turn work live made) h k =
+      replies_hold (with_session s.sessions asked.client (keeping (answered_by (reply_of s asked.client asked.number answer)))) (replies_to s (results.Refused faults.StaleInstance) waiters)
+      (keeping_holds s.sessions h asked.client (answered_by (reply_of s asked.client asked.number answer)) k.0) k.1
+  swept_hold s (Locked front back asked call sequencer put claim answer turn work live made) h k =
+      keeping_holds s.sessions h asked.client (answered_by (reply_of s asked.client asked.number answer)) k.0
+  swept_hold s (Left front back asked call sequencer None leave answer turn work live made) h k =
+      replies_hold (with_session s.sessions asked.client (keeping (answered_by (reply_of s asked.client asked.number answer)))) (turn_replies s leave.turn)
+      (keeping_holds s.sessions h asked.client (answered_by (reply_of s asked.client asked.number answer)) k.0) k.1
+  swept_hold s (Left front back asked call sequencer (Some note) leave answer turn work live made) h k =
+      replies_hold (with_session s.sessions asked.client (keeping (answered_by (reply_of s asked.client asked.number answer)))) (turn_replies s leave.turn)
+      (keeping_holds s.sessions h asked.client (answered_by (reply_of s asked.client asked.number answer)) k.0) k.1
   swept_hold s _ h k = h

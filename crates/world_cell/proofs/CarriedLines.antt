@@ -37,7 +37,7 @@ use Rattle.cell_core.specs.Cases.TakeCase.{StartRefused, OldBeat, BeatRefused, B
 use Rattle.over_core.specs.declared.effects.Leave.{Leave}
 use Rattle.over_core.specs.Sweep.{locked_line, locked_lines, line_if, leave_lines, lapse_lines, lapses_lines, lapses_of}
 use Rattle.over_core.specs.SweepCase.{SweepCase, swept_by}
-use Rattle.over_core.specs.SweepCase.SweepCase.{Recovers, Expires, Reopens, Started as StartedFirst, Applied, Deleted, Locked, Left}
+use Rattle.over_core.specs.SweepCase.SweepCase.{Recovers, Expires, Reopens, Tidied, Started as StartedFirst, Applied, Deleted, Locked, Left}
 use Rattle.client_parts.specs.declared.asks.Ask.{Ask}
 use Rattle.client_parts.specs.declared.sessions.Session.{Session}
 use Rattle.client_parts.specs.declared.sessions.Session.TheVariants as sessions
@@ -260,11 +260,12 @@ module _ (R : Reply → Type 0) (E : Event → Type 0) where
       both_lines (ends ++ lapses_lines client (lapses_of s client)) (lines.Ended client ∷ [])
       (both_lines ends (lapses_lines client (lapses_of s client)) (each_line lines.Expired (λ number. tt) (numbers_ending client endings.Expiry s.rights)) (lapses_hold client (lapses_of s client))) (tt, tt)
   swept_tells s (Reopens instance due) = (tt, got_lines instance (reopened (lock_at s.locks instance)).lock.generation (reopened (lock_at s.locks instance)).granted)
-  swept_tells s (StartedFirst front back task principal received turn work none) = (tt, tt)
-  swept_tells s (Applied front back task call sequencer _ change answer turn work live made) = (tt, tt)
-  swept_tells s (Deleted front back task call sequencer change instance waiters answer turn work live made) = (tt, tt)
-  swept_tells s (Locked front back task call sequencer put claim answer turn work live made) = (tt, tt)
-  swept_tells s (Left front back task call sequencer _ leave answer turn work live made) = left_lines task.client leave
+  swept_tells s (StartedFirst front back asked principal received turn work none) = (tt, tt)
+  swept_tells s (Applied front back asked call sequencer _ change answer turn work live made) = (tt, tt)
+  swept_tells s (Deleted front back asked call sequencer change instance waiters answer turn work live made) = (tt, tt)
+  swept_tells s (Tidied front back idle turn still) = (tt, tt)
+  swept_tells s (Locked front back asked call sequencer put claim answer turn work live made) = (tt, tt)
+  swept_tells s (Left front back asked call sequencer _ leave answer turn work live made) = left_lines asked.client leave
   swept_tells s _ = tt
 
   -- ---- a step

@@ -43,11 +43,11 @@ use Rattle.cell_core.specs.State.{MasterState, master_of, taken_over}
 use Rattle.cell_core.specs.Step.{session_of, with_note, with_call, asking_for, repeated_reply, noted}
 use Rattle.cell_core.specs.Deeds.{edit_of, lock_changes}
 use Rattle.cell_core.specs.Cases.{TakeCase, taken_by}
-use Rattle.over_core.specs.SweepCase.{SweepCase, swept_by, swept_edits}
+use Rattle.over_core.specs.SweepCase.{SweepCase, swept_by, swept_edits, gone_replies}
 use Rattle.over_core.proofs.SweepCases.{first_tellings}
 use Rattle.cell_core.specs.Cases.TakeCase.{Repeated, StartQueued, OldBeat, BeatRefused, BeatParked, OldEpoch, Answered, Granted, Waits}
 use Rattle.over_core.specs.Sweep.{left_put, turn_replies, lapses_of, lapses_puts, lapses_replies, puts_of, replies_to}
-use Rattle.over_core.specs.SweepCase.SweepCase.{Quiet, Recovers, Expires, Reopens, StartedAgain, Started as StartedFirst, OfEnded, Ended, Applied, Deleted, Locked, Awaited, Left}
+use Rattle.over_core.specs.SweepCase.SweepCase.{Quiet, Recovers, Expires, Reopens, Tidies, Spared, Tidied, StartedAgain, Started as StartedFirst, OfEnded, Ended, Applied, Deleted, Locked, Awaited, Left}
 use Rattle.over_core.specs.Kept.{IsKept}
 use Rattle.over_core.specs.Up.{up_edits}
 use Rattle.client_parts.specs.declared.sessions.Session.TheVariants as sessions
@@ -623,12 +623,15 @@ swept_tells s (Quiet none) = tt
 swept_tells s (Recovers recovering heard) = tt
 swept_tells s (Expires client session due) = replies_tell s.epoch (lapses_replies s (lapses_of s client))
 swept_tells s (Reopens instance due) = replies_tell s.epoch (turn_replies s (reopened (lock_at s.locks instance)))
-swept_tells s (StartedAgain front back task principal received session turn work found live) = (least s.epoch, tt)
-swept_tells s (StartedFirst front back task principal received turn work none) = (least s.epoch, tt)
-swept_tells s (OfEnded front back task call sequencer turn work gone) = tt
-swept_tells s (Deleted front back task call sequencer change instance waiters answer turn work live made) = (tt, replies_tell s.epoch (replies_to s (results.Refused faults.StaleInstance) waiters))
-swept_tells s (Awaited front back task call sequencer put turn work live made) = tt
-swept_tells s (Left front back task call sequencer _ leave answer turn work live made) = (tt, replies_tell s.epoch (turn_replies s leave.turn))
+swept_tells s (Tidies idle due) = tt
+swept_tells s (Spared front back idle turn held) = tt
+swept_tells s (Tidied front back idle turn still) = replies_tell s.epoch (gone_replies s idle)
+swept_tells s (StartedAgain front back asked principal received session turn work found live) = (least s.epoch, tt)
+swept_tells s (StartedFirst front back asked principal received turn work none) = (least s.epoch, tt)
+swept_tells s (OfEnded front back asked call sequencer turn work gone) = tt
+swept_tells s (Deleted front back asked call sequencer change instance waiters answer turn work live made) = (tt, replies_tell s.epoch (replies_to s (results.Refused faults.StaleInstance) waiters))
+swept_tells s (Awaited front back asked call sequencer put turn work live made) = tt
+swept_tells s (Left front back asked call sequencer _ leave answer turn work live made) = (tt, replies_tell s.epoch (turn_replies s leave.turn))
 swept_tells s _ = (tt, tt)
 
 -- ---- the rows behind a sweep
@@ -641,11 +644,12 @@ pub swept_epoch : (rows : Rows) (s : MasterState) (c : SweepCase s) → (changed
 swept_epoch rows s (Expires client session due) =
     (let_go rows (lock_changes s (lapses_puts s (lapses_of s client))) client (record { principal = session.principal; live = false })).beside.epoch
 swept_epoch rows s (Reopens instance due) = (relocked_rows rows (lock_changes s (puts_of s instance (reopened (lock_at s.locks instance)).lock))).beside.epoch
-swept_epoch rows s (Applied front back task call sequencer _ change answer turn work live made) = mod_epoch rows change.change change.next_instance
-swept_epoch rows s (Deleted front back task call sequencer change instance waiters answer turn work live made) = mod_epoch rows change.change change.next_instance
-swept_epoch rows s (Locked front back task call sequencer put claim answer turn work live made) = (relocked_rows rows (lock_changes s (put ∷ []))).beside.epoch
-swept_epoch rows s (Awaited front back task call sequencer put turn work live made) = (relocked_rows rows (lock_changes s (put ∷ []))).beside.epoch
-swept_epoch rows s (Left front back task call sequencer _ leave answer turn work live made) = (relocked_rows rows (lock_changes s (left_put leave ∷ []))).beside.epoch
+swept_epoch rows s (Applied front back asked call sequencer _ change answer turn work live made) = mod_epoch rows change.change change.next_instance
+swept_epoch rows s (Deleted front back asked call sequencer change instance waiters answer turn work live made) = mod_epoch rows change.change change.next_instance
+swept_epoch rows s (Tidied front back idle turn still) = mod_epoch rows (Gone idle.name) s.next_instance
+swept_epoch rows s (Locked front back asked call sequencer put claim answer turn work live made) = (relocked_rows rows (lock_changes s (put ∷ []))).beside.epoch
+swept_epoch rows s (Awaited front back asked call sequencer put turn work live made) = (relocked_rows rows (lock_changes s (put ∷ []))).beside.epoch
+swept_epoch rows s (Left front back asked call sequencer _ leave answer turn work live made) = (relocked_rows rows (lock_changes s (left_put leave ∷ []))).beside.epoch
 swept_epoch rows s _ = refl
 
 -- ---- the moment that a master knows
@@ -666,12 +670,12 @@ taken_clock s request (Waits message note touched new serving admitted) =
 taken_clock s request _ = refl
 
 pub swept_clock : (s : MasterState) (c : SweepCase s) → (swept_by s c).0.clock ≡ s.clock
-swept_clock s (Ended front back task call sequencer None answer turn work live made) = refl
-swept_clock s (Ended front back task call sequencer (Some note) answer turn work live made) = refl
-swept_clock s (Applied front back task call sequencer None change answer turn work live made) = refl
-swept_clock s (Applied front back task call sequencer (Some note) change answer turn work live made) = refl
-swept_clock s (Left front back task call sequencer None leave answer turn work live made) = refl
-swept_clock s (Left front back task call sequencer (Some note) leave answer turn work live made) = refl
+swept_clock s (Ended front back asked call sequencer None answer turn work live made) = refl
+swept_clock s (Ended front back asked call sequencer (Some note) answer turn work live made) = refl
+swept_clock s (Applied front back asked call sequencer None change answer turn work live made) = refl
+swept_clock s (Applied front back asked call sequencer (Some note) change answer turn work live made) = refl
+swept_clock s (Left front back asked call sequencer None leave answer turn work live made) = refl
+swept_clock s (Left front back asked call sequencer (Some note) leave answer turn work live made) = refl
 swept_clock s _ = refl
 
 module _ (w : WorldState) (h : IsConsistent w) (s : MasterState) (up : w.master ≡ Some s) where

@@ -56,5 +56,5 @@ pub swept_kept : (s : MasterState) (c : SweepCase s) → (filter is_of_commit (s
 swept_kept s (Recovers recovering heard) = inr refl
 swept_kept s (Expires client session due) = inl (expiry_kept client (numbers_ending client endings.Expiry s.rights) (lapses_of s client))
 swept_kept s (Reopens instance due) = inl (reopened_of_locks instance (reopened (lock_at s.locks instance))).kept
-swept_kept s (Left front back task call sequencer _ leave answer turn work live made) = inl (left_of_locks task.client leave).kept
+swept_kept s (Left front back asked call sequencer _ leave answer turn work live made) = inl (left_of_locks asked.client leave).kept
 swept_kept s _ = inl refl

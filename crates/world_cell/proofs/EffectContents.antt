@@ -237,7 +237,7 @@ module _ (s : MasterState) where
     in_faithful : (create : Create) (above : View) (kind : Kind) → IsFaithful s (create_in s client number opening create above kind)
     in_faithful create above kinds.File = (tt, tt)
     in_faithful create above kinds.Directory =
-        either (IsFaithful s) (may s client above rights.Write) _ (refused (faults.Denied rights.Write)) (permitted_faithful (new_view above s.next_instance create.node (acls_of above create.acls)) (least s.next_instance)) (tt, tt)
+        either (IsFaithful s) (may s client above rights.Write) _ (refused (faults.Denied rights.Write)) (permitted_faithful (new_view s.next_instance create.node create.life (acls_of above create.acls)) (least s.next_instance)) (tt, tt)
 
     under_faithful : (create : Create) (o : Option View) → IsFaithful s (create_under s client number opening create o)
     under_faithful create None = (tt, tt)

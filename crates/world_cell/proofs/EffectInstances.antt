@@ -89,7 +89,7 @@ module _ (s : MasterState) (client number : ℕ) (opening : Open) where
 
   in_gives : (create : Create) (above : View) (kind : Kind) → GivesBy s (create_in s client number opening create above kind)
   in_gives create above kinds.File = tt
-  in_gives create above kinds.Directory = either s (may s client above rights.Write) _ (refused (faults.Denied rights.Write)) (permitted_gives (new_view above s.next_instance create.node (acls_of above create.acls)) (itself s.next_instance)) tt
+  in_gives create above kinds.Directory = either s (may s client above rights.Write) _ (refused (faults.Denied rights.Write)) (permitted_gives (new_view s.next_instance create.node create.life (acls_of above create.acls)) (itself s.next_instance)) tt
 
   under_gives : (create : Create) (o : Option View) → GivesBy s (create_under s client number opening create o)
   under_gives create None = tt

@@ -81,7 +81,7 @@ module _ (s : MasterState) (client number : ℕ) (opening : Open) where
 
   in_raises : (create : Create) (above : View) (kind : Kind) → Raises s (create_in s client number opening create above kind)
   in_raises create above kinds.File = tt
-  in_raises create above kinds.Directory = either s (may s client above rights.Write) _ (refused (faults.Denied rights.Write)) (permitted_raises (new_view above s.next_instance create.node (acls_of above create.acls))) tt
+  in_raises create above kinds.Directory = either s (may s client above rights.Write) _ (refused (faults.Denied rights.Write)) (permitted_raises (new_view s.next_instance create.node create.life (acls_of above create.acls))) tt
 
   under_raises : (create : Create) (o : Option View) → Raises s (create_under s client number opening create o)
   under_raises create None = tt

@@ -10,6 +10,7 @@ pub mod TickOutcomes
 pub mod AsRead
 pub mod RefusedUp
 pub mod CutUps
+pub mod LeftSweeps
 pub mod WorldCases
 pub mod CutLines
 pub mod OwnSteps

@@ -74,7 +74,7 @@ module _ (s : MasterState) (client number : ℕ) where
     made_in : (create : Create) (above : View) (kind : Kind) → Moves (create_in s client number opening create above kind)
     made_in create above kinds.File = tt
     made_in create above kinds.Directory =
-        let view = new_view above s.next_instance create.node (acls_of above create.acls) in
+        let view = new_view s.next_instance create.node create.life (acls_of above create.acls) in
         either (may s client above rights.Write) (create_permitted s client number opening view) (refused (faults.Denied rights.Write)) (permitted view) tt
 
     under : (create : Create) (o : Option View) → Moves (create_under s client number opening create o)

@@ -34,7 +34,7 @@ use Rattle.cell_core.specs.Deeds.{edit_of, with_lock_put}
 use Rattle.over_core.specs.declared.effects.Effect.{Effect}
 use Rattle.over_core.specs.Sweep.{name_of, puts_of, left_put, lapses_of, lapses_puts}
 use Rattle.over_core.specs.SweepCase.{SweepCase, swept_by, swept_edits}
-use Rattle.over_core.specs.SweepCase.SweepCase.{Quiet, Recovers, Expires, AnswersBeat, TurnedAway, StartedAgain, Started, Reopens, OfEnded, Ended, Applied, Deleted, Locked, Awaited, Left}
+use Rattle.over_core.specs.SweepCase.SweepCase.{Quiet, Recovers, Expires, Tidies, Spared, Tidied, AnswersBeat, TurnedAway, StartedAgain, Started, Reopens, OfEnded, Ended, Applied, Deleted, Locked, Awaited, Left}
 use Rattle.over_core.specs.Kept.{IsKept, is_there}
 use Rattle.world_cell.specs.Locks.{AreLegalRows, begins_in, CountsHolds}
 use Rattle.world_cell.proofs.LocksRise.{RisesTo, begins, rises_same, rises_reopened, rises_lapsed}
@@ -297,40 +297,43 @@ module _ (cell : List ℕ) (rows : Rows) (s : MasterState) (k : IsKept cell rows
   case_grows (Reopens instance due) l =
       put_grown (Reopens instance due) (puts_of s instance (reopened (lock_at s.locks instance)).lock) refl refl refl
       (only_put s.locks (name_of s.nodes instance) instance (reopened (lock_at s.locks instance)).lock (rises_reopened (lock_at s.locks instance))) l
+  case_grows (Tidies idle due) l = same_grown (Tidies idle due) refl refl refl l
+  case_grows (Spared front back idle turn held) l = same_grown (Spared front back idle turn held) refl refl refl l
+  case_grows (Tidied front back idle turn still) l = deleted_grows cell rows s (swept_by s (Tidied front back idle turn still)).0 k (Gone idle.name) s.next_instance tt (not_less s.next_instance s.next_instance refl) l
   case_grows (AnswersBeat client session beat due) l = same_grown (AnswersBeat client session beat due) refl refl refl l
-  case_grows (TurnedAway front back task principal received turn work may) l = same_grown (TurnedAway front back task principal received turn work may) refl refl refl l
-  case_grows (StartedAgain front back task principal received session turn work found live) l = same_grown (StartedAgain front back task principal received session turn work found live) refl refl refl l
-  case_grows (Started front back task principal received turn work none) l = same_grown (Started front back task principal received turn work none) refl refl refl l
-  case_grows (OfEnded front back task call sequencer turn work gone) l = same_grown (OfEnded front back task call sequencer turn work gone) refl refl refl l
-  case_grows (Ended front back task call sequencer None answer turn work live made) l = same_grown (Ended front back task call sequencer None answer turn work live made) refl refl refl l
-  case_grows (Ended front back task call sequencer (Some note) answer turn work live made) l = same_grown (Ended front back task call sequencer (Some note) answer turn work live made) refl refl refl l
-  case_grows (Applied front back task call sequencer None change answer turn work live made) l =
+  case_grows (TurnedAway front back asked principal received turn work may) l = same_grown (TurnedAway front back asked principal received turn work may) refl refl refl l
+  case_grows (StartedAgain front back asked principal received session turn work found live) l = same_grown (StartedAgain front back asked principal received session turn work found live) refl refl refl l
+  case_grows (Started front back asked principal received turn work none) l = same_grown (Started front back asked principal received turn work none) refl refl refl l
+  case_grows (OfEnded front back asked call sequencer turn work gone) l = same_grown (OfEnded front back asked call sequencer turn work gone) refl refl refl l
+  case_grows (Ended front back asked call sequencer None answer turn work live made) l = same_grown (Ended front back asked call sequencer None answer turn work live made) refl refl refl l
+  case_grows (Ended front back asked call sequencer (Some note) answer turn work live made) l = same_grown (Ended front back asked call sequencer (Some note) answer turn work live made) refl refl refl l
+  case_grows (Applied front back asked call sequencer None change answer turn work live made) l =
       let P : Effect → Type 0 = GivesBy s in
-      let gives = subst P made (effect_gives s task.client task.number call sequencer) in
-      changed_grows cell rows s (swept_by s (Applied front back task call sequencer None change answer turn work live made)).0 k change.change change.next_instance gives.given gives.next refl refl refl l
-  case_grows (Applied front back task call sequencer (Some note) change answer turn work live made) l =
+      let gives = subst P made (effect_gives s asked.client asked.number call sequencer) in
+      changed_grows cell rows s (swept_by s (Applied front back asked call sequencer None change answer turn work live made)).0 k change.change change.next_instance gives.given gives.next refl refl refl l
+  case_grows (Applied front back asked call sequencer (Some note) change answer turn work live made) l =
       let P : Effect → Type 0 = GivesBy s in
-      let gives = subst P made (effect_gives s task.client task.number call sequencer) in
-      changed_grows cell rows s (swept_by s (Applied front back task call sequencer (Some note) change answer turn work live made)).0 k change.change change.next_instance gives.given gives.next refl refl refl l
-  case_grows (Deleted front back task call sequencer change instance waiters answer turn work live made) l =
+      let gives = subst P made (effect_gives s asked.client asked.number call sequencer) in
+      changed_grows cell rows s (swept_by s (Applied front back asked call sequencer (Some note) change answer turn work live made)).0 k change.change change.next_instance gives.given gives.next refl refl refl l
+  case_grows (Deleted front back asked call sequencer change instance waiters answer turn work live made) l =
       let P : Effect → Type 0 = GivesBy s in
       let Q : Effect → Type 0 = Raises s in
-      let gives = subst P made (effect_gives s task.client task.number call sequencer) in
-      let gone = subst Q made (effect_raises s task.client task.number call sequencer) in
-      deleted_grows cell rows s (swept_by s (Deleted front back task call sequencer change instance waiters answer turn work live made)).0 k change.change change.next_instance gone gives.next l
-  case_grows (Locked front back task call sequencer put claim answer turn work live made) l =
+      let gives = subst P made (effect_gives s asked.client asked.number call sequencer) in
+      let gone = subst Q made (effect_raises s asked.client asked.number call sequencer) in
+      deleted_grows cell rows s (swept_by s (Deleted front back asked call sequencer change instance waiters answer turn work live made)).0 k change.change change.next_instance gone gives.next l
+  case_grows (Locked front back asked call sequencer put claim answer turn work live made) l =
       let Q : Effect → Type 0 = Raises s in
-      let rises = subst Q made (effect_raises s task.client task.number call sequencer) in
-      put_grown (Locked front back task call sequencer put claim answer turn work live made) (put ∷ []) refl refl refl (rises, tt) l
-  case_grows (Awaited front back task call sequencer put turn work live made) l =
+      let rises = subst Q made (effect_raises s asked.client asked.number call sequencer) in
+      put_grown (Locked front back asked call sequencer put claim answer turn work live made) (put ∷ []) refl refl refl (rises, tt) l
+  case_grows (Awaited front back asked call sequencer put turn work live made) l =
       let Q : Effect → Type 0 = Raises s in
-      let rises = subst Q made (effect_raises s task.client task.number call sequencer) in
-      put_grown (Awaited front back task call sequencer put turn work live made) (put ∷ []) refl refl refl (rises, tt) l
-  case_grows (Left front back task call sequencer None leave answer turn work live made) l =
+      let rises = subst Q made (effect_raises s asked.client asked.number call sequencer) in
+      put_grown (Awaited front back asked call sequencer put turn work live made) (put ∷ []) refl refl refl (rises, tt) l
+  case_grows (Left front back asked call sequencer None leave answer turn work live made) l =
       let Q : Effect → Type 0 = Raises s in
-      let rises = subst Q made (effect_raises s task.client task.number call sequencer) in
-      put_grown (Left front back task call sequencer None leave answer turn work live made) (left_put leave ∷ []) refl refl refl (rises, tt) l
-  case_grows (Left front back task call sequencer (Some note) leave answer turn work live made) l =
+      let rises = subst Q made (effect_raises s asked.client asked.number call sequencer) in
+      put_grown (Left front back asked call sequencer None leave answer turn work live made) (left_put leave ∷ []) refl refl refl (rises, tt) l
+  case_grows (Left front back asked call sequencer (Some note) leave answer turn work live made) l =
       let Q : Effect → Type 0 = Raises s in
-      let rises = subst Q made (effect_raises s task.client task.number call sequencer) in
-      put_grown (Left front back task call sequencer (Some note) leave answer turn work live made) (left_put leave ∷ []) refl refl refl (rises, tt) l
+      let rises = subst Q made (effect_raises s asked.client asked.number call sequencer) in
+      put_grown (Left front back asked call sequencer (Some note) leave answer turn work live made) (left_put leave ∷ []) refl refl refl (rises, tt) l

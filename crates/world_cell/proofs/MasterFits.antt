@@ -37,7 +37,10 @@ use Rattle.session_core.specs.Sessions.{with_session, with_new, issued_by}
 use Rattle.cell_core.specs.declared.deeds.Change.{Change}
 use Rattle.cell_core.specs.declared.deeds.LockPut.{LockPut}
 use Rattle.cell_core.specs.declared.handles.Note.{Note}
+use Rattle.cell_core.specs.declared.pending.Asked.{Asked}
+use Rattle.cell_core.specs.declared.pending.Idle.{Idle}
 use Rattle.cell_core.specs.declared.pending.Task.{Task}
+use Rattle.cell_core.specs.declared.pending.Task.TheVariants as tasks
 use Rattle.cell_core.specs.declared.pending.Work.{Work}
 use Rattle.cell_core.specs.declared.pending.Work.TheVariants as works
 use Rattle.cell_core.specs.declared.notices.Telling.{Telling}
@@ -45,6 +48,7 @@ use Rattle.cell_core.specs.Notices.{with_telling, with_tellings}
 use Rattle.cell_core.specs.State.{MasterState}
 use Rattle.cell_core.specs.Step.{session_of, kept_of, is_live, reply_of, stamped_reply, answered_by, recorded, queued, names_of, bytes_of, task_of, with_call, with_right, asking_for, acknowledgement, parked, replied, granting, waits, with_note}
 use Rattle.cell_core.specs.Deeds.{with_locks, without_lock}
+use Rattle.cell_core.specs.Ephemerals.{tidied}
 use Rattle.cell_core.specs.Cases.{IsBehind, TakeCase, taken_by}
 use Rattle.cell_core.specs.Names.{name_asked}
 use Rattle.cell_core.proofs.Told.{told_is_shown}
@@ -54,12 +58,12 @@ use Rattle.over_core.specs.declared.effects.Leave.{Leave}
 use Rattle.over_core.specs.Effect.{effect}
 use Rattle.over_core.specs.Kept.{is_unanswered}
 use Rattle.over_core.specs.Sweep.{replies_to, turn_replies, left_put, puts_of, lapses_of, lapses_puts, lapses_replies}
-use Rattle.over_core.specs.SweepCase.{IsTurn, SweepCase, swept_by, rest, ended, mapped, told, expired}
-use Rattle.over_core.specs.SweepCase.SweepCase.{Quiet, Recovers, Expires, Reopens, AnswersBeat, TurnedAway, StartedAgain, Started as StartedFirst, OfEnded, Ended, Applied, Deleted, Locked, Awaited, Left}
+use Rattle.over_core.specs.SweepCase.{IsTurn, SweepCase, swept_by, rest, ended, mapped, told, expired, gone_change, gone_replies}
+use Rattle.over_core.specs.SweepCase.SweepCase.{Quiet, Recovers, Expires, Reopens, Tidies, Spared, Tidied, AnswersBeat, TurnedAway, StartedAgain, Started as StartedFirst, OfEnded, Ended, Applied, Deleted, Locked, Awaited, Left}
 use Rattle.world_cell.specs.declared.mail.Message.{Message}
 use Rattle.world_cell.specs.declared.mail.Message.TheVariants.{ToClient}
 use Rattle.world_cell.specs.Messages.{call_of}
-use Rattle.world_cell.specs.Consistent.{put_waiting, waiting, IsWaiting, IsLastInTurn, IsInTurn, IsOfMessage, AreOfMessages, WasSent, IsReplyTo, awaits_lock, OpensAs, IsAnswer, FitsMessages}
+use Rattle.world_cell.specs.Consistent.{put_waiting, put_task, waiting, IsWaiting, IsLastInTurn, IsInTurn, IsOfMessage, IsTaskOfMessage, AreOfMessages, WasSent, IsReplyTo, awaits_lock, OpensAs, IsAnswer, FitsMessages}
 use Rattle.world_cell.proofs.MessagesGrow.{call_stays}
 use Rattle.world_cell.proofs.LateReplies.{IsLate, AreLate, replies_late, turn_late, lapses_late}
 use Rattle.world_cell.proofs.LockMoves.{MovesLocks, effect_moves}
@@ -71,7 +75,7 @@ use Rattle.world_cell.proofs.SeatsFound.{some_same}
 
 -- a change that waits
 abbrev pub waits_as : ℕ → List (List ℕ) → Task → Waiting Task
-waits_as number touched task = record { number = number; change = record { touched = touched; body = task } }
+waits_as number touched asked = record { number = number; change = record { touched = touched; body = asked } }
 
 -- ---- what is kept of a call
 
@@ -124,9 +128,13 @@ work_stays xs ys epoch client number (works.Starts principal received) h = tt
 work_stays xs ys epoch client number (works.Calls call sequencer) h =
     call_stays xs ys client number (record { client = client; epoch = epoch; number = number; call = call; sequencer = sequencer }) h
 
+task_stays : (xs ys : List Message) (epoch : ℕ) (task : Task) → IsTaskOfMessage xs epoch task → IsTaskOfMessage (xs ++ ys) epoch task
+task_stays xs ys epoch (tasks.Asked asked) h = work_stays xs ys epoch asked.client asked.number asked.work h
+task_stays xs ys epoch (tasks.Tidies idle) h = tt
+
 queue_stays : (xs ys : List Message) (epoch : ℕ) (queue : List (Waiting Task)) → AreOfMessages xs epoch queue → AreOfMessages (xs ++ ys) epoch queue
 queue_stays xs ys epoch [] h = tt
-queue_stays xs ys epoch (w ∷ ws) h = (work_stays xs ys epoch w.change.body.client w.change.body.number w.change.body.work h.0, queue_stays xs ys epoch ws h.1)
+queue_stays xs ys epoch (w ∷ ws) h = (task_stays xs ys epoch w.change.body h.0, queue_stays xs ys epoch ws h.1)
 
 pub fits_stays : (xs ys : List Message) (s : MasterState) → FitsMessages xs s → FitsMessages (xs ++ ys) s
 fits_stays xs ys s h =
@@ -144,11 +152,14 @@ put_push client whose number (works.Starts principal received) xs ys = refl
 put_push client whose number (works.Calls call sequencer) xs ys =
     elim (whose == client) as (λ b. cond b (number ∷ (xs ++ ys)) (xs ++ ys) ≡ cond b (number ∷ xs) xs ++ ys) [ true ↦ refl | false ↦ refl ]
 
+task_push : (client : ℕ) (task : Task) (xs ys : List ℕ) → put_task client task (xs ++ ys) ≡ put_task client task xs ++ ys
+task_push client (tasks.Asked asked) xs ys = put_push client asked.client asked.number asked.work xs ys
+task_push client (tasks.Tidies idle) xs ys = refl
+
 pub waiting_append : (client : ℕ) (xs ys : List (Waiting Task)) → waiting client (xs ++ ys) ≡ waiting client xs ++ waiting client ys
 waiting_append client [] ys = refl
 waiting_append client (x ∷ xs) ys =
-    let t = x.change.body in
-    ap (put_waiting client t.client t.number t.work) (waiting_append client xs ys) ∙ put_push client t.client t.number t.work (waiting client xs) (waiting client ys)
+    ap (put_task client x.change.body) (waiting_append client xs ys) ∙ task_push client x.change.body (waiting client xs) (waiting client ys)
 
 itself : (n : ℕ) → (n == n) ≡ true
 itself n = grind (arith, nat_tests)
@@ -164,7 +175,7 @@ pub waits_other : (q client number : ℕ) (work : Work) (xs : List ℕ) → q �
 waits_other q client number (works.Starts principal received) xs h = refl
 waits_other q client number (works.Calls call sequencer) xs h = rw (differs client q h) refl
 
-queue_push : (sent : List Message) (epoch : ℕ) (ws : List (Waiting Task)) (w : Waiting Task) → AreOfMessages sent epoch ws → IsOfMessage sent epoch w.change.body.client w.change.body.number w.change.body.work → AreOfMessages sent epoch (ws ++ w ∷ [])
+queue_push : (sent : List Message) (epoch : ℕ) (ws : List (Waiting Task)) (w : Waiting Task) → AreOfMessages sent epoch ws → IsTaskOfMessage sent epoch w.change.body → AreOfMessages sent epoch (ws ++ w ∷ [])
 queue_push sent epoch [] w h k = (k, tt)
 queue_push sent epoch (x ∷ xs) w h k = (h.0, queue_push sent epoch xs w h.1 k)
 
@@ -361,17 +372,17 @@ AreUnanswered s = (client : ℕ) → awaits_lock client s.locks ≡ true → is_
 
 -- a call that comes to wait for its turn; where its client waits for a lock, the call that is kept has no reply
 module _ (sent : List Message) (s : MasterState) (message : CallMessage) (h : FitsMessages sent s) (live : is_live s message.client ≡ true) (behind : IsBehind (kept_of s message.client) message.number) (unanswered : AreUnanswered s) (found : call_of sent message.client message.number ≡ Some (record message { epoch = s.epoch })) where
-  idle : waiting message.client s.gate.waiting ≡ []
-  idle = none_waits (session_of s message.client) message.number (waiting message.client s.gate.waiting) (h.turns message.client) behind
+  uncalled : waiting message.client s.gate.waiting ≡ []
+  uncalled = none_waits (session_of s message.client) message.number (waiting message.client s.gate.waiting) (h.turns message.client) behind
 
   called_fits : (touched : Option (List ℕ)) → FitsMessages sent (with_call s message touched)
   called_fits touched =
       let client = message.client in
       let number = message.number in
-      let w : Waiting Task = waits_as (s.gate.pushed + 1) (names_of touched) (task_of message) in
+      let w : Waiting Task = waits_as (s.gate.pushed + 1) (names_of touched) (tasks.Asked (task_of message)) in
       let was : WasSent sent s.epoch client number = record { call = record message { epoch = s.epoch }; found = found; same = refl } in
       let own : waiting client (s.gate.waiting ++ w ∷ []) ≡ number ∷ [] =
-      waiting_append client s.gate.waiting (w ∷ []) ∙ ap (λ xs. xs ++ waiting client (w ∷ [])) idle ∙ waits_own client number message.call message.sequencer [] in
+      waiting_append client s.gate.waiting (w ∷ []) ∙ ap (λ xs. xs ++ waiting client (w ∷ [])) uncalled ∙ waits_own client number message.call message.sequencer [] in
       let same = λ (q : ℕ) (apart : q ≢ client).
       waiting_append q s.gate.waiting (w ∷ []) ∙ ap (λ xs. waiting q s.gate.waiting ++ xs) (waits_other q client number (works.Calls message.call message.sequencer) [] apart) ∙ append-nil (waiting q s.gate.waiting) in
       fits_by sent (with_call s message touched) (queue_push sent s.epoch s.gate.waiting w h.queue found)
@@ -396,9 +407,9 @@ granting_fits sent s client number result name h live behind was asks opens =
     reply (record { to = refl; answered = refl }) (told_answer sent s.secret reply was.call name was.found asks opens)
     (record { call = was.call; found = call_stays sent more client number was.call was.found; same = was.same })
 
-start_fits : (sent : List Message) (s : MasterState) (client number : ℕ) (principal : List ℕ) (received : ℕ) → FitsMessages sent s → FitsMessages sent (queued s [] (record { client = client; number = number; work = works.Starts principal received }))
+start_fits : (sent : List Message) (s : MasterState) (client number : ℕ) (principal : List ℕ) (received : ℕ) → FitsMessages sent s → FitsMessages sent (queued s [] (tasks.Asked (record { client = client; number = number; work = works.Starts principal received })))
 start_fits sent s client number principal received h =
-    let w : Waiting Task = waits_as (s.gate.pushed + 1) [] (record { client = client; number = number; work = works.Starts principal received }) in
+    let w : Waiting Task = waits_as (s.gate.pushed + 1) [] (tasks.Asked (record { client = client; number = number; work = works.Starts principal received })) in
     record {
       queue = queue_push sent s.epoch s.gate.waiting w h.queue tt;
       kept = h.kept;
@@ -407,6 +418,20 @@ start_fits sent s client number principal received h =
       turns = λ q. subst (λ xs. IsInTurn (session_of s q) xs) (sym (waiting_append q s.gate.waiting (w ∷ []) ∙ append-nil (waiting q s.gate.waiting))) (h.turns q);
       awaited = λ q waits. waiting_append q s.gate.waiting (w ∷ []) ∙ append-nil (waiting q s.gate.waiting) ∙ h.awaited q waits;
     }
+
+-- the deletion of a node that nobody holds open
+tidies_fits : (sent : List Message) (s : MasterState) (idle : Idle) → FitsMessages sent s → FitsMessages sent (tidied s idle)
+tidies_fits sent s idle h =
+    let w : Waiting Task = waits_as (s.gate.pushed + 1) (idle.name ∷ []) (tasks.Tidies idle) in
+    let same = λ (q : ℕ). waiting_append q s.gate.waiting (w ∷ []) ∙ append-nil (waiting q s.gate.waiting) in
+    asking_fits sent (queued s (idle.name ∷ []) (tasks.Tidies idle)) (Some idle.name) (record {
+      queue = queue_push sent s.epoch s.gate.waiting w h.queue tt;
+      kept = h.kept;
+      replies = h.replies;
+      answers = h.answers;
+      turns = λ q. subst (λ xs. IsInTurn (session_of s q) xs) (sym (same q)) (h.turns q);
+      awaited = λ q waits. same q ∙ h.awaited q waits;
+    })
 
 -- it acknowledges, and is parked
 beat_fits : (sent : List Message) (s : MasterState) (beat : Beat) → FitsMessages sent s → FitsMessages sent (parked s beat)
@@ -425,7 +450,7 @@ WasAsked sent request = (call : CallMessage) → request ≡ requests.Call call 
 -- what the master sends is behind all messages
 pub take_fits : (sent : List Message) (s : MasterState) (request : Request) (c : TakeCase s request) → FitsMessages sent s → AreUnanswered s → WasAsked sent request → FitsMessages (sent ++ map ToClient (taken_by s request c).1.outs) (taken_by s request c).0
 take_fits sent s request (StartQueued start is may serving room) h free asked =
-    fits_stays sent [] (queued s [] (record { client = start.client; number = start.number; work = works.Starts start.principal s.clock })) (start_fits sent s start.client start.number start.principal s.clock h)
+    fits_stays sent [] (queued s [] (tasks.Asked (record { client = start.client; number = start.number; work = works.Starts start.principal s.clock }))) (start_fits sent s start.client start.number start.principal s.clock h)
 take_fits sent s request (BeatParked beat is epoch taken) h free asked = fits_stays sent [] (parked s beat) (beat_fits sent s beat h)
 take_fits sent s request (Recovering message new recovering) h free asked =
     let step = replied s message.client message.number (results.Refused faults.Recovering) in
@@ -507,14 +532,18 @@ none_put : (q whose number : ℕ) (work : Work) (xs : List ℕ) → put_waiting 
 none_put q whose number (works.Starts principal received) xs h = h
 none_put q whose number (works.Calls call sequencer) xs h = (elim (whose == q) as (λ b. cond b (number ∷ xs) xs ≡ [] → xs ≡ []) [ true ↦ (λ e. cc) | false ↦ (λ e. e) ]) h
 
+none_tasked : (q : ℕ) (task : Task) (xs : List ℕ) → put_task q task xs ≡ [] → xs ≡ []
+none_tasked q (tasks.Asked asked) xs h = none_put q asked.client asked.number asked.work xs h
+none_tasked q (tasks.Tidies idle) xs h = h
+
 -- the one that has its turn, and the others
-queue_at : (sent : List Message) (epoch : ℕ) (front : List (Waiting Task)) (w : Waiting Task) (back : List (Waiting Task)) → AreOfMessages sent epoch (front ++ w ∷ back) → IsOfMessage sent epoch w.change.body.client w.change.body.number w.change.body.work × AreOfMessages sent epoch (front ++ back)
+queue_at : (sent : List Message) (epoch : ℕ) (front : List (Waiting Task)) (w : Waiting Task) (back : List (Waiting Task)) → AreOfMessages sent epoch (front ++ w ∷ back) → IsTaskOfMessage sent epoch w.change.body × AreOfMessages sent epoch (front ++ back)
 queue_at sent epoch [] w back h = (h.0, h.1)
 queue_at sent epoch (x ∷ front) w back h = let t = queue_at sent epoch front w back h.1 in (t.0, (h.0, t.1))
 
 -- a call that waits shows a handle of its client
 abbrev pub ShowsOwn : MasterState → Type 0
-ShowsOwn s = (front back : List (Waiting Task)) (task : Task) (call : Call) (sequencer : Option (List ℕ)) (handle : Handle) → IsTurn s front task back → task.work ≡ works.Calls call sequencer → read_handle s.secret (bytes_of call) ≡ Some handle → handle.client ≡ task.client
+ShowsOwn s = (front back : List (Waiting Task)) (asked : Asked) (call : Call) (sequencer : Option (List ℕ)) (handle : Handle) → IsTurn s front (tasks.Asked asked) back → asked.work ≡ works.Calls call sequencer → read_handle s.secret (bytes_of call) ≡ Some handle → handle.client ≡ asked.client
 
 -- behind those that wait there is one more
 waits_behind : (q : ℕ) (waiters : List Claim) (claim : Claim) → list_any (λ c. is_of_client q c.owner) (waiters ++ claim ∷ []) ≡ true → (list_any (λ c. is_of_client q c.owner) waiters ≡ true) ⊎ (claim.owner.client ≡ q)
@@ -530,92 +559,102 @@ mapped_fits sent s change h = record { queue = h.queue; kept = h.kept; replies =
 
 -- a change leaves the gate
 module _ (sent : List Message) (s : MasterState) (front : List (Waiting Task)) (task : Task) (back : List (Waiting Task)) (turn : IsTurn s front task back) (h : FitsMessages sent s) where
-  abbrev w : Waiting Task
-  w = waits_as turn.number turn.touched task
+  at_turn : IsTaskOfMessage sent s.epoch task × AreOfMessages sent s.epoch (front ++ back)
+  at_turn = queue_at sent s.epoch front (waits_as turn.number turn.touched task) back (subst (λ ws. AreOfMessages sent s.epoch ws) turn.waited h.queue)
 
-  at_turn : IsOfMessage sent s.epoch task.client task.number task.work × AreOfMessages sent s.epoch (front ++ back)
-  at_turn = queue_at sent s.epoch front w back (subst (λ ws. AreOfMessages sent s.epoch ws) turn.waited h.queue)
+  waited_before : (q : ℕ) → waiting q s.gate.waiting ≡ waiting q front ++ put_task q task (waiting q back)
+  waited_before q = ap (waiting q) turn.waited ∙ waiting_append q front (waits_as turn.number turn.touched task ∷ back)
 
-  -- the call was sent
-  pub turn_sent : (call : Call) (sequencer : Option (List ℕ)) → task.work ≡ works.Calls call sequencer → call_of sent task.client task.number ≡ Some (record { client = task.client; epoch = s.epoch; number = task.number; call = call; sequencer = sequencer })
-  turn_sent call sequencer work = subst (λ x. IsOfMessage sent s.epoch task.client task.number x) work at_turn.0
-
-  waited_before : (q : ℕ) → waiting q s.gate.waiting ≡ waiting q front ++ put_waiting q task.client task.number task.work (waiting q back)
-  waited_before q = ap (waiting q) turn.waited ∙ waiting_append q front (w ∷ back)
-
-  in_turn : (q : ℕ) → IsInTurn (session_of s q) (waiting q front ++ put_waiting q task.client task.number task.work (waiting q back))
+  in_turn : (q : ℕ) → IsInTurn (session_of s q) (waiting q front ++ put_task q task (waiting q back))
   in_turn q = subst (λ xs. IsInTurn (session_of s q) xs) (waited_before q) (h.turns q)
 
   -- what is not the client's waits as before
-  others : (q : ℕ) → put_waiting q task.client task.number task.work (waiting q back) ≡ waiting q back → IsInTurn (session_of s q) (waiting q (front ++ back))
+  others : (q : ℕ) → put_task q task (waiting q back) ≡ waiting q back → IsInTurn (session_of s q) (waiting q (front ++ back))
   others q same = subst (λ xs. IsInTurn (session_of s q) xs) (ap (λ ys. waiting q front ++ ys) same ∙ sym (waiting_append q front back)) (in_turn q)
 
   -- of whom nothing waited, nothing waits
   fewer : (q : ℕ) → waiting q s.gate.waiting ≡ [] → waiting q (front ++ back) ≡ []
   fewer q none =
-      let t = none_of_both (waiting q front) (put_waiting q task.client task.number task.work (waiting q back)) (sym (waited_before q) ∙ none) in
-      waiting_append q front back ∙ ap (λ xs. xs ++ waiting q back) t.0 ∙ none_put q task.client task.number task.work (waiting q back) t.1
+      let t = none_of_both (waiting q front) (put_task q task (waiting q back)) (sym (waited_before q) ∙ none) in
+      waiting_append q front back ∙ ap (λ xs. xs ++ waiting q back) t.0 ∙ none_tasked q task (waiting q back) t.1
 
-  none_awaited : (q : ℕ) → awaits_lock q s.locks ≡ true → waiting q (front ++ back) ≡ []
-  none_awaited q waits = fewer q (h.awaited q waits)
+  fewer_awaited : (q : ℕ) → awaits_lock q s.locks ≡ true → waiting q (front ++ back) ≡ []
+  fewer_awaited q waits = fewer q (h.awaited q waits)
 
-  start_left : (principal : List ℕ) (received : ℕ) → task.work ≡ works.Starts principal received → FitsMessages sent (rest s front back)
-  start_left principal received work = record {
+  -- one that is no client's call
+  uncalled_left : ((q : ℕ) → put_task q task (waiting q back) ≡ waiting q back) → FitsMessages sent (rest s front back)
+  uncalled_left uncalled = record {
     queue = at_turn.1;
     kept = h.kept;
     replies = h.replies;
     answers = h.answers;
-    turns = λ q. others q (ap (λ x. put_waiting q task.client task.number x (waiting q back)) work);
-    awaited = none_awaited;
+    turns = λ q. others q (uncalled q);
+    awaited = fewer_awaited;
   }
 
-  module _ (call : Call) (sequencer : Option (List ℕ)) (work : task.work ≡ works.Calls call sequencer) where
-    pub call_turn : IsItsTurn (kept_of s task.client) task.number (waiting task.client front) (waiting task.client back)
+-- what the cell does by itself
+tidied_left : (sent : List Message) (s : MasterState) (front : List (Waiting Task)) (idle : Idle) (back : List (Waiting Task)) → IsTurn s front (tasks.Tidies idle) back → FitsMessages sent s → FitsMessages sent (rest s front back)
+tidied_left sent s front idle back turn h = uncalled_left sent s front (tasks.Tidies idle) back turn h (λ q. refl)
+
+-- what a client asked for
+module _ (sent : List Message) (s : MasterState) (front : List (Waiting Task)) (asked : Asked) (back : List (Waiting Task)) (turn : IsTurn s front (tasks.Asked asked) back) (h : FitsMessages sent s) where
+  -- the call was sent
+  pub turn_sent : (call : Call) (sequencer : Option (List ℕ)) → asked.work ≡ works.Calls call sequencer → call_of sent asked.client asked.number ≡ Some (record { client = asked.client; epoch = s.epoch; number = asked.number; call = call; sequencer = sequencer })
+  turn_sent call sequencer work = subst (λ x. IsOfMessage sent s.epoch asked.client asked.number x) work (at_turn sent s front (tasks.Asked asked) back turn h).0
+
+  start_left : (principal : List ℕ) (received : ℕ) → asked.work ≡ works.Starts principal received → FitsMessages sent (rest s front back)
+  start_left principal received work = uncalled_left sent s front (tasks.Asked asked) back turn h (λ q. ap (λ x. put_waiting q asked.client asked.number x (waiting q back)) work)
+
+  none_awaited : (q : ℕ) → awaits_lock q s.locks ≡ true → waiting q (front ++ back) ≡ []
+  none_awaited = fewer_awaited sent s front (tasks.Asked asked) back turn h
+
+  module _ (call : Call) (sequencer : Option (List ℕ)) (work : asked.work ≡ works.Calls call sequencer) where
+    pub call_turn : IsItsTurn (kept_of s asked.client) asked.number (waiting asked.client front) (waiting asked.client back)
     call_turn =
-        its_turn (session_of s task.client) task.number (waiting task.client front) (waiting task.client back)
-        (subst (λ xs. IsInTurn (session_of s task.client) (waiting task.client front ++ xs)) (ap (λ x. put_waiting task.client task.client task.number x (waiting task.client back)) work ∙ waits_own task.client task.number call sequencer (waiting task.client back)) (in_turn task.client))
+        its_turn (session_of s asked.client) asked.number (waiting asked.client front) (waiting asked.client back)
+        (subst (λ xs. IsInTurn (session_of s asked.client) (waiting asked.client front ++ xs)) (ap (λ x. put_waiting asked.client asked.client asked.number x (waiting asked.client back)) work ∙ waits_own asked.client asked.number call sequencer (waiting asked.client back)) (in_turn sent s front (tasks.Asked asked) back turn h asked.client))
 
     -- no call of the client waits then
-    none_left : waiting task.client (front ++ back) ≡ []
-    none_left = waiting_append task.client front back ∙ ap (λ xs. xs ++ waiting task.client back) call_turn.front ∙ call_turn.back
+    none_left : waiting asked.client (front ++ back) ≡ []
+    none_left = waiting_append asked.client front back ∙ ap (λ xs. xs ++ waiting asked.client back) call_turn.front ∙ call_turn.back
 
     -- it leaves without a reply
     call_left : FitsMessages sent (rest s front back)
     call_left = record {
-      queue = at_turn.1;
+      queue = (at_turn sent s front (tasks.Asked asked) back turn h).1;
       kept = h.kept;
       replies = h.replies;
       answers = h.answers;
-      turns = at_each (λ q. IsInTurn (session_of s q) (waiting q (front ++ back))) task.client
-          (subst (λ xs. IsInTurn (session_of s task.client) xs) (sym none_left) (left_turn (session_of s task.client)))
-          (λ q apart. others q (waits_other q task.client task.number task.work (waiting q back) apart));
+      turns = at_each (λ q. IsInTurn (session_of s q) (waiting q (front ++ back))) asked.client
+          (subst (λ xs. IsInTurn (session_of s asked.client) xs) (sym none_left) (left_turn (session_of s asked.client)))
+          (λ q apart. others sent s front (tasks.Asked asked) back turn h q (waits_other q asked.client asked.number asked.work (waiting q back) apart));
       awaited = none_awaited;
     }
 
     -- or with one
     module _ (answer : CallResult) (opens : OpensAs call answer) where
       abbrev pub reply : Reply
-      reply = reply_of s task.client task.number answer
+      reply = reply_of s asked.client asked.number answer
 
-      its_reply : IsKeptAs sent s.epoch s.secret task.client (answered_by reply)
+      its_reply : IsKeptAs sent s.epoch s.secret asked.client (answered_by reply)
       its_reply =
-          let was : WasSent sent s.epoch task.client task.number = record { call = record { client = task.client; epoch = s.epoch; number = task.number; call = call; sequencer = sequencer }; found = turn_sent call sequencer work; same = refl } in
-          replied_kept sent s.epoch s.secret task.client task.number reply was (record { to = refl; answered = refl }) (plain_answer sent s.secret reply was.call was.found refl opens)
+          let was : WasSent sent s.epoch asked.client asked.number = record { call = record { client = asked.client; epoch = s.epoch; number = asked.number; call = call; sequencer = sequencer }; found = turn_sent call sequencer work; same = refl } in
+          replied_kept sent s.epoch s.secret asked.client asked.number reply was (record { to = refl; answered = refl }) (plain_answer sent s.secret reply was.call was.found refl opens)
 
-      replied_left : (puts : List LockPut) → ArePutFor (λ q. waiting q (front ++ back) ≡ []) puts → FitsMessages sent (recorded (with_locks (rest s front back) puts) task.client (answered_by reply))
+      replied_left : (puts : List LockPut) → ArePutFor (λ q. waiting q (front ++ back) ≡ []) puts → FitsMessages sent (recorded (with_locks (rest s front back) puts) asked.client (answered_by reply))
       replied_left puts from =
-          answered_by_fits sent (with_locks (rest s front back) puts) (locks_fit sent (rest s front back) call_left puts from) task.client reply its_reply none_left
+          answered_by_fits sent (with_locks (rest s front back) puts) (locks_fit sent (rest s front back) call_left puts from) asked.client reply its_reply none_left
 
     -- ---- what becomes of locks
 
-    pub moved : (made : Effect) → effect s task.client task.number call sequencer ≡ made → ShowsOwn s → MovesLocks s task.client made.locking
+    pub moved : (made : Effect) → effect s asked.client asked.number call sequencer ≡ made → ShowsOwn s → MovesLocks s asked.client made.locking
     moved made is own =
-        subst (λ (e : Effect). MovesLocks s task.client e.locking) is (effect_moves s task.client task.number call sequencer (λ handle shown. own front back task call sequencer handle turn work shown))
+        subst (λ (e : Effect). MovesLocks s asked.client e.locking) is (effect_moves s asked.client asked.number call sequencer (λ handle shown. own front back asked call sequencer handle turn work shown))
 
     taken_for : (put : LockPut) → put.lock.waiters ≡ (lock_at s.locks put.instance).waiters → ArePutFor (λ q. waiting q (front ++ back) ≡ []) (put ∷ [])
     taken_for put same = (λ q waits. none_awaited q (waits_at q put.instance s.locks (subst (λ ws. list_any (λ claim. is_of_client q claim.owner) ws ≡ true) same waits)), tt)
 
-    awaited_for : (put : LockPut) (claim : Claim) → put.lock.waiters ≡ (lock_at s.locks put.instance).waiters ++ claim ∷ [] → claim.owner.client ≡ task.client → ArePutFor (λ q. waiting q (front ++ back) ≡ []) (put ∷ [])
+    awaited_for : (put : LockPut) (claim : Claim) → put.lock.waiters ≡ (lock_at s.locks put.instance).waiters ++ claim ∷ [] → claim.owner.client ≡ asked.client → ArePutFor (λ q. waiting q (front ++ back) ≡ []) (put ∷ [])
     awaited_for put claim same own = (
       λ q waits. elim (waits_behind q (lock_at s.locks put.instance).waiters claim (subst (λ ws. list_any (λ c. is_of_client q c.owner) ws ≡ true) same waits)) [
         | inl before ↦ none_awaited q (waits_at q put.instance s.locks before)
@@ -644,43 +683,53 @@ sweep_fits sent s (Reopens instance due) h own =
     told_fits sent (with_locks s puts) (turn_replies s turn)
     (locks_fit sent s h puts (puts_for (λ q. waiting q s.gate.waiting ≡ []) s instance turn.lock (λ q waits. h.awaited q (waits_at q instance s.locks ((reopened_comes lock).left (λ claim. is_of_client q claim.owner) waits)))))
     (all_late sent s (with_locks s puts) (turn_replies s turn) h refl refl (λ q none. none) (turn_late s lock.waiters turn (reopened_comes lock) (λ q waits. waits_at q instance s.locks waits)))
+sweep_fits sent s (Tidies idle due) h own = tidies_fits sent s idle h
+sweep_fits sent s (Spared front back idle turn held) h own = tidied_left sent s front idle back turn h
+sweep_fits sent s (Tidied front back idle turn still) h own =
+    let t : MasterState = mapped (rest s front back) (gone_change s idle) in
+    let replies = gone_replies s idle in
+    without_fits sent (told t replies)
+    (told_fits sent t replies (mapped_fits sent (rest s front back) (gone_change s idle) (tidied_left sent s front idle back turn h))
+    (all_late sent s t replies h refl refl (fewer sent s front (tasks.Tidies idle) back turn h)
+    (replies_late s (results.Refused faults.StaleInstance) (lock_at s.locks idle.instance).waiters (λ x. tt) (λ q waits. waits_at q idle.instance s.locks waits))))
+    (Some idle.instance)
 sweep_fits sent s (AnswersBeat client session beat due) h own = answered_fits sent s h client s.sessions.lease s.clock
-sweep_fits sent s (TurnedAway front back task principal received turn work may) h own = start_left sent s front task back turn h principal received work
-sweep_fits sent s (StartedAgain front back task principal received session turn work found live) h own =
-    let t : MasterState = record s { sessions = with_session s.sessions task.client (prolonged (s.clock + s.sessions.lease)) } in
-    start_left sent t front task back (record { number = turn.number; touched = turn.touched; waited = turn.waited; free = turn.free }) (prolonged_fits sent s h task.client (s.clock + s.sessions.lease)) principal received work
-sweep_fits sent s (StartedFirst front back task principal received turn work none) h own =
-    let t : MasterState = record s { sessions = with_new s.sessions task.client (session_until principal true (s.clock + s.sessions.lease)) } in
-    start_left sent t front task back (record { number = turn.number; touched = turn.touched; waited = turn.waited; free = turn.free }) (begun_fits sent s h task.client principal (s.clock + s.sessions.lease) none) principal received work
-sweep_fits sent s (OfEnded front back task call sequencer turn work gone) h own = call_left sent s front task back turn h call sequencer work
-sweep_fits sent s (Ended front back task call sequencer note answer turn work live made) h own =
-    fits_note sent (recorded (rest s front back) task.client (answered_by (reply_of s task.client task.number answer))) note
-    (replied_left sent s front task back turn h call sequencer work answer (turned_opens s task.client task.number call sequencer _ answer made refl) [] tt)
-sweep_fits sent s (Applied front back task call sequencer note change answer turn work live made) h own =
-    let f = replied_left sent s front task back turn h call sequencer work answer (turned_opens s task.client task.number call sequencer _ answer made refl) [] tt in
-    fits_note sent (recorded (mapped (rest s front back) change) task.client (answered_by (reply_of s task.client task.number answer))) note (mapped_fits sent _ change f)
-sweep_fits sent s (Deleted front back task call sequencer change instance waiters answer turn work live made) h own =
-    let f = replied_left sent s front task back turn h call sequencer work answer (turned_opens s task.client task.number call sequencer _ answer made refl) [] tt in
-    let t : MasterState = ended (mapped (rest s front back) change) task None answer in
+sweep_fits sent s (TurnedAway front back asked principal received turn work may) h own = start_left sent s front asked back turn h principal received work
+sweep_fits sent s (StartedAgain front back asked principal received session turn work found live) h own =
+    let t : MasterState = record s { sessions = with_session s.sessions asked.client (prolonged (s.clock + s.sessions.lease)) } in
+    start_left sent t front asked back (record { number = turn.number; touched = turn.touched; waited = turn.waited; free = turn.free }) (prolonged_fits sent s h asked.client (s.clock + s.sessions.lease)) principal received work
+sweep_fits sent s (StartedFirst front back asked principal received turn work none) h own =
+    let t : MasterState = record s { sessions = with_new s.sessions asked.client (session_until principal true (s.clock + s.sessions.lease)) } in
+    start_left sent t front asked back (record { number = turn.number; touched = turn.touched; waited = turn.waited; free = turn.free }) (begun_fits sent s h asked.client principal (s.clock + s.sessions.lease) none) principal received work
+sweep_fits sent s (OfEnded front back asked call sequencer turn work gone) h own = call_left sent s front asked back turn h call sequencer work
+sweep_fits sent s (Ended front back asked call sequencer note answer turn work live made) h own =
+    fits_note sent (recorded (rest s front back) asked.client (answered_by (reply_of s asked.client asked.number answer))) note
+    (replied_left sent s front asked back turn h call sequencer work answer (turned_opens s asked.client asked.number call sequencer _ answer made refl) [] tt)
+sweep_fits sent s (Applied front back asked call sequencer note change answer turn work live made) h own =
+    let f = replied_left sent s front asked back turn h call sequencer work answer (turned_opens s asked.client asked.number call sequencer _ answer made refl) [] tt in
+    fits_note sent (recorded (mapped (rest s front back) change) asked.client (answered_by (reply_of s asked.client asked.number answer))) note (mapped_fits sent _ change f)
+sweep_fits sent s (Deleted front back asked call sequencer change instance waiters answer turn work live made) h own =
+    let f = replied_left sent s front asked back turn h call sequencer work answer (turned_opens s asked.client asked.number call sequencer _ answer made refl) [] tt in
+    let t : MasterState = ended (mapped (rest s front back) change) asked None answer in
     let replies = replies_to s (results.Refused faults.StaleInstance) waiters in
-    let same = moved sent s front task back turn h call sequencer work _ made own in
+    let same = moved sent s front asked back turn h call sequencer work _ made own in
     without_fits sent (told t replies)
     (told_fits sent t replies (mapped_fits sent _ change f)
-    (all_late sent s t replies h refl refl (fewer sent s front task back turn h)
+    (all_late sent s t replies h refl refl (fewer sent s front (tasks.Asked asked) back turn h)
     (replies_late s (results.Refused faults.StaleInstance) waiters (λ x. tt) (λ q waits. waits_at q instance s.locks (subst (λ ws. list_any (λ claim. is_of_client q claim.owner) ws ≡ true) same waits)))))
     (Some instance)
-sweep_fits sent s (Locked front back task call sequencer put claim answer turn work live made) h own =
-    replied_left sent s front task back turn h call sequencer work answer (turned_opens s task.client task.number call sequencer _ answer made refl) (put ∷ [])
-    (taken_for sent s front task back turn h call sequencer work put (moved sent s front task back turn h call sequencer work _ made own))
-sweep_fits sent s (Awaited front back task call sequencer put turn work live made) h own =
-    let claim = moved sent s front task back turn h call sequencer work _ made own in
-    locks_fit sent (rest s front back) (call_left sent s front task back turn h call sequencer work) (put ∷ [])
-    (awaited_for sent s front task back turn h call sequencer work put claim.0 claim.1 claim.2)
-sweep_fits sent s (Left front back task call sequencer note leave answer turn work live made) h own =
-    let comes = moved sent s front task back turn h call sequencer work _ made own in
-    let t : MasterState = recorded (with_locks (rest s front back) (left_put leave ∷ [])) task.client (answered_by (reply_of s task.client task.number answer)) in
+sweep_fits sent s (Locked front back asked call sequencer put claim answer turn work live made) h own =
+    replied_left sent s front asked back turn h call sequencer work answer (turned_opens s asked.client asked.number call sequencer _ answer made refl) (put ∷ [])
+    (taken_for sent s front asked back turn h call sequencer work put (moved sent s front asked back turn h call sequencer work _ made own))
+sweep_fits sent s (Awaited front back asked call sequencer put turn work live made) h own =
+    let claim = moved sent s front asked back turn h call sequencer work _ made own in
+    locks_fit sent (rest s front back) (call_left sent s front asked back turn h call sequencer work) (put ∷ [])
+    (awaited_for sent s front asked back turn h call sequencer work put claim.0 claim.1 claim.2)
+sweep_fits sent s (Left front back asked call sequencer note leave answer turn work live made) h own =
+    let comes = moved sent s front asked back turn h call sequencer work _ made own in
+    let t : MasterState = recorded (with_locks (rest s front back) (left_put leave ∷ [])) asked.client (answered_by (reply_of s asked.client asked.number answer)) in
     told_fits sent (with_note t note) (turn_replies s leave.turn)
-    (fits_note sent t note (replied_left sent s front task back turn h call sequencer work answer (turned_opens s task.client task.number call sequencer _ answer made refl) (left_put leave ∷ []) (left_for sent s front task back turn h call sequencer work leave comes)))
+    (fits_note sent t note (replied_left sent s front asked back turn h call sequencer work answer (turned_opens s asked.client asked.number call sequencer _ answer made refl) (left_put leave ∷ []) (left_for sent s front asked back turn h call sequencer work leave comes)))
     (all_late sent s (with_note t note) (turn_replies s leave.turn) h (epoch_note t note) (secret_note t note)
-    (λ q none. ap (λ (g : GateState Task). waiting q g.waiting) (gate_note t note) ∙ fewer sent s front task back turn h q none)
+    (λ q none. ap (λ (g : GateState Task). waiting q g.waiting) (gate_note t note) ∙ fewer sent s front (tasks.Asked asked) back turn h q none)
     (turn_late s (lock_at s.locks leave.instance).waiters leave.turn comes (λ q waits. waits_at q leave.instance s.locks waits)))

@@ -8,6 +8,7 @@ use Rattle.std.proofs.lemmas.Bool.Decides.{nat_tests}
 use Rattle.std.proofs.lemmas.List.{append-nil}
 use Rattle.node_core.specs.declared.lines.Line.{Line}
 use Rattle.node_core.specs.declared.lines.Line.TheVariants as lines
+use Rattle.node_core.specs.declared.views.Mod.{Mod}
 use Rattle.tags_cell.specs.declared.requests.Request.{Request}
 use Rattle.tags_cell.specs.declared.requests.Request.TheVariants as requests
 use Rattle.tags_cell.specs.declared.requests.CallMessage.{CallMessage}
@@ -33,20 +34,22 @@ use Rattle.lock_core.specs.declared.turns.Lapse.{Lapse}
 use Rattle.lock_core.specs.declared.turns.Turn.{Turn}
 use Rattle.lock_core.specs.Turns.{reopened}
 use Rattle.lock_core.specs.Locks.{lock_at}
+use Rattle.cell_core.specs.declared.pending.Asked.{Asked}
 use Rattle.cell_core.specs.declared.pending.Task.{Task}
+use Rattle.cell_core.specs.declared.pending.Task.TheVariants as tasks
 use Rattle.cell_core.specs.declared.pending.Work.TheVariants as works
 use Rattle.cell_core.specs.declared.notices.Telling.{Telling}
 use Rattle.cell_core.specs.Notices.{with_tellings}
 use Rattle.cell_core.specs.State.{MasterState}
 use Rattle.cell_core.specs.Deeds.{with_locks}
-use Rattle.cell_core.specs.Step.{kept_of, is_live, reply_of, stamped_reply, answered_by, recorded, granted_lines, acknowledgement, with_call, asking_for, repeated_reply, with_note, noted}
+use Rattle.cell_core.specs.Step.{kept_of, is_live, reply_of, stamped_reply, answered_by, recorded, queued, granted_lines, acknowledgement, with_call, asking_for, repeated_reply, with_note, noted}
 use Rattle.cell_core.specs.Cases.{IsBehind, TakeCase, taken_by}
 use Rattle.over_core.specs.Sweep.{replies_to, turn_replies, locked_lines, leave_lines, lapses_lines, left_put, lapses_of, lapses_puts, lapses_replies, puts_of}
 use Rattle.over_core.specs.declared.effects.Leave.{Leave}
-use Rattle.over_core.specs.SweepCase.{IsTurn, SweepCase, swept_by, rest, ended, mapped, told, expired}
+use Rattle.over_core.specs.SweepCase.{IsTurn, SweepCase, swept_by, rest, ended, mapped, told, expired, gone_change, gone_replies}
 use Rattle.over_core.proofs.SweepCases.{first_tellings}
 use Rattle.cell_core.specs.Cases.TakeCase.{StartRefused, OldBeat, BeatRefused, BeatParked, OldEpoch, NoSession, Repeated, OlderCall, Outstanding, Recovering, Answered, Granted, Waits}
-use Rattle.over_core.specs.SweepCase.SweepCase.{Quiet, Recovers, Expires, Reopens, AnswersBeat, TurnedAway, StartedAgain, Started as StartedFirst, OfEnded, Ended, Applied, Deleted, Locked, Awaited, Left}
+use Rattle.over_core.specs.SweepCase.SweepCase.{Quiet, Recovers, Expires, Reopens, Tidies, Spared, Tidied, AnswersBeat, TurnedAway, StartedAgain, Started as StartedFirst, OfEnded, Ended, Applied, Deleted, Locked, Awaited, Left}
 use Rattle.world_cell.specs.declared.steps.Step.{Step}
 use Rattle.client_core.specs.State.{ClientState}
 use Rattle.world_cell.specs.declared.seats.Seat.{Seat}
@@ -272,6 +275,13 @@ reopened_applied client instance turn = none_applied client (lines.Reopened inst
 left_applied : (client whose : ℕ) (leave : Leave) → applied client (leave_lines whose leave) ≡ []
 left_applied client whose leave = none_applied client (leave_lines whose leave) (quiet_silent (leave_lines whose leave) (left_of_locks whose leave).quiet)
 
+-- nor does what the cell does by itself, to any client
+not_zero : (client : ℕ) → 1 ≤ client → (0 == client) ≡ false
+not_zero client some = grind (arith, nat_tests)
+
+own_applied : (client : ℕ) (change : Mod) → 1 ≤ client → applied client (lines.Applied 0 0 change ∷ []) ≡ []
+own_applied client change some = ap (λ b. cond b (0 ∷ []) []) (not_zero client some)
+
 -- ---- who waited for a lock
 
 -- a reply to one of the client's calls is to the last one, or to a later one
@@ -326,30 +336,30 @@ kept_from sent epoch client o last h kept is = let k : PastKept sent epoch clien
 
 -- ---- a sweep's cases
 
-module _ (sent : List Message) (s : MasterState) (client : ℕ) (last : Option ℕ) (fits : FitsMessages sent s) (h : PastMaster sent client s last) where
+module _ (sent : List Message) (s : MasterState) (client : ℕ) (last : Option ℕ) (fits : FitsMessages sent s) (h : PastMaster sent client s last) (some : 1 ≤ client) where
   -- the call whose turn it is is above the last one
-  turn_above : (front back : List (Waiting Task)) (task : Task) (call : Call) (sequencer : Option (List ℕ)) → IsTurn s front task back → task.work ≡ works.Calls call sequencer → task.client ≡ client → IsAbove last task.number
-  turn_above front back task call sequencer turn work own =
-      let t = call_turn sent s front task back turn fits call sequencer work in
-      let k : PastMaster sent task.client s last = rw (← own) at h in
-      let w : PastResult t.kept.number t.kept.reply last = subst (λ o. PastKept sent s.epoch task.client o last) t.is_kept k in
+  turn_above : (front back : List (Waiting Task)) (asked : Asked) (call : Call) (sequencer : Option (List ℕ)) → IsTurn s front (tasks.Asked asked) back → asked.work ≡ works.Calls call sequencer → asked.client ≡ client → IsAbove last asked.number
+  turn_above front back asked call sequencer turn work own =
+      let t = call_turn sent s front asked back turn fits call sequencer work in
+      let k : PastMaster sent asked.client s last = rw (← own) at h in
+      let w : PastResult t.kept.number t.kept.reply last = subst (λ o. PastKept sent s.epoch asked.client o last) t.is_kept k in
       let v : PastResult t.kept.number None last = subst (λ o. PastResult t.kept.number o last) t.no_reply w in
       subst (λ n. PastResult n None last) t.same v
 
   -- t: the master behind the change, without what is noted of a handle
-  end_past : (t : MasterState) (task : Task) (note : Option Note) (answer : CallResult) (next : Option ℕ) → t.sessions ≡ s.sessions → t.epoch ≡ s.epoch → is_live s task.client ≡ true → (task.client ≡ client → IsFrom next task.number) → (eqb client task.client ≡ false → next ≡ last) → PastMaster sent client (ended t task note answer) next
-  end_past t task note answer next same_sessions same_epoch live own apart =
-      let kept : Kept Reply = answered_by (reply_of t task.client task.number answer) in
-      let lives : is_live t task.client ≡ true = subst (λ x. of_sessions.is_live x task.client ≡ true) (sym same_sessions) live in
+  end_past : (t : MasterState) (asked : Asked) (note : Option Note) (answer : CallResult) (next : Option ℕ) → t.sessions ≡ s.sessions → t.epoch ≡ s.epoch → is_live s asked.client ≡ true → (asked.client ≡ client → IsFrom next asked.number) → (eqb client asked.client ≡ false → next ≡ last) → PastMaster sent client (ended t asked note answer) next
+  end_past t asked note answer next same_sessions same_epoch live own apart =
+      let kept : Kept Reply = answered_by (reply_of t asked.client asked.number answer) in
+      let lives : is_live t asked.client ≡ true = subst (λ x. of_sessions.is_live x asked.client ≡ true) (sym same_sessions) live in
       let before : PastKept sent t.epoch client (kept_of t client) last = subst (λ x. PastKept sent t.epoch client (of_sessions.kept_of x client) last) (sym same_sessions) (subst (λ n. PastKept sent n client (kept_of s client) last) (sym same_epoch) h) in
-      note_past sent (recorded t task.client kept) note client next
-      ((elim (eqb client task.client) as (λ b. eqb client task.client ≡ b → PastKept sent t.epoch client (kept_of (recorded t task.client kept) client) next) [
+      note_past sent (recorded t asked.client kept) note client next
+      ((elim (eqb client asked.client) as (λ b. eqb client asked.client ≡ b → PastKept sent t.epoch client (kept_of (recorded t asked.client kept) client) next) [
         | true ↦ (λ e.
-            let n : client ≡ task.client = same client task.client e in
-            subst (λ q. PastKept sent t.epoch client (kept_of (recorded t task.client kept) q) next) (sym n)
-            (subst (λ o. PastKept sent t.epoch client o next) (sym (kept_own t.sessions task.client kept lives)) (own (sym n))))
+            let n : client ≡ asked.client = same client asked.client e in
+            subst (λ q. PastKept sent t.epoch client (kept_of (recorded t asked.client kept) q) next) (sym n)
+            (subst (λ o. PastKept sent t.epoch client o next) (sym (kept_own t.sessions asked.client kept lives)) (own (sym n))))
         | false ↦ (λ e.
-            subst (λ o. PastKept sent t.epoch client o next) (sym (kept_other t.sessions task.client client kept (other client task.client e)))
+            subst (λ o. PastKept sent t.epoch client o next) (sym (kept_other t.sessions asked.client client kept (other client asked.client e)))
             (subst (λ l. PastKept sent t.epoch client (kept_of t client) l) (sym (apart e)) before))
       ]) refl)
 
@@ -357,38 +367,38 @@ module _ (sent : List Message) (s : MasterState) (client : ℕ) (last : Option �
   differ n m e = grind (arith, nat_tests)
 
   -- the call whose turn it is isn't applied
-  unapplied_past : (t : MasterState) (front back : List (Waiting Task)) (task : Task) (call : Call) (sequencer : Option (List ℕ)) (note : Option Note) (answer : CallResult) → t.sessions ≡ s.sessions → t.epoch ≡ s.epoch → is_live s task.client ≡ true → IsTurn s front task back → task.work ≡ works.Calls call sequencer → PastMaster sent client (ended t task note answer) last
-  unapplied_past t front back task call sequencer note answer same_sessions same_epoch live turn work =
-      end_past t task note answer last same_sessions same_epoch live (λ own. above_from last task.number (turn_above front back task call sequencer turn work own)) (λ apart. refl)
+  unapplied_past : (t : MasterState) (front back : List (Waiting Task)) (asked : Asked) (call : Call) (sequencer : Option (List ℕ)) (note : Option Note) (answer : CallResult) → t.sessions ≡ s.sessions → t.epoch ≡ s.epoch → is_live s asked.client ≡ true → IsTurn s front (tasks.Asked asked) back → asked.work ≡ works.Calls call sequencer → PastMaster sent client (ended t asked note answer) last
+  unapplied_past t front back asked call sequencer note answer same_sessions same_epoch live turn work =
+      end_past t asked note answer last same_sessions same_epoch live (λ own. above_from last asked.number (turn_above front back asked call sequencer turn work own)) (λ apart. refl)
 
   -- what is kept of the client then
   still_from : (kept : Kept Reply) → kept_of s client ≡ Some kept → IsFrom last kept.number
   still_from kept is = kept_from sent s.epoch client (kept_of s client) last h kept is
 
-  turn_from_it : (front back : List (Waiting Task)) (task : Task) (call : Call) (sequencer : Option (List ℕ)) → IsTurn s front task back → task.work ≡ works.Calls call sequencer → task.client ≡ client → (kept : Kept Reply) → kept_of s client ≡ Some kept → IsFrom (Some task.number) kept.number
-  turn_from_it front back task call sequencer turn work own kept is =
-      let t = call_turn sent s front task back turn fits call sequencer work in
-      let k : kept_of s task.client ≡ Some kept = ap (λ n. kept_of s n) own ∙ is in
+  turn_from_it : (front back : List (Waiting Task)) (asked : Asked) (call : Call) (sequencer : Option (List ℕ)) → IsTurn s front (tasks.Asked asked) back → asked.work ≡ works.Calls call sequencer → asked.client ≡ client → (kept : Kept Reply) → kept_of s client ≡ Some kept → IsFrom (Some asked.number) kept.number
+  turn_from_it front back asked call sequencer turn work own kept is =
+      let t = call_turn sent s front asked back turn fits call sequencer work in
+      let k : kept_of s asked.client ≡ Some kept = ap (λ n. kept_of s n) own ∙ is in
       let e : t.kept ≡ kept = some_same t.kept kept (sym t.is_kept ∙ k) in
-      let n : kept.number ≡ task.number = ap (λ (x : Kept Reply). x.number) (sym e) ∙ t.same in
+      let n : kept.number ≡ asked.number = ap (λ (x : Kept Reply). x.number) (sym e) ∙ t.same in
       omega arith
 
   -- it is applied, and others are told their replies
-  record AppliedOn (t : MasterState) (task : Task) (note : Option Note) (answer : CallResult) (b : Bool) : Type 0 where
-    rises : RisesFrom last (cond b (task.number ∷ []) [])
-    past : PastMaster sent client (ended t task note answer) (last_after last (cond b (task.number ∷ []) []))
-    from : (kept : Kept Reply) → kept_of s client ≡ Some kept → IsFrom (last_after last (cond b (task.number ∷ []) [])) kept.number
+  record AppliedOn (t : MasterState) (asked : Asked) (note : Option Note) (answer : CallResult) (b : Bool) : Type 0 where
+    rises : RisesFrom last (cond b (asked.number ∷ []) [])
+    past : PastMaster sent client (ended t asked note answer) (last_after last (cond b (asked.number ∷ []) []))
+    from : (kept : Kept Reply) → kept_of s client ≡ Some kept → IsFrom (last_after last (cond b (asked.number ∷ []) [])) kept.number
 
-  applied_past : (t : MasterState) (front back : List (Waiting Task)) (task : Task) (call : Call) (sequencer : Option (List ℕ)) (note : Option Note) (answer : CallResult) → t.sessions ≡ s.sessions → t.epoch ≡ s.epoch → is_live s task.client ≡ true → IsTurn s front task back → task.work ≡ works.Calls call sequencer → (b : Bool) → (task.client == client) ≡ b → AppliedOn t task note answer b
-  applied_past t front back task call sequencer note answer same_sessions same_epoch live turn work true e =
-      let n : task.client ≡ client = same task.client client e in
+  applied_past : (t : MasterState) (front back : List (Waiting Task)) (asked : Asked) (call : Call) (sequencer : Option (List ℕ)) (note : Option Note) (answer : CallResult) → t.sessions ≡ s.sessions → t.epoch ≡ s.epoch → is_live s asked.client ≡ true → IsTurn s front (tasks.Asked asked) back → asked.work ≡ works.Calls call sequencer → (b : Bool) → (asked.client == client) ≡ b → AppliedOn t asked note answer b
+  applied_past t front back asked call sequencer note answer same_sessions same_epoch live turn work true e =
+      let n : asked.client ≡ client = same asked.client client e in
       record {
-        rises = (turn_above front back task call sequencer turn work n, tt);
-        past = end_past t task note answer (Some task.number) same_sessions same_epoch live (λ own. omega arith) (λ apart. let d = differ client task.client apart in cc);
-        from = turn_from_it front back task call sequencer turn work n;
+        rises = (turn_above front back asked call sequencer turn work n, tt);
+        past = end_past t asked note answer (Some asked.number) same_sessions same_epoch live (λ own. omega arith) (λ apart. let d = differ client asked.client apart in cc);
+        from = turn_from_it front back asked call sequencer turn work n;
       }
-  applied_past t front back task call sequencer note answer same_sessions same_epoch live turn work false e =
-      record { rises = tt; past = unapplied_past t front back task call sequencer note answer same_sessions same_epoch live turn work; from = still_from }
+  applied_past t front back asked call sequencer note answer same_sessions same_epoch live turn work false e =
+      record { rises = tt; past = unapplied_past t front back asked call sequencer note answer same_sessions same_epoch live turn work; from = still_from }
 
   -- a step that applies nothing
   none_on : (printed : List Line) (new : MasterState) → applied client printed ≡ [] → PastMaster sent client new last → SweptOn sent client last printed new
@@ -409,34 +419,41 @@ module _ (sent : List Message) (s : MasterState) (client : ℕ) (last : Option �
       let turn = reopened (lock_at s.locks instance) in
       none_on (swept_by s c).1.lines (swept_by s c).0 (reopened_applied client instance turn)
       (told_past sent (with_locks s (puts_of s instance turn.lock)) client last (turn_replies s turn) (turn_from s client last still_from turn) h)
+  sweep_past (Tidies idle due) = record { rises = tt; past = asking_past sent (queued s (idle.name ∷ []) (tasks.Tidies idle)) (Some idle.name) client last h }
+  sweep_past (Spared front back idle turn held) = record { rises = tt; past = h }
+  sweep_past (Tidied front back idle turn still) =
+      let c : SweepCase s = Tidied front back idle turn still in
+      let gone = results.Refused faults.StaleInstance in
+      none_on (swept_by s c).1.lines (swept_by s c).0 (own_applied client (gone_change s idle).change some)
+      (told_past sent (mapped (rest s front back) (gone_change s idle)) client last (gone_replies s idle) (claims_from s client last still_from gone (lock_at s.locks idle.instance).waiters) h)
   sweep_past (AnswersBeat whose session beat due) =
       record { rises = tt; past = same_past sent s.epoch client (kept_of s client) _ last (kept_stays s.sessions whose (answered s.sessions.lease s.clock) (λ session. (answered_so s.sessions.lease s.clock session).kept) client) h }
-  sweep_past (TurnedAway front back task principal received turn work may) = record { rises = tt; past = h }
-  sweep_past (StartedAgain front back task principal received session turn work found live) =
-      record { rises = tt; past = same_past sent s.epoch client (kept_of s client) _ last (kept_stays s.sessions task.client (prolonged (s.clock + s.sessions.lease)) (λ session. refl) client) h }
-  sweep_past (StartedFirst front back task principal received turn work none) =
-      record { rises = tt; past = same_past sent s.epoch client (kept_of s client) _ last (kept_begins s.sessions task.client (session_until principal true (s.clock + s.sessions.lease)) none refl client) h }
-  sweep_past (OfEnded front back task call sequencer turn work gone) = record { rises = tt; past = h }
-  sweep_past (Ended front back task call sequencer note answer turn work live made) =
-      record { rises = tt; past = unapplied_past (rest s front back) front back task call sequencer note answer refl refl live turn work }
-  sweep_past (Applied front back task call sequencer note change answer turn work live made) =
-      let t = applied_past (mapped (rest s front back) change) front back task call sequencer note answer refl refl live turn work (task.client == client) refl in
+  sweep_past (TurnedAway front back asked principal received turn work may) = record { rises = tt; past = h }
+  sweep_past (StartedAgain front back asked principal received session turn work found live) =
+      record { rises = tt; past = same_past sent s.epoch client (kept_of s client) _ last (kept_stays s.sessions asked.client (prolonged (s.clock + s.sessions.lease)) (λ session. refl) client) h }
+  sweep_past (StartedFirst front back asked principal received turn work none) =
+      record { rises = tt; past = same_past sent s.epoch client (kept_of s client) _ last (kept_begins s.sessions asked.client (session_until principal true (s.clock + s.sessions.lease)) none refl client) h }
+  sweep_past (OfEnded front back asked call sequencer turn work gone) = record { rises = tt; past = h }
+  sweep_past (Ended front back asked call sequencer note answer turn work live made) =
+      record { rises = tt; past = unapplied_past (rest s front back) front back asked call sequencer note answer refl refl live turn work }
+  sweep_past (Applied front back asked call sequencer note change answer turn work live made) =
+      let t = applied_past (mapped (rest s front back) change) front back asked call sequencer note answer refl refl live turn work (asked.client == client) refl in
       record { rises = t.rises; past = t.past }
-  sweep_past (Deleted front back task call sequencer change instance waiters answer turn work live made) =
+  sweep_past (Deleted front back asked call sequencer change instance waiters answer turn work live made) =
       let m = mapped (rest s front back) change in
-      let t = applied_past m front back task call sequencer None answer refl refl live turn work (task.client == client) refl in
-      let next : Option ℕ = last_after last (cond (task.client == client) (task.number ∷ []) []) in
+      let t = applied_past m front back asked call sequencer None answer refl refl live turn work (asked.client == client) refl in
+      let next : Option ℕ = last_after last (cond (asked.client == client) (asked.number ∷ []) []) in
       let answer_all = results.Refused faults.StaleInstance in
-      record { rises = t.rises; past = told_past sent (ended m task None answer) client next (replies_to s answer_all waiters) (claims_from s client next t.from answer_all waiters) t.past }
-  sweep_past (Locked front back task call sequencer put claim answer turn work live made) =
-      record { rises = tt; past = unapplied_past (with_locks (rest s front back) (put ∷ [])) front back task call sequencer None answer refl refl live turn work }
-  sweep_past (Awaited front back task call sequencer put turn work live made) = record { rises = tt; past = h }
-  sweep_past (Left front back task call sequencer note leave answer turn work live made) =
-      let c : SweepCase s = Left front back task call sequencer note leave answer turn work live made in
+      record { rises = t.rises; past = told_past sent (ended m asked None answer) client next (replies_to s answer_all waiters) (claims_from s client next t.from answer_all waiters) t.past }
+  sweep_past (Locked front back asked call sequencer put claim answer turn work live made) =
+      record { rises = tt; past = unapplied_past (with_locks (rest s front back) (put ∷ [])) front back asked call sequencer None answer refl refl live turn work }
+  sweep_past (Awaited front back asked call sequencer put turn work live made) = record { rises = tt; past = h }
+  sweep_past (Left front back asked call sequencer note leave answer turn work live made) =
+      let c : SweepCase s = Left front back asked call sequencer note leave answer turn work live made in
       let t = with_locks (rest s front back) (left_put leave ∷ []) in
-      none_on (swept_by s c).1.lines (swept_by s c).0 (left_applied client task.client leave)
-      (told_past sent (ended t task note answer) client last (turn_replies s leave.turn) (turn_from s client last still_from leave.turn)
-      (unapplied_past t front back task call sequencer note answer refl refl live turn work))
+      none_on (swept_by s c).1.lines (swept_by s c).0 (left_applied client asked.client leave)
+      (told_past sent (ended t asked note answer) client last (turn_replies s leave.turn) (turn_from s client last still_from leave.turn)
+      (unapplied_past t front back asked call sequencer note answer refl refl live turn work))
 
 telling_past : (sent : List Message) (s : MasterState) (client : ℕ) (last : Option ℕ) (tellings : List Telling) → PastMaster sent client s last → PastMaster sent client (with_tellings s tellings) last
 telling_past sent s client last tellings h = same_past sent s.epoch client (kept_of s client) (kept_of (with_tellings s tellings) client) last (told_kept s tellings client) h
@@ -452,24 +469,25 @@ silent_on client new printed last silent h =
     let e = none_applied client printed silent in record { rises = rw e tt; past = rw e h }
 
 -- what a sweep applied was sent
-counted_put : (w : WorldState) (h : IsConsistent w) (s : MasterState) (front back : List (Waiting Task)) (task : Task) (call : Call) (sequencer : Option (List ℕ)) (client : ℕ) (last : Option ℕ) → IsTurn s front task back → task.work ≡ works.Calls call sequencer → FitsMessages w.messages s → IsCounted w client last → IsCounted w client (last_after last (cond (task.client == client) (task.number ∷ []) []))
-counted_put w h s front back task call sequencer client last turn work fits counted =
-    let sent = h.sent task.client task.number (record { client = task.client; epoch = s.epoch; number = task.number; call = call; sequencer = sequencer }) (turn_sent w.messages s front task back turn fits call sequencer work) in
-    (elim (task.client == client) as (λ b. (task.client == client) ≡ b → IsCounted w client (last_after last (cond b (task.number ∷ []) []))) [
-      | true ↦ (λ e. let n : task.client ≡ client = same task.client client e in rw (← n) (record { seat = sent.seat; there = sent.joined; more = sent.within }))
+counted_put : (w : WorldState) (h : IsConsistent w) (s : MasterState) (front back : List (Waiting Task)) (asked : Asked) (call : Call) (sequencer : Option (List ℕ)) (client : ℕ) (last : Option ℕ) → IsTurn s front (tasks.Asked asked) back → asked.work ≡ works.Calls call sequencer → FitsMessages w.messages s → IsCounted w client last → IsCounted w client (last_after last (cond (asked.client == client) (asked.number ∷ []) []))
+counted_put w h s front back asked call sequencer client last turn work fits counted =
+    let sent = h.sent asked.client asked.number (record { client = asked.client; epoch = s.epoch; number = asked.number; call = call; sequencer = sequencer }) (turn_sent w.messages s front asked back turn fits call sequencer work) in
+    (elim (asked.client == client) as (λ b. (asked.client == client) ≡ b → IsCounted w client (last_after last (cond b (asked.number ∷ []) []))) [
+      | true ↦ (λ e. let n : asked.client ≡ client = same asked.client client e in rw (← n) (record { seat = sent.seat; there = sent.joined; more = sent.within }))
       | false ↦ (λ e. counted)
     ]) refl
 
-applied_counted : (w : WorldState) (h : IsConsistent w) (s : MasterState) (c : SweepCase s) (client : ℕ) (last : Option ℕ) → FitsMessages w.messages s → IsCounted w client last → IsCounted w client (last_after last (applied client (swept_by s c).1.lines))
-applied_counted w h s (Applied front back task call sequencer _ change answer turn work live made) client last fits counted =
-    counted_put w h s front back task call sequencer client last turn work fits counted
-applied_counted w h s (Deleted front back task call sequencer change instance waiters answer turn work live made) client last fits counted =
-    counted_put w h s front back task call sequencer client last turn work fits counted
-applied_counted w h s (Expires whose session due) client last fits counted = subst (λ numbers. IsCounted w client (last_after last numbers)) (sym (lapses_applied client s whose)) counted
-applied_counted w h s (Reopens instance due) client last fits counted =
+applied_counted : (w : WorldState) (h : IsConsistent w) (s : MasterState) (c : SweepCase s) (client : ℕ) (last : Option ℕ) → 1 ≤ client → FitsMessages w.messages s → IsCounted w client last → IsCounted w client (last_after last (applied client (swept_by s c).1.lines))
+applied_counted w h s (Applied front back asked call sequencer _ change answer turn work live made) client last some fits counted =
+    counted_put w h s front back asked call sequencer client last turn work fits counted
+applied_counted w h s (Deleted front back asked call sequencer change instance waiters answer turn work live made) client last some fits counted =
+    counted_put w h s front back asked call sequencer client last turn work fits counted
+applied_counted w h s (Expires whose session due) client last some fits counted = subst (λ numbers. IsCounted w client (last_after last numbers)) (sym (lapses_applied client s whose)) counted
+applied_counted w h s (Reopens instance due) client last some fits counted =
     subst (λ numbers. IsCounted w client (last_after last numbers)) (sym (reopened_applied client instance (reopened (lock_at s.locks instance)))) counted
-applied_counted w h s (Left front back task call sequencer _ leave answer turn work live made) client last fits counted = subst (λ numbers. IsCounted w client (last_after last numbers)) (sym (left_applied client task.client leave)) counted
-applied_counted w h s _ client last fits counted = counted
+applied_counted w h s (Left front back asked call sequencer _ leave answer turn work live made) client last some fits counted = subst (λ numbers. IsCounted w client (last_after last numbers)) (sym (left_applied client asked.client leave)) counted
+applied_counted w h s (Tidied front back idle turn still) client last some fits counted = subst (λ numbers. IsCounted w client (last_after last numbers)) (sym (own_applied client (gone_change s idle).change some)) counted
+applied_counted w h s _ client last some fits counted = counted
 
 past_master : (sent : List Message) (client : ℕ) (last : Option ℕ) (m : Option MasterState) (s : MasterState) → m ≡ Some s → PastIn sent client m last → PastMaster sent client s last
 past_master sent client last m s e k = rw e at k
@@ -499,7 +517,7 @@ sending_above w h number client seat new sent last found (NextCall next e m call
     let t = one_call next call client n k in
     subst (λ x. IsAbove last x) t.2 (sent_above w h number client seat next last found m counted t.1)
 
-module _ (client : ℕ) (last : Option ℕ) (old : WorldState) (step : Step) (new : WorldState) (printed : List Line) (h : IsConsistent old) (p : Past old client last) where
+module _ (client : ℕ) (last : Option ℕ) (old : WorldState) (step : Step) (new : WorldState) (printed : List Line) (h : IsConsistent old) (p : Past old client last) (some : 1 ≤ client) where
   counted_on : WorldCase old step new printed → IsCounted new client last
   counted_on c = counted_later old new client last (case_later old step new printed h c) p.counted
 
@@ -539,13 +557,13 @@ module _ (client : ℕ) (last : Option ℕ) (old : WorldState) (step : Step) (ne
   step_on (Sweeps t) =
       let s = noted t.master old.clock in
       let fits = noted_fits old h t.master t.is_up in
-      let on = sweep_past old.messages s client last fits (past_master old.messages client last old.master t.master t.is_up p.master) t.case in
+      let on = sweep_past old.messages s client last fits (past_master old.messages client last old.master t.master t.is_up p.master) some t.case in
       let next : Option ℕ = last_after last (applied client (swept_by s t.case).1.lines) in
       let later = outs_later old.messages (swept_by s t.case).1.outs client (swept_master s t.case) next (telling_past old.messages (swept_by s t.case).0 client next (first_tellings s) on.past) in
       rw t.tells (record {
         rises = on.rises;
         past = record {
-          counted = counted_later old new client next (case_later old step new printed h (Sweeps t)) (applied_counted old h s t.case client last fits p.counted);
+          counted = counted_later old new client next (case_later old step new printed h (Sweeps t)) (applied_counted old h s t.case client last some fits p.counted);
           master = subst (λ (x : WorldState). PastIn x.messages client x.master next) (sym t.is) later;
         };
       })
@@ -555,11 +573,11 @@ module _ (client : ℕ) (last : Option ℕ) (old : WorldState) (step : Step) (ne
       let t = k.sweeps in
       let s = noted t.master old.clock in
       let fits = noted_fits old h t.master t.is_up in
-      let on = sweep_past old.messages s client last fits (past_master old.messages client last old.master t.master t.is_up p.master) t.case in
+      let on = sweep_past old.messages s client last fits (past_master old.messages client last old.master t.master t.is_up p.master) some t.case in
       let next : Option ℕ = last_after last (applied client (swept_by s t.case).1.lines) in
       let same : applied client printed ≡ applied client (swept_by s t.case).1.lines = ap (applied client) k.tells ∙ cut_applied client k.told ∙ ap (applied client) t.tells in
       let past : Past new client next = record {
-        counted = counted_later old new client next (case_later old step new printed h (CutsSweep k)) (applied_counted old h s t.case client last fits p.counted);
+        counted = counted_later old new client next (case_later old step new printed h (CutsSweep k)) (applied_counted old h s t.case client last some fits p.counted);
         master = subst (λ (x : WorldState). PastIn x.messages client x.master next) (sym k.is) tt;
       } in
       record { rises = subst (RisesFrom last) (sym same) on.rises; past = subst (λ numbers. Past new client (last_after last numbers)) (sym same) past }
@@ -571,9 +589,9 @@ module _ (client : ℕ) (last : Option ℕ) (old : WorldState) (step : Step) (ne
       let none : new.master ≡ None = ap (λ (w : WorldState). w.master) k.is ∙ k.none in
       silent_on client new printed last (rw k.tells (tt, tt)) (record { counted = counted_on (LosesUp k); master = rw none tt })
 
-does_on : (client : ℕ) (last : Option ℕ) (old : WorldView) (step : Step) (new : WorldView) (printed : List Line) → IsConsistent old.world → Past old.world client last → Does old step new printed → StepsOn client last printed new.world
-does_on client last old step new printed h p (inl m) = step_on client last old.world step new.world printed h p (world_case old.world step new.world printed h.master m.is_step)
-does_on client last old step new printed h p (inr r) =
+does_on : (client : ℕ) (last : Option ℕ) (old : WorldView) (step : Step) (new : WorldView) (printed : List Line) → IsConsistent old.world → Past old.world client last → 1 ≤ client → Does old step new printed → StepsOn client last printed new.world
+does_on client last old step new printed h p some (inl m) = step_on client last old.world step new.world printed h p some (world_case old.world step new.world printed h.master m.is_step)
+does_on client last old step new printed h p some (inr r) =
     silent_on client new.world printed last (rw r.line (tt, tt)) (subst (λ (x : WorldState). Past x client last) (sym r.left.same) p)
 
 -- ---- a run
@@ -582,11 +600,11 @@ rises_more : (last : Option ℕ) (xs ys : List ℕ) → RisesFrom last xs → Ri
 rises_more last [] ys h k = k
 rises_more last (x ∷ xs) ys h k = (h.0, rises_more (Some x) xs ys h.1 k)
 
-run_on : (client : ℕ) (old : WorldView) (steps : List Step) (printed : List Line) (new : WorldView) (last : Option ℕ) → Run old steps printed new → IsConsistent old.world → Past old.world client last → RisesFrom last (applied client printed)
-run_on client old [] printed new last run h p = rw run.0 tt
-run_on client old (step ∷ steps) printed new last run h p =
-    let first = does_on client last old step run.0 run.1 h p run.3 in
-    let then = run_on client run.0 steps run.2 new (last_after last (applied client run.1)) run.5 run.4 first.past in
+run_on : (client : ℕ) (old : WorldView) (steps : List Step) (printed : List Line) (new : WorldView) (last : Option ℕ) → Run old steps printed new → IsConsistent old.world → Past old.world client last → 1 ≤ client → RisesFrom last (applied client printed)
+run_on client old [] printed new last run h p some = rw run.0 tt
+run_on client old (step ∷ steps) printed new last run h p some =
+    let first = does_on client last old step run.0 run.1 h p some run.3 in
+    let then = run_on client run.0 steps run.2 new (last_after last (applied client run.1)) run.5 run.4 first.past some in
     rw (run.6, applied_more client run.1 run.2) (rises_more last (applied client run.1) (applied client run.2) first.rises then)
 
 first_result : (number : ℕ) (o : Option Reply) → PastResult number o None
@@ -602,6 +620,6 @@ first_in sent client None = tt
 first_in sent client (Some s) = first_kept sent s.epoch client (kept_of s client)
 
 -- the numbers of a client's applied calls rise
-pub run_once : (client : ℕ) (old : WorldView) (steps : List Step) (printed : List Line) (new : WorldView) → Run old steps printed new → IsConsistent old.world → Rises (applied client printed)
-run_once client old steps printed new run h =
-    run_on client old steps printed new None run h (record { counted = tt; master = first_in old.world.messages client old.world.master })
+pub run_once : (client : ℕ) (old : WorldView) (steps : List Step) (printed : List Line) (new : WorldView) → Run old steps printed new → IsConsistent old.world → 1 ≤ client → Rises (applied client printed)
+run_once client old steps printed new run h some =
+    run_on client old steps printed new None run h (record { counted = tt; master = first_in old.world.messages client old.world.master }) some

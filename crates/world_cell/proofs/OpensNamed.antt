@@ -213,7 +213,7 @@ module _ (s : MasterState) (client number : ℕ) (opening : Open) where
 
   in_opens : (create : Create) (above : View) (kind : Kind) → EffectOpens (calls.Open opening) (create_in s client number opening create above kind)
   in_opens create above kinds.File = tt
-  in_opens create above kinds.Directory = either (EffectOpens (calls.Open opening)) (may s client above rights.Write) _ (refused (faults.Denied rights.Write)) (permitted_opens (new_view above s.next_instance create.node (acls_of above create.acls))) tt
+  in_opens create above kinds.Directory = either (EffectOpens (calls.Open opening)) (may s client above rights.Write) _ (refused (faults.Denied rights.Write)) (permitted_opens (new_view s.next_instance create.node create.life (acls_of above create.acls))) tt
 
   under_opens : (create : Create) (o : Option View) → EffectOpens (calls.Open opening) (create_under s client number opening create o)
   under_opens create None = tt

@@ -26,12 +26,14 @@ use Rattle.cell_core.specs.Deeds.{edit_of, lock_changes}
 use Rattle.cell_core.specs.Step.{kept_of, reply_of, stamped_reply, repeated_reply, with_note, noted}
 use Rattle.cell_core.specs.Cases.{TakeCase, taken_by}
 use Rattle.cell_core.specs.Cases.TakeCase.{StartQueued, BeatParked, Repeated, Recovering, Answered, Granted, Waits}
+use Rattle.cell_core.specs.declared.pending.Asked.{Asked}
 use Rattle.cell_core.specs.declared.pending.Task.{Task}
+use Rattle.cell_core.specs.declared.pending.Task.TheVariants as tasks
 use Rattle.cell_core.specs.declared.pending.Work.TheVariants as works
 use Rattle.gate_core.specs.declared.pending.Waiting.{Waiting}
-use Rattle.over_core.specs.SweepCase.{IsTurn, SweepCase, swept_by, swept_edits}
+use Rattle.over_core.specs.SweepCase.{IsTurn, SweepCase, swept_by, swept_edits, gone_replies}
 use Rattle.over_core.specs.Sweep.{left_put, turn_replies, lapses_of, lapses_puts, lapses_replies, puts_of, replies_to}
-use Rattle.over_core.specs.SweepCase.SweepCase.{Quiet, Recovers, Expires, Reopens, OfEnded, Ended, Applied, Deleted, Locked, Awaited, Left}
+use Rattle.over_core.specs.SweepCase.SweepCase.{Quiet, Recovers, Expires, Reopens, Tidies, Spared, Tidied, OfEnded, Ended, Applied, Deleted, Locked, Awaited, Left}
 use Rattle.world_cell.specs.declared.mail.Message.{Message}
 use Rattle.world_cell.specs.declared.mail.Message.TheVariants.{ToMaster, ToClient}
 use Rattle.world_cell.specs.declared.steps.Step.{Step}
@@ -97,13 +99,13 @@ sends_late : (sent : List Message) (s : MasterState) (replies : List Reply) → 
 sends_late sent s replies h late = late_answers sent (map ToClient (map outs.Reply replies)) s replies h late
 
 -- a call that has its turn is answered, and then those that waited for a lock
-module _ (sent : List Message) (s : MasterState) (front : List (Waiting Task)) (task : Task) (back : List (Waiting Task)) (turn : IsTurn s front task back) (h : FitsMessages sent s) (call : Call) (sequencer : Option (List ℕ)) (work : task.work ≡ works.Calls call sequencer) where
-  turn_answers : (answer : CallResult) (replies : List Reply) → OpensAs call answer → AreLate s replies → Sends sent s.secret (outs.Reply (reply_of s task.client task.number answer) ∷ map outs.Reply replies)
+module _ (sent : List Message) (s : MasterState) (front : List (Waiting Task)) (asked : Asked) (back : List (Waiting Task)) (turn : IsTurn s front (tasks.Asked asked) back) (h : FitsMessages sent s) (call : Call) (sequencer : Option (List ℕ)) (work : asked.work ≡ works.Calls call sequencer) where
+  turn_answers : (answer : CallResult) (replies : List Reply) → OpensAs call answer → AreLate s replies → Sends sent s.secret (outs.Reply (reply_of s asked.client asked.number answer) ∷ map outs.Reply replies)
   turn_answers answer replies opens late =
-      let reply = reply_of s task.client task.number answer in
+      let reply = reply_of s asked.client asked.number answer in
       let more = map ToClient (outs.Reply reply ∷ map outs.Reply replies) in
-      let found = turn_sent sent s front task back turn h call sequencer work in
-      (answer_stays sent more s.secret reply (plain_answer sent s.secret reply (record { client = task.client; epoch = s.epoch; number = task.number; call = call; sequencer = sequencer }) found refl opens), late_answers sent more s replies h late)
+      let found = turn_sent sent s front asked back turn h call sequencer work in
+      (answer_stays sent more s.secret reply (plain_answer sent s.secret reply (record { client = asked.client; epoch = s.epoch; number = asked.number; call = call; sequencer = sequencer }) found refl opens), late_answers sent more s replies h late)
 
 pub swept_answers : (sent : List Message) (s : MasterState) (c : SweepCase s) → FitsMessages sent s → ShowsOwn s → Sends sent s.secret (swept_by s c).1.outs
 swept_answers sent s (Quiet none) h own = tt
@@ -112,22 +114,26 @@ swept_answers sent s (Expires client session due) h own = sends_late sent s (lap
 swept_answers sent s (Reopens instance due) h own =
     let lock = lock_at s.locks instance in
     sends_late sent s (turn_replies s (reopened lock)) h (turn_late s lock.waiters (reopened lock) (reopened_comes lock) (λ q waits. waits_at q instance s.locks waits))
-swept_answers sent s (OfEnded front back task call sequencer turn work gone) h own = tt
-swept_answers sent s (Ended front back task call sequencer _ answer turn work live made) h own =
-    turn_answers sent s front task back turn h call sequencer work answer [] (turned_opens s task.client task.number call sequencer _ answer made refl) tt
-swept_answers sent s (Applied front back task call sequencer _ change answer turn work live made) h own =
-    turn_answers sent s front task back turn h call sequencer work answer [] (turned_opens s task.client task.number call sequencer _ answer made refl) tt
-swept_answers sent s (Deleted front back task call sequencer change instance waiters answer turn work live made) h own =
+swept_answers sent s (Tidies idle due) h own = tt
+swept_answers sent s (Spared front back idle turn held) h own = tt
+swept_answers sent s (Tidied front back idle turn still) h own =
+    sends_late sent s (gone_replies s idle) h (replies_late s (results.Refused faults.StaleInstance) (lock_at s.locks idle.instance).waiters (λ x. tt) (λ q waits. waits_at q idle.instance s.locks waits))
+swept_answers sent s (OfEnded front back asked call sequencer turn work gone) h own = tt
+swept_answers sent s (Ended front back asked call sequencer _ answer turn work live made) h own =
+    turn_answers sent s front asked back turn h call sequencer work answer [] (turned_opens s asked.client asked.number call sequencer _ answer made refl) tt
+swept_answers sent s (Applied front back asked call sequencer _ change answer turn work live made) h own =
+    turn_answers sent s front asked back turn h call sequencer work answer [] (turned_opens s asked.client asked.number call sequencer _ answer made refl) tt
+swept_answers sent s (Deleted front back asked call sequencer change instance waiters answer turn work live made) h own =
     let gone = results.Refused faults.StaleInstance in
-    let same = moved sent s front task back turn h call sequencer work _ made own in
-    turn_answers sent s front task back turn h call sequencer work answer (replies_to s gone waiters) (turned_opens s task.client task.number call sequencer _ answer made refl)
+    let same = moved sent s front asked back turn h call sequencer work _ made own in
+    turn_answers sent s front asked back turn h call sequencer work answer (replies_to s gone waiters) (turned_opens s asked.client asked.number call sequencer _ answer made refl)
     (replies_late s gone waiters (λ x. tt) (λ q waits. waits_at q instance s.locks (subst (λ ws. list_any (λ claim. is_of_client q claim.owner) ws ≡ true) same waits)))
-swept_answers sent s (Locked front back task call sequencer put claim answer turn work live made) h own =
-    turn_answers sent s front task back turn h call sequencer work answer [] (turned_opens s task.client task.number call sequencer _ answer made refl) tt
-swept_answers sent s (Awaited front back task call sequencer put turn work live made) h own = tt
-swept_answers sent s (Left front back task call sequencer _ leave answer turn work live made) h own =
-    let comes = moved sent s front task back turn h call sequencer work _ made own in
-    turn_answers sent s front task back turn h call sequencer work answer (turn_replies s leave.turn) (turned_opens s task.client task.number call sequencer _ answer made refl)
+swept_answers sent s (Locked front back asked call sequencer put claim answer turn work live made) h own =
+    turn_answers sent s front asked back turn h call sequencer work answer [] (turned_opens s asked.client asked.number call sequencer _ answer made refl) tt
+swept_answers sent s (Awaited front back asked call sequencer put turn work live made) h own = tt
+swept_answers sent s (Left front back asked call sequencer _ leave answer turn work live made) h own =
+    let comes = moved sent s front asked back turn h call sequencer work _ made own in
+    turn_answers sent s front asked back turn h call sequencer work answer (turn_replies s leave.turn) (turned_opens s asked.client asked.number call sequencer _ answer made refl)
     (turn_late s (lock_at s.locks leave.instance).waiters leave.turn comes (λ q waits. waits_at q leave.instance s.locks waits))
 swept_answers sent s _ h own = (tt, tt)
 
@@ -141,11 +147,12 @@ swept_secret : (rows : Rows) (s : MasterState) (c : SweepCase s) → (changed_ro
 swept_secret rows s (Expires client session due) =
     (let_go rows (lock_changes s (lapses_puts s (lapses_of s client))) client (record { principal = session.principal; live = false })).beside.secret
 swept_secret rows s (Reopens instance due) = (relocked_rows rows (lock_changes s (puts_of s instance (reopened (lock_at s.locks instance)).lock))).beside.secret
-swept_secret rows s (Applied front back task call sequencer _ change answer turn work live made) = mod_secret rows change.change change.next_instance
-swept_secret rows s (Deleted front back task call sequencer change instance waiters answer turn work live made) = mod_secret rows change.change change.next_instance
-swept_secret rows s (Locked front back task call sequencer put claim answer turn work live made) = (relocked_rows rows (lock_changes s (put ∷ []))).beside.secret
-swept_secret rows s (Awaited front back task call sequencer put turn work live made) = (relocked_rows rows (lock_changes s (put ∷ []))).beside.secret
-swept_secret rows s (Left front back task call sequencer _ leave answer turn work live made) = (relocked_rows rows (lock_changes s (left_put leave ∷ []))).beside.secret
+swept_secret rows s (Applied front back asked call sequencer _ change answer turn work live made) = mod_secret rows change.change change.next_instance
+swept_secret rows s (Deleted front back asked call sequencer change instance waiters answer turn work live made) = mod_secret rows change.change change.next_instance
+swept_secret rows s (Tidied front back idle turn still) = mod_secret rows (Gone idle.name) s.next_instance
+swept_secret rows s (Locked front back asked call sequencer put claim answer turn work live made) = (relocked_rows rows (lock_changes s (put ∷ []))).beside.secret
+swept_secret rows s (Awaited front back asked call sequencer put turn work live made) = (relocked_rows rows (lock_changes s (put ∷ []))).beside.secret
+swept_secret rows s (Left front back asked call sequencer _ leave answer turn work live made) = (relocked_rows rows (lock_changes s (left_put leave ∷ []))).beside.secret
 swept_secret rows s _ = refl
 
 -- ---- the messages behind a step

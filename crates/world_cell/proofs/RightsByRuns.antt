@@ -31,7 +31,7 @@ use Rattle.cell_core.specs.Cases.{TakeCase, taken_by}
 use Rattle.cell_core.specs.Cases.TakeCase.{BeatParked, Repeated, Answered, Granted, Waits}
 use Rattle.over_core.specs.Sweep.{locked_lines, leave_lines, lapses_lines, lapses_of}
 use Rattle.over_core.specs.SweepCase.{SweepCase, swept_by}
-use Rattle.over_core.specs.SweepCase.SweepCase.{Expires, Reopens, Ended, Applied, Left}
+use Rattle.over_core.specs.SweepCase.SweepCase.{Expires, Reopens, Tidies, Ended, Applied, Left}
 use Rattle.world_cell.specs.declared.steps.Step.{Step}
 use Rattle.world_cell.specs.World.{WorldState, WorldView, is_of_commit}
 use Rattle.world_cell.specs.Consistent.{IsConsistent}
@@ -240,12 +240,13 @@ sweep_told s (Expires client session due) h =
 sweep_told s (Reopens instance due) h =
     let turn = reopened (lock_at s.locks instance) in
     locks_told (map told_of s.rights) (lines.Reopened instance ∷ locked_lines instance turn) (reopened_of_locks instance turn)
-sweep_told s (Ended front back task call sequencer None answer turn work live made) h = refl
-sweep_told s (Ended front back task call sequencer (Some note) answer turn work live made) h = refl
-sweep_told s (Applied front back task call sequencer None change answer turn work live made) h = refl
-sweep_told s (Applied front back task call sequencer (Some note) change answer turn work live made) h = refl
-sweep_told s (Left front back task call sequencer None leave answer turn work live made) h = locks_told (map told_of s.rights) (leave_lines task.client leave) (left_of_locks task.client leave)
-sweep_told s (Left front back task call sequencer (Some note) leave answer turn work live made) h = locks_told (map told_of s.rights) (leave_lines task.client leave) (left_of_locks task.client leave)
+sweep_told s (Tidies idle due) h = ap (λ told. Some told) (sym (asked_told idle.name s.rights s.rights))
+sweep_told s (Ended front back asked call sequencer None answer turn work live made) h = refl
+sweep_told s (Ended front back asked call sequencer (Some note) answer turn work live made) h = refl
+sweep_told s (Applied front back asked call sequencer None change answer turn work live made) h = refl
+sweep_told s (Applied front back asked call sequencer (Some note) change answer turn work live made) h = refl
+sweep_told s (Left front back asked call sequencer None leave answer turn work live made) h = locks_told (map told_of s.rights) (leave_lines asked.client leave) (left_of_locks asked.client leave)
+sweep_told s (Left front back asked call sequencer (Some note) leave answer turn work live made) h = locks_told (map told_of s.rights) (leave_lines asked.client leave) (left_of_locks asked.client leave)
 sweep_told s _ h = refl
 
 -- ---- a step

@@ -20,7 +20,7 @@ use Rattle.cell_core.specs.Step.{noted}
 use Rattle.cell_core.specs.Deeds.{edit_of, lock_changes}
 use Rattle.over_core.specs.Sweep.{locked_line, locked_lines, leave_lines, lapses_lines, left_put, lapses_of, lapses_puts, puts_of}
 use Rattle.over_core.specs.SweepCase.{SweepCase, swept_by, swept_edits}
-use Rattle.over_core.specs.SweepCase.SweepCase.{Expires, Reopens, Applied, Deleted, Locked, Awaited, Left}
+use Rattle.over_core.specs.SweepCase.SweepCase.{Expires, Reopens, Tidied, Applied, Deleted, Locked, Awaited, Left}
 use Rattle.world_cell.specs.declared.steps.Step.{Step}
 use Rattle.world_cell.specs.World.{WorldState, WorldView}
 use Rattle.world_cell.specs.Consistent.{IsConsistent}
@@ -109,13 +109,14 @@ swept_tells rows s (Expires client session due) =
 swept_tells rows s (Reopens instance due) =
     let turn = reopened (lock_at s.locks instance) in
     relocked_tells rows (lock_changes s (puts_of s instance turn.lock)) (lines.Reopened instance ∷ locked_lines instance turn) (reopened_of_locks instance turn)
-swept_tells rows s (Applied front back task call sequencer _ change answer turn work live made) = mod_tells rows task.client task.number change.change change.next_instance
-swept_tells rows s (Deleted front back task call sequencer change instance waiters answer turn work live made) = mod_tells rows task.client task.number change.change change.next_instance
-swept_tells rows s (Locked front back task call sequencer put claim answer turn work live made) =
+swept_tells rows s (Applied front back asked call sequencer _ change answer turn work live made) = mod_tells rows asked.client asked.number change.change change.next_instance
+swept_tells rows s (Deleted front back asked call sequencer change instance waiters answer turn work live made) = mod_tells rows asked.client asked.number change.change change.next_instance
+swept_tells rows s (Tidied front back idle turn still) = mod_tells rows 0 0 (Gone idle.name) s.next_instance
+swept_tells rows s (Locked front back asked call sequencer put claim answer turn work live made) =
     relocked_tells rows (lock_changes s (put ∷ [])) (locked_line put.instance put.lock.generation claim ∷ []) (record { quiet = (tt, tt, tt); others = (tt, tt); kept = refl })
-swept_tells rows s (Awaited front back task call sequencer put turn work live made) = relocked_tells rows (lock_changes s (put ∷ [])) [] (record { quiet = tt; others = tt; kept = refl })
-swept_tells rows s (Left front back task call sequencer _ leave answer turn work live made) =
-    relocked_tells rows (lock_changes s (left_put leave ∷ [])) (leave_lines task.client leave) (left_of_locks task.client leave)
+swept_tells rows s (Awaited front back asked call sequencer put turn work live made) = relocked_tells rows (lock_changes s (put ∷ [])) [] (record { quiet = tt; others = tt; kept = refl })
+swept_tells rows s (Left front back asked call sequencer _ leave answer turn work live made) =
+    relocked_tells rows (lock_changes s (left_put leave ∷ [])) (leave_lines asked.client leave) (left_of_locks asked.client leave)
 swept_tells rows s _ = record { is_map = refl; is_epoch = refl }
 
 own_tells : (old new : WorldState) (printed : List Line) → IsOwn old new printed → Tells old.rows new.rows printed

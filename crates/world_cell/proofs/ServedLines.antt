@@ -35,7 +35,7 @@ use Rattle.cell_core.specs.Cases.{TakeCase, taken_by}
 use Rattle.cell_core.specs.Cases.TakeCase.{StartRefused, OldBeat, BeatRefused, BeatParked, OldEpoch, NoSession, Repeated, OlderCall, Outstanding as StillOutstanding, Granted}
 use Rattle.over_core.specs.Sweep.{lapses_lines, lapses_of}
 use Rattle.over_core.specs.SweepCase.{SweepCase, swept_by}
-use Rattle.over_core.specs.SweepCase.SweepCase.{Recovers, Expires, Reopens, Started as StartedFirst, Applied, Deleted, Locked, Left}
+use Rattle.over_core.specs.SweepCase.SweepCase.{Recovers, Expires, Reopens, Tidied, Started as StartedFirst, Applied, Deleted, Locked, Left}
 use Rattle.client_parts.specs.declared.asks.Ask.{Ask}
 use Rattle.client_parts.specs.declared.sessions.Session.{Session}
 use Rattle.client_parts.specs.declared.sessions.Session.TheVariants as sessions
@@ -288,11 +288,12 @@ swept_other s (Expires client session due) =
     both_others (ends ++ lapses_lines client (lapses_of s client)) (lines.Ended client ∷ [])
     (both_others ends (lapses_lines client (lapses_of s client)) (each_other lines.Expired (λ number. tt) (numbers_ending client endings.Expiry s.rights)) (lapses_of_locks client (lapses_of s client)).others) (tt, tt)
 swept_other s (Reopens instance due) = (reopened_of_locks instance (reopened (lock_at s.locks instance))).others
-swept_other s (StartedFirst front back task principal received turn work none) = (tt, tt)
-swept_other s (Applied front back task call sequencer _ change answer turn work live made) = (tt, tt)
-swept_other s (Deleted front back task call sequencer change instance waiters answer turn work live made) = (tt, tt)
-swept_other s (Locked front back task call sequencer put claim answer turn work live made) = (tt, tt)
-swept_other s (Left front back task call sequencer _ leave answer turn work live made) = (left_of_locks task.client leave).others
+swept_other s (StartedFirst front back asked principal received turn work none) = (tt, tt)
+swept_other s (Applied front back asked call sequencer _ change answer turn work live made) = (tt, tt)
+swept_other s (Deleted front back asked call sequencer change instance waiters answer turn work live made) = (tt, tt)
+swept_other s (Tidied front back idle turn still) = (tt, tt)
+swept_other s (Locked front back asked call sequencer put claim answer turn work live made) = (tt, tt)
+swept_other s (Left front back asked call sequencer _ leave answer turn work live made) = (left_of_locks asked.client leave).others
 swept_other s _ = tt
 
 -- ---- a step

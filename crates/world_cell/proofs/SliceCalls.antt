@@ -2,6 +2,7 @@
 use Rattle.std.proofs.Common.{◌≡◌, ◌≢◌, ℕ, ◌+◌, ◌<◌, Bool, true, false, cond, List, [], ◌∷◌, ◌++◌, map, length, Option, Some, None, Result, Ok, Err, inl, inr, arith, refl, sym, ap, ◌∙◌, subst}
 use Rattle.std.specs.Prelude.{◌==◌, ◌&&◌, ◌||◌, not, nat_le, fold, find, is_none}
 use Rattle.std.specs.Option.{option_map, option_map_or}
+use Rattle.std.specs.List.{list_any}
 use Rattle.std.specs.Str.{bytes_eq}
 use Rattle.coherence.specs.Slice as one
 use Rattle.coherence.specs.Slice.{IsIn, Slice, Event, QueueChange, AskBack, IssueOthers, SendGrant, Reorder, Live, Leads}
@@ -29,21 +30,24 @@ use Rattle.rights_core.specs.declared.grants.Grant.TheVariants as grants
 use Rattle.rights_core.specs.Rights.{holds, held_limit, count_held, answer_beside, grant_answer, is_held_at, invalidations_of, next_invalidation, clients_to_ask, asked_back}
 use Rattle.rights_core.specs.Laws.{asked_for, number_or_0}
 use Rattle.gate_core.specs.declared.pending.Waiting.{Waiting}
-use Rattle.gate_core.specs.Gate.{uncachable}
+use Rattle.gate_core.specs.Gate.{GateState, uncachable}
 use Rattle.gate_core.specs.Laws.{touching}
 use Rattle.gate_core.proofs.OneChange.{push_touches, uncachable_is_touched, cachable_is_granted}
 use Rattle.cell_core.specs.declared.handles.HandleKey.{HandleKey}
 use Rattle.cell_core.specs.declared.handles.HandleState.{HandleState}
+use Rattle.cell_core.specs.declared.pending.Idle.{Idle}
 use Rattle.cell_core.specs.declared.pending.Task.{Task}
+use Rattle.cell_core.specs.declared.pending.Task.TheVariants as tasks
 use Rattle.cell_core.specs.State.{MasterState, row_of}
 use Rattle.cell_core.specs.Step.{session_of, is_live, reply_of, issued_to, stamped_reply, answered_by, replied, is_cachable, granting, names_of, task_of, with_call, waits, is_spent}
 use Rattle.cell_core.specs.Names.{name_asked, shown_by}
+use Rattle.cell_core.specs.Ephemerals.{tidied}
 use Rattle.over_core.specs.Kept.{AreIssued, AreOwned}
 use Rattle.over_core.proofs.OwnedRights.{none_issued}
 use Rattle.world_cell.specs.declared.mail.Message.TheVariants.{ToClient}
 use Rattle.world_cell.specs.Messages.{call_of}
 use Rattle.world_cell.specs.World.{WorldState}
-use Rattle.world_cell.specs.Slices.{Shown, Grants, SeenRight, standing_so, standing_of, seen_of, heard_from, right_of, starts_of, put_offer, offers_of, asks_for, stamped_grant, grant_of, grants_of}
+use Rattle.world_cell.specs.Slices.{Shown, Grants, SeenRight, standing_so, standing_of, seen_of, heard_from, right_of, start_of, starts_of, put_offer, offers_of, asks_for, stamped_grant, grant_of, grants_of}
 use Rattle.world_cell.specs.Consistent.{HasGranted, IsReplyTo}
 use Rattle.world_cell.proofs.GrantsSent.{grant_front, unstamped}
 use Rattle.world_cell.proofs.SliceRights.{is_asked_now, other_is_issued, other_stays, own_is_asked, own_stays, granted_to_another, granted_to_own}
@@ -155,6 +159,12 @@ or_none : (b : Bool) → (b || false) ≡ b
 or_none true = refl
 or_none false = refl
 
+-- one change more, if it is of that name
+pushed_touches : (x : List ℕ) (gate : GateState Task) (name : List ℕ) (waiting : Waiting Task) → waiting.number ≡ gate.pushed + 1 → waiting.change.touched ≡ name ∷ [] → touching x (gate.waiting ++ waiting ∷ []) ≡ touching x gate.waiting + cond (bytes_eq x name) 1 0
+pushed_touches x gate name waiting is_next is_touched =
+    ap (λ number. touching x (gate.waiting ++ record waiting { number = number } ∷ [])) is_next ∙ (push_touches x waiting.change gate).1
+    ∙ ap (λ (touched : List (List ℕ)). touching x gate.waiting + cond (list_any (bytes_eq x) touched) 1 0) is_touched ∙ ap (λ (b : Bool). touching x gate.waiting + cond b 1 0) (or_none (bytes_eq x name))
+
 above_none : (n : ℕ) (b : Bool) → b ≡ true → 0 < n + cond b 1 0
 above_none n b h = rw h (omega arith)
 
@@ -205,9 +215,40 @@ module _ (c : ℕ) (x : List ℕ) (w : WorldState) (s : MasterState) (knows : Is
     asking_leads : (bytes_eq x name ≡ true → 0 < n) → AsksLeads
     asking_leads awaited = by_test (is_asked_now c name s.rights) (λ t. by_test (bytes_eq x name) (λ e. asks_own (awaited e) e t) (λ e. asks_other e t)) asks_nobody
 
+  -- a change of one name waits behind all others, and who holds the name is asked for it
+  change_waits : (name : List ℕ) (waiting : Waiting Task) (t : MasterState) → s.recovering ≡ false → waiting.number ≡ s.gate.pushed + 1 → waiting.change.touched ≡ name ∷ [] → start_of c waiting.change.body ≡ [] → t.recovering ≡ s.recovering → t.gate.waiting ≡ s.gate.waiting ++ waiting ∷ [] → t.rights ≡ asked_back name s.rights
+      → t.sessions.lease ≡ s.sessions.lease → seen_of (session_of t c) ≡ seen_of (session_of s c) → Comes c x w s t []
+  change_waits name waiting t serving is_next is_touched is_no_start is_recovering is_waiting is_rights is_lease is_seen =
+      let led = led_both (shown c x w (here c x w s)) (shown c x w (with_pending (touching x s.gate.waiting + cond (bytes_eq x name) 1 0))) (shown c x w (asked_parts name (touching x s.gate.waiting + cond (bytes_eq x name) 1 0) (right_of c x (asked_back name s.rights))))
+      (queue_leads (bytes_eq x name) serving)
+      (asking_leads name (touching x s.gate.waiting + cond (bytes_eq x name) 1 0) (above_none (touching x s.gate.waiting) (bytes_eq x name))) in
+      goes c x w s w.rows t [] led.0 (here c x w s) (asked_parts name (touching x s.gate.waiting + cond (bytes_eq x name) 1 0) (right_of c x (asked_back name s.rights))) (alike (here c x w s))
+      (record {
+        present = refl;
+        session = refl;
+        epoch = refl;
+        lease = is_lease;
+        recovering = is_recovering;
+        seen = is_seen;
+        starts = ap (starts_of c) is_waiting ∙ no_start c s.gate.waiting waiting is_no_start;
+        heard = two_same heard_from t.recovering s.recovering (seen_of (session_of t c)) (seen_of (session_of s c)) is_recovering is_seen;
+        right = ap (right_of c x) is_rights;
+        pending = ap (touching x) is_waiting ∙ pushed_touches x s.gate name waiting is_next is_touched;
+        beats = beats_stay c w.messages [];
+        offers = offers_more c x w.messages [];
+        grants = grants_more c x w.rows.secret w.messages [];
+      })
+      led.1
+
+  -- the deletion of a node that nobody holds open
+  pub tidy_asks : (idle : Idle) → s.recovering ≡ false → Comes c x w s (tidied s idle) []
+  tidy_asks idle serving =
+      change_waits idle.name (record { number = s.gate.pushed + 1; change = record { touched = idle.name ∷ []; body = tasks.Tidies idle } }) (tidied s idle) serving refl refl refl refl refl refl
+      (lease_stays_issued s.sessions (clients_to_ask idle.name s.rights)) (issued_seen (clients_to_ask idle.name s.rights) s.sessions c)
+
   module _ (handles : List (HandleKey × HandleState)) (message : CallMessage) where
     abbrev call_waiting : Option (List ℕ) → Waiting Task
-    call_waiting touched = record { number = s.gate.pushed + 1; change = record { touched = names_of touched; body = task_of message } }
+    call_waiting touched = record { number = s.gate.pushed + 1; change = record { touched = names_of touched; body = tasks.Asked (task_of message) } }
 
     abbrev kept_call : Kept Reply
     kept_call = record { number = message.number; reply = None }
@@ -218,29 +259,9 @@ module _ (c : ℕ) (x : List ℕ) (w : WorldState) (s : MasterState) (knows : Is
     -- who holds the name that it touches is asked for it
     call_touches : (name : List ℕ) → s.recovering ≡ false → Comes c x w s (waits (record s { handles = handles }) message (Some name)).0 []
     call_touches name serving =
-        let led = led_both (shown c x w (here c x w s)) (shown c x w (with_pending (touching x s.gate.waiting + cond (bytes_eq x name) 1 0))) (shown c x w (asked_parts name (touching x s.gate.waiting + cond (bytes_eq x name) 1 0) (right_of c x (asked_back name s.rights))))
-        (queue_leads (bytes_eq x name) serving)
-        (asking_leads name (touching x s.gate.waiting + cond (bytes_eq x name) 1 0) (above_none (touching x s.gate.waiting) (bytes_eq x name))) in
-        goes c x w s w.rows (waits (record s { handles = handles }) message (Some name)).0 [] led.0 (here c x w s) (asked_parts name (touching x s.gate.waiting + cond (bytes_eq x name) 1 0) (right_of c x (asked_back name s.rights))) (alike (here c x w s))
-        (record {
-          present = refl;
-          session = refl;
-          epoch = refl;
-          lease = lease_stays_issued (with_kept_call) (clients_to_ask name s.rights) ∙ lease_stays s.sessions message.client (keeping kept_call);
-          recovering = refl;
-          seen = seen_now;
-          starts = no_start c s.gate.waiting (call_waiting (Some name)) refl;
-          heard = ap (heard_from s.recovering) seen_now;
-          right = refl;
-          pending = (push_touches x (call_waiting (Some name)).change s.gate).1 ∙ ap (λ (b : Bool). touching x s.gate.waiting + cond b 1 0) (or_none (bytes_eq x name));
-          beats = beats_stay c w.messages [];
-          offers = offers_more c x w.messages [];
-          grants = grants_more c x w.rows.secret w.messages [];
-        })
-        led.1
-      where
-        seen_now : seen_of (session_in (issued_by (clients_to_ask name s.rights) with_kept_call) c) ≡ seen_of (session_of s c)
-        seen_now = issued_seen (clients_to_ask name s.rights) with_kept_call c ∙ seen_stays (keeping kept_call) (λ session. refl) s.sessions message.client c
+        change_waits name (call_waiting (Some name)) (waits (record s { handles = handles }) message (Some name)).0 serving refl refl refl refl refl refl
+        (lease_stays_issued with_kept_call (clients_to_ask name s.rights) ∙ lease_stays s.sessions message.client (keeping kept_call))
+        (issued_seen (clients_to_ask name s.rights) with_kept_call c ∙ seen_stays (keeping kept_call) (λ session. refl) s.sessions message.client c)
 
     call_touches_none : Comes c x w s (waits (record s { handles = handles }) message None).0 []
     call_touches_none = comes_unseen c x w s (waits (record s { handles = handles }) message None).0 []

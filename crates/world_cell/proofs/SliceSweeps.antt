@@ -36,11 +36,14 @@ use Rattle.session_core.specs.Sessions.{SessionTable, with_session, with_new, al
 use Rattle.session_core.specs.Sessions.{session_of as session_in}
 use Rattle.session_core.proofs.OneClient.{lookup_put, lookup_put_apart, other_session}
 use Rattle.gate_core.specs.declared.pending.Waiting.{Waiting}
-use Rattle.gate_core.specs.Gate.{touches}
+use Rattle.gate_core.specs.Gate.{touches, push_answer}
 use Rattle.gate_core.specs.Laws.{touching}
 use Rattle.cell_core.specs.declared.deeds.Change.{Change}
 use Rattle.cell_core.specs.declared.handles.Note.{Note}
+use Rattle.cell_core.specs.declared.pending.Asked.{Asked}
+use Rattle.cell_core.specs.declared.pending.Idle.{Idle}
 use Rattle.cell_core.specs.declared.pending.Task.{Task}
+use Rattle.cell_core.specs.declared.pending.Task.TheVariants as tasks
 use Rattle.cell_core.specs.declared.pending.Work.TheVariants as works
 use Rattle.lock_core.specs.declared.turns.Turn.{Turn}
 use Rattle.lock_core.specs.Turns.{reopened}
@@ -49,13 +52,14 @@ use Rattle.cell_core.specs.declared.deeds.LockPut.{LockPut}
 use Rattle.cell_core.specs.State.{MasterState, row_of}
 use Rattle.cell_core.specs.Step.{session_of, noted, reply_of, answered_by, turned_away, names_of}
 use Rattle.cell_core.specs.Names.{name_changed}
-use Rattle.cell_core.specs.Deeds.{edit_of, with_kept_put, with_locks, lock_changes}
+use Rattle.cell_core.specs.Ephemerals.{is_ok, spared_for}
+use Rattle.cell_core.specs.Deeds.{edit_of, with_kept_put, with_locks, without_lock, lock_changes}
 use Rattle.client_parts.specs.Invalidations.{last_number}
 use Rattle.over_core.specs.Effect.{effect}
 use Rattle.over_core.specs.Sweep.{started_out, alive_out, invalidations_for, sent, kept_puts, replies_to, turn_replies, left_put, puts_of, lapses_of, lapses_puts, lapses_replies}
-use Rattle.over_core.specs.SweepCase.{IsTurn, IsDueToEnd, IsDue, SweepCase, rest, ended, mapped, told, expired, relocking, swept_by, swept_edits}
-use Rattle.over_core.specs.SweepCase.SweepCase.{Quiet, Recovers, Expires, Reopens, AnswersBeat, TurnedAway, StartedAgain, Started, OfEnded, Ended, Applied, Deleted, Locked, Awaited, Left}
-use Rattle.over_core.specs.Kept.{IsKept, names_touched}
+use Rattle.over_core.specs.SweepCase.{IsTurn, IsDueToEnd, IsDue, SweepCase, rest, ended, mapped, told, expired, relocking, gone_change, gone_replies, swept_by, swept_edits}
+use Rattle.over_core.specs.SweepCase.SweepCase.{Quiet, Recovers, Expires, Reopens, Tidies, Spared, Tidied, AnswersBeat, TurnedAway, StartedAgain, Started, OfEnded, Ended, Applied, Deleted, Locked, Awaited, Left}
+use Rattle.over_core.specs.Kept.{IsKept, names_touched_by}
 use Rattle.over_core.proofs.SweepCases.{first_tellings}
 use Rattle.over_core.proofs.Touching.{change_is_named}
 use Rattle.over_core.proofs.Unacknowledged.{IsAskedFor, each_is_asked, asked_is_named}
@@ -64,6 +68,7 @@ use Rattle.world_cell.specs.World.{WorldState}
 use Rattle.world_cell.specs.Slices.{Shown, slice, standing_so, standing_of, standing_in, parked_list, seen_of, heard_from, right_of, put_start, start_of, starts_of, beats_of, name_number, put_offer, offers_of, grants_of}
 use Rattle.world_cell.proofs.RelockedRows.{IsBeside, HasRow, let_go, relocked_rows}
 use Rattle.world_cell.proofs.LockReplies.{AreUnstamped, waiters_unstamped, turn_unstamped, lapses_unstamped, replies_offer_none, replies_grant_none, told_lease, told_seen}
+use Rattle.world_cell.proofs.SliceCalls.{tidy_asks}
 use Rattle.world_cell.proofs.SliceRights.{no_right, unowned_right, right_of_another, freed_right, expiry_frees}
 use Rattle.world_cell.proofs.WorldCases.{swept_master}
 use Rattle.world_cell.proofs.ToldSweeps.{told_goes}
@@ -129,6 +134,11 @@ twice n = omega arith
 
 turned : (a b : ℕ) → (a == b) ≡ false → (b == a) ≡ false
 turned a b e = grind (arith, nat_tests, e)
+
+-- where a node is to go the master serves
+is_serving : (recovering long_ago room : Bool) (o : Option Idle) (idle : Idle) → cond (not recovering && long_ago && room) o None ≡ Some idle → recovering ≡ false
+is_serving true long_ago room o idle h = cc
+is_serving false long_ago room o idle h = refl
 
 -- ---- every sweep
 
@@ -198,15 +208,15 @@ module _ (x : List ℕ) (w : WorldState) (s : MasterState) (knows : IsKnown w s)
   heard_of : (c : ℕ) (session : Session Reply) → all_heard s.sessions ≡ true → session_of s c ≡ Some session → session.live ≡ true → nat_le 1 session.newest_beat ≡ true
   heard_of c session heard found = beaten_if_heard session.live (events_of session).acknowledged session.newest_beat (all_found c (λ entry. has_heard entry.1) s.sessions.sessions session heard found) (knows.by_beats c session found)
 
-  recovers_by : (c : ℕ) (found : Option (Session Reply)) → session_of s c ≡ found → (standing_of (option_map row_of found) ≡ Live → heard_from s.recovering (seen_of found) ≡ true) → heard_from false (seen_of found) ≡ heard_from s.recovering (seen_of found) → Goes c x w s w.rows (record s { recovering = false }) []
+  recovers_by : (c : ℕ) (found : Option (Session Reply)) → session_of s c ≡ found → (standing_of (option_map row_of found) ≡ Live → heard_from s.recovering (seen_of found) ≡ true) → heard_from false (seen_of found) ≡ heard_from s.recovering (seen_of found) → Goes c x w s w.rows (record s { recovering = false; serving_from = s.clock }) []
   recovers_by c found is heard same =
       let p : UpParts = with_found c x w s found in
       let q : UpParts = record p { recovering = false } in
-      goes c x w s w.rows (record s { recovering = false }) [] (EndRecovery ∷ []) p q (is_found c x w s found knows.sessions knows.epoch is)
-      (behind c w.rows (record s { recovering = false }) [] q refl (standing_kept c x w s knows.sessions ∙ ap (λ o. standing_of (option_map row_of o)) is) (sym knows.epoch) refl refl refl (ap seen_of is) refl same refl refl refl refl refl)
+      goes c x w s w.rows (record s { recovering = false; serving_from = s.clock }) [] (EndRecovery ∷ []) p q (is_found c x w s found knows.sessions knows.epoch is)
+      (behind c w.rows (record s { recovering = false; serving_from = s.clock }) [] q refl (standing_kept c x w s knows.sessions ∙ ap (λ o. standing_of (option_map row_of o)) is) (sym knows.epoch) refl refl refl (ap seen_of is) refl same refl refl refl refl refl)
       (record { allowed = record { first = record { up = refl; heard_from = heard }; rest = tt }; leads_there = refl })
 
-  recovers : (c : ℕ) (found : Option (Session Reply)) → session_of s c ≡ found → all_heard s.sessions ≡ true → Goes c x w s w.rows (record s { recovering = false }) []
+  recovers : (c : ℕ) (found : Option (Session Reply)) → session_of s c ≡ found → all_heard s.sessions ≡ true → Goes c x w s w.rows (record s { recovering = false; serving_from = s.clock }) []
   recovers c None found heard = recovers_by c None found (λ live. absurd (cc)) refl
   recovers c (Some session) found heard = recovers_by c (Some session) found
       (live_heard session.live (nat_le 1 session.newest_beat) s.recovering (heard_of c session heard found))
@@ -372,9 +382,13 @@ module _ (x : List ℕ) (w : WorldState) (s : MasterState) (knows : IsKnown w s)
     abbrev at_turn : Waiting Task
     at_turn = record { number = turn.number; change = record { touched = turn.touched; body = task } }
 
-    -- it touches the names that its work says
-    touched_is : turn.touched ≡ names_touched s.secret task.work
-    touched_is = all_at (λ (w : Waiting Task). w.change.touched ≡ names_touched s.secret w.change.body.work) front at_turn back (subst (All (λ (w : Waiting Task). w.change.touched ≡ names_touched s.secret w.change.body.work)) turn.waited knows.touching)
+    -- it touches the names that it may change
+    touched_is : turn.touched ≡ names_touched_by s.secret task
+    touched_is = all_at (λ (w : Waiting Task). w.change.touched ≡ names_touched_by s.secret w.change.body) front at_turn back (subst (All (λ (w : Waiting Task). w.change.touched ≡ names_touched_by s.secret w.change.body)) turn.waited knows.touching)
+
+    -- a change of another name leaves this one
+    untouched : (name : List ℕ) → turn.touched ≡ name ∷ [] → touches x at_turn ≡ false → bytes_eq x name ≡ false
+    untouched name touched apart = sym (one_name (bytes_eq x name)) ∙ ap (list_any (bytes_eq x)) (sym touched) ∙ apart
 
     pending_by : (b : Bool) → touches x at_turn ≡ b → touching x s.gate.waiting ≡ touching x (front ++ back) + cond b 1 0
     pending_by b t = ap (touching x) turn.waited ∙ touching_less x front at_turn back ∙ ap (λ (z : Bool). touching x (front ++ back) + cond z 1 0) t
@@ -430,24 +444,6 @@ module _ (x : List ℕ) (w : WorldState) (s : MasterState) (knows : IsKnown w s)
     leaves : (c : ℕ) (rows : Rows) (t : MasterState) (sent : List Out) → IsRest c rows t sent → Goes c x w s rows t sent
     leaves c rows t sent r = by_test (touches x at_turn) (applies c rows t sent r) (passes_by c rows t sent r)
 
-    -- ---- a call's turn, with its reply
-
-    abbrev reply_at : ℕ → CallResult → Reply
-    reply_at epoch answer = record { client = task.client; epoch = epoch; number = task.number; stamp = None; result = answer }
-
-    abbrev replied_sessions : MasterState → CallResult → List Reply → SessionTable Reply
-    replied_sessions t answer others = fold with_kept_put (with_session t.sessions task.client (keeping (answered_by (reply_of t task.client task.number answer)))) (kept_puts others)
-
-    replied_lease : (t : MasterState) (answer : CallResult) (others : List Reply) → t.sessions ≡ s.sessions → (replied_sessions t answer others).lease ≡ s.sessions.lease
-    replied_lease t answer others same =
-        told_lease (with_session t.sessions task.client (keeping (answered_by (reply_of t task.client task.number answer)))) (kept_puts others)
-        ∙ lease_stays t.sessions task.client (keeping (answered_by (reply_of t task.client task.number answer))) ∙ ap (λ x. x.lease) same
-
-    replied_seen : (c : ℕ) (t : MasterState) (answer : CallResult) (others : List Reply) → t.sessions ≡ s.sessions → seen_of (session_in (replied_sessions t answer others) c) ≡ seen_of (session_of s c)
-    replied_seen c t answer others same =
-        told_seen (with_session t.sessions task.client (keeping (answered_by (reply_of t task.client task.number answer)))) (kept_puts others) c
-        ∙ seen_stays (keeping (answered_by (reply_of t task.client task.number answer))) (λ session. refl) t.sessions task.client c ∙ ap (λ x. seen_of (session_in x c)) same
-
     -- the rows of a turn
     record HasRows (c : ℕ) (rows : Rows) : Type 0 where
       present : touches x at_turn ≡ false → get_node (map_of rows) x ≡ get_node (map_of w.rows) x
@@ -455,208 +451,7 @@ module _ (x : List ℕ) (w : WorldState) (s : MasterState) (knows : IsKnown w s)
       secret : rows.secret ≡ w.rows.secret
       epoch : rows.epoch ≡ w.rows.epoch
 
-    replies : (c : ℕ) (rows : Rows) (t : MasterState) (note : Option Note) (answer : CallResult) (others : List Reply) → HasRows c rows → AreUnstamped others → t.sessions ≡ s.sessions → t.recovering ≡ s.recovering → t.rights ≡ s.rights → t.gate.waiting ≡ front ++ back → (epoch : ℕ)
-        → Goes c x w s rows (told (ended t task note answer) others) (sent (reply_at epoch answer ∷ others))
-    replies c rows t None answer others r unstamped same is_recovering is_right is_rest epoch = leaves c rows (told (ended t task None answer) others) (sent (reply_at epoch answer ∷ others)) (record {
-      present = r.present;
-      session = r.session;
-      secret = r.secret;
-      epoch = r.epoch;
-      lease = replied_lease t answer others same;
-      recovering = is_recovering;
-      seen = replied_seen c t answer others same;
-      right = is_right;
-      waiting = is_rest;
-      silent = replies_silent c (reply_at epoch answer ∷ others) (refl, unstamped);
-    })
-    replies c rows t (Some note) answer others r unstamped same is_recovering is_right is_rest epoch = leaves c rows (told (ended t task (Some note) answer) others) (sent (reply_at epoch answer ∷ others)) (record {
-      present = r.present;
-      session = r.session;
-      secret = r.secret;
-      epoch = r.epoch;
-      lease = replied_lease t answer others same;
-      recovering = is_recovering;
-      seen = replied_seen c t answer others same;
-      right = is_right;
-      waiting = is_rest;
-      silent = replies_silent c (reply_at epoch answer ∷ others) (refl, unstamped);
-    })
-
-    -- a change of another name leaves this one
-    other_name : (call : Call) (sequencer : Option (List ℕ)) (change : Change) → task.work ≡ works.Calls call sequencer → (effect s task.client task.number call sequencer).change ≡ Some change → touches x at_turn ≡ false → bytes_eq x (name_of change.change) ≡ false
-    other_name call sequencer change work made apart =
-        let named : name_changed s.secret call ≡ Some (name_of change.change) = change_is_named s task.client task.number call sequencer change made in
-        let touched : turn.touched ≡ name_of change.change ∷ [] = touched_is ∙ ap (names_touched s.secret) work ∙ ap names_of named in
-        sym (one_name (bytes_eq x (name_of change.change))) ∙ ap (list_any (bytes_eq x)) (sym touched) ∙ apart
-
-    -- ---- a Start's turn
-
-    module _ (principal : List ℕ) (received : ℕ) (work : task.work ≡ works.Starts principal received) where
-      abbrev span_from : ℕ → ℕ
-      span_from now = of_session.offered_span s.sessions.lease received now
-
-      abbrev start_receipt : one.Receipt
-      start_receipt = record { number = task.number; moment = received }
-
-      abbrev start_offer : ℕ → one.Offer
-      start_offer now = record { epoch = s.epoch; number = task.number; span = span_from now; last_invalidation = 0; name_invalidation = 0 }
-
-      abbrev granted : List Out
-      granted = started_out s task.client task.number received ∷ []
-
-      -- it touches no name
-      no_name : touches x at_turn ≡ false
-      no_name = not_touched turn.touched x (touched_is ∙ ap (names_touched s.secret) work)
-
-      abbrev start_parts : UpParts → UpParts
-      start_parts parts = record parts { pending = touching x (front ++ back) }
-
-      start_same : (p : UpParts) → AreSame (here task.client x w s) p → touching x s.gate.waiting ≡ p.pending → AreSame (here task.client x w s) (start_parts p)
-      start_same p h same = record {
-        present = h.present;
-        session = h.session;
-        epoch = h.epoch;
-        lease = h.lease;
-        recovering = h.recovering;
-        seen = h.seen;
-        starts = h.starts;
-        heard = h.heard;
-        right = h.right;
-        pending = pending_stays no_name;
-        beats = h.beats;
-        offers = h.offers;
-        grants = h.grants;
-      }
-
-      is_start : start_of task.client task ≡ start_receipt ∷ []
-      is_start = ap (put_start task.client task.client task.number) work ∙ first_of (task.client == task.client) start_receipt [] (same_test task.client task.client refl)
-
-      was_received : (receipts : List one.Receipt) → IsIn start_receipt (receipts ++ starts_of task.client s.gate.waiting)
-      was_received receipts = in_back start_receipt receipts (starts_of task.client s.gate.waiting)
-          (subst (λ (ws : List (Waiting Task)). IsIn start_receipt (starts_of task.client ws)) (sym turn.waited)
-          (turn_in task.client front back at_turn start_receipt (subst (IsIn start_receipt) (sym is_start) (inl refl))))
-
-      own_offer : fold (put_offer task.client x) (offers_of task.client x w.messages) (map ToClient granted) ≡ start_offer w.clock ∷ offers_of task.client x w.messages
-      own_offer = first_of (task.client == task.client) (start_offer s.clock) (offers_of task.client x w.messages) (same_test task.client task.client refl) ∙ ap (λ now. start_offer now ∷ offers_of task.client x w.messages) knows.clock
-
-      other_offer : (c : ℕ) → (c == task.client) ≡ false → IsSilent c granted
-      other_offer c other = record { offers = none_more (c == task.client) (start_offer s.clock) (offers_of c x w.messages) other; grants = refl }
-
-      abbrev again : MasterState
-      again = rest (record s { sessions = with_session s.sessions task.client (prolonged (s.clock + s.sessions.lease)) }) front back
-
-      abbrev again_events : Session Reply → List (Event Shown)
-      again_events session = SendOffer start_receipt 0 0 ∷ KeepReceipts (parked_list session.parked ++ starts_of task.client (front ++ back)) ∷ []
-
-      -- an answer to a Start carries no invalidation
-      carries_none : (asked : Option ℕ) → asked_for task.client x s.rights ≡ asked → (number_or_0 asked ≡ 0) ⊎ ((0 < number_or_0 asked) ⊎ (0 ≡ number_or_0 asked))
-      carries_none asked is = by_number (number_or_0 asked)
-        where
-          by_number : (n : ℕ) → (n ≡ 0) ⊎ ((0 < n) ⊎ (0 ≡ n))
-          by_number n = by_test (nat_le n 0) (λ e. inl (grind (arith, nat_tests, e))) (λ e. inr (inl (grind (arith, nat_tests, e))))
-
-      own_again : (session : Session Reply) → session_of s task.client ≡ Some session → session.live ≡ true → Goes task.client x w s w.rows again granted
-      own_again session found live =
-          let p : UpParts = start_parts (with_found task.client x w s (Some session)) in
-          let q : UpParts = record p { seen = seen_of (Some (prolonged (w.clock + s.sessions.lease) session)); starts = starts_of task.client (front ++ back); offers = start_offer w.clock ∷ offers_of task.client x w.messages } in
-          goes task.client x w s w.rows again granted (again_events session) p q (start_same (with_found task.client x w s (Some session)) (is_found task.client x w s (Some session) knows.sessions knows.epoch found) refl)
-          (behind task.client w.rows again granted q
-          refl
-          (standing_kept task.client x w s knows.sessions ∙ ap (λ o. standing_of (option_map row_of o)) found)
-          (sym knows.epoch)
-          refl
-          (lease_stays s.sessions task.client (prolonged (s.clock + s.sessions.lease)))
-          refl
-          (ap seen_of (own_found (prolonged (s.clock + s.sessions.lease)) s.sessions task.client session found) ∙ ap (λ now. seen_of (Some (prolonged (now + s.sessions.lease) session))) knows.clock)
-          refl refl refl refl refl own_offer refl)
-          (record {
-            allowed = record {
-              first = record { up = refl; live = ap standing_so live; received = was_received (parked_list session.parked); issued = any_number (invalidations_of task.client s.rights); carried = carries_none (asked_for task.client x s.rights) refl };
-              rest = record { first = rest_kept task.client (parked_list session.parked); rest = tt };
-            };
-            leads_there = refl;
-          })
-
-      other_again : (c : ℕ) → (c == task.client) ≡ false → Goes c x w s w.rows again granted
-      other_again c other = leaves c w.rows again granted (record {
-        present = λ apart. refl;
-        session = refl;
-        secret = refl;
-        epoch = refl;
-        lease = lease_stays s.sessions task.client (prolonged (s.clock + s.sessions.lease));
-        recovering = refl;
-        seen = ap seen_of (other_session s.sessions task.client (prolonged (s.clock + s.sessions.lease)) c (is_other c task.client other));
-        right = refl;
-        waiting = refl;
-        silent = other_offer c other;
-      })
-
-      -- a new session
-      abbrev live_row : of_rows.Session
-      live_row = record { principal = principal; live = true }
-
-      abbrev begun_rows : Rows
-      begun_rows = changed_rows w.rows (PutSession task.client live_row ∷ [])
-
-      abbrev begun : MasterState
-      begun = rest (record s { sessions = with_new s.sessions task.client (session_until principal true (s.clock + s.sessions.lease)) }) front back
-
-      abbrev begun_events : List (Event Shown)
-      begun_events = Admit ∷ SendOffer start_receipt 0 0 ∷ KeepReceipts (starts_of task.client (front ++ back)) ∷ []
-
-      serves : (recovering : Bool) → s.recovering ≡ recovering → recovering ≡ false
-      serves true is = absurd (not_empty front back at_turn (sym turn.waited ∙ knows.recovery_is_empty is))
-      serves false is = refl
-
-      -- a client without a session was granted nothing
-      unowned : session_of s task.client ≡ None → right_of task.client x s.rights ≡ no_right
-      unowned none = unowned_right task.client x s.rights (knows.owned task.client none)
-
-      own_begin : session_of s task.client ≡ None → Goes task.client x w s begun_rows begun granted
-      own_begin none =
-          let p : UpParts = record (start_parts (with_found task.client x w s None)) { right = no_right } in
-          let q : UpParts = record p { session = Live; seen = seen_of (Some (session_until principal true (max (w.clock + s.sessions.lease) (w.clock + s.sessions.lease)))); starts = starts_of task.client (front ++ back); heard = true; offers = start_offer w.clock ∷ offers_of task.client x w.messages } in
-          let h = start_same (with_found task.client x w s None) (is_found task.client x w s None knows.sessions knows.epoch none) refl in
-          goes task.client x w s begun_rows begun granted begun_events p q
-          (record { present = h.present; session = h.session; epoch = h.epoch; lease = h.lease; recovering = h.recovering; seen = h.seen; starts = h.starts; heard = h.heard; right = unowned none; pending = h.pending; beats = h.beats; offers = h.offers; grants = h.grants })
-          (behind task.client begun_rows begun granted q
-          refl
-          (ap standing_of (lookup_put task.client w.rows.sessions live_row))
-          (sym knows.epoch)
-          refl refl refl
-          (ap seen_of (lookup_put task.client s.sessions.sessions (session_until principal true (s.clock + s.sessions.lease)))
-          ∙ ap (λ now. seen_of (Some (session_until principal true (now + s.sessions.lease)))) knows.clock
-          ∙ ap (λ timeout. seen_of (Some (session_until principal true timeout))) (twice (w.clock + s.sessions.lease)))
-          refl
-          (ap (λ b. not b || false) (serves s.recovering refl))
-          (unowned none)
-          refl refl own_offer refl)
-          (record {
-            allowed = record {
-              first = record { up = refl; new = refl };
-              rest = record {
-                first = record { up = refl; live = refl; received = was_received []; issued = any_number 0; carried = inl refl };
-                rest = record { first = rest_kept task.client []; rest = tt };
-              };
-            };
-            leads_there = refl;
-          })
-
-      other_begin : (c : ℕ) → (c == task.client) ≡ false → Goes c x w s begun_rows begun granted
-      other_begin c other = leaves c begun_rows begun granted (record {
-        present = λ apart. refl;
-        session = ap standing_of (lookup_put_apart task.client c (is_other c task.client other) w.rows.sessions live_row);
-        secret = refl;
-        epoch = refl;
-        lease = refl;
-        recovering = refl;
-        seen = ap seen_of (lookup_put_apart task.client c (is_other c task.client other) s.sessions.sessions (session_until principal true (s.clock + s.sessions.lease)));
-        right = refl;
-        waiting = refl;
-        silent = other_offer c other;
-      })
-
-    -- ---- turns that end in nothing but what is sent
+    -- turns that end in nothing but what is sent
 
     plain_rest : (c : ℕ) (sent : List Out) → IsSilent c sent → IsRest c w.rows (rest s front back) sent
     plain_rest c sent silent = record { present = λ apart. refl; session = refl; secret = refl; epoch = refl; lease = refl; recovering = refl; seen = refl; right = refl; waiting = refl; silent = silent }
@@ -664,12 +459,12 @@ module _ (x : List ℕ) (w : WorldState) (s : MasterState) (knows : IsKnown w s)
     plain_rows : (c : ℕ) → HasRows c w.rows
     plain_rows c = record { present = λ apart. refl; session = refl; secret = refl; epoch = refl }
 
-    changed_rows_of : (c : ℕ) (call : Call) (sequencer : Option (List ℕ)) (change : Change) → task.work ≡ works.Calls call sequencer → (effect s task.client task.number call sequencer).change ≡ Some change → HasRows c (changed_rows w.rows (edit_of change.change ∷ NextInstance change.next_instance ∷ []))
-    changed_rows_of c call sequencer change work made =
+    mapped_rows_of : (c : ℕ) (change : Change) → (touches x at_turn ≡ false → bytes_eq x (name_of change.change) ≡ false) → HasRows c (changed_rows w.rows (edit_of change.change ∷ NextInstance change.next_instance ∷ []))
+    mapped_rows_of c change other =
         let rows = changed_rows w.rows (edit_of change.change ∷ NextInstance change.next_instance ∷ []) in
         let m = mapped_rows w.rows change.change change.next_instance in
         record {
-          present = λ apart. ap (λ nodes. get_node nodes x) m.map ∙ other_node (map_of w.rows) change.change x (other_name call sequencer change work made apart);
+          present = λ apart. ap (λ nodes. get_node nodes x) m.map ∙ other_node (map_of w.rows) change.change x (other apart);
           session = standing_by c rows w.rows.sessions m.sessions;
           secret = m.secret;
           epoch = m.epoch;
@@ -693,6 +488,256 @@ module _ (x : List ℕ) (w : WorldState) (s : MasterState) (knows : IsKnown w s)
         leaves c (changed_rows w.rows (relocking s puts)) (with_locks (rest s front back) puts) []
         (record { present = r.present; session = r.session; secret = r.secret; epoch = r.epoch; lease = refl; recovering = refl; seen = refl; right = refl; waiting = refl; silent = nothing_sent c })
 
+  -- ---- a node goes by itself
+
+  module _ (front back : List (Waiting Task)) (idle : Idle) (turn : IsTurn s front (tasks.Tidies idle) back) where
+    spared : (c : ℕ) → Goes c x w s w.rows (rest s front back) []
+    spared c = leaves front back (tasks.Tidies idle) turn c w.rows (rest s front back) [] (plain_rest front back (tasks.Tidies idle) turn c [] (nothing_sent c))
+
+    abbrev gone_rows : Rows
+    gone_rows = changed_rows w.rows (edit_of (Gone idle.name) ∷ NextInstance s.next_instance ∷ [])
+
+    abbrev without_node : MasterState
+    without_node = without_lock (told (mapped (rest s front back) (gone_change s idle)) (gone_replies s idle)) (Some idle.instance)
+
+    tidied_so : (c : ℕ) → Goes c x w s gone_rows without_node (sent (gone_replies s idle))
+    tidied_so c =
+        let r = mapped_rows_of front back (tasks.Tidies idle) turn c (gone_change s idle) (untouched front back (tasks.Tidies idle) turn idle.name (touched_is front back (tasks.Tidies idle) turn)) in
+        leaves front back (tasks.Tidies idle) turn c gone_rows without_node (sent (gone_replies s idle)) (record {
+          present = r.present;
+          session = r.session;
+          secret = r.secret;
+          epoch = r.epoch;
+          lease = told_lease s.sessions (kept_puts (gone_replies s idle));
+          recovering = refl;
+          seen = told_seen s.sessions (kept_puts (gone_replies s idle)) c;
+          right = refl;
+          waiting = refl;
+          silent = replies_silent c (gone_replies s idle) (waiters_unstamped s (results.Refused faults.StaleInstance) (lock_at s.locks idle.instance).waiters);
+        })
+
+  -- ---- what a client asked for has its turn
+
+  module _ (front back : List (Waiting Task)) (asked : Asked) (turn : IsTurn s front (tasks.Asked asked) back) where
+    -- ---- a call's turn, with its reply
+
+    abbrev reply_at : ℕ → CallResult → Reply
+    reply_at epoch answer = record { client = asked.client; epoch = epoch; number = asked.number; stamp = None; result = answer }
+
+    abbrev replied_sessions : MasterState → CallResult → List Reply → SessionTable Reply
+    replied_sessions t answer others = fold with_kept_put (with_session t.sessions asked.client (keeping (answered_by (reply_of t asked.client asked.number answer)))) (kept_puts others)
+
+    replied_lease : (t : MasterState) (answer : CallResult) (others : List Reply) → t.sessions ≡ s.sessions → (replied_sessions t answer others).lease ≡ s.sessions.lease
+    replied_lease t answer others same =
+        told_lease (with_session t.sessions asked.client (keeping (answered_by (reply_of t asked.client asked.number answer)))) (kept_puts others)
+        ∙ lease_stays t.sessions asked.client (keeping (answered_by (reply_of t asked.client asked.number answer))) ∙ ap (λ x. x.lease) same
+
+    replied_seen : (c : ℕ) (t : MasterState) (answer : CallResult) (others : List Reply) → t.sessions ≡ s.sessions → seen_of (session_in (replied_sessions t answer others) c) ≡ seen_of (session_of s c)
+    replied_seen c t answer others same =
+        told_seen (with_session t.sessions asked.client (keeping (answered_by (reply_of t asked.client asked.number answer)))) (kept_puts others) c
+        ∙ seen_stays (keeping (answered_by (reply_of t asked.client asked.number answer))) (λ session. refl) t.sessions asked.client c ∙ ap (λ x. seen_of (session_in x c)) same
+
+    replies : (c : ℕ) (rows : Rows) (t : MasterState) (note : Option Note) (answer : CallResult) (others : List Reply) → HasRows front back (tasks.Asked asked) turn c rows → AreUnstamped others → t.sessions ≡ s.sessions → t.recovering ≡ s.recovering → t.rights ≡ s.rights → t.gate.waiting ≡ front ++ back → (epoch : ℕ)
+        → Goes c x w s rows (told (ended t asked note answer) others) (sent (reply_at epoch answer ∷ others))
+    replies c rows t None answer others r unstamped same is_recovering is_right is_rest epoch = leaves front back (tasks.Asked asked) turn c rows (told (ended t asked None answer) others) (sent (reply_at epoch answer ∷ others)) (record {
+      present = r.present;
+      session = r.session;
+      secret = r.secret;
+      epoch = r.epoch;
+      lease = replied_lease t answer others same;
+      recovering = is_recovering;
+      seen = replied_seen c t answer others same;
+      right = is_right;
+      waiting = is_rest;
+      silent = replies_silent c (reply_at epoch answer ∷ others) (refl, unstamped);
+    })
+    replies c rows t (Some note) answer others r unstamped same is_recovering is_right is_rest epoch = leaves front back (tasks.Asked asked) turn c rows (told (ended t asked (Some note) answer) others) (sent (reply_at epoch answer ∷ others)) (record {
+      present = r.present;
+      session = r.session;
+      secret = r.secret;
+      epoch = r.epoch;
+      lease = replied_lease t answer others same;
+      recovering = is_recovering;
+      seen = replied_seen c t answer others same;
+      right = is_right;
+      waiting = is_rest;
+      silent = replies_silent c (reply_at epoch answer ∷ others) (refl, unstamped);
+    })
+
+    -- ---- a Start's turn
+
+    module _ (principal : List ℕ) (received : ℕ) (work : asked.work ≡ works.Starts principal received) where
+      abbrev span_from : ℕ → ℕ
+      span_from now = of_session.offered_span s.sessions.lease received now
+
+      abbrev start_receipt : one.Receipt
+      start_receipt = record { number = asked.number; moment = received }
+
+      abbrev start_offer : ℕ → one.Offer
+      start_offer now = record { epoch = s.epoch; number = asked.number; span = span_from now; last_invalidation = 0; name_invalidation = 0 }
+
+      abbrev granted : List Out
+      granted = started_out s asked.client asked.number received ∷ []
+
+      -- it touches no name
+      no_name : touches x (at_turn front back (tasks.Asked asked) turn) ≡ false
+      no_name = not_touched turn.touched x (touched_is front back (tasks.Asked asked) turn ∙ ap (λ z. names_touched_by s.secret (tasks.Asked (record asked { work = z }))) work)
+
+      abbrev start_parts : UpParts → UpParts
+      start_parts parts = record parts { pending = touching x (front ++ back) }
+
+      start_same : (p : UpParts) → AreSame (here asked.client x w s) p → touching x s.gate.waiting ≡ p.pending → AreSame (here asked.client x w s) (start_parts p)
+      start_same p h same = record {
+        present = h.present;
+        session = h.session;
+        epoch = h.epoch;
+        lease = h.lease;
+        recovering = h.recovering;
+        seen = h.seen;
+        starts = h.starts;
+        heard = h.heard;
+        right = h.right;
+        pending = pending_stays front back (tasks.Asked asked) turn no_name;
+        beats = h.beats;
+        offers = h.offers;
+        grants = h.grants;
+      }
+
+      is_start : start_of asked.client (tasks.Asked asked) ≡ start_receipt ∷ []
+      is_start = ap (put_start asked.client asked.client asked.number) work ∙ first_of (asked.client == asked.client) start_receipt [] (same_test asked.client asked.client refl)
+
+      was_received : (receipts : List one.Receipt) → IsIn start_receipt (receipts ++ starts_of asked.client s.gate.waiting)
+      was_received receipts = in_back start_receipt receipts (starts_of asked.client s.gate.waiting)
+          (subst (λ (ws : List (Waiting Task)). IsIn start_receipt (starts_of asked.client ws)) (sym turn.waited)
+          (turn_in asked.client front back (at_turn front back (tasks.Asked asked) turn) start_receipt (subst (IsIn start_receipt) (sym is_start) (inl refl))))
+
+      own_offer : fold (put_offer asked.client x) (offers_of asked.client x w.messages) (map ToClient granted) ≡ start_offer w.clock ∷ offers_of asked.client x w.messages
+      own_offer = first_of (asked.client == asked.client) (start_offer s.clock) (offers_of asked.client x w.messages) (same_test asked.client asked.client refl) ∙ ap (λ now. start_offer now ∷ offers_of asked.client x w.messages) knows.clock
+
+      other_offer : (c : ℕ) → (c == asked.client) ≡ false → IsSilent c granted
+      other_offer c other = record { offers = none_more (c == asked.client) (start_offer s.clock) (offers_of c x w.messages) other; grants = refl }
+
+      abbrev again : MasterState
+      again = rest (record s { sessions = with_session s.sessions asked.client (prolonged (s.clock + s.sessions.lease)) }) front back
+
+      abbrev again_events : Session Reply → List (Event Shown)
+      again_events session = SendOffer start_receipt 0 0 ∷ KeepReceipts (parked_list session.parked ++ starts_of asked.client (front ++ back)) ∷ []
+
+      -- an answer to a Start carries no invalidation
+      carries_none : (wanted : Option ℕ) → asked_for asked.client x s.rights ≡ wanted → (number_or_0 wanted ≡ 0) ⊎ ((0 < number_or_0 wanted) ⊎ (0 ≡ number_or_0 wanted))
+      carries_none wanted is = by_number (number_or_0 wanted)
+        where
+          by_number : (n : ℕ) → (n ≡ 0) ⊎ ((0 < n) ⊎ (0 ≡ n))
+          by_number n = by_test (nat_le n 0) (λ e. inl (grind (arith, nat_tests, e))) (λ e. inr (inl (grind (arith, nat_tests, e))))
+
+      own_again : (session : Session Reply) → session_of s asked.client ≡ Some session → session.live ≡ true → Goes asked.client x w s w.rows again granted
+      own_again session found live =
+          let p : UpParts = start_parts (with_found asked.client x w s (Some session)) in
+          let q : UpParts = record p { seen = seen_of (Some (prolonged (w.clock + s.sessions.lease) session)); starts = starts_of asked.client (front ++ back); offers = start_offer w.clock ∷ offers_of asked.client x w.messages } in
+          goes asked.client x w s w.rows again granted (again_events session) p q (start_same (with_found asked.client x w s (Some session)) (is_found asked.client x w s (Some session) knows.sessions knows.epoch found) refl)
+          (behind asked.client w.rows again granted q
+          refl
+          (standing_kept asked.client x w s knows.sessions ∙ ap (λ o. standing_of (option_map row_of o)) found)
+          (sym knows.epoch)
+          refl
+          (lease_stays s.sessions asked.client (prolonged (s.clock + s.sessions.lease)))
+          refl
+          (ap seen_of (own_found (prolonged (s.clock + s.sessions.lease)) s.sessions asked.client session found) ∙ ap (λ now. seen_of (Some (prolonged (now + s.sessions.lease) session))) knows.clock)
+          refl refl refl refl refl own_offer refl)
+          (record {
+            allowed = record {
+              first = record { up = refl; live = ap standing_so live; received = was_received (parked_list session.parked); issued = any_number (invalidations_of asked.client s.rights); carried = carries_none (asked_for asked.client x s.rights) refl };
+              rest = record { first = rest_kept front back (tasks.Asked asked) turn asked.client (parked_list session.parked); rest = tt };
+            };
+            leads_there = refl;
+          })
+
+      other_again : (c : ℕ) → (c == asked.client) ≡ false → Goes c x w s w.rows again granted
+      other_again c other = leaves front back (tasks.Asked asked) turn c w.rows again granted (record {
+        present = λ apart. refl;
+        session = refl;
+        secret = refl;
+        epoch = refl;
+        lease = lease_stays s.sessions asked.client (prolonged (s.clock + s.sessions.lease));
+        recovering = refl;
+        seen = ap seen_of (other_session s.sessions asked.client (prolonged (s.clock + s.sessions.lease)) c (is_other c asked.client other));
+        right = refl;
+        waiting = refl;
+        silent = other_offer c other;
+      })
+
+      -- a new session
+      abbrev live_row : of_rows.Session
+      live_row = record { principal = principal; live = true }
+
+      abbrev begun_rows : Rows
+      begun_rows = changed_rows w.rows (PutSession asked.client live_row ∷ [])
+
+      abbrev begun : MasterState
+      begun = rest (record s { sessions = with_new s.sessions asked.client (session_until principal true (s.clock + s.sessions.lease)) }) front back
+
+      abbrev begun_events : List (Event Shown)
+      begun_events = Admit ∷ SendOffer start_receipt 0 0 ∷ KeepReceipts (starts_of asked.client (front ++ back)) ∷ []
+
+      serves : (recovering : Bool) → s.recovering ≡ recovering → recovering ≡ false
+      serves true is = absurd (not_empty front back (at_turn front back (tasks.Asked asked) turn) (sym turn.waited ∙ knows.recovery_is_empty is))
+      serves false is = refl
+
+      -- a client without a session was granted nothing
+      unowned : session_of s asked.client ≡ None → right_of asked.client x s.rights ≡ no_right
+      unowned none = unowned_right asked.client x s.rights (knows.owned asked.client none)
+
+      own_begin : session_of s asked.client ≡ None → Goes asked.client x w s begun_rows begun granted
+      own_begin none =
+          let p : UpParts = record (start_parts (with_found asked.client x w s None)) { right = no_right } in
+          let q : UpParts = record p { session = Live; seen = seen_of (Some (session_until principal true (max (w.clock + s.sessions.lease) (w.clock + s.sessions.lease)))); starts = starts_of asked.client (front ++ back); heard = true; offers = start_offer w.clock ∷ offers_of asked.client x w.messages } in
+          let h = start_same (with_found asked.client x w s None) (is_found asked.client x w s None knows.sessions knows.epoch none) refl in
+          goes asked.client x w s begun_rows begun granted begun_events p q
+          (record { present = h.present; session = h.session; epoch = h.epoch; lease = h.lease; recovering = h.recovering; seen = h.seen; starts = h.starts; heard = h.heard; right = unowned none; pending = h.pending; beats = h.beats; offers = h.offers; grants = h.grants })
+          (behind asked.client begun_rows begun granted q
+          refl
+          (ap standing_of (lookup_put asked.client w.rows.sessions live_row))
+          (sym knows.epoch)
+          refl refl refl
+          (ap seen_of (lookup_put asked.client s.sessions.sessions (session_until principal true (s.clock + s.sessions.lease)))
+          ∙ ap (λ now. seen_of (Some (session_until principal true (now + s.sessions.lease)))) knows.clock
+          ∙ ap (λ timeout. seen_of (Some (session_until principal true timeout))) (twice (w.clock + s.sessions.lease)))
+          refl
+          (ap (λ b. not b || false) (serves s.recovering refl))
+          (unowned none)
+          refl refl own_offer refl)
+          (record {
+            allowed = record {
+              first = record { up = refl; new = refl };
+              rest = record {
+                first = record { up = refl; live = refl; received = was_received []; issued = any_number 0; carried = inl refl };
+                rest = record { first = rest_kept front back (tasks.Asked asked) turn asked.client []; rest = tt };
+              };
+            };
+            leads_there = refl;
+          })
+
+      other_begin : (c : ℕ) → (c == asked.client) ≡ false → Goes c x w s begun_rows begun granted
+      other_begin c other = leaves front back (tasks.Asked asked) turn c begun_rows begun granted (record {
+        present = λ apart. refl;
+        session = ap standing_of (lookup_put_apart asked.client c (is_other c asked.client other) w.rows.sessions live_row);
+        secret = refl;
+        epoch = refl;
+        lease = refl;
+        recovering = refl;
+        seen = ap seen_of (lookup_put_apart asked.client c (is_other c asked.client other) s.sessions.sessions (session_until principal true (s.clock + s.sessions.lease)));
+        right = refl;
+        waiting = refl;
+        silent = other_offer c other;
+      })
+
+    -- the rows of a call that changes the map
+    changed_rows_of : (c : ℕ) (call : Call) (sequencer : Option (List ℕ)) (change : Change) → asked.work ≡ works.Calls call sequencer → (effect s asked.client asked.number call sequencer).change ≡ Some change → HasRows front back (tasks.Asked asked) turn c (changed_rows w.rows (edit_of change.change ∷ NextInstance change.next_instance ∷ []))
+    changed_rows_of c call sequencer change work made =
+        let named : name_changed s.secret call ≡ Some (name_of change.change) = change_is_named s asked.client asked.number call sequencer change made in
+        let touched : turn.touched ≡ name_of change.change ∷ [] = touched_is front back (tasks.Asked asked) turn ∙ ap (λ z. names_touched_by s.secret (tasks.Asked (record asked { work = z }))) work ∙ ap names_of named in
+        mapped_rows_of front back (tasks.Asked asked) turn c change (untouched front back (tasks.Asked asked) turn (name_of change.change) touched)
+
   sweep_by : (c : ℕ) (case : SweepCase s) → Goes c x w s (changed_rows w.rows (swept_edits s case)) (swept_by s case).0 (swept_by s case).1.outs
   sweep_by c (Quiet none) = unseen_behind c w.rows s [] same_rows refl refl refl refl refl refl refl refl
   sweep_by c (Recovers recovering heard) = recovers c (session_of s c) refl heard
@@ -700,31 +745,34 @@ module _ (x : List ℕ) (w : WorldState) (s : MasterState) (knows : IsKnown w s)
       (λ own. subst (λ (z : ℕ). Goes z x w s (ended_rows client session due) (without_session client session due) (sent (answers client session due))) (sym (is_same c client own)) (own_expiry client session due))
       (λ other. other_expiry client session due c other)
   sweep_by c (Reopens instance due) = reopens c instance
+  sweep_by c (Tidies idle due) = tidy_asks c x w s knows idle (is_serving s.recovering (nat_le (s.serving_from + spared_for) s.clock) (is_ok (push_answer s.gate)) _ idle due.first_idle)
+  sweep_by c (Spared front back idle turn held) = spared front back idle turn c
+  sweep_by c (Tidied front back idle turn still) = tidied_so front back idle turn c
   sweep_by c (AnswersBeat client session beat due) = by_test (c == client)
       (λ own. subst (λ (z : ℕ). Goes z x w s w.rows (answers_beat client session beat due) (alive client session beat due)) (sym (is_same c client own)) (own_answer client session beat due))
       (λ other. other_answer client session beat due c other)
-  sweep_by c (TurnedAway front back task principal received turn work may) =
-      leaves front back task turn c w.rows (rest s front back) (turned_away s task.client task.number faults.NoSession).outs (plain_rest front back task turn c (turned_away s task.client task.number faults.NoSession).outs (record { offers = refl; grants = refl }))
-  sweep_by c (StartedAgain front back task principal received session turn work found live) = by_test (c == task.client)
-      (λ own. subst (λ (z : ℕ). Goes z x w s w.rows (again front back task turn principal received work) (granted front back task turn principal received work)) (sym (is_same c task.client own)) (own_again front back task turn principal received work session found live))
-      (λ other. other_again front back task turn principal received work c other)
-  sweep_by c (Started front back task principal received turn work none) = by_test (c == task.client)
-      (λ own. subst (λ (z : ℕ). Goes z x w s (begun_rows front back task turn principal received work) (begun front back task turn principal received work) (granted front back task turn principal received work)) (sym (is_same c task.client own)) (own_begin front back task turn principal received work none))
-      (λ other. other_begin front back task turn principal received work c other)
-  sweep_by c (OfEnded front back task call sequencer turn work gone) = leaves front back task turn c w.rows (rest s front back) [] (plain_rest front back task turn c [] (nothing_sent c))
-  sweep_by c (Ended front back task call sequencer note answer turn work live made) = replies front back task turn c w.rows (rest s front back) note answer [] (plain_rows front back task turn c) tt refl refl refl refl s.epoch
-  sweep_by c (Applied front back task call sequencer note change answer turn work live made) =
-      replies front back task turn c (changed_rows w.rows (edit_of change.change ∷ NextInstance change.next_instance ∷ [])) (mapped (rest s front back) change) note answer []
-      (changed_rows_of front back task turn c call sequencer change work (ap (λ e. e.change) made)) tt refl refl refl refl s.epoch
-  sweep_by c (Deleted front back task call sequencer change instance waiters answer turn work live made) =
-      replies front back task turn c (changed_rows w.rows (edit_of change.change ∷ NextInstance change.next_instance ∷ [])) (mapped (rest s front back) change) None answer (replies_to s (results.Refused faults.StaleInstance) waiters)
-      (changed_rows_of front back task turn c call sequencer change work (ap (λ e. e.change) made)) (waiters_unstamped s (results.Refused faults.StaleInstance) waiters) refl refl refl refl s.epoch
-  sweep_by c (Locked front back task call sequencer put claim answer turn work live made) =
-      replies front back task turn c (changed_rows w.rows (relocking s (put ∷ []))) (with_locks (rest s front back) (put ∷ [])) None answer [] (relocked_rows_of front back task turn c (put ∷ [])) tt refl refl refl refl s.epoch
-  sweep_by c (Awaited front back task call sequencer put turn work live made) = awaits front back task turn c (put ∷ [])
-  sweep_by c (Left front back task call sequencer note leave answer turn work live made) =
-      replies front back task turn c (changed_rows w.rows (relocking s (left_put leave ∷ []))) (with_locks (rest s front back) (left_put leave ∷ [])) note answer (turn_replies s leave.turn)
-      (relocked_rows_of front back task turn c (left_put leave ∷ [])) (turn_unstamped s leave.turn) refl refl refl refl s.epoch
+  sweep_by c (TurnedAway front back asked principal received turn work may) =
+      leaves front back (tasks.Asked asked) turn c w.rows (rest s front back) (turned_away s asked.client asked.number faults.NoSession).outs (plain_rest front back (tasks.Asked asked) turn c (turned_away s asked.client asked.number faults.NoSession).outs (record { offers = refl; grants = refl }))
+  sweep_by c (StartedAgain front back asked principal received session turn work found live) = by_test (c == asked.client)
+      (λ own. subst (λ (z : ℕ). Goes z x w s w.rows (again front back asked turn principal received work) (granted front back asked turn principal received work)) (sym (is_same c asked.client own)) (own_again front back asked turn principal received work session found live))
+      (λ other. other_again front back asked turn principal received work c other)
+  sweep_by c (Started front back asked principal received turn work none) = by_test (c == asked.client)
+      (λ own. subst (λ (z : ℕ). Goes z x w s (begun_rows front back asked turn principal received work) (begun front back asked turn principal received work) (granted front back asked turn principal received work)) (sym (is_same c asked.client own)) (own_begin front back asked turn principal received work none))
+      (λ other. other_begin front back asked turn principal received work c other)
+  sweep_by c (OfEnded front back asked call sequencer turn work gone) = leaves front back (tasks.Asked asked) turn c w.rows (rest s front back) [] (plain_rest front back (tasks.Asked asked) turn c [] (nothing_sent c))
+  sweep_by c (Ended front back asked call sequencer note answer turn work live made) = replies front back asked turn c w.rows (rest s front back) note answer [] (plain_rows front back (tasks.Asked asked) turn c) tt refl refl refl refl s.epoch
+  sweep_by c (Applied front back asked call sequencer note change answer turn work live made) =
+      replies front back asked turn c (changed_rows w.rows (edit_of change.change ∷ NextInstance change.next_instance ∷ [])) (mapped (rest s front back) change) note answer []
+      (changed_rows_of front back asked turn c call sequencer change work (ap (λ e. e.change) made)) tt refl refl refl refl s.epoch
+  sweep_by c (Deleted front back asked call sequencer change instance waiters answer turn work live made) =
+      replies front back asked turn c (changed_rows w.rows (edit_of change.change ∷ NextInstance change.next_instance ∷ [])) (mapped (rest s front back) change) None answer (replies_to s (results.Refused faults.StaleInstance) waiters)
+      (changed_rows_of front back asked turn c call sequencer change work (ap (λ e. e.change) made)) (waiters_unstamped s (results.Refused faults.StaleInstance) waiters) refl refl refl refl s.epoch
+  sweep_by c (Locked front back asked call sequencer put claim answer turn work live made) =
+      replies front back asked turn c (changed_rows w.rows (relocking s (put ∷ []))) (with_locks (rest s front back) (put ∷ [])) None answer [] (relocked_rows_of front back (tasks.Asked asked) turn c (put ∷ [])) tt refl refl refl refl s.epoch
+  sweep_by c (Awaited front back asked call sequencer put turn work live made) = awaits front back (tasks.Asked asked) turn c (put ∷ [])
+  sweep_by c (Left front back asked call sequencer note leave answer turn work live made) =
+      replies front back asked turn c (changed_rows w.rows (relocking s (left_put leave ∷ []))) (with_locks (rest s front back) (left_put leave ∷ [])) note answer (turn_replies s leave.turn)
+      (relocked_rows_of front back (tasks.Asked asked) turn c (left_put leave ∷ [])) (turn_unstamped s leave.turn) refl refl refl refl s.epoch
 
 -- the world behind the sweep
 abbrev pub behind_sweep : (w : WorldState) (s : MasterState) → SweepCase (noted s w.clock) → WorldState

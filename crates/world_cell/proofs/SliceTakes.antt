@@ -25,6 +25,7 @@ use Rattle.gate_core.specs.Laws.{touching}
 use Rattle.gate_core.proofs.OneChange.{push_touches}
 use Rattle.cell_core.specs.declared.handles.Note.{Note}
 use Rattle.cell_core.specs.declared.pending.Task.{Task}
+use Rattle.cell_core.specs.declared.pending.Task.TheVariants as tasks
 use Rattle.cell_core.specs.declared.pending.Work.TheVariants as works
 use Rattle.cell_core.specs.Keys.{handle_order}
 use Rattle.cell_core.specs.State.{MasterState}
@@ -99,7 +100,7 @@ turned a b h = grind (arith, nat_tests, h)
 
 module _ (x : List ℕ) (w : WorldState) (s : MasterState) (knows : IsKnown w s) (start : Start) where
   abbrev start_task : Waiting Task
-  start_task = record { number = s.gate.pushed + 1; change = record { touched = []; body = record { client = start.client; number = start.number; work = works.Starts start.principal s.clock } } }
+  start_task = record { number = s.gate.pushed + 1; change = record { touched = []; body = tasks.Asked (record { client = start.client; number = start.number; work = works.Starts start.principal s.clock }) } }
 
   abbrev pub start_queued : MasterState
   start_queued = queued s [] start_task.change.body

@@ -49,8 +49,8 @@ use Rattle.over_core.specs.declared.effects.Effect.{Effect}
 use Rattle.over_core.specs.declared.plans.Plan.{Plan}
 use Rattle.over_core.specs.Kept.{IsKept}
 use Rattle.over_core.specs.Notices.{above, put_notices, gone_notices, mod_notices, change_notices, lock_notices, locks_notices, contest_notices, notices_of, tellings_of}
-use Rattle.over_core.specs.SweepCase.{SweepCase, swept_by, swept_edits}
-use Rattle.over_core.specs.SweepCase.SweepCase.{Quiet, Recovers, Expires, Reopens, AnswersBeat, TurnedAway, StartedAgain, Started, OfEnded, Ended, Applied, Deleted, Locked, Awaited, Left}
+use Rattle.over_core.specs.SweepCase.{SweepCase, swept_by, swept_edits, gone_change}
+use Rattle.over_core.specs.SweepCase.SweepCase.{Quiet, Recovers, Expires, Reopens, Tidies, Spared, Tidied, AnswersBeat, TurnedAway, StartedAgain, Started, OfEnded, Ended, Applied, Deleted, Locked, Awaited, Left}
 use Rattle.world_cell.specs.Contents.{IsNoOlder, Stands, IsTrue}
 use Rattle.world_cell.proofs.EffectContents.{IsRenewed, Renews, IsFaithful, effect_faithful}
 use Rattle.world_cell.proofs.EffectInstances.{GivesBy, effect_gives}
@@ -200,35 +200,38 @@ module _ (cell : List ℕ) (rows : Rows) (s : MasterState) (k : IsKept cell rows
   case_stands (Recovers recovering heard) = same_stands (Recovers recovering heard) refl refl
   case_stands (Expires client session due) = same_stands (Expires client session due) refl refl
   case_stands (Reopens at due) = same_stands (Reopens at due) refl refl
+  case_stands (Tidies idle due) = same_stands (Tidies idle due) refl refl
+  case_stands (Spared front back idle turn held) = same_stands (Spared front back idle turn held) refl refl
+  case_stands (Tidied front back idle turn still) = changed_stands (Tidied front back idle turn still) (gone_change s idle) refl refl tt (least s.next_instance)
   case_stands (AnswersBeat client session beat due) = same_stands (AnswersBeat client session beat due) refl refl
-  case_stands (TurnedAway front back task principal received turn work may) = same_stands (TurnedAway front back task principal received turn work may) refl refl
-  case_stands (StartedAgain front back task principal received session turn work found live) = same_stands (StartedAgain front back task principal received session turn work found live) refl refl
-  case_stands (Started front back task principal received turn work none) = same_stands (Started front back task principal received turn work none) refl refl
-  case_stands (OfEnded front back task call sequencer turn work gone) = same_stands (OfEnded front back task call sequencer turn work gone) refl refl
-  case_stands (Ended front back task call sequencer None answer turn work live made) = same_stands (Ended front back task call sequencer None answer turn work live made) refl refl
-  case_stands (Ended front back task call sequencer (Some note) answer turn work live made) = same_stands (Ended front back task call sequencer (Some note) answer turn work live made) refl refl
-  case_stands (Applied front back task call sequencer None change answer turn work live made) =
+  case_stands (TurnedAway front back asked principal received turn work may) = same_stands (TurnedAway front back asked principal received turn work may) refl refl
+  case_stands (StartedAgain front back asked principal received session turn work found live) = same_stands (StartedAgain front back asked principal received session turn work found live) refl refl
+  case_stands (Started front back asked principal received turn work none) = same_stands (Started front back asked principal received turn work none) refl refl
+  case_stands (OfEnded front back asked call sequencer turn work gone) = same_stands (OfEnded front back asked call sequencer turn work gone) refl refl
+  case_stands (Ended front back asked call sequencer None answer turn work live made) = same_stands (Ended front back asked call sequencer None answer turn work live made) refl refl
+  case_stands (Ended front back asked call sequencer (Some note) answer turn work live made) = same_stands (Ended front back asked call sequencer (Some note) answer turn work live made) refl refl
+  case_stands (Applied front back asked call sequencer None change answer turn work live made) =
       let P : Effect → Type 0 = GivesBy s in
       let Q : Effect → Type 0 = IsFaithful s in
-      let gives = subst P made (effect_gives s task.client task.number call sequencer) in
-      let faithful = subst Q made (effect_faithful s task.client task.number call sequencer) in
-      changed_stands (Applied front back task call sequencer None change answer turn work live made) change refl refl faithful.0 gives.next
-  case_stands (Applied front back task call sequencer (Some note) change answer turn work live made) =
+      let gives = subst P made (effect_gives s asked.client asked.number call sequencer) in
+      let faithful = subst Q made (effect_faithful s asked.client asked.number call sequencer) in
+      changed_stands (Applied front back asked call sequencer None change answer turn work live made) change refl refl faithful.0 gives.next
+  case_stands (Applied front back asked call sequencer (Some note) change answer turn work live made) =
       let P : Effect → Type 0 = GivesBy s in
       let Q : Effect → Type 0 = IsFaithful s in
-      let gives = subst P made (effect_gives s task.client task.number call sequencer) in
-      let faithful = subst Q made (effect_faithful s task.client task.number call sequencer) in
-      changed_stands (Applied front back task call sequencer (Some note) change answer turn work live made) change refl refl faithful.0 gives.next
-  case_stands (Deleted front back task call sequencer change at waiters answer turn work live made) =
+      let gives = subst P made (effect_gives s asked.client asked.number call sequencer) in
+      let faithful = subst Q made (effect_faithful s asked.client asked.number call sequencer) in
+      changed_stands (Applied front back asked call sequencer (Some note) change answer turn work live made) change refl refl faithful.0 gives.next
+  case_stands (Deleted front back asked call sequencer change at waiters answer turn work live made) =
       let P : Effect → Type 0 = GivesBy s in
       let Q : Effect → Type 0 = IsFaithful s in
-      let gives = subst P made (effect_gives s task.client task.number call sequencer) in
-      let faithful = subst Q made (effect_faithful s task.client task.number call sequencer) in
-      changed_stands (Deleted front back task call sequencer change at waiters answer turn work live made) change refl refl faithful.0 gives.next
-  case_stands (Locked front back task call sequencer put claim answer turn work live made) = same_stands (Locked front back task call sequencer put claim answer turn work live made) refl refl
-  case_stands (Awaited front back task call sequencer put turn work live made) = same_stands (Awaited front back task call sequencer put turn work live made) refl refl
-  case_stands (Left front back task call sequencer None leave answer turn work live made) = same_stands (Left front back task call sequencer None leave answer turn work live made) refl refl
-  case_stands (Left front back task call sequencer (Some note) leave answer turn work live made) = same_stands (Left front back task call sequencer (Some note) leave answer turn work live made) refl refl
+      let gives = subst P made (effect_gives s asked.client asked.number call sequencer) in
+      let faithful = subst Q made (effect_faithful s asked.client asked.number call sequencer) in
+      changed_stands (Deleted front back asked call sequencer change at waiters answer turn work live made) change refl refl faithful.0 gives.next
+  case_stands (Locked front back asked call sequencer put claim answer turn work live made) = same_stands (Locked front back asked call sequencer put claim answer turn work live made) refl refl
+  case_stands (Awaited front back asked call sequencer put turn work live made) = same_stands (Awaited front back asked call sequencer put turn work live made) refl refl
+  case_stands (Left front back asked call sequencer None leave answer turn work live made) = same_stands (Left front back asked call sequencer None leave answer turn work live made) refl refl
+  case_stands (Left front back asked call sequencer (Some note) leave answer turn work live made) = same_stands (Left front back asked call sequencer (Some note) leave answer turn work live made) refl refl
 
 -- ---- what a deed puts is there
 

@@ -18,11 +18,14 @@ use Rattle.session_core.specs.declared.records.Kept.{Kept}
 use Rattle.session_core.specs.declared.records.Session.{Session}
 use Rattle.session_core.specs.Sessions.{session_of}
 use Rattle.cell_core.specs.declared.notices.Telling.{Telling}
+use Rattle.cell_core.specs.Deeds.{done}
 use Rattle.cell_core.specs.State.{MasterState}
 use Rattle.cell_core.specs.Step.{noted}
 use Rattle.cell_core.specs.Cases.{taken_by}
 use Rattle.over_core.specs.Kept.{IsKept}
-use Rattle.over_core.specs.Sweep.{first_action, plan_of}
+use Rattle.over_core.specs.declared.actions.Action.{Action}
+use Rattle.over_core.specs.declared.actions.Action.TheVariants.{Tidy}
+use Rattle.over_core.specs.Sweep.{acted, first_action, plan_of}
 use Rattle.over_core.specs.SweepCase.{swept_by, swept_edits}
 use Rattle.over_core.proofs.KeptBySweeps.{case_kept}
 use Rattle.over_core.proofs.SweepCases.{first_tellings}
@@ -149,6 +152,11 @@ event_stays old step new printed agrees case _ h = tt
 
 -- ---- what clients are told by a sweep
 
+-- what is queued alone leaves the map
+acted_nodes : (s : MasterState) (action : Action) → (acted s action).0.nodes ≡ (done s (plan_of s action).deed).nodes
+acted_nodes s (Tidy idle) = refl
+acted_nodes s _ = refl
+
 swept_true : (old : WorldState) (step : Step) (new : WorldState) (printed : List Line) → Agrees old old.master → (t : IsSweep old step new printed) → AllByRecursion (λ (telling : Telling). IsTrue new.rows telling.event) (first_tellings (noted t.master old.clock))
 swept_true old step new printed agrees t =
     let s : MasterState = noted t.master old.clock in
@@ -157,7 +165,7 @@ swept_true old step new printed agrees t =
     let rows : Rows = changed_rows old.rows (swept_edits s t.case) in
     let P : Rows → Type 0 = λ r. AllByRecursion (λ (telling : Telling). IsTrue r telling.event) (first_tellings s) in
     subst P (sym (ap (λ (w : WorldState). w.rows) t.is)) (tellings_true rows s (plan_of s (first_action s)) (λ name view found.
-    present_stands old.cell rows name view l.sound_rows (ap (λ (ns : Nodes). get_node ns name) (sym l.nodes ∙ t.acts) ∙ found)))
+    present_stands old.cell rows name view l.sound_rows (ap (λ (ns : Nodes). get_node ns name) (sym l.nodes ∙ t.acts ∙ acted_nodes s (first_action s)) ∙ found)))
 
 -- ---- both
 

@@ -37,6 +37,7 @@ use Rattle.gate_core.specs.declared.pending.Waiting.{Waiting}
 use Rattle.lock_core.specs.Turns.{is_of_client, any_waits}
 use Rattle.lock_core.specs.Locks.{LockTable}
 use Rattle.cell_core.specs.declared.pending.Task.{Task}
+use Rattle.cell_core.specs.declared.pending.Task.TheVariants as tasks
 use Rattle.cell_core.specs.declared.pending.Work.{Work}
 use Rattle.cell_core.specs.declared.pending.Work.TheVariants as works
 use Rattle.cell_core.specs.State.{MasterState}
@@ -106,9 +107,13 @@ abbrev pub put_waiting : ℕ → ℕ → ℕ → Work → List ℕ → List ℕ
 put_waiting client whose number (works.Calls call sequencer) numbers = if whose == client then number ∷ numbers else numbers
 put_waiting client whose number (works.Starts principal received) numbers = numbers
 
+abbrev pub put_task : ℕ → Task → List ℕ → List ℕ
+put_task client (tasks.Asked asked) numbers = put_waiting client asked.client asked.number asked.work numbers
+put_task client (tasks.Tidies idle) numbers = numbers
+
 abbrev pub waiting : ℕ → List (Waiting Task) → List ℕ
 waiting client [] = []
-waiting client (w ∷ ws) = put_waiting client w.change.body.client w.change.body.number w.change.body.work (waiting client ws)
+waiting client (w ∷ ws) = put_task client w.change.body (waiting client ws)
 
 -- the last call of a client waits for its turn at most until it has its reply
 abbrev pub IsWaiting : ℕ → Option Reply → List ℕ → Type 0
@@ -134,9 +139,13 @@ IsOfMessage sent epoch client number (works.Starts principal received) = Unit {0
 IsOfMessage sent epoch client number (works.Calls call sequencer) =
     call_of sent client number ≡ Some (record { client = client; epoch = epoch; number = number; call = call; sequencer = sequencer })
 
+abbrev pub IsTaskOfMessage : List Message → ℕ → Task → Type 0
+IsTaskOfMessage sent epoch (tasks.Asked asked) = IsOfMessage sent epoch asked.client asked.number asked.work
+IsTaskOfMessage sent epoch (tasks.Tidies idle) = Unit {0}
+
 abbrev pub AreOfMessages : List Message → ℕ → List (Waiting Task) → Type 0
 AreOfMessages sent epoch [] = Unit {0}
-AreOfMessages sent epoch (w ∷ ws) = IsOfMessage sent epoch w.change.body.client w.change.body.number w.change.body.work × AreOfMessages sent epoch ws
+AreOfMessages sent epoch (w ∷ ws) = IsTaskOfMessage sent epoch w.change.body × AreOfMessages sent epoch ws
 
 -- the call whose reply is kept was sent in the master's epoch
 pub record WasSent (sent : List Message) (epoch client number : ℕ) : Type 0 where

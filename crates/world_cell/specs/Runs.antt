@@ -6,7 +6,9 @@ use Rattle.node_core.specs.declared.refusals.Fault.{Fault}
 use Rattle.node_core.specs.declared.lines.Line.{Line}
 use Rattle.node_core.specs.declared.lines.Line.TheVariants as lines
 use Rattle.node_core.specs.declared.views.Mod.{Mod}
-use Rattle.node_core.specs.Nodes.{Nodes, changed}
+use Rattle.node_core.specs.declared.views.Mod.TheVariants.{Gone}
+use Rattle.node_core.specs.declared.views.View.{View}
+use Rattle.node_core.specs.Nodes.{Nodes, changed, get_node}
 use Rattle.tags_cell.specs.declared.calls.Call.{Call}
 use Rattle.tags_cell.specs.declared.requests.Request.TheVariants as requests
 use Rattle.rows_cell.specs.Rows.{map_of}
@@ -18,8 +20,10 @@ use Rattle.rights_core.specs.declared.totals.Totals.{Totals}
 use Rattle.rights_core.specs.Rights.{stands, was_acknowledged, has_expired, totals_of}
 use Rattle.gate_core.specs.declared.pending.Waiting.{Waiting}
 use Rattle.cell_core.specs.declared.pending.Task.{Task}
+use Rattle.cell_core.specs.declared.pending.Task.TheVariants as tasks
 use Rattle.cell_core.specs.declared.pending.Work.TheVariants as works
 use Rattle.cell_core.specs.State.{MasterState}
+use Rattle.cell_core.specs.Ephemerals.{is_idle_node}
 use Rattle.over_core.specs.Effect.{effect}
 use Rattle.world_cell.specs.declared.steps.Step.{Step}
 use Rattle.world_cell.specs.declared.steps.Step.TheVariants.{Take, Sweep, CutSweep}
@@ -262,12 +266,11 @@ pub record HasWaited (before : Option MasterState) (epoch client number : ℕ) (
   pub back : List (Waiting Task)
   pub turn : ℕ
   pub touched : List (List ℕ)
-  pub waits : master.gate.waiting ≡ front ++ record { number = turn; change = record { touched = touched; body = record { client = client; number = number; work = works.Calls call sequencer } } } ∷ back
+  pub waits : master.gate.waiting ≡ front ++ record { number = turn; change = record { touched = touched; body = tasks.Asked (record { client = client; number = number; work = works.Calls call sequencer }) } } ∷ back
 
 -- a change that a line shows: behind a first part of the steps, with the lines before it, the master was up with the map and the epoch that these lines tell; the next
--- step was a sweep, or one that a crash cut behind its commit, and was made; and the change is what a call does there, which its client had sent in that epoch, and which
--- that master had taken
-pub record IsOfCall (old : WorldView) (steps : List Step) (before : List Line) (client number : ℕ) (change : Mod) (rest : List Line) (new : WorldView) : Type 0 where
+-- step was a sweep, or one that a crash cut behind its commit, and was made
+pub record IsApplied (old : WorldView) (steps : List Step) (before : List Line) (client number : ℕ) (change : Mod) (rest : List Line) (new : WorldView) : Type 0 where
   pub front : List Step
   pub at : Step
   pub sweeps : (at ≡ Sweep) ⊎ (at ≡ CutSweep Kept)
@@ -285,8 +288,22 @@ pub record IsOfCall (old : WorldView) (steps : List Step) (before : List Line) (
   pub is_up : here.world.master ≡ Some master
   pub nodes : master.nodes ≡ map_at (map_of old.world.rows) before
   pub epoch : master.epoch ≡ epoch_at old.world.rows.epoch before
+
+-- and the change is what a call does there, which its client had sent in that epoch, and which that master had taken
+pub record IsOfCall (old : WorldView) (steps : List Step) (before : List Line) (client number : ℕ) (change : Mod) (rest : List Line) (new : WorldView) : Type 0 where
+  pub made : IsApplied old steps before client number change rest new
   pub call : Call
   pub sequencer : Option (List ℕ)
-  pub sent : call_of here.world.messages client number ≡ Some (record { client = client; epoch = master.epoch; number = number; call = call; sequencer = sequencer })
-  pub taken : HasWaited old.world.master master.epoch client number call sequencer ⊎ IsTaken old front before here master.epoch client number call sequencer
-  pub is_effect : change_of (effect master client number call sequencer) ≡ Some change
+  pub sent : call_of made.here.world.messages client number ≡ Some (record { client = client; epoch = made.master.epoch; number = number; call = call; sequencer = sequencer })
+  pub taken : HasWaited old.world.master made.master.epoch client number call sequencer ⊎ IsTaken old made.front before made.here made.master.epoch client number call sequencer
+  pub is_effect : change_of (effect made.master client number call sequencer) ≡ Some change
+
+-- and an ephemeral node goes that nobody held open there
+pub record IsOfIdle (old : WorldView) (steps : List Step) (before : List Line) (number : ℕ) (change : Mod) (rest : List Line) (new : WorldView) : Type 0 where
+  pub made : IsApplied old steps before 0 number change rest new
+  pub unnumbered : number ≡ 0
+  pub name : List ℕ
+  pub goes : change ≡ Gone name
+  pub view : View
+  pub found : get_node made.master.nodes name ≡ Some view
+  pub idle : is_idle_node made.master name view ≡ true

@@ -27,6 +27,7 @@ use Rattle.rights_core.specs.Laws.{asked_for, given_back_of, number_or_0}
 use Rattle.gate_core.specs.declared.pending.Waiting.{Waiting}
 use Rattle.gate_core.specs.Laws.{touching}
 use Rattle.cell_core.specs.declared.pending.Task.{Task}
+use Rattle.cell_core.specs.declared.pending.Task.TheVariants as tasks
 use Rattle.cell_core.specs.declared.pending.Work.{Work}
 use Rattle.cell_core.specs.declared.pending.Work.TheVariants as works
 use Rattle.cell_core.specs.State.{MasterState}
@@ -108,7 +109,8 @@ put_start client whose number (works.Starts principal received) = if client == w
 put_start client whose number (works.Calls call sequencer) = []
 
 abbrev pub start_of : ℕ → Task → List one.Receipt
-start_of client task = put_start client task.client task.number task.work
+start_of client (tasks.Asked asked) = put_start client asked.client asked.number asked.work
+start_of client (tasks.Tidies idle) = []
 
 -- the receipts of a client's Starts that wait
 abbrev pub starts_of : ℕ → List (Waiting Task) → List one.Receipt

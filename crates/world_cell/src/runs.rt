@@ -1,12 +1,12 @@
 //! Whole runs.
-ghost use Rattle.std.specs.Prelude.{◌≡◌, ◌++◌, ◌∷◌, [], None, IfOk, OnErr, ℕ, List, take};
+ghost use Rattle.std.specs.Prelude.{◌≡◌, ◌≤◌, ◌++◌, ◌∷◌, [], None, IfOk, OnErr, ℕ, List, take};
 ghost use Rattle.rows_cell.specs.Rows.{map_of};
 ghost use Rattle.node_core.specs.declared.lines.Line.{Line as PrintedLine};
 ghost use Rattle.node_core.specs.declared.views.Mod.{Mod};
 ghost use Rattle.world_cell.specs.Consistent.{IsConsistent};
 ghost use Rattle.rows_cell.specs.Sound.{is_live_in};
 ghost use Rattle.world_cell.specs.World.{IsUndoubted};
-ghost use Rattle.world_cell.specs.Runs.{WasRefused, AnyStep, AnyRun, map_at, epoch_at, live_at, LeasesKeepSessions, AreJoint, KeepsClocksFair, AreRecordedOnce, applied, Rises, IsOfCall};
+ghost use Rattle.world_cell.specs.Runs.{WasRefused, AnyStep, AnyRun, map_at, epoch_at, live_at, LeasesKeepSessions, AreJoint, KeepsClocksFair, AreRecordedOnce, applied, Rises, IsOfCall, IsOfIdle};
 ghost use Rattle.world_cell.specs.Served.{ServesPresentByThen};
 ghost use Rattle.world_cell.specs.Locks.{HasLegalLocks, NoGenerationTwice};
 ghost use Rattle.world_cell.specs.Told.{ShowsNoOlder};
@@ -29,11 +29,14 @@ impl<R: Records + Drop> World<R> {
         // The epoch is that of the last master that came up.
         ensures epoch { IfOk result (λ lines. IsUndoubted self.new → self.new.world.rows.epoch ≡ epoch_at self.old.world.rows.epoch lines) }
         // Each call is applied at most once: the numbers of a client's applied calls rise.
-        ensures once { IfOk result (λ lines. IsUndoubted self.new → (client : ℕ) → Rises (applied client lines)) }
-        // Each applied change is what a call does to the map just before it; its client sent the call in that epoch, and the
-        // master took it before.
+        ensures once { IfOk result (λ lines. IsUndoubted self.new → (client : ℕ) → 1 ≤ client → Rises (applied client lines)) }
+        // Each change applied for a client is what a call does to the map just before it; the client sent the call in that
+        // epoch, and the master took it before.
         ensures calls { IfOk result (λ lines. IsUndoubted self.new → (before rest : List PrintedLine) (client number : ℕ) (change : Mod) →
-            lines ≡ before ++ Line.Applied client number change ∷ rest → IsOfCall self.old steps.now before client number change rest self.new) }
+            lines ≡ before ++ Line.Applied client number change ∷ rest → 1 ≤ client → IsOfCall self.old steps.now before client number change rest self.new) }
+        // What the cell applies by itself is that an ephemeral node goes, which nobody held open.
+        ensures own { IfOk result (λ lines. IsUndoubted self.new → (before rest : List PrintedLine) (number : ℕ) (change : Mod) →
+            lines ≡ before ++ Line.Applied 0 number change ∷ rest → IsOfIdle self.old steps.now before number change rest self.new) }
         // A client's session is live in the rows where the lines of its start and its end make it so.
         ensures sessions { IfOk result (λ lines. IsUndoubted self.new → (client : ℕ) → is_live_in self.new.world.rows client ≡ live_at client (is_live_in self.old.world.rows client) lines) }
         // Of one master's life each right to cache a name is recorded once: numbered from 1 in order, ended at most once and

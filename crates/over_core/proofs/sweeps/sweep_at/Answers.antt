@@ -1,6 +1,6 @@
-use Rattle.over_core.proofs.SweepSteps.{told_first}
+use Rattle.std.proofs.Common.{sym, ◌∙◌}
+use Rattle.over_core.proofs.SweepSteps.{tidied_first}
 use Rattle.over_core.proofs.sweeps.sweep_at.Goals as goal
 
-pub returns-in-Ok-clause-ok : goal.returns-in-Ok-clause-ok
-returns-in-Ok-clause-ok g c =
-    told_first _ _ _ _ _ c.in_ok-plan.field-0.plan c.in_ok-plan.field-0.tellings _ _ c.first_action-action.ensures c.note_if_quiet.ensures c.in_ok-plan.ensures.ok c.in_ok-plan.ensures.told c.is_quiet.ensures c.in-Ok.ensures.done c.in-Ok.ensures.ok c.tell.ensures
+pub returns-in_ok-tidy-in-Tidy-clause-ok : goal.returns-in_ok-tidy-in-Tidy-clause-ok
+returns-in_ok-tidy-in-Tidy-clause-ok g c = tidied_first _ _ c.in-Tidy.idle _ (sym c.in-Tidy.is ∙ c.in_ok-action.ensures) c.in_ok-tidy-in-Tidy.ensures.ok c.in_ok-tidy-in-Tidy.ensures.nothing

@@ -1,7 +1,7 @@
 use Rattle.std.proofs.Common.{arith, inr}
 use Rattle.world_cell.proofs.RowsByRuns.{run_tells}
 use Rattle.world_cell.proofs.OnceByRuns.{run_once}
-use Rattle.world_cell.proofs.CallsByRuns.{run_calls}
+use Rattle.world_cell.proofs.CallsByRuns.{run_calls, run_own}
 use Rattle.world_cell.proofs.PartsOfRuns.{run_more, run_part, began_consistent, whole_sure}
 use Rattle.world_cell.proofs.SessionsByRuns.{run_lives}
 use Rattle.world_cell.proofs.RightsByRuns.{run_records}
@@ -39,12 +39,17 @@ returns-clause-epoch g c = λ none.
 pub returns-clause-once : goal.returns-clause-once
 returns-clause-once g c = λ none.
     let run = whole_sure c.args.self.now c.loop-step.self c.args.steps.now c.loop-step.step-index c.loop-step.lines (omega arith) c.consistent.ensures c.loop-step.invariant none in
-    λ client. run_once client c.args.self.now c.args.steps.now c.loop-step.lines c.loop-step.self run.1 run.0
+    λ client some. run_once client c.args.self.now c.args.steps.now c.loop-step.lines c.loop-step.self run.1 run.0 some
 
 pub returns-clause-calls : goal.returns-clause-calls
 returns-clause-calls g c = λ none.
     let run = whole_sure c.args.self.now c.loop-step.self c.args.steps.now c.loop-step.step-index c.loop-step.lines (omega arith) c.consistent.ensures c.loop-step.invariant none in
-    λ before rest client number change is. run_calls c.args.self.now c.args.steps.now c.loop-step.lines c.loop-step.self run.1 run.0 before rest client number change is
+    λ before rest client number change is some. run_calls c.args.self.now c.args.steps.now c.loop-step.lines c.loop-step.self run.1 run.0 before rest client number change is some
+
+pub returns-clause-own : goal.returns-clause-own
+returns-clause-own g c = λ none.
+    let run = whole_sure c.args.self.now c.loop-step.self c.args.steps.now c.loop-step.step-index c.loop-step.lines (omega arith) c.consistent.ensures c.loop-step.invariant none in
+    λ before rest number change is. run_own c.args.self.now c.args.steps.now c.loop-step.lines c.loop-step.self run.1 run.0 before rest number change is
 
 pub returns-clause-sessions : goal.returns-clause-sessions
 returns-clause-sessions g c = λ none.
