@@ -38,8 +38,6 @@ use tags_cell::{Beat, ClientNumber, MessageNumber, NewHandle, Out, Request, Star
 ///
 /// Its calls on a handle carry the sequencer that was set on it (Burrows 2006, section 2.4), and such a handle isn't served
 /// from its cache.
-///
-/// What isn't there yet: the events that an Open may ask for.
 #[derive(Drop)]
 pub struct Client {
     pub(crate) alloc: Global,
