@@ -33,8 +33,10 @@ pub mod EntryFacts
 pub mod OnceByRuns
 pub mod RowsByRuns
 pub mod CallsByRuns
+pub mod EffectsFit
 pub mod SessionsByRuns
 pub mod ClocksByRuns
+pub mod FitsByRuns
 pub mod RightsByRuns
 pub mod SliceRights
 pub mod Slices

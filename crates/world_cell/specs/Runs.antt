@@ -8,7 +8,7 @@ use Rattle.node_core.specs.declared.lines.Line.TheVariants as lines
 use Rattle.node_core.specs.declared.views.Mod.{Mod}
 use Rattle.node_core.specs.declared.views.Mod.TheVariants.{Gone}
 use Rattle.node_core.specs.declared.views.View.{View}
-use Rattle.node_core.specs.Nodes.{Nodes, changed, get_node}
+use Rattle.node_core.specs.Nodes.{Nodes, changed, after, get_node}
 use Rattle.tags_cell.specs.declared.calls.Call.{Call}
 use Rattle.tags_cell.specs.declared.requests.Request.TheVariants as requests
 use Rattle.rows_cell.specs.Rows.{map_of}
@@ -90,6 +90,16 @@ map_by nodes _ = nodes
 abbrev pub map_at : Nodes → List Line → Nodes
 map_at nodes [] = nodes
 map_at nodes (line ∷ rest) = map_at (map_by nodes line) rest
+
+-- a change that a line shows has to fit the map
+abbrev pub after_line : Nodes → Line → Option Nodes
+after_line nodes (lines.Applied client number change) = after nodes change
+after_line nodes _ = Some nodes
+
+-- the map after the lines, where each change that they show fits the map just before it; and else none
+abbrev pub after_lines : Nodes → List Line → Option Nodes
+after_lines nodes [] = Some nodes
+after_lines nodes (line ∷ rest) = option_and_then (λ next. after_lines next rest) (after_line nodes line)
 
 abbrev pub epoch_by : ℕ → Line → ℕ
 epoch_by epoch (lines.Up next) = next

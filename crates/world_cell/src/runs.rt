@@ -1,12 +1,12 @@
 //! Whole runs.
-ghost use Rattle.std.specs.Prelude.{◌≡◌, ◌≤◌, ◌++◌, ◌∷◌, [], None, IfOk, OnErr, ℕ, List, take};
+ghost use Rattle.std.specs.Prelude.{◌≡◌, ◌≤◌, ◌++◌, ◌∷◌, [], Some, None, IfOk, OnErr, ℕ, List, take};
 ghost use Rattle.rows_cell.specs.Rows.{map_of};
 ghost use Rattle.node_core.specs.declared.lines.Line.{Line as PrintedLine};
 ghost use Rattle.node_core.specs.declared.views.Mod.{Mod};
 ghost use Rattle.world_cell.specs.Consistent.{IsConsistent};
 ghost use Rattle.rows_cell.specs.Sound.{is_live_in};
 ghost use Rattle.world_cell.specs.World.{IsUndoubted};
-ghost use Rattle.world_cell.specs.Runs.{WasRefused, AnyStep, AnyRun, map_at, epoch_at, live_at, LeasesKeepSessions, AreJoint, KeepsClocksFair, AreRecordedOnce, applied, Rises, IsOfCall, IsOfIdle};
+ghost use Rattle.world_cell.specs.Runs.{WasRefused, AnyStep, AnyRun, map_at, after_lines, epoch_at, live_at, LeasesKeepSessions, AreJoint, KeepsClocksFair, AreRecordedOnce, applied, Rises, IsOfCall, IsOfIdle};
 ghost use Rattle.world_cell.specs.Served.{ServesPresentByThen};
 ghost use Rattle.world_cell.specs.Locks.{HasLegalLocks, NoGenerationTwice};
 ghost use Rattle.world_cell.specs.Told.{ShowsNoOlder};
@@ -26,6 +26,10 @@ impl<R: Records + Drop> World<R> {
         ensures part { OnErr result ((count : ℕ) × (lines : List PrintedLine) × AnyRun self.old (take count steps.now) lines self.new) }
         // The rows hold the map that the printed changes make of the former one.
         ensures map { IfOk result (λ lines. IsUndoubted self.new → map_of self.new.world.rows ≡ map_at (map_of self.old.world.rows) lines) }
+        // Each of these changes fits the map just before it: what is put is the root or stands under a directory, is within
+        // its limits, and keeps the instance and the kind of a node that was there; what goes was there, had no children,
+        // and isn't the root.
+        ensures fits { IfOk result (λ lines. IsUndoubted self.new → after_lines (map_of self.old.world.rows) lines ≡ Some (map_of self.new.world.rows)) }
         // The epoch is that of the last master that came up.
         ensures epoch { IfOk result (λ lines. IsUndoubted self.new → self.new.world.rows.epoch ≡ epoch_at self.old.world.rows.epoch lines) }
         // Each call is applied at most once: the numbers of a client's applied calls rise.

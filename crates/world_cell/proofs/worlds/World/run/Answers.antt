@@ -8,6 +8,7 @@ use Rattle.world_cell.proofs.RightsByRuns.{run_records}
 use Rattle.world_cell.proofs.SliceLeases.{leases_keep_sessions, joint_everywhere}
 use Rattle.world_cell.proofs.ServedLines.{run_serves}
 use Rattle.world_cell.proofs.ClocksByRuns.{run_consistent, run_fair}
+use Rattle.world_cell.proofs.FitsByRuns.{run_fits}
 use Rattle.world_cell.proofs.AsRead.{run_sure}
 use Rattle.world_cell.proofs.LocksByRuns.{run_legal, run_generations}
 use Rattle.world_cell.proofs.ToldByRuns.{run_shows}
@@ -30,6 +31,11 @@ pub returns-clause-map : goal.returns-clause-map
 returns-clause-map g c = λ none.
     let run = whole_sure c.args.self.now c.loop-step.self c.args.steps.now c.loop-step.step-index c.loop-step.lines (omega arith) c.consistent.ensures c.loop-step.invariant none in
     (run_tells c.args.self.now c.args.steps.now c.loop-step.lines c.loop-step.self run.0 run.1).is_map
+
+pub returns-clause-fits : goal.returns-clause-fits
+returns-clause-fits g c = λ none.
+    let run = whole_sure c.args.self.now c.loop-step.self c.args.steps.now c.loop-step.step-index c.loop-step.lines (omega arith) c.consistent.ensures c.loop-step.invariant none in
+    run_fits c.args.self.now c.args.steps.now c.loop-step.lines c.loop-step.self run.1 run.0
 
 pub returns-clause-epoch : goal.returns-clause-epoch
 returns-clause-epoch g c = λ none.
