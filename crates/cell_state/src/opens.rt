@@ -7,9 +7,7 @@ use cell_parts::{Note, OpenHandle, delay_of};
 use names_cell::Name;
 use node_core::{Fault, View};
 use std::alloc::AllocError;
-use tags_cell::{
-    CallResult, ClientNumber, Handle, MessageNumber, NewHandle, Open, Ordinal,
-};
+use tags_cell::{CallResult, ClientNumber, Handle, MessageNumber, NewHandle, Open, Ordinal};
 
 impl Master {
     /// Whether the name is one of the cell.
