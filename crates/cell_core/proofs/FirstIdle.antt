@@ -10,11 +10,12 @@ use Rattle.std.specs.Map.{keys_of, lookup}
 use Rattle.std.specs.BTreeMap.{is_at}
 use Rattle.std.proofs.lemmas.Map.Lookups.{exact_bytes}
 use Rattle.node_core.specs.declared.views.View.{View}
-use Rattle.cell_core.specs.declared.pending.Idle.{Idle}
-use Rattle.cell_core.specs.State.{MasterState}
-use Rattle.cell_core.specs.Ephemerals.{is_ephemeral, has_open, has_to_stay, is_going, is_to_go, idle_of}
-use Rattle.cell_core.specs.EphemeralNames.{NameTable, is_named, AreNamed, or_next, first_idle}
-use Rattle.cell_core.proofs.Found.{first_of_both, same_key, above_head, none_found, first_found}
+use Rattle.cell_parts.specs.declared.pending.Idle.{Idle}
+use Rattle.cell_state.specs.State.{MasterState}
+use Rattle.cell_parts.specs.EphemeralNames.{is_ephemeral, NameTable, is_named, AreNamed}
+use Rattle.cell_state.specs.Lookups.{has_open, has_to_stay}
+use Rattle.cell_core.specs.Ephemerals.{is_going, is_to_go, idle_of, or_next, first_idle}
+use Rattle.cell_parts.proofs.Found.{first_of_both, same_key, above_head, none_found, first_found}
 
 abbrev At : List ℕ → List ℕ → Bool
 At q = is_at (slice_cmp nat_cmp q)

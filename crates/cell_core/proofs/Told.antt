@@ -21,12 +21,15 @@ use Rattle.tags_cell.specs.declared.calls.Call.TheVariants as calls
 use Rattle.tags_cell.specs.declared.outs.CallResult.{CallResult}
 use Rattle.tags_cell.specs.declared.outs.CallResult.TheVariants as results
 use Rattle.cell_core.specs.declared.admissions.Admission.{Admission}
-use Rattle.cell_core.specs.State.{MasterState}
-use Rattle.cell_core.specs.Step.{own_handle, shown_handle, node_of_handle, is_usable, handle_state_of, key_of, touched_by, viewed_name, told_by_open, needing, write_fault, list_answer, answer_on, answer_on_node, answer_under, missing_right, open_present, plain_open, opened_answer, handle_admission, admission_of_open, admission_of, admission_under, check_admission, answering, is_of_cell, is_too_long, sequencer_fault, sequencer_result, release_fault, lock_under}
+use Rattle.cell_state.specs.State.{MasterState}
+use Rattle.cell_state.specs.Lookups.{own_handle, shown_handle, node_of_handle, is_usable, handle_state_of, list_answer, answer_on, answer_on_node, answer_under, missing_right, open_present, plain_open, opened_answer, is_of_cell, sequencer_fault, sequencer_result, release_fault, lock_under}
+use Rattle.cell_parts.specs.Calls.{needing, write_fault, is_too_long}
+use Rattle.cell_parts.specs.Keys.{key_of}
+use Rattle.cell_core.specs.Step.{touched_by, viewed_name, told_by_open, handle_admission, admission_of_open, admission_of, admission_under, check_admission, answering}
 use Rattle.tags_cell.specs.declared.sequencers.Sequencer.{Sequencer}
 use Rattle.lock_core.specs.State.{hold_of}
 use Rattle.lock_core.specs.Locks.{sequencer_of}
-use Rattle.cell_core.specs.Locks.{owner_of}
+use Rattle.cell_parts.specs.Claims.{owner_of}
 use Rattle.cell_core.specs.Names.{name_changed, name_asked, shown_by}
 
 -- a handle that is shown is the one whose bytes are shown

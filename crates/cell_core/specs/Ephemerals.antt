@@ -1,46 +1,24 @@
 -- When an ephemeral node goes by itself.
-use Rattle.std.specs.Prelude.{ℕ, ◌+◌, Bool, true, false, not, ◌&&◌, ◌||◌, ◌==◌, nat_le, List, [], ◌∷◌, find, Option, None, Result, Ok, Err, if◌then◌else◌, is_none}
+use Rattle.std.specs.Prelude.{ℕ, ◌+◌, Bool, true, false, not, ◌&&◌, ◌==◌, nat_le, List, [], ◌∷◌, find, Option, None, Result, Ok, Err, if◌then◌else◌, Some}
 use Rattle.std.specs.List.{list_any}
 use Rattle.std.specs.Option.{option_map, option_map_or}
-use Rattle.names_cell.specs.Text.{parent_of}
 use Rattle.node_core.specs.declared.refusals.Fault.{Fault}
-use Rattle.node_core.specs.declared.kinds.Life.{Life}
-use Rattle.node_core.specs.declared.kinds.Life.TheVariants.{Permanent, Ephemeral}
 use Rattle.node_core.specs.declared.views.View.{View}
-use Rattle.node_core.specs.Nodes.{get_node, has_children}
+use Rattle.node_core.specs.Nodes.{get_node}
 use Rattle.gate_core.specs.Gate.{push_answer}
-use Rattle.cell_core.specs.declared.pending.Idle.{Idle}
-use Rattle.cell_core.specs.declared.pending.Task.{Task}
-use Rattle.cell_core.specs.declared.pending.Task.TheVariants as tasks
-use Rattle.cell_core.specs.declared.handles.HandleKey.{HandleKey}
-use Rattle.cell_core.specs.declared.handles.HandleState.{HandleState}
-use Rattle.cell_core.specs.declared.handles.HandleState.TheVariants as states
-use Rattle.cell_core.specs.State.{MasterState}
-use Rattle.cell_core.specs.Step.{is_live, queued, asking}
+use Rattle.cell_parts.specs.declared.pending.Idle.{Idle}
+use Rattle.cell_parts.specs.declared.pending.Task.{Task}
+use Rattle.cell_state.specs.State.{MasterState}
+use Rattle.cell_state.specs.Lookups.{has_open, has_to_stay}
+use Rattle.cell_core.specs.Step.{queued, asking}
+use Rattle.cell_parts.specs.EphemeralNames.{is_ephemeral, NameTable}
+use Rattle.cell_parts.specs.declared.pending.Task.TheVariants as tasks
 
 -- how long ephemeral nodes stay at least once a recovery has ended, in milliseconds: by then who holds one open has shown its handle, or its session has ended
 abbrev pub spared_for : ℕ
 spared_for = 60000
 
--- ---- who holds a node open
-
--- a session that has ended holds nothing open
-abbrev pub is_open_as : MasterState → ℕ → HandleKey → HandleState → Bool
-is_open_as s instance key (states.Open noted) = noted.handle.instance == instance && is_live s key.client
-is_open_as s instance key states.Closed = false
-
-abbrev pub has_open : MasterState → ℕ → Bool
-has_open s instance = list_any (λ entry. is_open_as s instance entry.0 entry.1) s.handles
-
 -- ---- which node goes
-
-abbrev pub is_ephemeral : Life → Bool
-is_ephemeral Permanent = false
-is_ephemeral Ephemeral = true
-
--- the root and a directory with children stay
-abbrev pub has_to_stay : MasterState → List ℕ → Bool
-has_to_stay s name = has_children s.nodes name || is_none (parent_of name)
 
 -- an ephemeral node that nobody holds open
 abbrev pub is_idle_node : MasterState → List ℕ → View → Bool
@@ -81,3 +59,18 @@ tidied s idle = asking (queued s (idle.name ∷ []) (tasks.Tidies idle)) idle.na
 -- at its turn: the same node is there, and nobody holds it open again
 abbrev pub is_still_idle : MasterState → Idle → Bool
 is_still_idle s idle = option_map_or (λ view. view.instance == idle.instance && is_idle_node s idle.name view) (get_node s.nodes idle.name) false
+
+-- ---- by the names of the ephemeral nodes
+
+-- the node of a name, where it is to go
+abbrev pub idle_at : MasterState → List ℕ → Option Idle
+idle_at s name = option_map_or (λ view. if is_to_go s (name, view) then Some (idle_of (name, view)) else None) (get_node s.nodes name) None
+
+abbrev pub or_next : Option Idle → Option Idle → Option Idle
+or_next (Some idle) next = Some idle
+or_next None next = next
+
+-- the first of these names whose node is to go
+abbrev pub first_idle : MasterState → NameTable → Option Idle
+first_idle s [] = None
+first_idle s (entry ∷ entries) = or_next (idle_at s entry.0) (first_idle s entries)

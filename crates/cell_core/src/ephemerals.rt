@@ -3,12 +3,12 @@ ghost use Rattle.std.specs.Prelude.{◌≡◌, ◌&&◌, ◌==◌, true, [], ◌
 ghost use Rattle.std.specs.Option.{option_map};
 ghost use Rattle.gate_core.specs.Gate.{push_answer};
 ghost use Rattle.cell_core.specs.Step.{queued};
-ghost use Rattle.cell_core.specs.Ephemerals.{has_open, has_to_stay, is_idle_node, tidies, is_going, is_to_go, idle_of, is_ok, may_tidy, next_idle, tidied, is_still_idle};
-ghost use Rattle.cell_core.specs.EphemeralNames.{idle_at, first_idle};
+ghost use Rattle.cell_core.specs.Ephemerals.{is_idle_node, tidies, is_going, is_to_go, idle_of, is_ok, may_tidy, next_idle, tidied, is_still_idle, idle_at, first_idle};
 
 use crate::cells::Cell;
-use crate::nodes::is_ephemeral;
-use crate::pending::{Idle, Task};
+use crate::takes::queue;
+use cell_parts::{Idle, Task, is_ephemeral};
+use cell_state::Master;
 use names_cell::Name;
 use node_core::View;
 use plain::{Items, Table};
@@ -25,8 +25,9 @@ impl Cell {
     pub fn next_idle(&self) -> Result<Option<Idle>, AllocError>
         ensures { IfOk result (λ idle. idle ≡ next_idle self.now) }
     {
-        if self.may_tidy() {
-            self.first_to_go()
+        let master = &self.master;
+        if may_tidy(master) {
+            first_to_go(master)
         } else {
             Ok(None)
         }
@@ -36,13 +37,14 @@ impl Cell {
     pub fn is_still_idle(&self, idle: &Idle) -> Result<bool, AllocError>
         ensures { IfOk result (λ still. still ≡ is_still_idle self.now idle.now) }
     {
-        let Some(view) = self.map().get(&idle.name) else {
+        let master = &self.master;
+        let Some(view) = master.map().get(&idle.name) else {
             return Ok(false);
         };
         if view.instance != idle.instance {
             return Ok(false);
         }
-        self.is_idle_node(&idle.name, view)
+        is_idle_node(master, &idle.name, view)
     }
 
     /// The deletion of an ephemeral node waits behind all other changes, and who may keep its name in a cache is asked
@@ -52,136 +54,121 @@ impl Cell {
         ensures ok { OnOk result (self.new ≡ tidied self.old idle) }
         ensures err { OnErr result (self.new ≡ self.old) }
     {
-        let asked = self.rights.to_ask(&idle.name)?;
+        let master = &mut self.master;
+        let asked = master.rights.to_ask(&idle.name)?;
         let name = idle.name.clone()?;
-        self.queue_idle(idle)?;
-        self.rights.mark(&name, &asked);
-        self.sessions.issue_all(&asked);
+        queue_idle(master, idle)?;
+        master.rights.mark(&name, &asked);
+        master.sessions.issue_all(&asked);
         Ok(())
     }
+}
 
-    fn queue_idle(&mut self, idle: Idle) -> Result<(), AllocError>
-        requires { is_ok (push_answer self.old.gate) ≡ true }
-        ensures ok { OnOk result (self.new ≡ queued self.old (idle.name ∷ []) (Task.Tidies idle)) }
-        ensures err { OnErr result (self.new ≡ self.old) }
-    {
-        let mut touched = Items::new(self.alloc);
-        touched.push(idle.name.clone()?)?;
-        self.queue(touched, Task::Tidies(idle))
+fn queue_idle(master: &mut Master, idle: Idle) -> Result<(), AllocError>
+    requires { is_ok (push_answer master.old.gate) ≡ true }
+    ensures ok { OnOk result (master.new ≡ queued master.old (idle.name ∷ []) (Task.Tidies idle)) }
+    ensures err { OnErr result (master.new ≡ master.old) }
+{
+    let mut touched = Items::new(master.alloc);
+    touched.push(idle.name.clone()?)?;
+    queue(master, touched, Task::Tidies(idle))
+}
+
+// No recovery goes on, the last one is long enough ago, and there is room for one more change.
+fn may_tidy(master: &Master) -> bool
+    ensures { result ≡ may_tidy master.now }
+{
+    if master.recovering {
+        return false;
     }
-
-    // No recovery goes on, the last one is long enough ago, and there is room for one more change.
-    fn may_tidy(&self) -> bool
-        ensures { result ≡ may_tidy self.now }
-    {
-        if self.recovering {
-            return false;
-        }
-        if self.clock.saturating_sub(self.serving_from) < SPARED_FOR {
-            return false;
-        }
-        self.gate.next_number().is_ok()
+    if master.clock.saturating_sub(master.serving_from) < SPARED_FOR {
+        return false;
     }
+    master.gate.next_number().is_ok()
+}
 
-    // The first node by name that is to go.
-    fn first_to_go(&self) -> Result<Option<Idle>, AllocError>
-        ensures { IfOk result (λ idle. idle ≡ option_map idle_of (find (is_to_go self.now) self.now.nodes)) }
-    {
-        match self.nodes.ephemerals() {
-            Some(names) => {
-                let _nodes = self.map().as_map();
-                let _count = names.as_map().len();
-                self.first_among(names)
-            }
-            None => self.first_of_all(),
+// The first node by name that is to go.
+fn first_to_go(master: &Master) -> Result<Option<Idle>, AllocError>
+    ensures { IfOk result (λ idle. idle ≡ option_map idle_of (find (is_to_go master.now) master.now.nodes)) }
+{
+    match master.nodes.ephemerals() {
+        Some(names) => {
+            let _nodes = master.map().as_map();
+            let _count = names.as_map().len();
+            first_among(master, names)
+        }
+        None => first_of_all(master),
+    }
+}
+
+fn first_among(master: &Master, names: &Table<Name, ()>) -> Result<Option<Idle>, AllocError>
+    ensures { IfOk result (λ idle. idle ≡ first_idle master.now names.now) }
+{
+    for (name, _) in names.as_map() {
+        if let Some(idle) = idle_at(master, name)? {
+            return Ok(Some(idle));
         }
     }
+    Ok(None)
+}
 
-    fn first_among(&self, names: &Table<Name, ()>) -> Result<Option<Idle>, AllocError>
-        ensures { IfOk result (λ idle. idle ≡ first_idle self.now names.now) }
-    {
-        for (name, _) in names.as_map() {
-            if let Some(idle) = self.idle_at(name)? {
-                return Ok(Some(idle));
-            }
+fn first_of_all(master: &Master) -> Result<Option<Idle>, AllocError>
+    ensures { IfOk result (λ idle. idle ≡ option_map idle_of (find (is_to_go master.now) master.now.nodes)) }
+{
+    for (name, view) in master.map().as_map() {
+        if is_to_go(master, name, view)? {
+            return Ok(Some(idle_of(name, view)?));
         }
+    }
+    Ok(None)
+}
+
+// The node of a name, where it is to go.
+fn idle_at(master: &Master, name: &Name) -> Result<Option<Idle>, AllocError>
+    ensures { IfOk result (λ idle. idle ≡ idle_at master.now name.now) }
+{
+    let Some(view) = master.map().get(name) else {
+        return Ok(None);
+    };
+    if is_to_go(master, name, view)? {
+        Ok(Some(idle_of(name, view)?))
+    } else {
         Ok(None)
     }
+}
 
-    fn first_of_all(&self) -> Result<Option<Idle>, AllocError>
-        ensures { IfOk result (λ idle. idle ≡ option_map idle_of (find (is_to_go self.now) self.now.nodes)) }
-    {
-        for (name, view) in self.map().as_map() {
-            if self.is_to_go(name, view)? {
-                return Ok(Some(idle_of(name, view)?));
-            }
-        }
-        Ok(None)
+fn is_to_go(master: &Master, name: &Name, view: &View) -> Result<bool, AllocError>
+    ensures { IfOk result (λ goes. goes ≡ is_to_go master.now (name.now, view.now)) }
+{
+    if is_idle_node(master, name, view)? {
+        Ok(!is_going(master, view.instance))
+    } else {
+        Ok(false)
     }
+}
 
-    // The node of a name, where it is to go.
-    fn idle_at(&self, name: &Name) -> Result<Option<Idle>, AllocError>
-        ensures { IfOk result (λ idle. idle ≡ idle_at self.now name.now) }
-    {
-        let Some(view) = self.map().get(name) else {
-            return Ok(None);
-        };
-        if self.is_to_go(name, view)? {
-            Ok(Some(idle_of(name, view)?))
-        } else {
-            Ok(None)
-        }
+// Whether it is an ephemeral node that nobody holds open.
+fn is_idle_node(master: &Master, name: &Name, view: &View) -> Result<bool, AllocError>
+    ensures { IfOk result (λ idle. idle ≡ is_idle_node master.now name.now view.now) }
+{
+    if !is_ephemeral(view.life) {
+        return Ok(false);
     }
+    if master.has_open(view.instance) {
+        return Ok(false);
+    }
+    Ok(!master.has_to_stay(name)?)
+}
 
-    fn is_to_go(&self, name: &Name, view: &View) -> Result<bool, AllocError>
-        ensures { IfOk result (λ goes. goes ≡ is_to_go self.now (name.now, view.now)) }
-    {
-        if self.is_idle_node(name, view)? {
-            Ok(!self.is_going(view.instance))
-        } else {
-            Ok(false)
-        }
-    }
-
-    // Whether it is an ephemeral node that nobody holds open.
-    fn is_idle_node(&self, name: &Name, view: &View) -> Result<bool, AllocError>
-        ensures { IfOk result (λ idle. idle ≡ is_idle_node self.now name.now view.now) }
-    {
-        if !is_ephemeral(view.life) {
-            return Ok(false);
-        }
-        if self.has_open(view.instance) {
-            return Ok(false);
-        }
-        Ok(!self.has_to_stay(name)?)
-    }
-
-    // Whether an open handle of a live session is one of the node.
-    fn has_open(&self, instance: u64) -> bool
-        ensures { result ≡ has_open self.now instance }
-    {
-        self.handles.is_open_in(instance, &self.sessions)
-    }
-
-    // The root and a directory with children stay.
-    fn has_to_stay(&self, name: &Name) -> Result<bool, AllocError>
-        ensures { IfOk result (λ stays. stays ≡ has_to_stay self.now name.now) }
-    {
-        if name.is_root() {
-            return Ok(true);
-        }
-        self.map().has_children(name)
-    }
-
-    // Whether the cell waits to delete the node already.
-    fn is_going(&self, instance: u64) -> bool
-        ensures { result ≡ is_going self.now instance }
-    {
-        self.gate
-            .as_slice()
-            .iter()
-            .any(|waiting| tidies(instance, &waiting.change.body))
-    }
+// Whether the cell waits to delete the node already.
+fn is_going(master: &Master, instance: u64) -> bool
+    ensures { result ≡ is_going master.now instance }
+{
+    master
+        .gate
+        .as_slice()
+        .iter()
+        .any(|waiting| tidies(instance, &waiting.change.body))
 }
 
 fn tidies(instance: u64, task: &Task) -> bool

@@ -1,14 +1,17 @@
 //! What a master does with a message.
 ghost use Rattle.std.specs.Prelude.{◌≡◌, ◌≢◌, true, false, Some, None, Ok, Err, IfOk, IfErr, OnOk, OnErr};
-ghost use Rattle.cell_core.specs.Step.{take_step, take_at, start_step, beat_step, call_step, kept_step, kept_of, new_call, with_note, admit_step, telling, granting, is_cachable, waits, recorded, queued, is_full, is_spent, replied, task_of};
+ghost use Rattle.cell_core.specs.Step.{take_step, take_at, start_step, beat_step, call_step, kept_step, new_call, admit_step, telling, granting, is_cachable, waits, recorded, queued, replied, task_of};
+ghost use Rattle.deed_core.specs.Deeds.{with_note};
+ghost use Rattle.cell_state.specs.Lookups.{kept_of, is_full, is_spent};
 ghost use Rattle.session_core.specs.Session.{kept_answer};
 ghost use Rattle.gate_core.specs.Gate.{push_answer};
 ghost use Rattle.cell_core.specs.Ephemerals.{is_ok};
 
-use crate::admissions::Admission;
+use crate::admissions::{Admission, admission_for};
 use crate::cells::Cell;
-use crate::handles::Note;
-use crate::pending::{Asked, Taken, Task, Work, answered_by};
+use cell_parts::{Asked, Note, Taken, Task, Work, answered_by};
+use cell_state::Master;
+use deed_core::settle_note;
 use gate_core::Pending;
 use lease_core::MOMENT_LIMIT;
 use names_cell::Name;
@@ -29,304 +32,314 @@ impl Cell {
         ensures fault { IfErr result (λ e. e ≢ Fault.NoMemory → take_step self.old now request.now ≡ Err e) }
         ensures err { OnErr result (self.new ≡ self.old) }
     {
-        if now >= MOMENT_LIMIT || self.is_spent() {
+        let master = &mut self.master;
+        if now >= MOMENT_LIMIT || master.is_spent() {
             return Err(Fault::Exhausted);
         }
-        let before = self.note_moment(now);
-        match self.take_at(request) {
+        let before = master.note_moment(now);
+        match take_at(master, request) {
             Ok(taken) => Ok(taken),
             Err(_) => {
-                self.restore_moment(before);
+                master.restore_moment(before);
                 Err(Fault::NoMemory)
             }
         }
     }
+}
 
-    fn take_at(&mut self, request: &Request) -> Result<Taken, AllocError>
-        requires { is_spent self.old ≡ false }
-        ensures ok { IfOk result (λ taken. take_at self.old request.now ≡ (self.new, taken)) }
-        ensures err { OnErr result (self.new ≡ self.old) }
-    {
-        match request {
-            Request::Start(start) => self.start(start),
-            Request::Beat(beat) => self.beat(beat),
-            Request::Call(message) => self.call(message),
+fn take_at(master: &mut Master, request: &Request) -> Result<Taken, AllocError>
+    requires { is_spent master.old ≡ false }
+    ensures ok { IfOk result (λ taken. take_at master.old request.now ≡ (master.new, taken)) }
+    ensures err { OnErr result (master.new ≡ master.old) }
+{
+    match request {
+        Request::Start(start) => take_start(master, start),
+        Request::Beat(beat) => take_beat(master, beat),
+        Request::Call(message) => take_call(master, message),
+    }
+}
+
+fn take_start(master: &mut Master, start: &Start) -> Result<Taken, AllocError>
+    requires { is_spent master.old ≡ false }
+    ensures ok { IfOk result (λ taken. start_step master.old start.now ≡ (master.new, taken)) }
+    ensures err { OnErr result (master.new ≡ master.old) }
+{
+    if !master.may_start(start.client, &start.principal) {
+        return master.refusal(start.client, start.number, Fault::NoSession);
+    }
+    if master.recovering {
+        return master.turned_away(start.client, start.number, Fault::Recovering);
+    }
+    if master.is_full() {
+        return master.turned_away(start.client, start.number, Fault::Busy);
+    }
+    let work = Work::Starts(start.principal.clone()?, master.clock);
+    let asked = Asked {
+        client: start.client,
+        number: start.number,
+        work,
+    };
+    queue(master, Items::new(master.alloc), Task::Asked(asked))?;
+    Ok(master.nothing())
+}
+
+// It acknowledges, which ends rights, and waits for its answer.
+fn take_beat(master: &mut Master, beat: &Beat) -> Result<Taken, AllocError>
+    ensures ok { IfOk result (λ taken. beat_step master.old beat.now ≡ (master.new, taken)) }
+    ensures err { OnErr result (master.new ≡ master.old) }
+{
+    if beat.epoch != master.epoch {
+        let present = master.epoch;
+        return master.refusal(beat.client, beat.number, Fault::OldEpoch(present));
+    }
+    let lines = master.acked_lines(beat)?;
+    match master.sessions.beat(beat, master.clock) {
+        Ok(()) => {
+            let ending = Ending::Acknowledgement(beat.invalidations);
+            master.rights.end(beat.client.get(), ending);
+            Ok(Taken {
+                lines,
+                outs: Items::new(master.alloc),
+            })
+        }
+        Err(fault) => master.refusal(beat.client, beat.number, fault),
+    }
+}
+
+fn take_call(master: &mut Master, message: &CallMessage) -> Result<Taken, AllocError>
+    requires { is_spent master.old ≡ false }
+    ensures ok { IfOk result (λ taken. call_step master.old message.now ≡ (master.new, taken)) }
+    ensures err { OnErr result (master.new ≡ master.old) }
+{
+    let client = message.client;
+    let number = message.number;
+    if message.epoch != master.epoch {
+        let present = master.epoch;
+        return master.refusal(client, number, Fault::OldEpoch(present));
+    }
+    if !master.is_live(client) {
+        return master.refusal(client, number, Fault::NoSession);
+    }
+    by_kept(master, message)
+}
+
+// By the last call of the client.
+fn by_kept(master: &mut Master, message: &CallMessage) -> Result<Taken, AllocError>
+    requires { is_spent master.old ≡ false }
+    ensures ok { IfOk result (λ taken. kept_step master.old message.now (kept_answer (kept_of master.old message.now.client) message.now.number) ≡ (master.new, taken)) }
+    ensures err { OnErr result (master.new ≡ master.old) }
+{
+    let client = message.client;
+    let number = message.number;
+    match master.sessions.kept(client, number) {
+        Err(fault) => master.refusal(client, number, fault),
+        Ok(Some(kept)) => master.repeated(kept),
+        Ok(None) => new_call(master, message),
+    }
+}
+
+// A call that is neither repeated nor too early. During recovery each is refused, and that is recorded.
+fn new_call(master: &mut Master, message: &CallMessage) -> Result<Taken, AllocError>
+    requires { is_spent master.old ≡ false }
+    ensures ok { IfOk result (λ taken. new_call master.old message.now ≡ (master.new, taken)) }
+    ensures err { OnErr result (master.new ≡ master.old) }
+{
+    let client = message.client;
+    let number = message.number;
+    if master.recovering {
+        let refused = CallResult::Refused(Fault::Recovering);
+        return reply(master, client, number, refused);
+    }
+    let Admission {
+        note,
+        touched,
+        told,
+        answer,
+    } = admission_for(master, message)?;
+    match note {
+        None => admit(master, message, touched, told, answer),
+        Some(note) => admit_noted(master, note, message, touched, told, answer),
+    }
+}
+
+// What is noted of the call's handle is taken back where memory is refused.
+fn admit_noted(
+    master: &mut Master,
+    note: Note,
+    message: &CallMessage,
+    touched: Option<Name>,
+    told: Option<Name>,
+    answer: Option<CallResult>,
+) -> Result<Taken, AllocError>
+    requires { is_spent master.old ≡ false }
+    ensures ok { IfOk result (λ taken. admit_step (with_note master.old (Some note)) message.now touched told answer ≡ (master.new, taken)) }
+    ensures err { OnErr result (master.new ≡ master.old) }
+{
+    let Note { key, state } = note;
+    let former = master.handles.put(key, state)?;
+    match admit(master, message, touched, told, answer) {
+        Ok(taken) => {
+            settle_note(master, &key, former);
+            Ok(taken)
+        }
+        Err(error) => {
+            master.handles.restore(&key, former);
+            Err(error)
         }
     }
+}
 
-    fn start(&mut self, start: &Start) -> Result<Taken, AllocError>
-        requires { is_spent self.old ≡ false }
-        ensures ok { IfOk result (λ taken. start_step self.old start.now ≡ (self.new, taken)) }
-        ensures err { OnErr result (self.new ≡ self.old) }
-    {
-        if !self.may_start(start.client, &start.principal) {
-            return self.refusal(start.client, start.number, Fault::NoSession);
-        }
-        if self.recovering {
-            return self.turned_away(start.client, start.number, Fault::Recovering);
-        }
-        if self.is_full() {
-            return self.turned_away(start.client, start.number, Fault::Busy);
-        }
-        let work = Work::Starts(start.principal.clone()?, self.clock);
-        let asked = Asked {
-            client: start.client,
-            number: start.number,
-            work,
-        };
-        self.queue(Items::new(self.alloc), Task::Asked(asked))?;
-        Ok(self.nothing())
-    }
-
-    // It acknowledges, which ends rights, and waits for its answer.
-    fn beat(&mut self, beat: &Beat) -> Result<Taken, AllocError>
-        ensures ok { IfOk result (λ taken. beat_step self.old beat.now ≡ (self.new, taken)) }
-        ensures err { OnErr result (self.new ≡ self.old) }
-    {
-        if beat.epoch != self.epoch {
-            let present = self.epoch;
-            return self.refusal(beat.client, beat.number, Fault::OldEpoch(present));
-        }
-        let lines = self.acked_lines(beat)?;
-        match self.sessions.beat(beat, self.clock) {
-            Ok(()) => {
-                let ending = Ending::Acknowledgement(beat.invalidations);
-                self.rights.end(beat.client.get(), ending);
-                Ok(Taken {
-                    lines,
-                    outs: Items::new(self.alloc),
-                })
+// A call that is answered at once, or waits where there is room.
+fn admit(
+    master: &mut Master,
+    message: &CallMessage,
+    touched: Option<Name>,
+    told: Option<Name>,
+    answer: Option<CallResult>,
+) -> Result<Taken, AllocError>
+    requires { is_spent master.old ≡ false }
+    ensures ok { IfOk result (λ taken. admit_step master.old message.now touched told answer ≡ (master.new, taken)) }
+    ensures err { OnErr result (master.new ≡ master.old) }
+{
+    match answer {
+        Some(result) => answer_telling(master, message.client, message.number, result, told),
+        None => {
+            if master.is_full() {
+                let busy = CallResult::Refused(Fault::Busy);
+                reply(master, message.client, message.number, busy)
+            } else {
+                wait(master, message, touched)
             }
-            Err(fault) => self.refusal(beat.client, beat.number, fault),
         }
     }
+}
 
-    fn call(&mut self, message: &CallMessage) -> Result<Taken, AllocError>
-        requires { is_spent self.old ≡ false }
-        ensures ok { IfOk result (λ taken. call_step self.old message.now ≡ (self.new, taken)) }
-        ensures err { OnErr result (self.new ≡ self.old) }
-    {
-        let client = message.client;
-        let number = message.number;
-        if message.epoch != self.epoch {
-            let present = self.epoch;
-            return self.refusal(client, number, Fault::OldEpoch(present));
-        }
-        if !self.is_live(client) {
-            return self.refusal(client, number, Fault::NoSession);
-        }
-        self.by_kept(message)
+// An answer, by the name of which it tells what it shows.
+fn answer_telling(
+    master: &mut Master,
+    client: ClientNumber,
+    number: MessageNumber,
+    answer: CallResult,
+    told: Option<Name>,
+) -> Result<Taken, AllocError>
+    requires { is_spent master.old ≡ false }
+    ensures ok { IfOk result (λ taken. telling master.old client number answer told ≡ (master.new, taken)) }
+    ensures err { OnErr result (master.new ≡ master.old) }
+{
+    let Some(name) = told else {
+        return reply(master, client, number, answer);
+    };
+    if master.gate.cachable(&master.rights, client.get(), &name) {
+        grant(master, client, number, answer, &name)
+    } else {
+        reply(master, client, number, answer)
     }
+}
 
-    // By the last call of the client.
-    fn by_kept(&mut self, message: &CallMessage) -> Result<Taken, AllocError>
-        requires { is_spent self.old ≡ false }
-        ensures ok { IfOk result (λ taken. kept_step self.old message.now (kept_answer (kept_of self.old message.now.client) message.now.number) ≡ (self.new, taken)) }
-        ensures err { OnErr result (self.new ≡ self.old) }
-    {
-        let client = message.client;
-        let number = message.number;
-        match self.sessions.kept(client, number) {
-            Err(fault) => self.refusal(client, number, fault),
-            Ok(Some(kept)) => self.repeated(kept),
-            Ok(None) => self.new_call(message),
-        }
+// Grants the client the right to keep its answer.
+fn grant(
+    master: &mut Master,
+    client: ClientNumber,
+    number: MessageNumber,
+    answer: CallResult,
+    name: &Name,
+) -> Result<Taken, AllocError>
+    requires cachable { is_cachable master.old client name.now ≡ true }
+    requires more { is_spent master.old ≡ false }
+    ensures ok { IfOk result (λ taken. granting master.old client number answer name.now ≡ (master.new, taken)) }
+    ensures err { OnErr result (master.new ≡ master.old) }
+{
+    let reply = master.stamped_reply(client, number, answer);
+    let Taken { lines: _, outs } = master.sends(&reply)?;
+    let lines = master.granted_lines(client, name)?;
+    if master.rights.grant(client.get(), name).is_err() {
+        return Err(AllocError);
     }
+    master.sessions.keep(client, answered_by(reply));
+    Ok(Taken { lines, outs })
+}
 
-    // A call that is neither repeated nor too early. During recovery each is refused, and that is recorded.
-    fn new_call(&mut self, message: &CallMessage) -> Result<Taken, AllocError>
-        requires { is_spent self.old ≡ false }
-        ensures ok { IfOk result (λ taken. new_call self.old message.now ≡ (self.new, taken)) }
-        ensures err { OnErr result (self.new ≡ self.old) }
-    {
-        let client = message.client;
-        let number = message.number;
-        if self.recovering {
-            return self.reply(client, number, CallResult::Refused(Fault::Recovering));
-        }
-        let Admission {
-            note,
-            touched,
-            told,
-            answer,
-        } = self.admission(message)?;
-        match note {
-            None => self.admit(message, touched, told, answer),
-            Some(note) => self.admit_noted(note, message, touched, told, answer),
-        }
-    }
+// Queues a call, and keeps that it waits; who holds the name that it touches is asked for it.
+fn wait(
+    master: &mut Master,
+    message: &CallMessage,
+    touched: Option<Name>,
+) -> Result<Taken, AllocError>
+    requires room { is_full master.old ≡ false }
+    requires more { is_spent master.old ≡ false }
+    ensures ok { IfOk result (λ taken. waits master.old message.now touched ≡ (master.new, taken)) }
+    ensures err { OnErr result (master.new ≡ master.old) }
+{
+    let mut names = Items::new(master.alloc);
+    let Some(name) = touched else {
+        queue_call(master, message, names)?;
+        return Ok(master.nothing());
+    };
+    let asked = master.rights.to_ask(&name)?;
+    names.push(name.clone()?)?;
+    queue_call(master, message, names)?;
+    master.rights.mark(&name, &asked);
+    master.sessions.issue_all(&asked);
+    Ok(master.nothing())
+}
 
-    // What is noted of the call's handle is taken back where memory is refused.
-    fn admit_noted(
-        &mut self,
-        note: Note,
-        message: &CallMessage,
-        touched: Option<Name>,
-        told: Option<Name>,
-        answer: Option<CallResult>,
-    ) -> Result<Taken, AllocError>
-        requires { is_spent self.old ≡ false }
-        ensures ok { IfOk result (λ taken. admit_step (with_note self.old (Some note)) message.now touched told answer ≡ (self.new, taken)) }
-        ensures err { OnErr result (self.new ≡ self.old) }
-    {
-        let Note { key, state } = note;
-        let former = self.handles.put(key, state)?;
-        match self.admit(message, touched, told, answer) {
-            Ok(taken) => {
-                self.settle_note(&key, former);
-                Ok(taken)
-            }
-            Err(error) => {
-                self.handles.restore(&key, former);
-                Err(error)
-            }
-        }
-    }
+// A call stands behind all others, and is the last one of its client.
+fn queue_call(
+    master: &mut Master,
+    message: &CallMessage,
+    touched: Items<Name>,
+) -> Result<(), AllocError>
+    requires room { is_full master.old ≡ false }
+    requires more { is_spent master.old ≡ false }
+    ensures ok { OnOk result (master.new ≡ queued (recorded master.old message.now.client (record { number = message.now.number; reply = None })) touched (Task.Asked (task_of message.now))) }
+    ensures err { OnErr result (master.new ≡ master.old) }
+{
+    let client = message.client;
+    let number = message.number;
+    let work = work_of(message)?;
+    let asked = Asked {
+        client,
+        number,
+        work,
+    };
+    queue(master, touched, Task::Asked(asked))?;
+    let kept = Kept {
+        number,
+        reply: None,
+    };
+    master.sessions.keep(client, kept);
+    Ok(())
+}
 
-    // A call that is answered at once, or waits where there is room.
-    fn admit(
-        &mut self,
-        message: &CallMessage,
-        touched: Option<Name>,
-        told: Option<Name>,
-        answer: Option<CallResult>,
-    ) -> Result<Taken, AllocError>
-        requires { is_spent self.old ≡ false }
-        ensures ok { IfOk result (λ taken. admit_step self.old message.now touched told answer ≡ (self.new, taken)) }
-        ensures err { OnErr result (self.new ≡ self.old) }
-    {
-        match answer {
-            Some(result) => self.answer_telling(message.client, message.number, result, told),
-            None => {
-                if self.is_full() {
-                    let busy = CallResult::Refused(Fault::Busy);
-                    self.reply(message.client, message.number, busy)
-                } else {
-                    self.wait(message, touched)
-                }
-            }
-        }
+// What waits stands behind all others.
+pub(crate) fn queue(master: &mut Master, touched: Items<Name>, task: Task) -> Result<(), AllocError>
+    requires { is_ok (push_answer master.old.gate) ≡ true }
+    ensures ok { OnOk result (master.new ≡ queued master.old touched task) }
+    ensures err { OnErr result (master.new ≡ master.old) }
+{
+    match master.gate.push(Pending {
+        touched,
+        body: task,
+    }) {
+        Ok(_) => Ok(()),
+        Err(_) => Err(AllocError),
     }
+}
 
-    // An answer, by the name of which it tells what it shows.
-    fn answer_telling(
-        &mut self,
-        client: ClientNumber,
-        number: MessageNumber,
-        answer: CallResult,
-        told: Option<Name>,
-    ) -> Result<Taken, AllocError>
-        requires { is_spent self.old ≡ false }
-        ensures ok { IfOk result (λ taken. telling self.old client number answer told ≡ (self.new, taken)) }
-        ensures err { OnErr result (self.new ≡ self.old) }
-    {
-        let Some(name) = told else {
-            return self.reply(client, number, answer);
-        };
-        if self.gate.cachable(&self.rights, client.get(), &name) {
-            self.grant(client, number, answer, &name)
-        } else {
-            self.reply(client, number, answer)
-        }
-    }
-
-    // Grants the client the right to keep its answer.
-    fn grant(
-        &mut self,
-        client: ClientNumber,
-        number: MessageNumber,
-        answer: CallResult,
-        name: &Name,
-    ) -> Result<Taken, AllocError>
-        requires cachable { is_cachable self.old client name.now ≡ true }
-        requires more { is_spent self.old ≡ false }
-        ensures ok { IfOk result (λ taken. granting self.old client number answer name.now ≡ (self.new, taken)) }
-        ensures err { OnErr result (self.new ≡ self.old) }
-    {
-        let reply = self.stamped_reply(client, number, answer);
-        let Taken { lines: _, outs } = self.sends(&reply)?;
-        let lines = self.granted_lines(client, name)?;
-        if self.rights.grant(client.get(), name).is_err() {
-            return Err(AllocError);
-        }
-        self.sessions.keep(client, answered_by(reply));
-        Ok(Taken { lines, outs })
-    }
-
-    // Queues a call, and keeps that it waits; who holds the name that it touches is asked for it.
-    fn wait(&mut self, message: &CallMessage, touched: Option<Name>) -> Result<Taken, AllocError>
-        requires room { is_full self.old ≡ false }
-        requires more { is_spent self.old ≡ false }
-        ensures ok { IfOk result (λ taken. waits self.old message.now touched ≡ (self.new, taken)) }
-        ensures err { OnErr result (self.new ≡ self.old) }
-    {
-        let mut names = Items::new(self.alloc);
-        let Some(name) = touched else {
-            self.queue_call(message, names)?;
-            return Ok(self.nothing());
-        };
-        let asked = self.rights.to_ask(&name)?;
-        names.push(name.clone()?)?;
-        self.queue_call(message, names)?;
-        self.rights.mark(&name, &asked);
-        self.sessions.issue_all(&asked);
-        Ok(self.nothing())
-    }
-
-    // A call stands behind all others, and is the last one of its client.
-    fn queue_call(&mut self, message: &CallMessage, touched: Items<Name>) -> Result<(), AllocError>
-        requires room { is_full self.old ≡ false }
-        requires more { is_spent self.old ≡ false }
-        ensures ok { OnOk result (self.new ≡ queued (recorded self.old message.now.client (record { number = message.now.number; reply = None })) touched (Task.Asked (task_of message.now))) }
-        ensures err { OnErr result (self.new ≡ self.old) }
-    {
-        let client = message.client;
-        let number = message.number;
-        let work = work_of(message)?;
-        let asked = Asked {
-            client,
-            number,
-            work,
-        };
-        self.queue(touched, Task::Asked(asked))?;
-        let kept = Kept {
-            number,
-            reply: None,
-        };
-        self.sessions.keep(client, kept);
-        Ok(())
-    }
-
-    // What waits stands behind all others.
-    pub(crate) fn queue(&mut self, touched: Items<Name>, task: Task) -> Result<(), AllocError>
-        requires { is_ok (push_answer self.old.gate) ≡ true }
-        ensures ok { OnOk result (self.new ≡ queued self.old touched task) }
-        ensures err { OnErr result (self.new ≡ self.old) }
-    {
-        match self.gate.push(Pending {
-            touched,
-            body: task,
-        }) {
-            Ok(_) => Ok(()),
-            Err(_) => Err(AllocError),
-        }
-    }
-
-    // Records a reply that no client may keep in its cache, and sends it.
-    fn reply(
-        &mut self,
-        client: ClientNumber,
-        number: MessageNumber,
-        answer: CallResult,
-    ) -> Result<Taken, AllocError>
-        ensures ok { IfOk result (λ taken. replied self.old client number answer ≡ (self.new, taken)) }
-        ensures err { OnErr result (self.new ≡ self.old) }
-    {
-        let reply = self.reply_of(client, number, answer);
-        let taken = self.sends(&reply)?;
-        self.sessions.keep(client, answered_by(reply));
-        Ok(taken)
-    }
+// Records a reply that no client may keep in its cache, and sends it.
+fn reply(
+    master: &mut Master,
+    client: ClientNumber,
+    number: MessageNumber,
+    answer: CallResult,
+) -> Result<Taken, AllocError>
+    ensures ok { IfOk result (λ taken. replied master.old client number answer ≡ (master.new, taken)) }
+    ensures err { OnErr result (master.new ≡ master.old) }
+{
+    let reply = master.reply_of(client, number, answer);
+    let taken = master.sends(&reply)?;
+    master.sessions.keep(client, answered_by(reply));
+    Ok(taken)
 }
 
 // What waits of a call: also the sequencer that it carries.

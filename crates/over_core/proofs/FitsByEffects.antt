@@ -40,13 +40,15 @@ use Rattle.tags_cell.specs.declared.outs.CallResult.{CallResult}
 use Rattle.tags_cell.specs.declared.outs.CallResult.TheVariants as results
 use Rattle.tags_cell.specs.Numbers.{is_client_number}
 use Rattle.lock_core.specs.Locks.{lock_at}
-use Rattle.cell_core.specs.declared.pending.Idle.{Idle}
-use Rattle.cell_core.specs.declared.pending.Work.TheVariants as works
-use Rattle.over_core.specs.declared.effects.Effect.{Effect}
-use Rattle.cell_core.specs.State.{MasterState}
-use Rattle.cell_core.specs.Step.{is_live, may, missing_right, is_of_cell, node_of_handle, new_handle, content_fault, node_fault, delay_fault, create_fault, write_fault, needing, sequencer_fault, answer_on_node, answer_under}
-use Rattle.cell_core.specs.Ephemerals.{is_ephemeral, has_open, has_to_stay, is_idle_node, is_still_idle}
-use Rattle.over_core.specs.Effect.{answered, refused, changes_to, is_last, new_view, acls_of, create_made, create_numbered, create_permitted, create_in, create_under, create_new, create_over, create_effect, create_under_sequencer, open_effect, generation_fits, with_content, with_acls, put_at, deleted, delete_at, change_at, close_under, effect_on, handle_effect, effect}
+use Rattle.cell_parts.specs.declared.pending.Idle.{Idle}
+use Rattle.cell_parts.specs.declared.pending.Work.TheVariants as works
+use Rattle.turn_core.specs.declared.effects.Effect.{Effect}
+use Rattle.cell_state.specs.State.{MasterState}
+use Rattle.cell_state.specs.Lookups.{is_live, may, missing_right, is_of_cell, node_of_handle, new_handle, sequencer_fault, answer_on_node, answer_under, has_open, has_to_stay}
+use Rattle.cell_parts.specs.Calls.{content_fault, node_fault, delay_fault, create_fault, write_fault, needing}
+use Rattle.cell_parts.specs.EphemeralNames.{is_ephemeral}
+use Rattle.cell_core.specs.Ephemerals.{is_idle_node, is_still_idle}
+use Rattle.turn_core.specs.Effect.{answered, refused, changes_to, is_last, new_view, acls_of, create_made, create_numbered, create_permitted, create_in, create_under, create_new, create_over, create_effect, create_under_sequencer, open_effect, generation_fits, with_content, with_acls, put_at, deleted, delete_at, change_at, close_under, effect_on, handle_effect, effect}
 use Rattle.over_core.specs.Kept.{IsKept, IsOwnCall}
 use Rattle.over_core.proofs.LockEffects.{IsOwnHandle, own_handle_read, acquire_fits, try_fits, release_fits, close_fits}
 use Rattle.over_core.specs.SweepCase.{gone_change}

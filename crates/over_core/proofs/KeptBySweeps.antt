@@ -34,20 +34,22 @@ use Rattle.session_core.specs.Session as of_session
 use Rattle.session_core.specs.Session.{session_until, prolonged, answered}
 use Rattle.session_core.specs.Sessions.{with_new, is_live}
 use Rattle.session_core.proofs.RowsOfSessions.{rows_of-insert_entry}
-use Rattle.cell_core.specs.declared.notices.Telling.{Telling}
-use Rattle.cell_core.specs.Notices.{with_tellings}
-use Rattle.cell_core.specs.declared.pending.Asked.{Asked}
-use Rattle.cell_core.specs.declared.pending.Idle.{Idle}
-use Rattle.cell_core.specs.declared.pending.Task.{Task}
-use Rattle.cell_core.specs.declared.pending.Task.TheVariants as tasks
-use Rattle.cell_core.specs.declared.pending.Work.{Work}
-use Rattle.cell_core.specs.declared.pending.Work.TheVariants as works
-use Rattle.cell_core.specs.State.{MasterState, row_of}
-use Rattle.cell_core.specs.Step.{session_of, noted, queued}
+use Rattle.cell_parts.specs.declared.notices.Telling.{Telling}
+use Rattle.cell_state.specs.Notices.{with_tellings}
+use Rattle.cell_parts.specs.declared.pending.Asked.{Asked}
+use Rattle.cell_parts.specs.declared.pending.Idle.{Idle}
+use Rattle.cell_parts.specs.declared.pending.Task.{Task}
+use Rattle.cell_parts.specs.declared.pending.Task.TheVariants as tasks
+use Rattle.cell_parts.specs.declared.pending.Work.{Work}
+use Rattle.cell_parts.specs.declared.pending.Work.TheVariants as works
+use Rattle.cell_state.specs.State.{MasterState}
+use Rattle.cell_parts.specs.StoredSessions.{row_of}
+use Rattle.cell_state.specs.Lookups.{session_of, noted}
+use Rattle.cell_core.specs.Step.{queued}
 use Rattle.cell_core.specs.Ephemerals.{spared_for, is_ok, may_tidy, next_idle, tidied}
-use Rattle.over_core.specs.declared.effects.Effect.{Effect}
+use Rattle.turn_core.specs.declared.effects.Effect.{Effect}
 use Rattle.over_core.specs.declared.sweeps.Swept.{Swept}
-use Rattle.over_core.specs.Effect.{effect}
+use Rattle.turn_core.specs.Effect.{effect}
 use Rattle.over_core.specs.Kept.{IsKept, AreLocksKept, IsOwnCall, is_call}
 use Rattle.over_core.specs.Sweep.{action_edits, first_action, is_over, sweep_edits, sweep_step}
 use Rattle.over_core.specs.SweepCase.{IsTurn, SweepCase, rest, swept_by, swept_edits}

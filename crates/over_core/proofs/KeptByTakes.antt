@@ -38,14 +38,18 @@ use Rattle.session_core.specs.Sessions.{session_of, kept_of, is_live, has_spent_
 use Rattle.session_core.specs.Laws.{issued_at}
 use Rattle.session_core.proofs.IssuedBy.{rows_stay_issued}
 use Rattle.session_core.proofs.RowsOfSessions.{rows_stay}
-use Rattle.cell_core.specs.declared.handles.Note.{Note}
-use Rattle.cell_core.specs.declared.pending.Taken.{Taken}
-use Rattle.cell_core.specs.declared.pending.Asked.{Asked}
-use Rattle.cell_core.specs.declared.pending.Task.{Task}
-use Rattle.cell_core.specs.declared.pending.Task.TheVariants as tasks
-use Rattle.cell_core.specs.declared.pending.Work.TheVariants as works
-use Rattle.cell_core.specs.State.{MasterState, row_of, session_rows}
-use Rattle.cell_core.specs.Step.{is_full, queued, acknowledgement, parked, recorded, answered_by, stamped_reply, with_right, granting, asking, asking_for, names_of, task_of, with_call, waits, with_note, noted, take_step}
+use Rattle.cell_parts.specs.declared.handles.Note.{Note}
+use Rattle.cell_parts.specs.declared.pending.Taken.{Taken}
+use Rattle.cell_parts.specs.declared.pending.Asked.{Asked}
+use Rattle.cell_parts.specs.declared.pending.Task.{Task}
+use Rattle.cell_parts.specs.declared.pending.Task.TheVariants as tasks
+use Rattle.cell_parts.specs.declared.pending.Work.TheVariants as works
+use Rattle.cell_state.specs.State.{MasterState}
+use Rattle.cell_parts.specs.StoredSessions.{row_of, session_rows}
+use Rattle.cell_state.specs.Lookups.{is_full, acknowledgement, stamped_reply, noted}
+use Rattle.cell_core.specs.Step.{queued, parked, recorded, with_right, granting, asking, asking_for, names_of, task_of, with_call, waits, take_step}
+use Rattle.deed_core.specs.Deeds.{with_note}
+use Rattle.cell_parts.specs.Answered.{answered_by}
 use Rattle.cell_core.specs.Names.{name_changed}
 use Rattle.cell_core.specs.Cases.{IsBehind, IsNew, IsAdmitted, TakeCase, taken_by}
 use Rattle.cell_core.specs.Cases.TakeCase.{StartRefused, StartRecovering, StartFull, StartQueued, OldBeat, BeatRefused, BeatParked, OldEpoch, NoSession, Repeated, OlderCall, Outstanding, Recovering, Answered, Granted, Waits}

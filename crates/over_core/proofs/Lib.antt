@@ -1,6 +1,4 @@
-mod Appended
 pub mod EachSession
-pub mod EffectShapes
 mod FitsByEffects
 mod SessionReads
 mod OneCall

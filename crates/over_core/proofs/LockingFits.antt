@@ -10,15 +10,15 @@ use Rattle.rows_cell.proofs.SoundChanges.{PutFits}
 use Rattle.rows_cell.proofs.SoundRemovals.{GoneFits}
 use Rattle.lock_core.specs.declared.claims.Claim.{Claim}
 use Rattle.lock_core.specs.Locks.{lock_at}
-use Rattle.cell_core.specs.declared.deeds.Change.{Change}
-use Rattle.cell_core.specs.declared.deeds.LockPut.{LockPut}
-use Rattle.cell_core.specs.State.{MasterState}
-use Rattle.over_core.specs.declared.effects.Effect.{Effect}
-use Rattle.over_core.specs.declared.effects.Leave.{Leave}
-use Rattle.over_core.specs.declared.effects.Locking.{Locking}
-use Rattle.over_core.specs.declared.effects.Locking.TheVariants.{Nothing, Takes, Waits, Leaves, Goes}
+use Rattle.deed_core.specs.declared.deeds.Change.{Change}
+use Rattle.deed_core.specs.declared.deeds.LockPut.{LockPut}
+use Rattle.cell_state.specs.State.{MasterState}
+use Rattle.turn_core.specs.declared.effects.Effect.{Effect}
+use Rattle.turn_core.specs.declared.effects.Leave.{Leave}
+use Rattle.turn_core.specs.declared.effects.Locking.{Locking}
+use Rattle.turn_core.specs.declared.effects.Locking.TheVariants.{Nothing, Takes, Waits, Leaves, Goes}
 use Rattle.over_core.specs.Kept.{claim_count, waits_count}
-use Rattle.over_core.specs.Sweep.{left_put}
+use Rattle.turn_core.specs.Outcomes.{left_put}
 use Rattle.over_core.proofs.LockClaims.{turn_waiters}
 use Rattle.over_core.proofs.LockPuts.{IsPut}
 

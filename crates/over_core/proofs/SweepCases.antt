@@ -29,33 +29,35 @@ use Rattle.session_core.proofs.Lowest.{lowest_is}
 use Rattle.lock_core.specs.declared.claims.Claim.{Claim}
 use Rattle.lock_core.specs.Turns.{reopened}
 use Rattle.lock_core.specs.Locks.{lock_at, due}
-use Rattle.cell_core.specs.declared.deeds.LockPut.{LockPut}
-use Rattle.cell_core.specs.declared.deeds.SessionDeed.TheVariants.{Answers}
-use Rattle.cell_core.specs.declared.handles.Note.{Note}
-use Rattle.cell_core.specs.declared.pending.Asked.{Asked}
-use Rattle.cell_core.specs.declared.pending.Idle.{Idle}
-use Rattle.cell_core.specs.declared.pending.Task.{Task}
-use Rattle.cell_core.specs.declared.pending.Task.TheVariants as tasks
-use Rattle.cell_core.specs.declared.pending.Work.{Work}
-use Rattle.cell_core.specs.declared.pending.Work.TheVariants as works
-use Rattle.cell_core.specs.State.{MasterState, next_change, task_at}
-use Rattle.cell_core.specs.Step.{session_of, is_live, may_start, turned_away, noted}
-use Rattle.cell_core.specs.Deeds.{edits_of}
+use Rattle.deed_core.specs.declared.deeds.LockPut.{LockPut}
+use Rattle.deed_core.specs.declared.deeds.SessionDeed.TheVariants.{Answers}
+use Rattle.cell_parts.specs.declared.handles.Note.{Note}
+use Rattle.cell_parts.specs.declared.pending.Asked.{Asked}
+use Rattle.cell_parts.specs.declared.pending.Idle.{Idle}
+use Rattle.cell_parts.specs.declared.pending.Task.{Task}
+use Rattle.cell_parts.specs.declared.pending.Task.TheVariants as tasks
+use Rattle.cell_parts.specs.declared.pending.Work.{Work}
+use Rattle.cell_parts.specs.declared.pending.Work.TheVariants as works
+use Rattle.cell_state.specs.State.{MasterState, next_change, task_at}
+use Rattle.cell_state.specs.Lookups.{session_of, is_live, may_start, turned_away, noted}
+use Rattle.deed_core.specs.Deeds.{edits_of}
 use Rattle.cell_core.specs.Ephemerals.{next_idle, is_still_idle}
-use Rattle.cell_core.specs.declared.notices.Telling.{Telling}
-use Rattle.over_core.specs.Effect.{effect, gone_by_itself}
-use Rattle.over_core.specs.Notices.{tellings_of}
-use Rattle.over_core.specs.declared.effects.Effect.{Effect}
-use Rattle.over_core.specs.declared.effects.Leave.{Leave}
+use Rattle.cell_parts.specs.declared.notices.Telling.{Telling}
+use Rattle.turn_core.specs.Effect.{effect, gone_by_itself}
+use Rattle.over_core.specs.Sweep.{tellings_of, no_deed, no_plan, session_plan, alive_out, leaving, plan_session, plan_start, plan_effect, plan_asked, plan_call, plan_of, plan_work, plan_task, expiry_plan, answer_or_quiet, tidy_or_later, reopen_or_later, apply_or_later, first_action, swept_by_plan, acted, telling, swept, action_edits, is_over, sweep_edits, sweep_step}
+use Rattle.turn_core.specs.declared.effects.Effect.{Effect}
+use Rattle.turn_core.specs.declared.effects.Leave.{Leave}
 use Rattle.over_core.specs.declared.actions.Action.{Action}
 use Rattle.over_core.specs.declared.actions.Action.TheVariants as actions
 use Rattle.over_core.specs.declared.plans.Plan.{Plan}
 use Rattle.over_core.specs.declared.sweeps.Swept.{Swept}
-use Rattle.over_core.specs.Sweep.{no_deed, no_plan, session_plan, alive_out, leaving, plan_session, plan_start, plan_effect, plan_asked, plan_call, plan_of, plan_work, plan_task, left_put, puts_of, lapses_of, expiry_plan, answer_or_quiet, tidy_or_later, reopen_or_later, apply_or_later, first_action, swept_by_plan, acted, telling, swept, action_edits, is_over, sweep_edits, sweep_step}
+use Rattle.turn_core.specs.Outcomes.{left_put}
+use Rattle.deed_core.specs.Replies.{puts_of}
+use Rattle.deed_core.specs.Lapses.{lapses_of}
 use Rattle.over_core.specs.SweepCase.{IsTurn, IsDueToEnd, IsDue, SweepCase, swept_by, relocking, swept_edits}
 use Rattle.over_core.specs.SweepCase.SweepCase.{Quiet, Recovers, Expires, AnswersBeat, TurnedAway, StartedAgain, Started, Reopens, Tidies, Spared, Tidied, OfEnded, Ended, Applied, Deleted, Locked, Awaited, Left}
-use Rattle.over_core.proofs.EffectShapes.{Shape, effect_by, shape_of}
-use Rattle.over_core.proofs.EffectShapes.Shape.{Ends, Applies, Deletes, Locks, Awaits, Leaves}
+use Rattle.turn_core.proofs.EffectShapes.{Shape, effect_by, shape_of}
+use Rattle.turn_core.proofs.EffectShapes.Shape.{Ends, Applies, Deletes, Locks, Awaits, Leaves}
 
 -- one of the cases is what is done, and committed
 abbrev pub IsSwept : (s : MasterState) → MasterState × Swept → List Edit → Type 0

@@ -3,19 +3,18 @@ use Rattle.std.proofs.Common.{◌≡◌, ℕ, List, [], ◌∷◌, Bool, true, f
 use Rattle.std.specs.List.{filter_map}
 use Rattle.node_core.specs.declared.refusals.Fault.{Fault}
 use Rattle.node_core.specs.declared.refusals.Fault.TheVariants as faults
-use Rattle.cell_core.specs.declared.handles.HandleKey.{HandleKey}
-use Rattle.cell_core.specs.declared.handles.HandleState.{HandleState}
-use Rattle.cell_core.specs.declared.handles.HandleState.TheVariants as states
-use Rattle.cell_core.specs.declared.pending.Idle.{Idle}
+use Rattle.cell_parts.specs.declared.handles.HandleKey.{HandleKey}
+use Rattle.cell_parts.specs.declared.handles.HandleState.{HandleState}
+use Rattle.cell_parts.specs.declared.handles.HandleState.TheVariants as states
+use Rattle.cell_parts.specs.declared.pending.Idle.{Idle}
 use Rattle.cell_core.specs.Ephemerals.{tidied}
-use Rattle.cell_core.specs.State.{MasterState}
-use Rattle.cell_core.specs.Step.{noted}
-use Rattle.cell_core.specs.Notices.{telling_by}
+use Rattle.cell_state.specs.State.{MasterState}
+use Rattle.cell_state.specs.Lookups.{noted}
+use Rattle.cell_state.specs.Notices.{telling_by}
 use Rattle.over_core.specs.declared.actions.Action.{Action}
 use Rattle.over_core.specs.declared.actions.Action.TheVariants.{Tidy}
 use Rattle.over_core.specs.declared.sweeps.Swept.{Swept}
-use Rattle.over_core.specs.Notices.{tellings_of}
-use Rattle.over_core.specs.Sweep.{first_action, no_plan, telling, swept, is_over, sweep_step}
+use Rattle.over_core.specs.Sweep.{tellings_of, first_action, no_plan, telling, swept, is_over, sweep_step}
 
 -- of nothing nobody is told
 tells_nobody : (s : MasterState) (handles : List (HandleKey × HandleState)) → filter_map (telling_by s None []) handles ≡ []

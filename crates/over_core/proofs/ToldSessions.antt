@@ -17,8 +17,8 @@ use Rattle.session_core.specs.Session.{events_of, told, has_heard}
 use Rattle.session_core.specs.Sessions.{SessionTable, session_of, with_session, all_heard}
 use Rattle.session_core.proofs.OneClient.{own_session, other_session}
 use Rattle.session_core.proofs.RowsOfSessions.{rows_of, rows_stay}
-use Rattle.cell_core.specs.declared.notices.Telling.{Telling}
-use Rattle.cell_core.specs.Notices.{with_telling}
+use Rattle.cell_parts.specs.declared.notices.Telling.{Telling}
+use Rattle.cell_state.specs.Notices.{with_telling}
 use Rattle.over_core.proofs.EachSession.{Each, EachWithout, step_each, step_without}
 use Rattle.over_core.proofs.SessionReads.{reads_step}
 

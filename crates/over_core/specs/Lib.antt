@@ -9,14 +9,18 @@ pub use Rattle.rows_cell.specs.Indexes
 pub use Rattle.lock_core.specs.State as LockStates
 pub use Rattle.lock_core.specs.Turns
 pub use Rattle.lock_core.specs.Locks as LockTables
-pub use Rattle.cell_core.specs.Locks
-pub use Rattle.cell_core.specs.State
+pub use Rattle.cell_parts.specs.Locks
+pub use Rattle.cell_state.specs.State
+pub use Rattle.cell_state.specs.Lookups
 pub use Rattle.cell_core.specs.Step
 pub use Rattle.cell_core.specs.Cases
-pub use Rattle.cell_core.specs.Deeds
+pub use Rattle.deed_core.specs.Deeds
+pub use Rattle.deed_core.specs.Replies
+pub use Rattle.deed_core.specs.Lapses
+pub use Rattle.turn_core.specs.Effect
+pub use Rattle.turn_core.specs.Outcomes
+pub use Rattle.turn_core.specs.Notices
 pub mod Kept
-pub mod Effect
-pub mod Notices
 pub mod Sweep
 pub mod SweepCase
 pub mod Up

@@ -1,58 +1,59 @@
 -- What a master does by itself: the first action that there is, what is planned for it, what is committed, and the step.
-use Rattle.std.specs.Prelude.{ℕ, Bool, true, false, not, ◌==◌, ◌&&◌, ◌||◌, List, [], ◌∷◌, ◌++◌, map, Option, Some, None, Result, Ok, Err, if◌then◌else◌, find}
-use Rattle.std.specs.Option.{option_map, option_map_or}
+use Rattle.std.specs.Prelude.{List, ◌++◌, ℕ, Bool, true, false, ◌&&◌, ◌||◌, [], ◌∷◌, map, Option, Some, None, Result, Ok, Err, if◌then◌else◌}
+use Rattle.cell_parts.specs.declared.notices.Notice.{Notice}
+use Rattle.cell_parts.specs.declared.notices.Telling.{Telling}
+use Rattle.cell_state.specs.Notices.{tellings_to, with_tellings}
+use Rattle.cell_state.specs.State.{MasterState, next_change, task_at}
+use Rattle.over_core.specs.declared.plans.Plan.{Plan}
+use Rattle.turn_core.specs.Notices.{change_notices, locks_notices, contest_notices, contested_by}
+use Rattle.std.specs.Option.{option_map_or}
 use Rattle.node_core.specs.declared.refusals.Fault.{Fault}
-use Rattle.node_core.specs.declared.refusals.Fault.TheVariants as faults
 use Rattle.node_core.specs.declared.lines.Line.{Line}
-use Rattle.node_core.specs.declared.lines.Line.TheVariants as lines
-use Rattle.node_core.specs.Nodes.{Nodes}
 use Rattle.rows_cell.specs.declared.tables.Edit.{Edit}
 use Rattle.tags_cell.specs.declared.beats.Invalidation.{Invalidation}
 use Rattle.tags_cell.specs.declared.outs.Out.{Out}
-use Rattle.tags_cell.specs.declared.outs.Out.TheVariants as outs
-use Rattle.tags_cell.specs.declared.outs.CallResult.{CallResult}
-use Rattle.tags_cell.specs.declared.outs.CallResult.TheVariants as results
-use Rattle.tags_cell.specs.declared.outs.Reply.{Reply}
-use Rattle.tags_cell.specs.Numbers.{is_client_number}
 use Rattle.tags_cell.specs.declared.calls.Call.{Call}
-use Rattle.rights_core.specs.declared.endings.Ending.TheVariants as endings
-use Rattle.rights_core.specs.Rights.{numbers_ending, unacked_of}
+use Rattle.rights_core.specs.Rights.{unacked_of}
 use Rattle.session_core.specs.declared.records.Offer.{Offer}
 use Rattle.session_core.specs.Session.{is_client_expired, is_client_due, offered_span}
 use Rattle.session_core.specs.Sessions.{unacked_events, has_spent_events, all_heard, lowest, offer_of}
-use Rattle.lock_core.specs.declared.claims.Claim.{Claim}
 use Rattle.lock_core.specs.declared.turns.Turn.{Turn}
 use Rattle.lock_core.specs.declared.turns.Lapse.{Lapse}
-use Rattle.lock_core.specs.State.{LockState}
-use Rattle.lock_core.specs.Turns.{reopened, is_nobody}
-use Rattle.lock_core.specs.Locks.{lock_at, lapses, due}
-use Rattle.cell_core.specs.declared.deeds.Deed.{Deed}
-use Rattle.cell_core.specs.declared.deeds.KeptPut.{KeptPut}
-use Rattle.cell_core.specs.declared.deeds.LockPut.{LockPut}
-use Rattle.cell_core.specs.declared.deeds.SessionDeed.{SessionDeed}
-use Rattle.cell_core.specs.declared.deeds.SessionDeed.TheVariants.{Begins, Prolongs, Ends, Answers}
-use Rattle.over_core.specs.declared.effects.Effect.{Effect}
-use Rattle.over_core.specs.declared.effects.Leave.{Leave}
-use Rattle.over_core.specs.declared.effects.Locking.{Locking}
-use Rattle.over_core.specs.declared.effects.Locking.TheVariants.{Takes, Waits, Leaves, Goes}
-use Rattle.cell_core.specs.declared.deeds.Change.{Change}
-use Rattle.cell_core.specs.declared.pending.Idle.{Idle}
-use Rattle.cell_core.specs.declared.pending.Task.{Task}
-use Rattle.cell_core.specs.declared.pending.Task.TheVariants as tasks
-use Rattle.cell_core.specs.declared.pending.Work.{Work}
-use Rattle.cell_core.specs.declared.pending.Work.TheVariants as works
-use Rattle.cell_core.specs.State.{MasterState, next_change, task_at}
-use Rattle.cell_core.specs.Step.{session_of, kept_of, may_start, is_live, nothing, turned_away, reply_of, answered_by, is_past_end, noted}
-use Rattle.cell_core.specs.Deeds.{done, edits_of}
-use Rattle.cell_core.specs.declared.notices.Telling.{Telling}
-use Rattle.cell_core.specs.Notices.{with_tellings}
-use Rattle.over_core.specs.Notices.{contested_by, tellings_of}
+use Rattle.lock_core.specs.Turns.{reopened}
+use Rattle.lock_core.specs.Locks.{lock_at, due}
+use Rattle.deed_core.specs.declared.deeds.Deed.{Deed}
+use Rattle.deed_core.specs.declared.deeds.SessionDeed.{SessionDeed}
+use Rattle.deed_core.specs.declared.deeds.SessionDeed.TheVariants.{Begins, Prolongs, Ends, Answers}
+use Rattle.turn_core.specs.declared.effects.Effect.{Effect}
+use Rattle.cell_parts.specs.declared.pending.Idle.{Idle}
+use Rattle.cell_parts.specs.declared.pending.Task.{Task}
+use Rattle.cell_parts.specs.declared.pending.Work.{Work}
+use Rattle.cell_state.specs.Lookups.{session_of, may_start, is_live, nothing, turned_away, noted}
+use Rattle.cell_core.specs.Step.{is_past_end}
+use Rattle.deed_core.specs.Deeds.{done, edits_of}
 use Rattle.cell_core.specs.Ephemerals.{next_idle, tidied, is_still_idle}
-use Rattle.over_core.specs.Effect.{effect, gone_by_itself}
+use Rattle.turn_core.specs.Effect.{effect, gone_by_itself}
 use Rattle.over_core.specs.declared.actions.Action.{Action}
 use Rattle.over_core.specs.declared.actions.Action.TheVariants.{Recover, Expire, Apply, Reopen, Tidy, Answer, Quiet}
-use Rattle.over_core.specs.declared.plans.Plan.{Plan}
 use Rattle.over_core.specs.declared.sweeps.Swept.{Swept}
+use Rattle.deed_core.specs.Replies.{kept_puts, sent, turn_replies, locked_lines, puts_of}
+use Rattle.turn_core.specs.Outcomes.{locking_lines, locking_puts, lock_ended, applied_lines, effect_replies}
+use Rattle.deed_core.specs.Lapses.{lapses_replies, lapses_puts, lapses_of, expiry_lines}
+use Rattle.node_core.specs.declared.refusals.Fault.TheVariants as faults
+use Rattle.node_core.specs.declared.lines.Line.TheVariants as lines
+use Rattle.tags_cell.specs.declared.outs.Out.TheVariants as outs
+use Rattle.cell_parts.specs.declared.pending.Task.TheVariants as tasks
+use Rattle.cell_parts.specs.declared.pending.Work.TheVariants as works
+
+-- ---- who is told
+
+-- of what is planned, before anything changes
+abbrev pub notices_of : MasterState → Plan → List Notice
+notices_of s plan = change_notices s plan.deed.change ++ locks_notices s.locks plan.deed.locks ++ contest_notices plan.contested
+
+-- what the clients of open handles are told of what is planned
+abbrev pub tellings_of : MasterState → Plan → List Telling
+tellings_of s plan = tellings_to s plan.deed.note (notices_of s plan)
 
 -- ---- what is done first
 
@@ -109,95 +110,7 @@ plan_start s client number principal received =
     if may_start s client principal then plan_session s client number principal received
     else record no_plan { taken = turned_away s client number faults.NoSession }
 
--- ---- replies
-
--- a reply is kept, and sent
-abbrev pub kept_put : Reply → KeptPut
-kept_put reply = record { client = reply.client; kept = answered_by reply }
-
-abbrev pub kept_puts : List Reply → List KeptPut
-kept_puts replies = map kept_put replies
-
-abbrev pub sent : List Reply → List Out
-sent replies = map outs.Reply replies
-
--- the answer to the call of a client that waits for a lock
-abbrev pub reply_to : MasterState → CallResult → ℕ → List Reply
-reply_to s answer client =
-    if is_client_number client then option_map_or (λ kept. reply_of s client kept.number answer ∷ []) (kept_of s client) [] else []
-
--- to each of these, in order
-abbrev pub replies_to : MasterState → CallResult → List Claim → List Reply
-replies_to s answer [] = []
-replies_to s answer (claim ∷ claims) = reply_to s answer claim.owner.client ++ replies_to s answer claims
-
--- who got the lock is told so, and who can't get it any more
-abbrev pub turn_replies : MasterState → Turn → List Reply
-turn_replies s turn = replies_to s results.Done turn.granted ++ replies_to s (results.Refused faults.Exhausted) turn.exhausted
-
--- ---- locks
-
-abbrev pub locked_line : ℕ → ℕ → Claim → Line
-locked_line instance generation claim = lines.Locked claim.owner.client instance claim.hold.mode generation
-
--- each that got the lock, in order
-abbrev pub locked_lines : ℕ → Turn → List Line
-locked_lines instance turn = map (locked_line instance turn.lock.generation) turn.granted
-
--- a line where this holds
-abbrev pub line_if : Bool → Line → List Line
-line_if holds line = if holds then line ∷ [] else []
-
-abbrev pub leave_lines : ℕ → Leave → List Line
-leave_lines client leave = line_if leave.held (lines.Freed client leave.instance) ++ locked_lines leave.instance leave.turn
-
-abbrev pub locking_lines : ℕ → Locking → List Line
-locking_lines client (Takes put claim) = locked_line put.instance put.lock.generation claim ∷ []
-locking_lines client (Leaves leave) = leave_lines client leave
-locking_lines client _ = []
-
--- to those that waited
-abbrev pub locking_replies : MasterState → Locking → List Reply
-locking_replies s (Leaves leave) = turn_replies s leave.turn
-locking_replies s (Goes instance waiters) = replies_to s (results.Refused faults.StaleInstance) waiters
-locking_replies s _ = []
-
-abbrev pub left_put : Leave → LockPut
-left_put leave = record { name = leave.name; instance = leave.instance; lock = leave.turn.lock }
-
-abbrev pub locking_puts : Locking → List LockPut
-locking_puts (Takes put claim) = put ∷ []
-locking_puts (Waits put) = put ∷ []
-locking_puts (Leaves leave) = left_put leave ∷ []
-locking_puts _ = []
-
-abbrev pub lock_ended : Locking → Option ℕ
-lock_ended (Goes instance waiters) = Some instance
-lock_ended _ = None
-
--- the name of an instance's node
-abbrev pub name_of : Nodes → ℕ → Option (List ℕ)
-name_of nodes instance = option_map (λ entry. entry.0) (find (λ entry. entry.1.instance == instance) nodes)
-
--- what becomes of the lock of an instance, where its node is there
-abbrev pub puts_of : MasterState → ℕ → LockState → List LockPut
-puts_of s instance lock = option_map_or (λ name. record { name = name; instance = instance; lock = lock } ∷ []) (name_of s.nodes instance) []
-
 -- ---- calls
-
--- the line of a change of the map, if there is one
-abbrev pub applied_lines : ℕ → ℕ → Option Change → List Line
-applied_lines client number None = []
-applied_lines client number (Some change) = lines.Applied client number change.change ∷ []
-
--- a call that waits for a lock has no reply yet
-abbrev pub own_replies : MasterState → ℕ → ℕ → Option CallResult → List Reply
-own_replies s client number None = []
-own_replies s client number (Some answer) = reply_of s client number answer ∷ []
-
--- the caller's first
-abbrev pub effect_replies : MasterState → ℕ → ℕ → Effect → List Reply
-effect_replies s client number effected = own_replies s client number effected.answer ++ locking_replies s effected.locking
 
 -- the replies are kept and sent, and a change of the map or of a lock is committed and printed
 abbrev pub plan_effect : MasterState → ℕ → ℕ → Effect → Plan
@@ -247,34 +160,6 @@ abbrev pub leaving : ℕ → Plan → Plan
 leaving number plan = record plan { deed = record plan.deed { leaves = Some number } }
 
 -- ---- sessions
-
--- what the session held, a lock that is open again at once, and who got it
-abbrev pub lapse_lines : ℕ → Lapse → List Line
-lapse_lines client lapse =
-    line_if (not (is_nobody lapse.ended)) (lines.Lapsed client lapse.instance) ++ line_if lapse.reopens (lines.Reopened lapse.instance)
-    ++ locked_lines lapse.instance lapse.turn
-
-abbrev pub lapses_lines : ℕ → List Lapse → List Line
-lapses_lines client [] = []
-lapses_lines client (lapse ∷ rest) = lapse_lines client lapse ++ lapses_lines client rest
-
--- the session's own waiters aren't told
-abbrev pub lapses_replies : MasterState → List Lapse → List Reply
-lapses_replies s [] = []
-lapses_replies s (lapse ∷ rest) = turn_replies s lapse.turn ++ lapses_replies s rest
-
-abbrev pub lapses_puts : MasterState → List Lapse → List LockPut
-lapses_puts s [] = []
-lapses_puts s (lapse ∷ rest) = puts_of s lapse.instance lapse.turn.lock ++ lapses_puts s rest
-
--- each lock that the session held or awaited, as it is without it
-abbrev pub lapses_of : MasterState → ℕ → List Lapse
-lapses_of s client = lapses s.locks client s.clock
-
--- each right that ends with a session is printed, then what becomes of its locks, and then its end
-abbrev pub expiry_lines : MasterState → ℕ → List Lapse → List Line
-expiry_lines s client ended =
-    map lines.Expired (numbers_ending client endings.Expiry s.rights) ++ lapses_lines client ended ++ lines.Ended client ∷ []
 
 abbrev pub expiry_plan : MasterState → ℕ → List ℕ → List Lapse → Plan
 expiry_plan s client principal ended = record {

@@ -1,8 +1,6 @@
 -- By which arm of its table a master sweeps. Each law of it is a match on these.
 use Rattle.std.specs.Prelude.{◌≡◌, ℕ, ◌+◌, ◌≤◌, true, false, List, [], ◌∷◌, ◌++◌, Option, Some, None}
-use Rattle.node_core.specs.declared.refusals.Fault.TheVariants as faults
 use Rattle.node_core.specs.declared.lines.Line.{Line}
-use Rattle.node_core.specs.declared.lines.Line.TheVariants as lines
 use Rattle.node_core.specs.declared.views.Mod.TheVariants.{Gone}
 use Rattle.node_core.specs.Nodes.{changed}
 use Rattle.rows_cell.specs.declared.tables.Edit.{Edit}
@@ -10,39 +8,46 @@ use Rattle.rows_cell.specs.declared.tables.Edit.TheVariants.{NextInstance, PutSe
 use Rattle.rows_cell.specs.LockRows.{locks_edits}
 use Rattle.tags_cell.specs.declared.calls.Call.{Call}
 use Rattle.tags_cell.specs.declared.outs.Out.{Out}
-use Rattle.tags_cell.specs.declared.outs.Out.TheVariants as outs
 use Rattle.tags_cell.specs.declared.outs.CallResult.{CallResult}
 use Rattle.tags_cell.specs.declared.outs.Reply.{Reply}
-use Rattle.rights_core.specs.declared.endings.Ending.TheVariants as endings
-use Rattle.rights_core.specs.Rights as of_rights
 use Rattle.gate_core.specs.declared.pending.Waiting.{Waiting}
 use Rattle.gate_core.specs.Gate.{is_free}
-use Rattle.cell_core.specs.declared.deeds.Change.{Change}
-use Rattle.cell_core.specs.declared.handles.Note.{Note}
-use Rattle.cell_core.specs.declared.pending.Asked.{Asked}
-use Rattle.cell_core.specs.declared.pending.Idle.{Idle}
-use Rattle.cell_core.specs.declared.pending.Task.{Task}
-use Rattle.cell_core.specs.declared.pending.Task.TheVariants as tasks
-use Rattle.cell_core.specs.declared.pending.Work.TheVariants as works
+use Rattle.deed_core.specs.declared.deeds.Change.{Change}
+use Rattle.cell_parts.specs.declared.handles.Note.{Note}
+use Rattle.cell_parts.specs.declared.pending.Asked.{Asked}
+use Rattle.cell_parts.specs.declared.pending.Idle.{Idle}
+use Rattle.cell_parts.specs.declared.pending.Task.{Task}
 use Rattle.lock_core.specs.declared.claims.Claim.{Claim}
 use Rattle.lock_core.specs.Turns.{reopened}
 use Rattle.lock_core.specs.Locks.{lock_at, due}
-use Rattle.cell_core.specs.declared.deeds.LockPut.{LockPut}
-use Rattle.tags_cell.specs.declared.outs.CallResult.TheVariants as results
-use Rattle.over_core.specs.declared.effects.Leave.{Leave}
-use Rattle.over_core.specs.declared.effects.Locking.TheVariants as lockings
-use Rattle.cell_core.specs.State.{MasterState}
+use Rattle.deed_core.specs.declared.deeds.LockPut.{LockPut}
+use Rattle.turn_core.specs.declared.effects.Leave.{Leave}
+use Rattle.cell_state.specs.State.{MasterState}
 use Rattle.cell_core.specs.Ephemerals.{next_idle, tidied, is_still_idle}
 use Rattle.session_core.specs.declared.records.Parked.{Parked}
 use Rattle.session_core.specs.declared.records.Session.{Session}
-use Rattle.session_core.specs.Session as of_session
 use Rattle.session_core.specs.Session.{session_until, prolonged, answered, is_client_expired, is_client_due, offer_to}
 use Rattle.session_core.specs.Sessions.{with_session, with_new, all_heard, lowest}
-use Rattle.cell_core.specs.Step.{session_of, may_start, is_live, turned_away, reply_of, answered_by, recorded, with_note}
-use Rattle.cell_core.specs.Deeds.{edit_of, with_kept, with_locks, without_lock, lock_changes}
-use Rattle.over_core.specs.Effect.{effect}
+use Rattle.cell_state.specs.Lookups.{session_of, may_start, is_live, turned_away, reply_of}
+use Rattle.cell_parts.specs.Answered.{answered_by}
+use Rattle.cell_core.specs.Step.{recorded}
+use Rattle.deed_core.specs.Deeds.{with_note, edit_of, with_kept, with_locks, without_lock, lock_changes}
+use Rattle.turn_core.specs.Effect.{effect}
 use Rattle.over_core.specs.declared.sweeps.Swept.{Swept}
-use Rattle.over_core.specs.Sweep.{first_action, expiry_lines, started_out, alive_out, kept_puts, sent, turn_replies, locked_line, locked_lines, leave_lines, left_put, lapses_of, lapses_puts, lapses_replies, puts_of, replies_to}
+use Rattle.over_core.specs.Sweep.{first_action, started_out, alive_out}
+use Rattle.deed_core.specs.Lapses.{expiry_lines, lapses_of, lapses_puts, lapses_replies}
+use Rattle.deed_core.specs.Replies.{kept_puts, sent, turn_replies, locked_line, locked_lines, puts_of, replies_to}
+use Rattle.turn_core.specs.Outcomes.{leave_lines, left_put}
+use Rattle.node_core.specs.declared.refusals.Fault.TheVariants as faults
+use Rattle.node_core.specs.declared.lines.Line.TheVariants as lines
+use Rattle.tags_cell.specs.declared.outs.Out.TheVariants as outs
+use Rattle.rights_core.specs.declared.endings.Ending.TheVariants as endings
+use Rattle.rights_core.specs.Rights as of_rights
+use Rattle.cell_parts.specs.declared.pending.Task.TheVariants as tasks
+use Rattle.cell_parts.specs.declared.pending.Work.TheVariants as works
+use Rattle.tags_cell.specs.declared.outs.CallResult.TheVariants as results
+use Rattle.turn_core.specs.declared.effects.Locking.TheVariants as lockings
+use Rattle.session_core.specs.Session as of_session
 use Rattle.over_core.specs.declared.actions.Action.TheVariants as actions
 
 -- a change has its turn: it waited between these, and no right holds it up

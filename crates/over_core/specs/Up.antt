@@ -1,16 +1,16 @@
 -- A master comes up.
 use Rattle.std.specs.Prelude.{◌≡◌, ◌⊎◌, ℕ, true, false, ◌+◌, not, List, [], ◌∷◌, Result, Ok, Err, if◌then◌else◌}
 use Rattle.node_core.specs.declared.refusals.Fault.{Fault}
-use Rattle.node_core.specs.declared.refusals.Fault.TheVariants as faults
 use Rattle.rows_cell.specs.declared.tables.Rows.{Rows}
 use Rattle.rows_cell.specs.declared.tables.Edit.{Edit}
 use Rattle.rows_cell.specs.declared.tables.Edit.TheVariants.{Epoch}
 use Rattle.rows_cell.specs.Rows.{changed_rows}
 use Rattle.rows_cell.specs.Sound.{sound}
-use Rattle.cell_core.specs.State.{MasterState, master_of}
+use Rattle.cell_state.specs.State.{MasterState, master_of}
 use Rattle.cell_core.specs.Step.{is_past_end}
-use Rattle.over_core.specs.Effect.{is_last}
+use Rattle.turn_core.specs.Effect.{is_last}
 use Rattle.rows_cell.specs.Stores.{Store, IsRead, IsUnread, IsCommitted, IsRefused}
+use Rattle.node_core.specs.declared.refusals.Fault.TheVariants as faults
 
 -- it commits the next epoch
 abbrev pub up_edits : Rows → List Edit

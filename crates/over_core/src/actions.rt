@@ -2,7 +2,9 @@
 ghost use Rattle.std.specs.Prelude.{◌≡◌, IfOk};
 ghost use Rattle.over_core.specs.Sweep.{first_action, apply_or_later, reopen_or_later, tidy_or_later, answer_or_quiet};
 
-use cell_core::{Cell as Master, Idle};
+use cell_core::Cell;
+use cell_parts::Idle;
+use cell_state::Master;
 use std::alloc::AllocError;
 use tags_cell::ClientNumber;
 
@@ -30,45 +32,47 @@ pub enum Action {
 }
 
 // The first that there is.
-pub(crate) fn first_action(master: &Master) -> Result<Action, AllocError>
-    ensures { IfOk result (λ action. action ≡ first_action master.now) }
+pub(crate) fn first_action(cell: &Cell) -> Result<Action, AllocError>
+    ensures { IfOk result (λ action. action ≡ first_action cell.now) }
 {
+    let master = cell.master();
     if master.recovering() && master.sessions().all_heard() {
         return Ok(Action::Recover);
     }
     match master.sessions().expired(master.clock()) {
         Some(client) => Ok(Action::Expire(client)),
-        None => apply_or_later(master),
+        None => apply_or_later(cell),
     }
 }
 
 // The lowest change that no right holds up has its turn.
-fn apply_or_later(master: &Master) -> Result<Action, AllocError>
-    ensures { IfOk result (λ action. action ≡ apply_or_later master.now) }
+fn apply_or_later(cell: &Cell) -> Result<Action, AllocError>
+    ensures { IfOk result (λ action. action ≡ apply_or_later cell.now) }
 {
-    match master.next_change() {
+    match cell.master().next_change() {
         Some(number) => Ok(Action::Apply(number)),
-        None => reopen_or_later(master),
+        None => reopen_or_later(cell),
     }
 }
 
 // The lowest instance whose lock was closed long enough.
-fn reopen_or_later(master: &Master) -> Result<Action, AllocError>
-    ensures { IfOk result (λ action. action ≡ reopen_or_later master.now) }
+fn reopen_or_later(cell: &Cell) -> Result<Action, AllocError>
+    ensures { IfOk result (λ action. action ≡ reopen_or_later cell.now) }
 {
+    let master = cell.master();
     match master.locks().due(master.clock()) {
         Some(instance) => Ok(Action::Reopen(instance)),
-        None => tidy_or_later(master),
+        None => tidy_or_later(cell),
     }
 }
 
 // The first ephemeral node, by name, that nobody holds open.
-fn tidy_or_later(master: &Master) -> Result<Action, AllocError>
-    ensures { IfOk result (λ action. action ≡ tidy_or_later master.now) }
+fn tidy_or_later(cell: &Cell) -> Result<Action, AllocError>
+    ensures { IfOk result (λ action. action ≡ tidy_or_later cell.now) }
 {
-    match master.next_idle()? {
+    match cell.next_idle()? {
         Some(idle) => Ok(Action::Tidy(idle)),
-        None => Ok(answer_or_quiet(master)),
+        None => Ok(answer_or_quiet(cell.master())),
     }
 }
 

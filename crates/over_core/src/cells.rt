@@ -15,7 +15,7 @@ ghost use Rattle.over_core.specs.Kept.{IsKept};
 ghost use Rattle.over_core.specs.Up.{up_edits, next_epoch, ComesUp, StaysDown, CouldComeUp, CouldNotComeUp};
 
 use crate::sweeps::{Swept, sweep_by};
-use cell_core::{Cell as Master, Taken};
+use cell_parts::Taken;
 use lease_core::MOMENT_LIMIT;
 use node_core::{Fault, Line, NUMBER_LIMIT};
 use plain::Items;
@@ -30,7 +30,7 @@ use tags_cell::Request;
 #[derive(Drop)]
 pub struct Cell<R: Records> {
     records: R,
-    master: Master,
+    master: cell_core::Cell,
 }
 
 impl<R: Records> Model for Cell<R> {
@@ -106,7 +106,7 @@ impl<R: Records> Cell<R> {
             ⊎ IsRefused e (sweep_edits self.old.master now) self.old.store self.new.store) }
         ensures err { OnErr result (self.new.master ≡ self.old.master) }
     {
-        let mut room: Vec<Line> = Vec::new(self.master.alloc());
+        let mut room: Vec<Line> = Vec::new(self.master.master().alloc());
         let swept = self.sweep_with_room(now, &mut room);
         drop(room);
         swept
@@ -131,7 +131,7 @@ impl<R: Records> Cell<R> {
     pub fn epoch(&self) -> u64
         ensures { result ≡ self.now.master.epoch }
     {
-        self.master.epoch()
+        self.master.master().epoch()
     }
 
     /// What holds of every master: what it knows of its rows is what they hold, and they are sound.
@@ -156,7 +156,7 @@ fn next_master<R: Records>(
     records: &mut R,
     lease: u64,
     now: u64,
-) -> Result<Master, Fault>
+) -> Result<cell_core::Cell, Fault>
     requires { (1000 ≤ lease) × (lease ≤ 60000) }
     ensures ok { IfOk result (λ master. ComesUp lease now master (R.store records.old) (R.store records.new)) }
     ensures kept { IfOk result (λ master. IsKept (R.store records.new).cell (R.store records.new).rows master) }
@@ -167,7 +167,7 @@ fn next_master<R: Records>(
     }
     let rows = next_rows(records)?;
     let epoch = rows.epoch;
-    let master = Master::of_rows(alloc, rows, lease, now)?;
+    let master = cell_core::Cell::of_rows(alloc, rows, lease, now)?;
     match commit_epoch(alloc, records, epoch) {
         Ok(()) => Ok(master),
         Err(fault) => {

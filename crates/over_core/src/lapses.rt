@@ -1,18 +1,21 @@
 //! What is planned for the locks of a session that ends, and for one that is open again.
 ghost use Rattle.std.specs.Prelude.{◌≡◌, ◌∷◌, IfOk};
-ghost use Rattle.over_core.specs.Sweep.{kept_puts, sent, locked_lines, lapse_lines, lapses_lines, lapses_replies, lapses_puts, expiry_lines, expiry_plan, plan_reopen, lapses_of};
+ghost use Rattle.deed_core.specs.Replies.{kept_puts, sent, locked_lines};
+ghost use Rattle.deed_core.specs.Lapses.{lapses_replies, lapses_puts, expiry_lines, lapses_of};
+ghost use Rattle.over_core.specs.Sweep.{expiry_plan, plan_reopen};
 ghost use Rattle.node_core.specs.declared.lines.Line.TheVariants as lines;
 
-use crate::plans::{Plan, expired_lines};
-use crate::replies::{Told, line_if, locked_lines, puts_of, told_by, turn_replies};
-use cell_core::{Cell as Master, LockPut, SessionDeed};
-use lock_core::{Lapse, Turn};
+use crate::plans::Plan;
+use cell_state::Master;
+use deed_core::{
+    LockPut, SessionDeed, Told, expiry_lines, lapses_puts, lapses_replies, locked_lines, puts_of,
+    told_by, turn_replies,
+};
+use lock_core::Turn;
 use names_cell::Principal;
 use node_core::Line;
 use plain::Items;
-use rights_core::Ending;
-use std::alloc::{AllocError, Global};
-use tags_cell::Reply;
+use std::alloc::AllocError;
 
 // What is told of a step, and the locks that change by it.
 struct Parts {
@@ -79,59 +82,4 @@ fn reopen_lines(master: &Master, instance: u64, turn: &Turn) -> Result<Items<Lin
     printed.push(Line::Reopened(instance))?;
     printed.append(locked_lines(master.alloc(), instance, turn)?)?;
     Ok(printed)
-}
-
-// What is printed of a session that ends.
-fn expiry_lines(master: &Master, client: u64, ended: &[Lapse]) -> Result<Items<Line>, AllocError>
-    ensures { IfOk result (λ printed. printed ≡ expiry_lines master.now client ended.now) }
-{
-    let expired = master.rights().ending(client, Ending::Expiry)?;
-    let mut printed = expired_lines(master.alloc(), expired.as_slice())?;
-    printed.append(lapses_lines(master.alloc(), client, ended)?)?;
-    printed.push(Line::Ended(client))?;
-    Ok(printed)
-}
-
-fn lapses_lines(alloc: Global, client: u64, ended: &[Lapse]) -> Result<Items<Line>, AllocError>
-    ensures { IfOk result (λ printed. printed ≡ lapses_lines client ended.now) }
-{
-    let mut printed = Items::new(alloc);
-    for lapse in ended {
-        printed.append(lapse_lines(alloc, client, lapse)?)?;
-    }
-    Ok(printed)
-}
-
-// What the session held, a lock that is open again at once, and who got it.
-fn lapse_lines(alloc: Global, client: u64, lapse: &Lapse) -> Result<Items<Line>, AllocError>
-    ensures { IfOk result (λ printed. printed ≡ lapse_lines client lapse.now) }
-{
-    let held = !lapse.ended.as_slice().is_empty();
-    let mut printed = line_if(alloc, held, Line::Lapsed(client, lapse.instance))?;
-    printed.append(line_if(alloc, lapse.reopens, Line::Reopened(lapse.instance))?)?;
-    printed.append(locked_lines(alloc, lapse.instance, &lapse.turn)?)?;
-    Ok(printed)
-}
-
-// The session's own waiters aren't told.
-fn lapses_replies(master: &Master, ended: &[Lapse]) -> Result<Items<Reply>, AllocError>
-    ensures { IfOk result (λ replies. replies ≡ lapses_replies master.now ended.now) }
-{
-    let mut replies = Items::new(master.alloc());
-    for lapse in ended {
-        replies.append(turn_replies(master, &lapse.turn)?)?;
-    }
-    Ok(replies)
-}
-
-fn lapses_puts(master: &Master, ended: Items<Lapse>) -> Result<Items<LockPut>, AllocError>
-    ensures { IfOk result (λ puts. puts ≡ lapses_puts master.now ended) }
-{
-    let mut puts = Items::new(master.alloc());
-    for lapse in ended.into_vec() {
-        let Lapse { instance, turn, .. } = lapse;
-        let Turn { lock, .. } = turn;
-        puts.append(puts_of(master, instance, lock)?)?;
-    }
-    Ok(puts)
 }

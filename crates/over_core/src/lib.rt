@@ -3,19 +3,12 @@
 
 mod actions;
 mod cells;
-mod creates;
-mod edits;
-mod effects;
 mod lapses;
-mod locks;
-mod notices;
 mod plans;
-mod replies;
 mod sweeps;
-mod writes;
+mod tellings;
 
 pub use actions::Action;
 pub use cells::Cell;
-pub use effects::{Effect, Leave, Locking};
 pub use plans::Plan;
 pub use sweeps::Swept;

@@ -1,27 +1,26 @@
 //! What is planned for an action.
-ghost use Rattle.std.specs.Prelude.{◌≡◌, [], ◌∷◌, ◌++◌, Some, None, map, IfOk};
+ghost use Rattle.std.specs.Prelude.{◌≡◌, [], ◌∷◌, Some, None, map, IfOk};
 ghost use Rattle.node_core.specs.declared.lines.Line.TheVariants as lines;
 ghost use Rattle.over_core.specs.declared.actions.Action.TheVariants as actions;
-ghost use Rattle.over_core.specs.Effect.{gone_by_itself};
-ghost use Rattle.over_core.specs.Sweep.{no_deed, started_out, alive_out, applied_lines, plan_session, plan_start, plan_effect, effect_replies, plan_call, plan_asked, plan_work, plan_tidied, plan_task, own_replies, locking_lines, lock_ended, locking_puts, left_put, plan_expiry, invalidation_of, plan_answer, plan_of};
+ghost use Rattle.turn_core.specs.Effect.{gone_by_itself};
+ghost use Rattle.over_core.specs.Sweep.{no_deed, started_out, alive_out, plan_session, plan_start, plan_effect, plan_call, plan_asked, plan_work, plan_tidied, plan_task, plan_expiry, invalidation_of, plan_answer, plan_of};
+ghost use Rattle.turn_core.specs.Outcomes.{lock_ended, locking_puts};
 
 use crate::actions::Action;
-use crate::effects::{Effect, Leave, Locking, effect_of};
 use crate::lapses::{expiry_plan, plan_reopen};
-use crate::locks::gone_by_itself;
-use crate::notices::contested_by;
-use crate::replies::{Told, locking_lines, locking_replies, told_by};
-use cell_core::{
-    Asked, Cell as Master, Change, Deed, Idle, LockPut, SessionDeed, Taken, Task, Work,
-};
-use lock_core::Turn;
+use cell_core::Cell;
+use cell_parts::{Asked, Idle, Taken, Task, Work};
+use cell_state::Master;
+use deed_core::{Deed, LockPut, SessionDeed, Told, told_by};
 use names_cell::{Name, Principal};
-use node_core::{Fault, Line, Mod};
+use node_core::{Fault, Line};
 use plain::{Bytes, Items, Table};
 use session_core::Offer;
 use std::alloc::{AllocError, Global};
-use tags_cell::{
-    Alive, Call, CallResult, ClientNumber, Invalidation, MessageNumber, Out, Reply, Started,
+use tags_cell::{Alive, Call, ClientNumber, Invalidation, MessageNumber, Out, Started};
+use turn_core::{
+    Effect, contested_by, effect_lines, effect_of, effect_replies, gone_by_itself, lock_ended,
+    locking_puts, locking_replies,
 };
 
 /// What is done for an action. It is made before anything changes.
@@ -78,13 +77,14 @@ impl Plan {
 }
 
 // What is done for an action, as the master stands now.
-pub(crate) fn plan_of(master: &Master, action: &Action) -> Result<Plan, AllocError>
-    ensures { IfOk result (λ plan. plan ≡ plan_of master.now action.now) }
+pub(crate) fn plan_of(cell: &Cell, action: &Action) -> Result<Plan, AllocError>
+    ensures { IfOk result (λ plan. plan ≡ plan_of cell.now action.now) }
 {
+    let master = cell.master();
     match action {
         Action::Recover => plan_recovery(master),
         Action::Expire(client) => plan_expiry(master, *client),
-        Action::Apply(number) => plan_apply(master, *number),
+        Action::Apply(number) => plan_apply(cell, *number),
         Action::Reopen(instance) => plan_reopen(master, *instance),
         Action::Answer(client) => plan_answer(master, *client),
         Action::Tidy(_) | Action::Quiet => Ok(Plan::of(master.alloc(), None, master.nothing())),
@@ -111,36 +111,26 @@ fn plan_expiry(master: &Master, client: u64) -> Result<Plan, AllocError>
     expiry_plan(master, client, principal)
 }
 
-// The rights of these numbers have expired.
-pub(crate) fn expired_lines(alloc: Global, numbers: &[u64]) -> Result<Items<Line>, AllocError>
-    ensures { IfOk result (λ printed. printed ≡ map lines.Expired numbers.now) }
-{
-    let mut printed = Items::new(alloc);
-    for number in numbers {
-        printed.push(Line::Expired(*number))?;
-    }
-    Ok(printed)
-}
-
 // What is done for the change of a number, which then leaves the gate.
-fn plan_apply(master: &Master, number: u64) -> Result<Plan, AllocError>
-    ensures { IfOk result (λ plan. plan ≡ plan_of master.now (actions.Apply number)) }
+fn plan_apply(cell: &Cell, number: u64) -> Result<Plan, AllocError>
+    ensures { IfOk result (λ plan. plan ≡ plan_of cell.now (actions.Apply number)) }
 {
+    let master = cell.master();
     let Some(task) = master.task(number) else {
         return Ok(Plan::of(master.alloc(), None, master.nothing()));
     };
-    let mut plan = plan_task(master, task)?;
+    let mut plan = plan_task(cell, task)?;
     plan.deed.leaves = Some(number);
     Ok(plan)
 }
 
 // What a client asked for, or what the cell does by itself.
-fn plan_task(master: &Master, task: &Task) -> Result<Plan, AllocError>
-    ensures { IfOk result (λ plan. plan ≡ plan_task master.now task.now) }
+fn plan_task(cell: &Cell, task: &Task) -> Result<Plan, AllocError>
+    ensures { IfOk result (λ plan. plan ≡ plan_task cell.now task.now) }
 {
     match task {
-        Task::Asked(asked) => plan_work(master, asked),
-        Task::Tidies(idle) => plan_tidied(master, idle),
+        Task::Asked(asked) => plan_work(cell.master(), asked),
+        Task::Tidies(idle) => plan_tidied(cell, idle),
     }
 }
 
@@ -160,10 +150,11 @@ fn plan_work(master: &Master, asked: &Asked) -> Result<Plan, AllocError>
 // ---- ephemeral nodes
 
 // An ephemeral node goes, unless somebody holds it open again.
-fn plan_tidied(master: &Master, idle: &Idle) -> Result<Plan, AllocError>
-    ensures { IfOk result (λ plan. plan ≡ plan_tidied master.now idle.now) }
+fn plan_tidied(cell: &Cell, idle: &Idle) -> Result<Plan, AllocError>
+    ensures { IfOk result (λ plan. plan ≡ plan_tidied cell.now idle.now) }
 {
-    if !master.is_still_idle(idle)? {
+    let master = cell.master();
+    if !cell.is_still_idle(idle)? {
         return Ok(Plan::of(master.alloc(), None, master.nothing()));
     }
     plan_gone(master, idle)
@@ -387,111 +378,6 @@ fn effect_plan(alloc: Global, effect: Effect, told: Told) -> Result<Plan, AllocE
         taken,
         contested: None,
     })
-}
-
-// The caller's reply first.
-fn effect_replies(
-    master: &Master,
-    client: ClientNumber,
-    number: MessageNumber,
-    effect: &Effect,
-) -> Result<Items<Reply>, AllocError>
-    ensures { IfOk result (λ replies. replies ≡ effect_replies master.now client number effect.now) }
-{
-    let mut replies = own_replies(master, client, number, &effect.answer)?;
-    replies.append(locking_replies(master, &effect.locking)?)?;
-    Ok(replies)
-}
-
-// A call that waits for a lock has no reply yet.
-fn own_replies(
-    master: &Master,
-    client: ClientNumber,
-    number: MessageNumber,
-    answer: &Option<CallResult>,
-) -> Result<Items<Reply>, AllocError>
-    ensures { IfOk result (λ replies. replies ≡ own_replies master.now client number answer.now) }
-{
-    let mut replies = Items::new(master.alloc());
-    if let Some(answer) = answer {
-        replies.push(master.reply_of(client, number, answer.clone()?))?;
-    }
-    Ok(replies)
-}
-
-// What is printed of a change or a lock.
-fn effect_lines(
-    alloc: Global,
-    client: u64,
-    number: u64,
-    effect: &Effect,
-) -> Result<Items<Line>, AllocError>
-    ensures { IfOk result (λ printed. printed ≡ applied_lines client number effect.now.change ++ locking_lines client effect.now.locking) }
-{
-    let mut printed = applied_lines(alloc, client, number, &effect.change)?;
-    printed.append(locking_lines(alloc, client, &effect.locking)?)?;
-    Ok(printed)
-}
-
-fn lock_ended(locking: &Locking) -> Option<u64>
-    ensures { result ≡ lock_ended locking.now }
-{
-    match locking {
-        Locking::Goes(instance, _) => Some(*instance),
-        _ => None,
-    }
-}
-
-fn locking_puts(alloc: Global, locking: Locking) -> Result<Items<LockPut>, AllocError>
-    ensures { IfOk result (λ puts. puts ≡ locking_puts locking) }
-{
-    let mut puts = Items::new(alloc);
-    match locking {
-        Locking::Nothing => {}
-        Locking::Takes(put, _claim) => puts.push(put)?,
-        Locking::Waits(put) => puts.push(put)?,
-        Locking::Leaves(leave) => puts.push(left_put(leave))?,
-        Locking::Goes(_instance, _waiters) => {}
-    }
-    Ok(puts)
-}
-
-fn left_put(leave: Leave) -> LockPut
-    ensures { result ≡ left_put leave }
-{
-    let Leave {
-        name,
-        instance,
-        held: _held,
-        turn,
-    } = leave;
-    let Turn {
-        lock,
-        granted: _granted,
-        exhausted: _exhausted,
-    } = turn;
-    LockPut {
-        name,
-        instance,
-        lock,
-    }
-}
-
-// The line of a change of the map, if there is one.
-fn applied_lines(
-    alloc: Global,
-    client: u64,
-    number: u64,
-    change: &Option<Change>,
-) -> Result<Items<Line>, AllocError>
-    ensures { IfOk result (λ printed. printed ≡ applied_lines client number change.now) }
-{
-    let mut printed = Items::new(alloc);
-    if let Some(applied) = change {
-        let shown = applied.change.clone()?;
-        printed.push(Line::Applied(client, number, shown))?;
-    }
-    Ok(printed)
 }
 
 // ---- Beats

@@ -5,16 +5,17 @@ ghost use Rattle.rows_cell.specs.Rows.{changed_rows};
 ghost use Rattle.rows_cell.specs.Sound.{sound};
 ghost use Rattle.rows_cell.specs.Stores.{Commits, IsCommitted, IsRefused};
 ghost use Rattle.gate_core.specs.Gate.{push_answer};
-ghost use Rattle.cell_core.specs.Deeds.{BeginsNew, edits_of, done};
+ghost use Rattle.deed_core.specs.Deeds.{BeginsNew, edits_of, done};
 ghost use Rattle.cell_core.specs.Ephemerals.{is_ok, tidied};
-ghost use Rattle.over_core.specs.Notices.{tellings_of};
-ghost use Rattle.over_core.specs.Sweep.{first_action, is_quiet, plan_of, done_and_told, swept, action_edits, is_over, sweep_edits, sweep_step};
+ghost use Rattle.over_core.specs.Sweep.{tellings_of, first_action, is_quiet, plan_of, done_and_told, swept, action_edits, is_over, sweep_edits, sweep_step};
 
 use crate::actions::{Action, first_action};
-use crate::edits::edits_of;
-use crate::notices::tellings_of;
 use crate::plans::{Plan, plan_of};
-use cell_core::{Cell as Master, Deed, Grown, Idle, Taken, Telling};
+use crate::tellings::tellings_of;
+use cell_core::Cell;
+use cell_parts::{Idle, Taken, Telling};
+use cell_state::Master;
+use deed_core::{Deed, Grown, edits_of};
 use lease_core::MOMENT_LIMIT;
 use node_core::{Fault, Line};
 use plain::Items;
@@ -50,29 +51,29 @@ struct Prepared {
 /// in a list of the caller's. A refusal leaves the master as it was.
 #[tactic(auto, unfolding(crate::specs::Sweep::sweep_step))]
 pub(crate) fn sweep_by<R: Records, T>(
-    master: &mut Master,
+    cell: &mut Cell,
     records: &mut R,
     now: u64,
     room: &mut Vec<T>,
 ) -> Result<Swept, Fault>
-    requires { sound (R.store records.old).cell (changed_rows (R.store records.old).rows (sweep_edits master.old now)) ≡ true }
-    ensures ok { IfOk result (λ swept. sweep_step master.old now ≡ Ok (master.new, swept)) }
-    ensures committed { OnOk result (IsCommitted (sweep_edits master.old now) (R.store records.old) (R.store records.new)) }
-    ensures err { OnErr result (master.new ≡ master.old) }
-    ensures fault { IfErr result (λ e. (sweep_step master.old now ≡ Err e × R.store records.new ≡ R.store records.old)
-        ⊎ IsRefused e (sweep_edits master.old now) (R.store records.old) (R.store records.new)) }
+    requires { sound (R.store records.old).cell (changed_rows (R.store records.old).rows (sweep_edits cell.old now)) ≡ true }
+    ensures ok { IfOk result (λ swept. sweep_step cell.old now ≡ Ok (cell.new, swept)) }
+    ensures committed { OnOk result (IsCommitted (sweep_edits cell.old now) (R.store records.old) (R.store records.new)) }
+    ensures err { OnErr result (cell.new ≡ cell.old) }
+    ensures fault { IfErr result (λ e. (sweep_step cell.old now ≡ Err e × R.store records.new ≡ R.store records.old)
+        ⊎ IsRefused e (sweep_edits cell.old now) (R.store records.old) (R.store records.new)) }
     ensures items { room.new.items ≡ room.old.items }
     ensures outs { IfOk result (λ swept. vec_len room.new + length swept.outs ≤ vec_capacity room.new) }
     ensures lines { IfOk result (λ swept. vec_len room.new + length swept.lines < vec_capacity room.new) }
 {
-    if is_over(master, now) {
+    if is_over(cell.master(), now) {
         return Err(Fault::Exhausted);
     }
-    let before = master.note_moment(now);
-    match sweep_at(master, records, room) {
+    let before = cell.note_moment(now);
+    match sweep_at(cell, records, room) {
         Ok(swept) => Ok(swept),
         Err(fault) => {
-            master.restore_moment(before);
+            cell.restore_moment(before);
             Err(fault)
         }
     }
@@ -88,22 +89,22 @@ fn is_over(master: &Master, now: u64) -> bool
 // Does the first action that there is, with at most one commit to the records, which comes before all that is printed
 // and sent. Behind all else the clients of open handles are told of it. A refusal leaves the master as it was.
 fn sweep_at<R: Records, T>(
-    master: &mut Master,
+    cell: &mut Cell,
     records: &mut R,
     room: &mut Vec<T>,
 ) -> Result<Swept, Fault>
-    requires { sound (R.store records.old).cell (changed_rows (R.store records.old).rows (action_edits master.old (first_action master.old))) ≡ true }
-    ensures ok { IfOk result (λ done. swept master.old (first_action master.old) ≡ (master.new, done)) }
-    ensures store { Commits (action_edits master.old (first_action master.old)) (R.store records.old) (R.store records.new) result }
-    ensures err { OnErr result (master.new ≡ master.old) }
+    requires { sound (R.store records.old).cell (changed_rows (R.store records.old).rows (action_edits cell.old (first_action cell.old))) ≡ true }
+    ensures ok { IfOk result (λ done. swept cell.old (first_action cell.old) ≡ (cell.new, done)) }
+    ensures store { Commits (action_edits cell.old (first_action cell.old)) (R.store records.old) (R.store records.new) result }
+    ensures err { OnErr result (cell.new ≡ cell.old) }
     ensures items { room.new.items ≡ room.old.items }
     ensures outs { IfOk result (λ swept. vec_len room.new + length swept.outs ≤ vec_capacity room.new) }
     ensures lines { IfOk result (λ swept. vec_len room.new + length swept.lines < vec_capacity room.new) }
 {
-    match first_action(master)? {
-        Action::Tidy(idle) => Ok(tidy(master, idle, room)?),
+    match first_action(cell)? {
+        Action::Tidy(idle) => Ok(tidy(cell, idle, room)?),
         action => {
-            let swept = act(master, records, &action, room);
+            let swept = act(cell, records, &action, room);
             drop(action);
             swept
         }
@@ -111,11 +112,11 @@ fn sweep_at<R: Records, T>(
 }
 
 // The deletion of an ephemeral node is queued. Nothing is printed, nothing sent, and nobody is told.
-fn tidy<T>(master: &mut Master, idle: Idle, room: &mut Vec<T>) -> Result<Swept, AllocError>
-    requires { is_ok (push_answer master.old.gate) ≡ true }
-    ensures ok { OnOk result (master.new ≡ tidied master.old idle) }
+fn tidy<T>(cell: &mut Cell, idle: Idle, room: &mut Vec<T>) -> Result<Swept, AllocError>
+    requires { is_ok (push_answer cell.old.gate) ≡ true }
+    ensures ok { OnOk result (cell.new ≡ tidied cell.old idle) }
     ensures nothing { IfOk result (λ swept. swept ≡ record { lines = []; outs = []; quiet = false }) }
-    ensures err { OnErr result (master.new ≡ master.old) }
+    ensures err { OnErr result (cell.new ≡ cell.old) }
     ensures items { room.new.items ≡ room.old.items }
     ensures room { OnOk result (vec_len room.new < vec_capacity room.new) }
 {
@@ -123,30 +124,30 @@ fn tidy<T>(master: &mut Master, idle: Idle, room: &mut Vec<T>) -> Result<Swept, 
         drop(idle);
         return Err(AllocError);
     }
-    master.tidy(idle)?;
-    Ok(Swept::of(master.nothing(), false))
+    cell.tidy(idle)?;
+    Ok(Swept::of(cell.master().nothing(), false))
 }
 
 // Does what is planned for any other action, and behind all else the clients of open handles are told of it.
 fn act<R: Records, T>(
-    master: &mut Master,
+    cell: &mut Cell,
     records: &mut R,
     action: &Action,
     room: &mut Vec<T>,
 ) -> Result<Swept, Fault>
-    requires { sound (R.store records.old).cell (changed_rows (R.store records.old).rows (action_edits master.old action.now)) ≡ true }
-    ensures ok { IfOk result (λ done. done_and_told master.old (plan_of master.old action.now) (is_quiet action.now) ≡ (master.new, done)) }
-    ensures store { Commits (action_edits master.old action.now) (R.store records.old) (R.store records.new) result }
-    ensures err { OnErr result (master.new ≡ master.old) }
+    requires { sound (R.store records.old).cell (changed_rows (R.store records.old).rows (action_edits cell.old action.now)) ≡ true }
+    ensures ok { IfOk result (λ done. done_and_told cell.old (plan_of cell.old action.now) (is_quiet action.now) ≡ (cell.new, done)) }
+    ensures store { Commits (action_edits cell.old action.now) (R.store records.old) (R.store records.new) result }
+    ensures err { OnErr result (cell.new ≡ cell.old) }
     ensures items { room.new.items ≡ room.old.items }
     ensures outs { IfOk result (λ swept. vec_len room.new + length swept.outs ≤ vec_capacity room.new) }
     ensures lines { IfOk result (λ swept. vec_len room.new + length swept.lines < vec_capacity room.new) }
 {
-    note_if_quiet(master, action);
-    let Prepared { plan, tellings } = planned(master, action, room)?;
-    match carry_out(master, records, plan, is_quiet(action)) {
+    note_if_quiet(cell, action);
+    let Prepared { plan, tellings } = planned(cell, action, room)?;
+    match carry_out(cell, records, plan, is_quiet(action)) {
         Ok(swept) => {
-            master.tell(tellings);
+            cell.tell(tellings);
             Ok(swept)
         }
         Err(fault) => {
@@ -157,24 +158,24 @@ fn act<R: Records, T>(
 }
 
 // Where there is nothing to do, until when that is so is noted. The master stays as it is.
-fn note_if_quiet(master: &mut Master, action: &Action)
-    ensures { master.new ≡ master.old }
+fn note_if_quiet(cell: &mut Cell, action: &Action)
+    ensures { cell.new ≡ cell.old }
 {
     if is_quiet(action) {
-        master.note_quiet();
+        cell.note_quiet();
     }
 }
 
 // What is planned for an action, with room for what it prints and sends.
-fn planned<T>(master: &Master, action: &Action, room: &mut Vec<T>) -> Result<Prepared, AllocError>
-    ensures ok { IfOk result (λ prepared. prepared.plan ≡ plan_of master.now action.now) }
-    ensures told { IfOk result (λ prepared. prepared.tellings ≡ tellings_of master.now (plan_of master.now action.now)) }
+fn planned<T>(cell: &Cell, action: &Action, room: &mut Vec<T>) -> Result<Prepared, AllocError>
+    ensures ok { IfOk result (λ prepared. prepared.plan ≡ plan_of cell.now action.now) }
+    ensures told { IfOk result (λ prepared. prepared.tellings ≡ tellings_of cell.now (plan_of cell.now action.now)) }
     ensures items { room.new.items ≡ room.old.items }
     ensures outs { IfOk result (λ prepared. vec_len room.new + length prepared.plan.taken.outs ≤ vec_capacity room.new) }
     ensures lines { IfOk result (λ prepared. vec_len room.new + length prepared.plan.taken.lines < vec_capacity room.new) }
 {
-    let plan = plan_of(master, action)?;
-    match with_room(master, room, &plan) {
+    let plan = plan_of(cell, action)?;
+    match with_room(cell.master(), room, &plan) {
         Ok(tellings) => Ok(Prepared { plan, tellings }),
         Err(error) => {
             drop(plan);
@@ -219,20 +220,20 @@ fn is_quiet(action: &Action) -> bool
 
 // Does what is planned: it grows first, then commits, and what can't fail comes last.
 fn carry_out<R: Records>(
-    master: &mut Master,
+    cell: &mut Cell,
     records: &mut R,
     plan: Plan,
     quiet: bool,
 ) -> Result<Swept, Fault>
-    requires sound { sound (R.store records.old).cell (changed_rows (R.store records.old).rows (edits_of master.old plan.deed)) ≡ true }
-    requires begins { BeginsNew master.old plan.deed.session }
+    requires sound { sound (R.store records.old).cell (changed_rows (R.store records.old).rows (edits_of cell.old plan.deed)) ≡ true }
+    requires begins { BeginsNew cell.old plan.deed.session }
     ensures ok { IfOk result (λ swept. swept ≡ record { lines = plan.taken.lines; outs = plan.taken.outs; quiet = quiet }) }
-    ensures done { OnOk result (master.new ≡ done master.old plan.deed) }
-    ensures store { Commits (edits_of master.old plan.deed) (R.store records.old) (R.store records.new) result }
-    ensures err { OnErr result (master.new ≡ master.old) }
+    ensures done { OnOk result (cell.new ≡ done cell.old plan.deed) }
+    ensures store { Commits (edits_of cell.old plan.deed) (R.store records.old) (R.store records.new) result }
+    ensures err { OnErr result (cell.new ≡ cell.old) }
 {
     let Plan { deed, taken, .. } = plan;
-    match commit_edits(master, records, deed) {
+    match commit_edits(cell, records, deed) {
         Ok(()) => Ok(Swept::of(taken, quiet)),
         Err(fault) => {
             drop(taken);
@@ -242,16 +243,16 @@ fn carry_out<R: Records>(
 }
 
 // The deed is done, with its edits committed.
-fn commit_edits<R: Records>(master: &mut Master, records: &mut R, deed: Deed) -> Result<(), Fault>
-    requires sound { sound (R.store records.old).cell (changed_rows (R.store records.old).rows (edits_of master.old deed)) ≡ true }
-    requires begins { BeginsNew master.old deed.session }
-    ensures ok { OnOk result (master.new ≡ done master.old deed) }
-    ensures store { Commits (edits_of master.old deed) (R.store records.old) (R.store records.new) result }
-    ensures err { OnErr result (master.new ≡ master.old) }
+fn commit_edits<R: Records>(cell: &mut Cell, records: &mut R, deed: Deed) -> Result<(), Fault>
+    requires sound { sound (R.store records.old).cell (changed_rows (R.store records.old).rows (edits_of cell.old deed)) ≡ true }
+    requires begins { BeginsNew cell.old deed.session }
+    ensures ok { OnOk result (cell.new ≡ done cell.old deed) }
+    ensures store { Commits (edits_of cell.old deed) (R.store records.old) (R.store records.new) result }
+    ensures err { OnErr result (cell.new ≡ cell.old) }
 {
-    match edits_of(master, &deed) {
+    match edits_of(cell.master(), &deed) {
         Ok(edits) => {
-            let done = commit_deed(master, records, deed, &edits);
+            let done = commit_deed(cell, records, deed, &edits);
             drop(edits);
             done
         }
@@ -264,27 +265,27 @@ fn commit_edits<R: Records>(master: &mut Master, records: &mut R, deed: Deed) ->
 
 // The deed is begun, committed, and finished; where the commit is refused it is taken back.
 fn commit_deed<R: Records>(
-    master: &mut Master,
+    cell: &mut Cell,
     records: &mut R,
     deed: Deed,
     edits: &Items<Edit>,
 ) -> Result<(), Fault>
     requires sound { sound (R.store records.old).cell (changed_rows (R.store records.old).rows edits.now) ≡ true }
-    requires begins { BeginsNew master.old deed.session }
-    ensures ok { OnOk result (master.new ≡ done master.old deed) }
+    requires begins { BeginsNew cell.old deed.session }
+    ensures ok { OnOk result (cell.new ≡ done cell.old deed) }
     ensures store { Commits edits.now (R.store records.old) (R.store records.new) result }
-    ensures err { OnErr result (master.new ≡ master.old) }
+    ensures err { OnErr result (cell.new ≡ cell.old) }
 {
-    let Grown { former, rest } = master.grow(deed)?;
+    let Grown { former, rest } = cell.grow(deed)?;
     match records.commit(edits) {
         Ok(()) => {
-            master.settle(former);
-            master.finish(rest);
+            cell.settle(former);
+            cell.finish(rest);
             Ok(())
         }
         Err(fault) => {
             drop(rest);
-            master.undo(former);
+            cell.undo(former);
             Err(fault.into())
         }
     }

@@ -7,12 +7,12 @@ use Rattle.tags_cell.specs.declared.outs.CallResult.{CallResult}
 use Rattle.tags_cell.specs.declared.outs.Out.{Out}
 use Rattle.tags_cell.specs.declared.outs.Out.TheVariants as outs
 use Rattle.tags_cell.specs.declared.outs.Reply.{Reply}
-use Rattle.cell_core.specs.declared.handles.Note.{Note}
-use Rattle.cell_core.specs.State.{MasterState}
+use Rattle.cell_parts.specs.declared.handles.Note.{Note}
+use Rattle.cell_state.specs.State.{MasterState}
 use Rattle.cell_core.specs.Names.{name_asked}
 use Rattle.cell_core.specs.Cases.{IsAnswered}
-use Rattle.over_core.specs.declared.effects.Effect.{Effect}
-use Rattle.over_core.specs.Effect.{effect}
+use Rattle.turn_core.specs.declared.effects.Effect.{Effect}
+use Rattle.turn_core.specs.Effect.{effect}
 use Rattle.world_cell.specs.declared.mail.Message.{Message}
 use Rattle.world_cell.specs.declared.mail.Message.TheVariants.{ToClient}
 use Rattle.world_cell.specs.Messages.{call_of}

@@ -9,10 +9,10 @@ use Rattle.gate_core.specs.declared.pending.Waiting.{Waiting}
 use Rattle.lock_core.specs.declared.claims.Claim.{Claim}
 use Rattle.lock_core.specs.Turns.{is_of_client, any_waits}
 use Rattle.lock_core.specs.Locks.{LockTable}
-use Rattle.cell_core.specs.declared.pending.Task.{Task}
-use Rattle.cell_core.specs.declared.pending.Task.TheVariants as tasks
-use Rattle.cell_core.specs.State.{MasterState}
-use Rattle.cell_core.specs.Step.{kept_of}
+use Rattle.cell_parts.specs.declared.pending.Task.{Task}
+use Rattle.cell_parts.specs.declared.pending.Task.TheVariants as tasks
+use Rattle.cell_state.specs.State.{MasterState}
+use Rattle.cell_state.specs.Lookups.{kept_of}
 use Rattle.over_core.specs.Kept.{claim_count, waits_count, call_count, is_unanswered, HaveOneCall, IsOwnCall, IsOwnTask, AreOwnCalls}
 use Rattle.world_cell.specs.Consistent.{awaits_lock}
 use Rattle.world_cell.proofs.LockWaiters.{or_cases}

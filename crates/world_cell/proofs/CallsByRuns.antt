@@ -23,7 +23,7 @@ use Rattle.tags_cell.specs.declared.requests.Request.{Request}
 use Rattle.tags_cell.specs.declared.requests.Request.TheVariants as requests
 use Rattle.tags_cell.specs.declared.requests.CallMessage.{CallMessage}
 use Rattle.tags_cell.specs.declared.outs.CallResult.{CallResult}
-use Rattle.cell_core.specs.declared.handles.Note.{Note}
+use Rattle.cell_parts.specs.declared.handles.Note.{Note}
 use Rattle.rights_core.specs.declared.endings.Ending.TheVariants as endings
 use Rattle.rights_core.specs.Rights.{numbers_ending}
 use Rattle.gate_core.specs.declared.pending.Waiting.{Waiting}
@@ -31,20 +31,23 @@ use Rattle.lock_core.specs.declared.claims.Claim.{Claim}
 use Rattle.lock_core.specs.State.{LockState}
 use Rattle.lock_core.specs.Turns.{reopened, tried}
 use Rattle.lock_core.specs.Locks.{lock_at}
-use Rattle.cell_core.specs.Deeds.{with_locks}
-use Rattle.cell_core.specs.Locks.{claim_of}
-use Rattle.cell_core.specs.declared.pending.Asked.{Asked}
-use Rattle.cell_core.specs.declared.pending.Idle.{Idle}
-use Rattle.cell_core.specs.declared.pending.Task.{Task}
-use Rattle.cell_core.specs.declared.pending.Task.TheVariants as tasks
-use Rattle.cell_core.specs.declared.pending.Work.{Work}
-use Rattle.cell_core.specs.declared.pending.Work.TheVariants as works
-use Rattle.cell_core.specs.State.{MasterState}
+use Rattle.deed_core.specs.Deeds.{with_locks, with_note}
+use Rattle.cell_parts.specs.Claims.{claim_of}
+use Rattle.cell_parts.specs.declared.pending.Asked.{Asked}
+use Rattle.cell_parts.specs.declared.pending.Idle.{Idle}
+use Rattle.cell_parts.specs.declared.pending.Task.{Task}
+use Rattle.cell_parts.specs.declared.pending.Task.TheVariants as tasks
+use Rattle.cell_parts.specs.declared.pending.Work.{Work}
+use Rattle.cell_parts.specs.declared.pending.Work.TheVariants as works
+use Rattle.cell_state.specs.State.{MasterState}
 use Rattle.cell_core.specs.Ephemerals.{is_idle_node, is_still_idle}
-use Rattle.cell_core.specs.Step.{names_of, task_of, with_call, asking_for, with_note, noted, lock_under, node_of_handle, answer_on}
-use Rattle.over_core.specs.declared.effects.Effect.{Effect}
-use Rattle.over_core.specs.Effect.{answered, refused, try_by, try_at, change_at, change_on, handle_effect, effect}
-use Rattle.over_core.specs.Sweep.{locked_line, locked_lines, leave_lines, lapses_lines, left_put, lapses_of}
+use Rattle.cell_core.specs.Step.{names_of, task_of, with_call, asking_for}
+use Rattle.cell_state.specs.Lookups.{noted, lock_under, node_of_handle, answer_on}
+use Rattle.turn_core.specs.declared.effects.Effect.{Effect}
+use Rattle.turn_core.specs.Effect.{answered, refused, try_by, try_at, change_at, change_on, handle_effect, effect}
+use Rattle.deed_core.specs.Replies.{locked_line, locked_lines}
+use Rattle.turn_core.specs.Outcomes.{leave_lines, left_put}
+use Rattle.deed_core.specs.Lapses.{lapses_lines, lapses_of}
 use Rattle.cell_core.specs.Cases.{TakeCase, taken_by}
 use Rattle.over_core.specs.SweepCase.{IsTurn, SweepCase, swept_by, rest, ended, mapped}
 use Rattle.cell_core.specs.Cases.TakeCase.{StartQueued, Answered, Granted, Waits}

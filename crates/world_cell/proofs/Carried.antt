@@ -31,19 +31,22 @@ use Rattle.session_core.specs.declared.records.Parked.{Parked}
 use Rattle.session_core.specs.declared.records.Session.{Session}
 use Rattle.session_core.specs.Session as of_session
 use Rattle.session_core.specs.Session.{events_of, first_events, session_until, beaten, prolonged, answered, keeping}
-use Rattle.session_core.specs.Sessions.{SessionTable, with_session, with_new, issued_by, unacked_events}
-use Rattle.session_core.specs.Sessions.{session_of as session_in}
-use Rattle.cell_core.specs.declared.handles.Note.{Note}
-use Rattle.cell_core.specs.declared.notices.Telling.{Telling}
-use Rattle.cell_core.specs.Notices.{with_telling}
-use Rattle.cell_core.specs.State.{MasterState, taken_over}
-use Rattle.cell_core.specs.Step.{kept_of, reply_of, answered_by, stamped_reply, repeated_reply, with_note, with_call, asking_for}
-use Rattle.cell_core.specs.Deeds.{with_kept_put}
+use Rattle.session_core.specs.Sessions.{SessionTable, with_session, with_new, issued_by, unacked_events, session_of as session_in}
+use Rattle.cell_parts.specs.declared.handles.Note.{Note}
+use Rattle.cell_parts.specs.declared.notices.Telling.{Telling}
+use Rattle.cell_state.specs.Notices.{with_telling}
+use Rattle.cell_state.specs.State.{MasterState}
+use Rattle.cell_parts.specs.StoredSessions.{taken_over}
+use Rattle.cell_state.specs.Lookups.{kept_of, reply_of, stamped_reply, repeated_reply}
+use Rattle.cell_parts.specs.Answered.{answered_by}
+use Rattle.deed_core.specs.Deeds.{with_note, with_kept_put}
+use Rattle.cell_core.specs.Step.{with_call, asking_for}
 use Rattle.cell_core.specs.Cases.{TakeCase, taken_by}
 use Rattle.cell_core.specs.Cases.TakeCase.{StartQueued, BeatParked, Repeated, Recovering, Answered, Granted, Waits}
-use Rattle.over_core.specs.declared.effects.Effect.{Effect}
-use Rattle.over_core.specs.Effect.{effect}
-use Rattle.over_core.specs.Sweep.{kept_puts, sent, replies_to, reply_to, turn_replies, lapses_replies, lapses_of}
+use Rattle.turn_core.specs.declared.effects.Effect.{Effect}
+use Rattle.turn_core.specs.Effect.{effect}
+use Rattle.deed_core.specs.Replies.{kept_puts, sent, replies_to, reply_to, turn_replies}
+use Rattle.deed_core.specs.Lapses.{lapses_replies, lapses_of}
 use Rattle.over_core.specs.SweepCase.{SweepCase, swept_by, gone_replies}
 use Rattle.over_core.specs.SweepCase.SweepCase.{Quiet, Recovers, Expires, Reopens, Tidies, Spared, Tidied, AnswersBeat, StartedAgain, Started, OfEnded, Ended, Applied, Deleted, Locked, Awaited, Left}
 use Rattle.world_cell.proofs.OneSession.{kept_in, each_session, each_with_new, each_issued}

@@ -30,12 +30,15 @@ use Rattle.lock_core.specs.declared.claims.Claim.{Claim}
 use Rattle.lock_core.specs.declared.turns.Lapse.{Lapse}
 use Rattle.lock_core.specs.Turns.{is_nobody, reopened}
 use Rattle.lock_core.specs.Locks.{lock_at}
-use Rattle.cell_core.specs.State.{MasterState}
-use Rattle.cell_core.specs.Step.{acknowledgement, granted_lines, repeated_reply, with_note, noted}
+use Rattle.cell_state.specs.State.{MasterState}
+use Rattle.cell_state.specs.Lookups.{acknowledgement, granted_lines, repeated_reply, noted}
+use Rattle.deed_core.specs.Deeds.{with_note}
 use Rattle.cell_core.specs.Cases.{TakeCase, taken_by}
 use Rattle.cell_core.specs.Cases.TakeCase.{StartRefused, OldBeat, BeatRefused, BeatParked, OldEpoch, NoSession, Repeated, OlderCall, Outstanding as StillOutstanding, Granted}
-use Rattle.over_core.specs.declared.effects.Leave.{Leave}
-use Rattle.over_core.specs.Sweep.{locked_line, locked_lines, line_if, leave_lines, lapse_lines, lapses_lines, lapses_of}
+use Rattle.turn_core.specs.declared.effects.Leave.{Leave}
+use Rattle.deed_core.specs.Replies.{locked_line, locked_lines, line_if}
+use Rattle.turn_core.specs.Outcomes.{leave_lines}
+use Rattle.deed_core.specs.Lapses.{lapse_lines, lapses_lines, lapses_of}
 use Rattle.over_core.specs.SweepCase.{SweepCase, swept_by}
 use Rattle.over_core.specs.SweepCase.SweepCase.{Recovers, Expires, Reopens, Tidied, Started as StartedFirst, Applied, Deleted, Locked, Left}
 use Rattle.client_parts.specs.declared.asks.Ask.{Ask}

@@ -32,21 +32,25 @@ use Rattle.tags_cell.specs.declared.outs.Started.{Started}
 use Rattle.tags_cell.specs.declared.outs.CallResult.TheVariants as results
 use Rattle.tags_cell.specs.declared.outs.Refused.{Refused}
 use Rattle.tags_cell.specs.declared.outs.Reply.{Reply}
-use Rattle.cell_core.specs.declared.handles.Note.{Note}
+use Rattle.cell_parts.specs.declared.handles.Note.{Note}
 use Rattle.session_core.specs.declared.records.Kept.{Kept}
 use Rattle.session_core.specs.declared.records.Session.{Session}
 use Rattle.event_core.specs.Queue.{count_of}
 use Rattle.session_core.specs.Session.{events_of, live_beat_fault, beat_fault}
 use Rattle.lock_core.specs.Turns.{reopened}
 use Rattle.lock_core.specs.Locks.{lock_at}
-use Rattle.cell_core.specs.State.{MasterState, master_of, taken_over}
-use Rattle.cell_core.specs.Step.{session_of, with_note, with_call, asking_for, repeated_reply, noted}
-use Rattle.cell_core.specs.Deeds.{edit_of, lock_changes}
+use Rattle.cell_state.specs.State.{MasterState, master_of}
+use Rattle.cell_parts.specs.StoredSessions.{taken_over}
+use Rattle.cell_state.specs.Lookups.{session_of, repeated_reply, noted}
+use Rattle.deed_core.specs.Deeds.{with_note, edit_of, lock_changes}
+use Rattle.cell_core.specs.Step.{with_call, asking_for}
 use Rattle.cell_core.specs.Cases.{TakeCase, taken_by}
 use Rattle.over_core.specs.SweepCase.{SweepCase, swept_by, swept_edits, gone_replies}
 use Rattle.over_core.proofs.SweepCases.{first_tellings}
 use Rattle.cell_core.specs.Cases.TakeCase.{Repeated, StartQueued, OldBeat, BeatRefused, BeatParked, OldEpoch, Answered, Granted, Waits}
-use Rattle.over_core.specs.Sweep.{left_put, turn_replies, lapses_of, lapses_puts, lapses_replies, puts_of, replies_to}
+use Rattle.turn_core.specs.Outcomes.{left_put}
+use Rattle.deed_core.specs.Replies.{turn_replies, puts_of, replies_to}
+use Rattle.deed_core.specs.Lapses.{lapses_of, lapses_puts, lapses_replies}
 use Rattle.over_core.specs.SweepCase.SweepCase.{Quiet, Recovers, Expires, Reopens, Tidies, Spared, Tidied, StartedAgain, Started as StartedFirst, OfEnded, Ended, Applied, Deleted, Locked, Awaited, Left}
 use Rattle.over_core.specs.Kept.{IsKept}
 use Rattle.over_core.specs.Up.{up_edits}

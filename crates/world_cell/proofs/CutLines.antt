@@ -9,8 +9,8 @@ use Rattle.rights_core.specs.declared.endings.Ending.TheVariants as endings
 use Rattle.rights_core.specs.Rights.{numbers_ending}
 use Rattle.lock_core.specs.Turns.{reopened}
 use Rattle.lock_core.specs.Locks.{lock_at}
-use Rattle.cell_core.specs.State.{MasterState}
-use Rattle.over_core.specs.Sweep.{lapses_of}
+use Rattle.cell_state.specs.State.{MasterState}
+use Rattle.deed_core.specs.Lapses.{lapses_of}
 use Rattle.over_core.specs.SweepCase.{SweepCase, swept_by}
 use Rattle.over_core.specs.SweepCase.SweepCase.{Recovers, Expires, Reopens, Left}
 use Rattle.world_cell.specs.World.{is_of_commit}

@@ -9,7 +9,7 @@ use Rattle.node_core.specs.declared.views.Mod.{Mod}
 use Rattle.node_core.specs.Nodes.{Nodes, misfit, changed, after}
 use Rattle.rows_cell.specs.Rows.{map_of}
 use Rattle.over_core.specs.Kept.{IsKept}
-use Rattle.cell_core.specs.State.{MasterState}
+use Rattle.cell_state.specs.State.{MasterState}
 use Rattle.world_cell.specs.declared.steps.Step.{Step}
 use Rattle.world_cell.specs.World.{WorldState, WorldView}
 use Rattle.world_cell.specs.Consistent.{Agrees, IsConsistent}

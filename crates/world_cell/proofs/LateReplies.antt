@@ -15,9 +15,10 @@ use Rattle.lock_core.specs.declared.claims.Claim.{Claim}
 use Rattle.lock_core.specs.declared.turns.Turn.{Turn}
 use Rattle.lock_core.specs.Turns.{is_of_client, any_waits, lapsed, concerns}
 use Rattle.lock_core.specs.Locks.{LockTable, lapses}
-use Rattle.cell_core.specs.State.{MasterState}
-use Rattle.cell_core.specs.Step.{kept_of, reply_of}
-use Rattle.over_core.specs.Sweep.{reply_to, replies_to, turn_replies, lapses_replies}
+use Rattle.cell_state.specs.State.{MasterState}
+use Rattle.cell_state.specs.Lookups.{kept_of, reply_of}
+use Rattle.deed_core.specs.Replies.{reply_to, replies_to, turn_replies}
+use Rattle.deed_core.specs.Lapses.{lapses_replies}
 use Rattle.world_cell.specs.Consistent.{awaits_lock, OpensAs}
 use Rattle.world_cell.proofs.LockWaiters.{or_left, or_right, ComesFrom, lapsed_comes}
 

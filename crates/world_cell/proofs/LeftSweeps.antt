@@ -5,7 +5,7 @@ use Rattle.node_core.specs.declared.refusals.Fault.{Fault}
 use Rattle.rows_cell.specs.declared.tables.Edit.{Edit}
 use Rattle.rows_cell.specs.declared.tables.Rows.{Rows}
 use Rattle.rows_cell.specs.Stores.{Store, IsRefused as Uncommitted}
-use Rattle.cell_core.specs.State.{MasterState}
+use Rattle.cell_state.specs.State.{MasterState}
 use Rattle.over_core.specs.Kept.{CellState}
 use Rattle.world_cell.specs.declared.mail.Message.{Message}
 use Rattle.world_cell.specs.Seats.{Clients}

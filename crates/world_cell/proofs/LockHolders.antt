@@ -15,7 +15,7 @@ use Rattle.lock_core.specs.declared.claims.Owner.{Owner}
 use Rattle.lock_core.specs.declared.claims.Hold.{Hold}
 use Rattle.lock_core.specs.declared.claims.Closing.{Closing}
 use Rattle.lock_core.specs.State.{LockState, Holders, IsLegal, owner_order, is_shared, mode_of, nobody_holds, stand_together}
-use Rattle.cell_core.specs.Locks.{stored_mode, holder_key, holder_rows, closing_rows, lock_rows}
+use Rattle.cell_parts.specs.Locks.{stored_mode, holder_key, holder_rows, closing_rows, lock_rows}
 use Rattle.world_cell.specs.Locks.{holds_by}
 use Rattle.world_cell.proofs.LocksRise.{holds_in, stays_held, begins}
 

@@ -7,8 +7,10 @@ use Rattle.lock_core.specs.declared.claims.Claim.{Claim}
 use Rattle.lock_core.specs.declared.turns.Lapse.{Lapse}
 use Rattle.lock_core.specs.declared.turns.Turn.{Turn}
 use Rattle.lock_core.specs.Turns.{is_nobody}
-use Rattle.over_core.specs.declared.effects.Leave.{Leave}
-use Rattle.over_core.specs.Sweep.{locked_line, locked_lines, line_if, leave_lines, lapse_lines, lapses_lines}
+use Rattle.turn_core.specs.declared.effects.Leave.{Leave}
+use Rattle.deed_core.specs.Replies.{locked_line, locked_lines, line_if}
+use Rattle.turn_core.specs.Outcomes.{leave_lines}
+use Rattle.deed_core.specs.Lapses.{lapse_lines, lapses_lines}
 use Rattle.world_cell.specs.World.{is_of_commit}
 use Rattle.world_cell.proofs.SilentLines.{IsQuiet, append_quiet, AreOthers, both_others}
 

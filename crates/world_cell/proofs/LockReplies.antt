@@ -12,16 +12,16 @@ use Rattle.tags_cell.specs.declared.outs.CallResult.TheVariants as results
 use Rattle.tags_cell.specs.declared.outs.Reply.{Reply}
 use Rattle.session_core.specs.declared.records.Kept.{Kept}
 use Rattle.session_core.specs.Session.{keeping}
-use Rattle.session_core.specs.Sessions.{SessionTable}
-use Rattle.session_core.specs.Sessions.{session_of as session_in}
+use Rattle.session_core.specs.Sessions.{SessionTable, session_of as session_in}
 use Rattle.lock_core.specs.declared.claims.Claim.{Claim}
 use Rattle.lock_core.specs.declared.turns.Lapse.{Lapse}
 use Rattle.lock_core.specs.declared.turns.Turn.{Turn}
-use Rattle.cell_core.specs.declared.deeds.KeptPut.{KeptPut}
-use Rattle.cell_core.specs.State.{MasterState}
-use Rattle.cell_core.specs.Step.{kept_of, reply_of}
-use Rattle.cell_core.specs.Deeds.{with_kept_put}
-use Rattle.over_core.specs.Sweep.{sent, reply_to, replies_to, turn_replies, lapses_replies}
+use Rattle.deed_core.specs.declared.deeds.KeptPut.{KeptPut}
+use Rattle.cell_state.specs.State.{MasterState}
+use Rattle.cell_state.specs.Lookups.{kept_of, reply_of}
+use Rattle.deed_core.specs.Deeds.{with_kept_put}
+use Rattle.deed_core.specs.Replies.{sent, reply_to, replies_to, turn_replies}
+use Rattle.deed_core.specs.Lapses.{lapses_replies}
 use Rattle.world_cell.specs.declared.mail.Message.TheVariants.{ToClient}
 use Rattle.world_cell.specs.Slices.{GrantsSoFar, seen_of, put_offer, grant_of}
 use Rattle.world_cell.proofs.GrantsSent.{unstamped, granted_by}

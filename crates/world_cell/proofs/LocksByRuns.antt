@@ -10,8 +10,8 @@ use Rattle.rows_cell.specs.Indexes.{lock_generation_in, locks_at}
 use Rattle.rows_cell.specs.LockRows.{are_together}
 use Rattle.rows_cell.proofs.SoundParts.{has_instance}
 use Rattle.lock_core.specs.Locks.{lock_at}
-use Rattle.cell_core.specs.State.{MasterState}
-use Rattle.cell_core.specs.Step.{noted}
+use Rattle.cell_state.specs.State.{MasterState}
+use Rattle.cell_state.specs.Lookups.{noted}
 use Rattle.over_core.specs.Kept.{IsKept}
 use Rattle.over_core.proofs.KeptBySweeps.{case_kept}
 use Rattle.world_cell.specs.declared.steps.Step.{Step}

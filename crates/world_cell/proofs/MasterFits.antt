@@ -34,30 +34,35 @@ use Rattle.session_core.specs.declared.records.Session.{Session}
 use Rattle.session_core.specs.Session.{keeping, beaten, prolonged, answered, session_until, issued_through}
 use Rattle.session_core.specs.Session as of_session
 use Rattle.session_core.specs.Sessions.{with_session, with_new, issued_by}
-use Rattle.cell_core.specs.declared.deeds.Change.{Change}
-use Rattle.cell_core.specs.declared.deeds.LockPut.{LockPut}
-use Rattle.cell_core.specs.declared.handles.Note.{Note}
-use Rattle.cell_core.specs.declared.pending.Asked.{Asked}
-use Rattle.cell_core.specs.declared.pending.Idle.{Idle}
-use Rattle.cell_core.specs.declared.pending.Task.{Task}
-use Rattle.cell_core.specs.declared.pending.Task.TheVariants as tasks
-use Rattle.cell_core.specs.declared.pending.Work.{Work}
-use Rattle.cell_core.specs.declared.pending.Work.TheVariants as works
-use Rattle.cell_core.specs.declared.notices.Telling.{Telling}
-use Rattle.cell_core.specs.Notices.{with_telling, with_tellings}
-use Rattle.cell_core.specs.State.{MasterState}
-use Rattle.cell_core.specs.Step.{session_of, kept_of, is_live, reply_of, stamped_reply, answered_by, recorded, queued, names_of, bytes_of, task_of, with_call, with_right, asking_for, acknowledgement, parked, replied, granting, waits, with_note}
-use Rattle.cell_core.specs.Deeds.{with_locks, without_lock}
+use Rattle.deed_core.specs.declared.deeds.Change.{Change}
+use Rattle.deed_core.specs.declared.deeds.LockPut.{LockPut}
+use Rattle.cell_parts.specs.declared.handles.Note.{Note}
+use Rattle.cell_parts.specs.declared.pending.Asked.{Asked}
+use Rattle.cell_parts.specs.declared.pending.Idle.{Idle}
+use Rattle.cell_parts.specs.declared.pending.Task.{Task}
+use Rattle.cell_parts.specs.declared.pending.Task.TheVariants as tasks
+use Rattle.cell_parts.specs.declared.pending.Work.{Work}
+use Rattle.cell_parts.specs.declared.pending.Work.TheVariants as works
+use Rattle.cell_parts.specs.declared.notices.Telling.{Telling}
+use Rattle.cell_state.specs.Notices.{with_telling, with_tellings}
+use Rattle.cell_state.specs.State.{MasterState}
+use Rattle.cell_state.specs.Lookups.{session_of, kept_of, is_live, reply_of, stamped_reply, acknowledgement}
+use Rattle.cell_parts.specs.Calls.{bytes_of}
+use Rattle.cell_parts.specs.Answered.{answered_by}
+use Rattle.cell_core.specs.Step.{recorded, queued, names_of, task_of, with_call, with_right, asking_for, parked, replied, granting, waits}
+use Rattle.deed_core.specs.Deeds.{with_note, with_locks, without_lock}
 use Rattle.cell_core.specs.Ephemerals.{tidied}
 use Rattle.cell_core.specs.Cases.{IsBehind, TakeCase, taken_by}
 use Rattle.cell_core.specs.Names.{name_asked}
 use Rattle.cell_core.proofs.Told.{told_is_shown}
 use Rattle.cell_core.specs.Cases.TakeCase.{StartQueued, BeatParked, Recovering, Answered, Granted, Waits}
-use Rattle.over_core.specs.declared.effects.Effect.{Effect}
-use Rattle.over_core.specs.declared.effects.Leave.{Leave}
-use Rattle.over_core.specs.Effect.{effect}
+use Rattle.turn_core.specs.declared.effects.Effect.{Effect}
+use Rattle.turn_core.specs.declared.effects.Leave.{Leave}
+use Rattle.turn_core.specs.Effect.{effect}
 use Rattle.over_core.specs.Kept.{is_unanswered}
-use Rattle.over_core.specs.Sweep.{replies_to, turn_replies, left_put, puts_of, lapses_of, lapses_puts, lapses_replies}
+use Rattle.deed_core.specs.Replies.{replies_to, turn_replies, puts_of}
+use Rattle.turn_core.specs.Outcomes.{left_put}
+use Rattle.deed_core.specs.Lapses.{lapses_of, lapses_puts, lapses_replies}
 use Rattle.over_core.specs.SweepCase.{IsTurn, SweepCase, swept_by, rest, ended, mapped, told, expired, gone_change, gone_replies}
 use Rattle.over_core.specs.SweepCase.SweepCase.{Quiet, Recovers, Expires, Reopens, Tidies, Spared, Tidied, AnswersBeat, TurnedAway, StartedAgain, Started as StartedFirst, OfEnded, Ended, Applied, Deleted, Locked, Awaited, Left}
 use Rattle.world_cell.specs.declared.mail.Message.{Message}

@@ -23,7 +23,7 @@ use Rattle.rights_core.specs.declared.grants.Grant.TheVariants as grants
 use Rattle.rights_core.specs.declared.endings.Ending.TheVariants as endings
 use Rattle.rights_core.specs.Rights.{grant_answer, clients_to_ask, numbers_ending}
 use Rattle.tags_cell.specs.declared.outs.Reply.{Reply}
-use Rattle.cell_core.specs.declared.handles.Note.{Note}
+use Rattle.cell_parts.specs.declared.handles.Note.{Note}
 use Rattle.session_core.specs.declared.records.Kept.{Kept}
 use Rattle.session_core.specs.Session.{beaten, keeping, prolonged, answered, session_until}
 use Rattle.session_core.specs.Session as of_session
@@ -34,18 +34,22 @@ use Rattle.lock_core.specs.declared.turns.Lapse.{Lapse}
 use Rattle.lock_core.specs.declared.turns.Turn.{Turn}
 use Rattle.lock_core.specs.Turns.{reopened}
 use Rattle.lock_core.specs.Locks.{lock_at}
-use Rattle.cell_core.specs.declared.pending.Asked.{Asked}
-use Rattle.cell_core.specs.declared.pending.Task.{Task}
-use Rattle.cell_core.specs.declared.pending.Task.TheVariants as tasks
-use Rattle.cell_core.specs.declared.pending.Work.TheVariants as works
-use Rattle.cell_core.specs.declared.notices.Telling.{Telling}
-use Rattle.cell_core.specs.Notices.{with_tellings}
-use Rattle.cell_core.specs.State.{MasterState}
-use Rattle.cell_core.specs.Deeds.{with_locks}
-use Rattle.cell_core.specs.Step.{kept_of, is_live, reply_of, stamped_reply, answered_by, recorded, queued, granted_lines, acknowledgement, with_call, asking_for, repeated_reply, with_note, noted}
+use Rattle.cell_parts.specs.declared.pending.Asked.{Asked}
+use Rattle.cell_parts.specs.declared.pending.Task.{Task}
+use Rattle.cell_parts.specs.declared.pending.Task.TheVariants as tasks
+use Rattle.cell_parts.specs.declared.pending.Work.TheVariants as works
+use Rattle.cell_parts.specs.declared.notices.Telling.{Telling}
+use Rattle.cell_state.specs.Notices.{with_tellings}
+use Rattle.cell_state.specs.State.{MasterState}
+use Rattle.deed_core.specs.Deeds.{with_locks, with_note}
+use Rattle.cell_state.specs.Lookups.{kept_of, is_live, reply_of, stamped_reply, granted_lines, acknowledgement, repeated_reply, noted}
+use Rattle.cell_parts.specs.Answered.{answered_by}
+use Rattle.cell_core.specs.Step.{recorded, queued, with_call, asking_for}
 use Rattle.cell_core.specs.Cases.{IsBehind, TakeCase, taken_by}
-use Rattle.over_core.specs.Sweep.{replies_to, turn_replies, locked_lines, leave_lines, lapses_lines, left_put, lapses_of, lapses_puts, lapses_replies, puts_of}
-use Rattle.over_core.specs.declared.effects.Leave.{Leave}
+use Rattle.deed_core.specs.Replies.{replies_to, turn_replies, locked_lines, puts_of}
+use Rattle.turn_core.specs.Outcomes.{leave_lines, left_put}
+use Rattle.deed_core.specs.Lapses.{lapses_lines, lapses_of, lapses_puts, lapses_replies}
+use Rattle.turn_core.specs.declared.effects.Leave.{Leave}
 use Rattle.over_core.specs.SweepCase.{IsTurn, SweepCase, swept_by, rest, ended, mapped, told, expired, gone_change, gone_replies}
 use Rattle.over_core.proofs.SweepCases.{first_tellings}
 use Rattle.cell_core.specs.Cases.TakeCase.{StartRefused, OldBeat, BeatRefused, BeatParked, OldEpoch, NoSession, Repeated, OlderCall, Outstanding, Recovering, Answered, Granted, Waits}

@@ -2,9 +2,10 @@
 use Rattle.std.proofs.Common.{◌≡◌, ℕ, ◌≤◌, length, Ok, Option, Some, None, rules, ap}
 use Rattle.tags_cell.specs.declared.outs.Reply.{Reply}
 use Rattle.tags_cell.specs.declared.requests.Request.{Request}
-use Rattle.cell_core.specs.declared.pending.Taken.{Taken}
-use Rattle.cell_core.specs.State.{MasterState}
-use Rattle.cell_core.specs.Step.{take_step, repeated_reply, noted}
+use Rattle.cell_parts.specs.declared.pending.Taken.{Taken}
+use Rattle.cell_state.specs.State.{MasterState}
+use Rattle.cell_core.specs.Step.{take_step}
+use Rattle.cell_state.specs.Lookups.{repeated_reply, noted}
 use Rattle.cell_core.specs.Cases.{TakeCase, taken_by}
 use Rattle.cell_core.specs.Cases.TakeCase.{Repeated}
 use Rattle.cell_core.proofs.TakeCases.{taken_case}

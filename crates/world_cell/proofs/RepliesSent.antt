@@ -21,18 +21,20 @@ use Rattle.session_core.specs.declared.records.Kept.{Kept}
 use Rattle.cell_core.proofs.Told.{told_is_shown}
 use Rattle.lock_core.specs.Turns.{is_of_client, reopened}
 use Rattle.lock_core.specs.Locks.{lock_at}
-use Rattle.cell_core.specs.State.{MasterState}
-use Rattle.cell_core.specs.Deeds.{edit_of, lock_changes}
-use Rattle.cell_core.specs.Step.{kept_of, reply_of, stamped_reply, repeated_reply, with_note, noted}
+use Rattle.cell_state.specs.State.{MasterState}
+use Rattle.deed_core.specs.Deeds.{edit_of, lock_changes, with_note}
+use Rattle.cell_state.specs.Lookups.{kept_of, reply_of, stamped_reply, repeated_reply, noted}
 use Rattle.cell_core.specs.Cases.{TakeCase, taken_by}
 use Rattle.cell_core.specs.Cases.TakeCase.{StartQueued, BeatParked, Repeated, Recovering, Answered, Granted, Waits}
-use Rattle.cell_core.specs.declared.pending.Asked.{Asked}
-use Rattle.cell_core.specs.declared.pending.Task.{Task}
-use Rattle.cell_core.specs.declared.pending.Task.TheVariants as tasks
-use Rattle.cell_core.specs.declared.pending.Work.TheVariants as works
+use Rattle.cell_parts.specs.declared.pending.Asked.{Asked}
+use Rattle.cell_parts.specs.declared.pending.Task.{Task}
+use Rattle.cell_parts.specs.declared.pending.Task.TheVariants as tasks
+use Rattle.cell_parts.specs.declared.pending.Work.TheVariants as works
 use Rattle.gate_core.specs.declared.pending.Waiting.{Waiting}
 use Rattle.over_core.specs.SweepCase.{IsTurn, SweepCase, swept_by, swept_edits, gone_replies}
-use Rattle.over_core.specs.Sweep.{left_put, turn_replies, lapses_of, lapses_puts, lapses_replies, puts_of, replies_to}
+use Rattle.turn_core.specs.Outcomes.{left_put}
+use Rattle.deed_core.specs.Replies.{turn_replies, puts_of, replies_to}
+use Rattle.deed_core.specs.Lapses.{lapses_of, lapses_puts, lapses_replies}
 use Rattle.over_core.specs.SweepCase.SweepCase.{Quiet, Recovers, Expires, Reopens, Tidies, Spared, Tidied, OfEnded, Ended, Applied, Deleted, Locked, Awaited, Left}
 use Rattle.world_cell.specs.declared.mail.Message.{Message}
 use Rattle.world_cell.specs.declared.mail.Message.TheVariants.{ToMaster, ToClient}

@@ -24,12 +24,16 @@ use Rattle.rights_core.specs.declared.totals.Totals.{Totals}
 use Rattle.rights_core.specs.Rights.{held_limit, stands, is_held, is_acknowledged, is_expired, count_held, is_held_at, new_right, answer_beside, grant_answer, with_granted, is_to_ask, next_invalidation, with_next, is_ended_by, ends, status_after, ended, numbers_ending, totals_of, AreNumbered, IsRecorded}
 use Rattle.lock_core.specs.Turns.{reopened}
 use Rattle.lock_core.specs.Locks.{lock_at}
-use Rattle.cell_core.specs.declared.handles.Note.{Note}
-use Rattle.cell_core.specs.State.{MasterState}
-use Rattle.cell_core.specs.Step.{granted_lines, with_call, asking_for, repeated_reply, with_note, noted}
+use Rattle.cell_parts.specs.declared.handles.Note.{Note}
+use Rattle.cell_state.specs.State.{MasterState}
+use Rattle.cell_state.specs.Lookups.{granted_lines, repeated_reply, noted}
+use Rattle.cell_core.specs.Step.{with_call, asking_for}
+use Rattle.deed_core.specs.Deeds.{with_note}
 use Rattle.cell_core.specs.Cases.{TakeCase, taken_by}
 use Rattle.cell_core.specs.Cases.TakeCase.{BeatParked, Repeated, Answered, Granted, Waits}
-use Rattle.over_core.specs.Sweep.{locked_lines, leave_lines, lapses_lines, lapses_of}
+use Rattle.deed_core.specs.Replies.{locked_lines}
+use Rattle.turn_core.specs.Outcomes.{leave_lines}
+use Rattle.deed_core.specs.Lapses.{lapses_lines, lapses_of}
 use Rattle.over_core.specs.SweepCase.{SweepCase, swept_by}
 use Rattle.over_core.specs.SweepCase.SweepCase.{Expires, Reopens, Tidies, Ended, Applied, Left}
 use Rattle.world_cell.specs.declared.steps.Step.{Step}

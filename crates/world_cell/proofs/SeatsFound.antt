@@ -10,7 +10,7 @@ use Rattle.std.proofs.lemmas.Bool.Decides.{nat_tests}
 use Rattle.plain.proofs.Keys.{same_key}
 use Rattle.plain.proofs.OneKey.{lookup_set, lookup_set_apart}
 use Rattle.client_core.specs.State.{ClientState}
-use Rattle.cell_core.specs.State.{MasterState}
+use Rattle.cell_state.specs.State.{MasterState}
 use Rattle.world_cell.specs.declared.seats.Seat.{Seat}
 use Rattle.world_cell.specs.declared.steps.Ticks.{Ticks as ClockSteps}
 use Rattle.world_cell.specs.Seats.{Clients, seated, each_seat, is_least, is_fair, moved_beside}

@@ -29,11 +29,12 @@ use Rattle.rights_core.specs.Rights.{grant_answer, numbers_ending}
 use Rattle.tags_cell.specs.declared.requests.Request.{Request}
 use Rattle.lock_core.specs.Turns.{reopened}
 use Rattle.lock_core.specs.Locks.{lock_at}
-use Rattle.cell_core.specs.State.{MasterState}
-use Rattle.cell_core.specs.Step.{acknowledgement, granted_lines, repeated_reply, with_note, noted}
+use Rattle.cell_state.specs.State.{MasterState}
+use Rattle.cell_state.specs.Lookups.{acknowledgement, granted_lines, repeated_reply, noted}
+use Rattle.deed_core.specs.Deeds.{with_note}
 use Rattle.cell_core.specs.Cases.{TakeCase, taken_by}
 use Rattle.cell_core.specs.Cases.TakeCase.{StartRefused, OldBeat, BeatRefused, BeatParked, OldEpoch, NoSession, Repeated, OlderCall, Outstanding as StillOutstanding, Granted}
-use Rattle.over_core.specs.Sweep.{lapses_lines, lapses_of}
+use Rattle.deed_core.specs.Lapses.{lapses_lines, lapses_of}
 use Rattle.over_core.specs.SweepCase.{SweepCase, swept_by}
 use Rattle.over_core.specs.SweepCase.SweepCase.{Recovers, Expires, Reopens, Tidied, Started as StartedFirst, Applied, Deleted, Locked, Left}
 use Rattle.client_parts.specs.declared.asks.Ask.{Ask}

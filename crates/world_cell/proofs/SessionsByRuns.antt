@@ -21,10 +21,12 @@ use Rattle.rights_core.specs.declared.endings.Ending.TheVariants as endings
 use Rattle.rights_core.specs.Rights.{numbers_ending}
 use Rattle.lock_core.specs.Turns.{reopened}
 use Rattle.lock_core.specs.Locks.{lock_at}
-use Rattle.cell_core.specs.State.{MasterState}
-use Rattle.cell_core.specs.Step.{noted}
-use Rattle.cell_core.specs.Deeds.{edit_of, lock_changes}
-use Rattle.over_core.specs.Sweep.{locked_line, locked_lines, leave_lines, lapses_lines, left_put, lapses_of, lapses_puts, puts_of}
+use Rattle.cell_state.specs.State.{MasterState}
+use Rattle.cell_state.specs.Lookups.{noted}
+use Rattle.deed_core.specs.Deeds.{edit_of, lock_changes}
+use Rattle.deed_core.specs.Replies.{locked_line, locked_lines, puts_of}
+use Rattle.turn_core.specs.Outcomes.{leave_lines, left_put}
+use Rattle.deed_core.specs.Lapses.{lapses_lines, lapses_of, lapses_puts}
 use Rattle.over_core.specs.SweepCase.{SweepCase, swept_by, swept_edits}
 use Rattle.over_core.specs.SweepCase.SweepCase.{Expires, Reopens, Tidied, Started as StartedFirst, Applied, Deleted, Locked, Awaited, Left}
 use Rattle.world_cell.specs.declared.steps.Step.{Step}

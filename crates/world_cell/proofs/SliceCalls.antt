@@ -21,8 +21,7 @@ use Rattle.tags_cell.specs.declared.outs.Reply.{Reply}
 use Rattle.session_core.specs.declared.records.Kept.{Kept}
 use Rattle.session_core.specs.declared.records.Session.{Session}
 use Rattle.session_core.specs.Session.{keeping, issued_through}
-use Rattle.session_core.specs.Sessions.{SessionTable, has_spent_events, with_issued, issued_by}
-use Rattle.session_core.specs.Sessions.{session_of as session_in}
+use Rattle.session_core.specs.Sessions.{SessionTable, has_spent_events, with_issued, issued_by, session_of as session_in}
 use Rattle.session_core.proofs.IssuedBy.{lease_stays_issued}
 use Rattle.rights_core.specs.declared.cache_rights.CacheRight.{CacheRight}
 use Rattle.rights_core.specs.declared.grants.Grant.{Grant}
@@ -33,13 +32,16 @@ use Rattle.gate_core.specs.declared.pending.Waiting.{Waiting}
 use Rattle.gate_core.specs.Gate.{GateState, uncachable}
 use Rattle.gate_core.specs.Laws.{touching}
 use Rattle.gate_core.proofs.OneChange.{push_touches, uncachable_is_touched, cachable_is_granted}
-use Rattle.cell_core.specs.declared.handles.HandleKey.{HandleKey}
-use Rattle.cell_core.specs.declared.handles.HandleState.{HandleState}
-use Rattle.cell_core.specs.declared.pending.Idle.{Idle}
-use Rattle.cell_core.specs.declared.pending.Task.{Task}
-use Rattle.cell_core.specs.declared.pending.Task.TheVariants as tasks
-use Rattle.cell_core.specs.State.{MasterState, row_of}
-use Rattle.cell_core.specs.Step.{session_of, is_live, reply_of, issued_to, stamped_reply, answered_by, replied, is_cachable, granting, names_of, task_of, with_call, waits, is_spent}
+use Rattle.cell_parts.specs.declared.handles.HandleKey.{HandleKey}
+use Rattle.cell_parts.specs.declared.handles.HandleState.{HandleState}
+use Rattle.cell_parts.specs.declared.pending.Idle.{Idle}
+use Rattle.cell_parts.specs.declared.pending.Task.{Task}
+use Rattle.cell_parts.specs.declared.pending.Task.TheVariants as tasks
+use Rattle.cell_state.specs.State.{MasterState}
+use Rattle.cell_parts.specs.StoredSessions.{row_of}
+use Rattle.cell_state.specs.Lookups.{session_of, is_live, reply_of, issued_to, stamped_reply, is_spent}
+use Rattle.cell_parts.specs.Answered.{answered_by}
+use Rattle.cell_core.specs.Step.{replied, is_cachable, granting, names_of, task_of, with_call, waits}
 use Rattle.cell_core.specs.Names.{name_asked, shown_by}
 use Rattle.cell_core.specs.Ephemerals.{tidied}
 use Rattle.over_core.specs.Kept.{AreIssued, AreOwned}

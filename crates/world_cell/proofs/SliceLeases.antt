@@ -10,8 +10,8 @@ use Rattle.coherence.proofs.Reached.{reached_is_joint}
 use Rattle.rows_cell.specs.declared.tables.Session as of_rows
 use Rattle.tags_cell.specs.declared.outs.Reply.{Reply}
 use Rattle.session_core.specs.declared.records.Session.{Session}
-use Rattle.cell_core.specs.State.{MasterState}
-use Rattle.cell_core.specs.Step.{session_of}
+use Rattle.cell_state.specs.State.{MasterState}
+use Rattle.cell_state.specs.Lookups.{session_of}
 use Rattle.world_cell.specs.declared.seats.Seat.{Seat}
 use Rattle.world_cell.specs.World.{WorldState, seat_of}
 use Rattle.world_cell.specs.Slices.{slice, standing_so, standing_of, seen_of, client_of, master_of}

@@ -7,8 +7,8 @@ use Rattle.tags_cell.specs.declared.outs.Out.{Out}
 use Rattle.tags_cell.specs.Messages.{out_client}
 use Rattle.client_parts.specs.declared.asks.Ask.{Ask}
 use Rattle.client_core.specs.Cases.{AskCase, asked_in, BeatCase, beaten_in, GiveCase, given_in}
-use Rattle.cell_core.specs.State.{MasterState}
-use Rattle.cell_core.specs.Step.{noted, is_spent}
+use Rattle.cell_state.specs.State.{MasterState}
+use Rattle.cell_state.specs.Lookups.{noted, is_spent}
 use Rattle.cell_core.specs.Cases.{TakeCase}
 use Rattle.over_core.specs.SweepCase.{SweepCase}
 use Rattle.world_cell.specs.declared.seats.Seat.{Seat}

@@ -32,31 +32,36 @@ use Rattle.session_core.specs.declared.records.Parked.{Parked}
 use Rattle.session_core.specs.declared.records.Session.{Session}
 use Rattle.session_core.specs.Session as of_session
 use Rattle.session_core.specs.Session.{events_of, session_until, prolonged, answered, keeping, has_heard, offer_to}
-use Rattle.session_core.specs.Sessions.{SessionTable, with_session, with_new, all_heard}
-use Rattle.session_core.specs.Sessions.{session_of as session_in}
+use Rattle.session_core.specs.Sessions.{SessionTable, with_session, with_new, all_heard, session_of as session_in}
 use Rattle.session_core.proofs.OneClient.{lookup_put, lookup_put_apart, other_session}
 use Rattle.gate_core.specs.declared.pending.Waiting.{Waiting}
 use Rattle.gate_core.specs.Gate.{touches, push_answer}
 use Rattle.gate_core.specs.Laws.{touching}
-use Rattle.cell_core.specs.declared.deeds.Change.{Change}
-use Rattle.cell_core.specs.declared.handles.Note.{Note}
-use Rattle.cell_core.specs.declared.pending.Asked.{Asked}
-use Rattle.cell_core.specs.declared.pending.Idle.{Idle}
-use Rattle.cell_core.specs.declared.pending.Task.{Task}
-use Rattle.cell_core.specs.declared.pending.Task.TheVariants as tasks
-use Rattle.cell_core.specs.declared.pending.Work.TheVariants as works
+use Rattle.deed_core.specs.declared.deeds.Change.{Change}
+use Rattle.cell_parts.specs.declared.handles.Note.{Note}
+use Rattle.cell_parts.specs.declared.pending.Asked.{Asked}
+use Rattle.cell_parts.specs.declared.pending.Idle.{Idle}
+use Rattle.cell_parts.specs.declared.pending.Task.{Task}
+use Rattle.cell_parts.specs.declared.pending.Task.TheVariants as tasks
+use Rattle.cell_parts.specs.declared.pending.Work.TheVariants as works
 use Rattle.lock_core.specs.declared.turns.Turn.{Turn}
 use Rattle.lock_core.specs.Turns.{reopened}
 use Rattle.lock_core.specs.Locks.{lock_at}
-use Rattle.cell_core.specs.declared.deeds.LockPut.{LockPut}
-use Rattle.cell_core.specs.State.{MasterState, row_of}
-use Rattle.cell_core.specs.Step.{session_of, noted, reply_of, answered_by, turned_away, names_of}
+use Rattle.deed_core.specs.declared.deeds.LockPut.{LockPut}
+use Rattle.cell_state.specs.State.{MasterState}
+use Rattle.cell_parts.specs.StoredSessions.{row_of}
+use Rattle.cell_state.specs.Lookups.{session_of, noted, reply_of, turned_away}
+use Rattle.cell_parts.specs.Answered.{answered_by}
+use Rattle.cell_core.specs.Step.{names_of}
 use Rattle.cell_core.specs.Names.{name_changed}
 use Rattle.cell_core.specs.Ephemerals.{is_ok, spared_for}
-use Rattle.cell_core.specs.Deeds.{edit_of, with_kept_put, with_locks, without_lock, lock_changes}
+use Rattle.deed_core.specs.Deeds.{edit_of, with_kept_put, with_locks, without_lock, lock_changes}
 use Rattle.client_parts.specs.Invalidations.{last_number}
-use Rattle.over_core.specs.Effect.{effect}
-use Rattle.over_core.specs.Sweep.{started_out, alive_out, invalidations_for, sent, kept_puts, replies_to, turn_replies, left_put, puts_of, lapses_of, lapses_puts, lapses_replies}
+use Rattle.turn_core.specs.Effect.{effect}
+use Rattle.over_core.specs.Sweep.{started_out, alive_out, invalidations_for}
+use Rattle.deed_core.specs.Replies.{sent, kept_puts, replies_to, turn_replies, puts_of}
+use Rattle.turn_core.specs.Outcomes.{left_put}
+use Rattle.deed_core.specs.Lapses.{lapses_of, lapses_puts, lapses_replies}
 use Rattle.over_core.specs.SweepCase.{IsTurn, IsDueToEnd, IsDue, SweepCase, rest, ended, mapped, told, expired, relocking, gone_change, gone_replies, swept_by, swept_edits}
 use Rattle.over_core.specs.SweepCase.SweepCase.{Quiet, Recovers, Expires, Reopens, Tidies, Spared, Tidied, AnswersBeat, TurnedAway, StartedAgain, Started, OfEnded, Ended, Applied, Deleted, Locked, Awaited, Left}
 use Rattle.over_core.specs.Kept.{IsKept, names_touched_by}

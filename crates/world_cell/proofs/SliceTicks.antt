@@ -17,9 +17,9 @@ use Rattle.session_core.specs.declared.records.Session.{Session}
 use Rattle.session_core.specs.Session.{recovered_session, has_heard}
 use Rattle.session_core.specs.Sessions.{all_heard}
 use Rattle.session_core.proofs.OneClient.{lookup_put, lookup_put_apart}
-use Rattle.cell_core.specs.State.{MasterState}
-use Rattle.cell_core.specs.State as of_state
-use Rattle.cell_core.specs.Step.{session_of}
+use Rattle.cell_state.specs.State.{MasterState}
+use Rattle.cell_state.specs.State as of_state
+use Rattle.cell_state.specs.Lookups.{session_of}
 use Rattle.over_core.specs.Up.{up_edits}
 use Rattle.world_cell.specs.declared.seats.Seat.{Seat}
 use Rattle.world_cell.specs.declared.steps.Ticks.{Ticks}

@@ -21,17 +21,17 @@ use Rattle.tags_cell.specs.declared.outs.Out.TheVariants as outs
 use Rattle.tags_cell.specs.declared.outs.Started.{Started}
 use Rattle.tags_cell.specs.declared.outs.Reply.{Reply}
 use Rattle.session_core.specs.declared.records.Session.{Session}
-use Rattle.session_core.specs.Sessions.{SessionTable, with_session}
-use Rattle.session_core.specs.Sessions.{session_of as session_in}
+use Rattle.session_core.specs.Sessions.{SessionTable, with_session, session_of as session_in}
 use Rattle.session_core.proofs.Keys.{same_key}
 use Rattle.session_core.proofs.OneClient.{own_session, other_session}
 use Rattle.session_core.proofs.RowsOfSessions.{rows_of}
 use Rattle.rights_core.specs.Rights.{IsRecorded}
 use Rattle.gate_core.specs.declared.pending.Waiting.{Waiting}
 use Rattle.gate_core.specs.Laws.{touching}
-use Rattle.cell_core.specs.declared.pending.Task.{Task}
-use Rattle.cell_core.specs.State.{MasterState, row_of, session_rows}
-use Rattle.cell_core.specs.Step.{session_of, noted}
+use Rattle.cell_parts.specs.declared.pending.Task.{Task}
+use Rattle.cell_state.specs.State.{MasterState}
+use Rattle.cell_parts.specs.StoredSessions.{row_of, session_rows}
+use Rattle.cell_state.specs.Lookups.{session_of, noted}
 use Rattle.client_parts.specs.Invalidations.{last_number}
 use Rattle.over_core.specs.Kept.{AreByBeats, AreIssued, AreOwned, AreTouching, IsKept}
 use Rattle.world_cell.specs.declared.mail.Message.{Message}

@@ -28,27 +28,29 @@ use Rattle.rows_cell.specs.Sound.{sound, are_distinct}
 use Rattle.rows_cell.proofs.RowViews.{keys_of_views}
 use Rattle.rows_cell.proofs.SoundParts.{instances, has_instance, parts_of}
 use Rattle.tags_cell.specs.declared.handles.Handle.{Handle}
-use Rattle.cell_core.specs.declared.deeds.Change.{Change}
-use Rattle.cell_core.specs.declared.deeds.Deed.{Deed}
-use Rattle.cell_core.specs.declared.deeds.LockPut.{LockPut}
-use Rattle.cell_core.specs.declared.deeds.SessionDeed.{SessionDeed}
-use Rattle.cell_core.specs.declared.deeds.SessionDeed.TheVariants.{Begins, Prolongs, Ends, Answers}
-use Rattle.cell_core.specs.declared.handles.HandleKey.{HandleKey}
-use Rattle.cell_core.specs.declared.handles.HandleState.{HandleState}
-use Rattle.cell_core.specs.declared.handles.HandleState.TheVariants as states
-use Rattle.cell_core.specs.declared.handles.Note.{Note}
-use Rattle.cell_core.specs.declared.notices.Notice.{Notice}
-use Rattle.cell_core.specs.declared.notices.Notice.TheVariants as notices
-use Rattle.cell_core.specs.declared.notices.Telling.{Telling}
-use Rattle.cell_core.specs.Notices.{instance_of, event_if, event_here, event_on, event_for, is_noted, telling_as, telling_by}
-use Rattle.cell_core.specs.State.{MasterState}
-use Rattle.cell_core.specs.Step.{with_note, holds_lock}
-use Rattle.cell_core.specs.Deeds.{new_generation, with_begun, with_put, with_locks, gone_of, session_rest, with_session_rest, with_kept, with_map, without_lock, recovered, left, done}
+use Rattle.deed_core.specs.declared.deeds.Change.{Change}
+use Rattle.deed_core.specs.declared.deeds.Deed.{Deed}
+use Rattle.deed_core.specs.declared.deeds.LockPut.{LockPut}
+use Rattle.deed_core.specs.declared.deeds.SessionDeed.{SessionDeed}
+use Rattle.deed_core.specs.declared.deeds.SessionDeed.TheVariants.{Begins, Prolongs, Ends, Answers}
+use Rattle.cell_parts.specs.declared.handles.HandleKey.{HandleKey}
+use Rattle.cell_parts.specs.declared.handles.HandleState.{HandleState}
+use Rattle.cell_parts.specs.declared.handles.HandleState.TheVariants as states
+use Rattle.cell_parts.specs.declared.handles.Note.{Note}
+use Rattle.cell_parts.specs.declared.notices.Notice.{Notice}
+use Rattle.cell_parts.specs.declared.notices.Notice.TheVariants as notices
+use Rattle.cell_parts.specs.declared.notices.Telling.{Telling}
+use Rattle.cell_parts.specs.Events.{instance_of}
+use Rattle.cell_state.specs.Notices.{event_if, event_here, event_on, event_for, is_noted, telling_as, telling_by}
+use Rattle.cell_state.specs.State.{MasterState}
+use Rattle.deed_core.specs.Deeds.{with_note, new_generation, with_begun, with_put, with_locks, gone_of, session_rest, with_session_rest, with_kept, with_map, without_lock, recovered, left, done}
+use Rattle.cell_state.specs.Lookups.{holds_lock}
 use Rattle.lock_core.specs.Locks.{LockTable, lock_at}
-use Rattle.over_core.specs.declared.effects.Effect.{Effect}
+use Rattle.turn_core.specs.declared.effects.Effect.{Effect}
 use Rattle.over_core.specs.declared.plans.Plan.{Plan}
 use Rattle.over_core.specs.Kept.{IsKept}
-use Rattle.over_core.specs.Notices.{above, put_notices, gone_notices, mod_notices, change_notices, lock_notices, locks_notices, contest_notices, notices_of, tellings_of}
+use Rattle.turn_core.specs.Notices.{above, put_notices, gone_notices, mod_notices, change_notices, lock_notices, locks_notices, contest_notices}
+use Rattle.over_core.specs.Sweep.{notices_of, tellings_of}
 use Rattle.over_core.specs.SweepCase.{SweepCase, swept_by, swept_edits, gone_change}
 use Rattle.over_core.specs.SweepCase.SweepCase.{Quiet, Recovers, Expires, Reopens, Tidies, Spared, Tidied, AnswersBeat, TurnedAway, StartedAgain, Started, OfEnded, Ended, Applied, Deleted, Locked, Awaited, Left}
 use Rattle.world_cell.specs.Contents.{IsNoOlder, Stands, IsTrue}

@@ -1,7 +1,7 @@
 -- What the turn of a change, and the invalidations that an Alive carries, are to one name.
 use Rattle.std.proofs.Common.{◌≡◌, ℕ, ◌+◌, ◌≤◌, Bool, true, false, cond, List, [], ◌∷◌, ◌++◌, Option, Some, Equal, arith, refl, sym, ap, ◌∙◌}
 use Rattle.std.specs.Prelude.{◌==◌, ◌||◌, count_by, All}
-use Rattle.std.specs.List.{list_any, list_all}
+use Rattle.std.specs.List.{list_any, list_all, sum_by}
 use Rattle.std.specs.Map.{lookup, remove_entry}
 use Rattle.std.specs.BTreeMap.{is_at}
 use Rattle.std.specs.Ordering.{nat_cmp}
@@ -10,7 +10,6 @@ use Rattle.std.specs.Cmp.Lexicographic.{slice_cmp, nat_list_cmp_total}
 use Rattle.std.specs.Str.{bytes_eq}
 use Rattle.std.proofs.lemmas.Bool.{and_parts}
 use Rattle.std.proofs.lemmas.Bool.Decides.{nat_tests}
-use Rattle.std.specs.List.{sum_by}
 use Rattle.std.proofs.lemmas.List.Sums.{sum_by-append, sum_by-cons}
 use Rattle.std.proofs.lemmas.List.Elements.{All-head, All-tail}
 use Rattle.std.proofs.lemmas.Map.Lookups.{exact_bytes}
@@ -27,7 +26,7 @@ use Rattle.rights_core.proofs.OneName.{free_name_is_held_by_none}
 use Rattle.gate_core.specs.declared.pending.Waiting.{Waiting}
 use Rattle.gate_core.specs.Gate.{touches, is_free}
 use Rattle.gate_core.specs.Laws.{touching}
-use Rattle.cell_core.specs.declared.pending.Task.{Task}
+use Rattle.cell_parts.specs.declared.pending.Task.{Task}
 use Rattle.client_parts.specs.Invalidations.{last_number}
 use Rattle.over_core.proofs.Unacknowledged.{IsAskedFor}
 use Rattle.world_cell.specs.Slices.{name_number}

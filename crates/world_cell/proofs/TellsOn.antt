@@ -17,10 +17,10 @@ use Rattle.event_core.specs.Queue.{EventQueue}
 use Rattle.session_core.specs.declared.records.Kept.{Kept}
 use Rattle.session_core.specs.declared.records.Session.{Session}
 use Rattle.session_core.specs.Sessions.{session_of}
-use Rattle.cell_core.specs.declared.notices.Telling.{Telling}
-use Rattle.cell_core.specs.Deeds.{done}
-use Rattle.cell_core.specs.State.{MasterState}
-use Rattle.cell_core.specs.Step.{noted}
+use Rattle.cell_parts.specs.declared.notices.Telling.{Telling}
+use Rattle.deed_core.specs.Deeds.{done}
+use Rattle.cell_state.specs.State.{MasterState}
+use Rattle.cell_state.specs.Lookups.{noted}
 use Rattle.cell_core.specs.Cases.{taken_by}
 use Rattle.over_core.specs.Kept.{IsKept}
 use Rattle.over_core.specs.declared.actions.Action.{Action}

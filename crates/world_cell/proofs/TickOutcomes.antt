@@ -6,7 +6,7 @@ use Rattle.std.proofs.lemmas.Bool.Decides.{nat_tests}
 use Rattle.lease_core.specs.Lease.{moment_limit}
 use Rattle.node_core.specs.declared.refusals.Fault.TheVariants as faults
 use Rattle.rows_cell.specs.Stores.{Store}
-use Rattle.cell_core.specs.State.{MasterState}
+use Rattle.cell_state.specs.State.{MasterState}
 use Rattle.world_cell.specs.declared.mail.Message.{Message}
 use Rattle.world_cell.specs.declared.steps.Step.TheVariants as steps
 use Rattle.world_cell.specs.declared.steps.Ticks.{Ticks as ClockSteps}

@@ -8,10 +8,10 @@ use Rattle.tags_cell.specs.declared.outs.Out.{Out}
 use Rattle.tags_cell.specs.declared.outs.Reply.{Reply}
 use Rattle.session_core.specs.declared.records.Session.{Session}
 use Rattle.session_core.specs.Sessions.{session_of as session_in}
-use Rattle.cell_core.specs.declared.notices.Telling.{Telling}
-use Rattle.cell_core.specs.Notices.{with_telling, with_tellings}
-use Rattle.cell_core.specs.State.{MasterState}
-use Rattle.cell_core.specs.Step.{kept_of}
+use Rattle.cell_parts.specs.declared.notices.Telling.{Telling}
+use Rattle.cell_state.specs.Notices.{with_telling, with_tellings}
+use Rattle.cell_state.specs.State.{MasterState}
+use Rattle.cell_state.specs.Lookups.{kept_of}
 use Rattle.over_core.proofs.ToldSessions.{reads_told, lease_told}
 use Rattle.world_cell.specs.World.{WorldState}
 use Rattle.world_cell.specs.Slices.{seen_of, heard_from}

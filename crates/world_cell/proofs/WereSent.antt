@@ -6,7 +6,7 @@ use Rattle.std.specs.List.{slice_get}
 use Rattle.std.proofs.lemmas.Option.{slice_get_within}
 use Rattle.node_core.specs.declared.refusals.Fault.TheVariants as faults
 use Rattle.node_core.specs.declared.lines.Line.{Line}
-use Rattle.cell_core.specs.State.{MasterState}
+use Rattle.cell_state.specs.State.{MasterState}
 use Rattle.cell_core.specs.Step.{take_step}
 use Rattle.world_cell.specs.declared.steps.Step.TheVariants as steps
 use Rattle.world_cell.specs.declared.mail.Message.{Message}

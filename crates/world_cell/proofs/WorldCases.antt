@@ -17,12 +17,14 @@ use Rattle.rows_cell.specs.Sound.{sound}
 use Rattle.tags_cell.specs.declared.requests.Request.{Request}
 use Rattle.tags_cell.specs.declared.outs.Out.{Out}
 use Rattle.tags_cell.specs.Messages.{out_client}
-use Rattle.cell_core.specs.declared.pending.Taken.{Taken}
+use Rattle.cell_parts.specs.declared.pending.Taken.{Taken}
 use Rattle.over_core.specs.declared.sweeps.Swept.{Swept}
-use Rattle.cell_core.specs.State.{MasterState, master_of, row_of}
-use Rattle.cell_core.specs.Notices.{with_tellings}
-use Rattle.cell_core.specs.Step.{take_step, is_past_end, is_spent, noted}
-use Rattle.over_core.specs.Effect.{is_last}
+use Rattle.cell_state.specs.State.{MasterState, master_of}
+use Rattle.cell_parts.specs.StoredSessions.{row_of}
+use Rattle.cell_state.specs.Notices.{with_tellings}
+use Rattle.cell_core.specs.Step.{take_step, is_past_end}
+use Rattle.cell_state.specs.Lookups.{is_spent, noted}
+use Rattle.turn_core.specs.Effect.{is_last}
 use Rattle.over_core.specs.Sweep.{first_action, acted, telling, is_over, sweep_step, sweep_edits}
 use Rattle.cell_core.specs.Cases.{TakeCase, taken_by}
 use Rattle.over_core.specs.SweepCase.{SweepCase, swept_by, swept_edits}

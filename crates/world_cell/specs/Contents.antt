@@ -12,8 +12,8 @@ use Rattle.tags_cell.specs.declared.outs.Out.TheVariants as outs
 use Rattle.tags_cell.specs.declared.outs.Reply.{Reply}
 use Rattle.event_core.specs.Queue.{EventQueue}
 use Rattle.session_core.specs.declared.records.Session.{Session}
-use Rattle.cell_core.specs.State.{MasterState}
-use Rattle.cell_core.specs.Step.{session_of}
+use Rattle.cell_state.specs.State.{MasterState}
+use Rattle.cell_state.specs.Lookups.{session_of}
 use Rattle.world_cell.specs.Messages.{out_at}
 use Rattle.world_cell.specs.World.{WorldState}
 

@@ -7,9 +7,10 @@ pub use Rattle.coherence.specs.Slice
 pub use Rattle.session_core.specs.Sessions
 pub use Rattle.rights_core.specs.Rights
 pub use Rattle.rights_core.specs.Laws as RightsLaws
-pub use Rattle.cell_core.specs.State
+pub use Rattle.cell_state.specs.State
+pub use Rattle.cell_state.specs.Lookups
 pub use Rattle.cell_core.specs.Step
-pub use Rattle.over_core.specs.Effect
+pub use Rattle.turn_core.specs.Effect
 pub use Rattle.rows_cell.specs.Stores
 pub use Rattle.cell_core.specs.Cases
 pub use Rattle.over_core.specs.Sweep

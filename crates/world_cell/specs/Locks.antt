@@ -11,7 +11,7 @@ use Rattle.rows_cell.specs.Indexes.{lock_generation_in, locks_at}
 use Rattle.rows_cell.specs.LockRows.{is_holding, has_holder, are_together}
 use Rattle.lock_core.specs.State.{IsLegal}
 use Rattle.lock_core.specs.Locks.{lock_at}
-use Rattle.cell_core.specs.State.{MasterState}
+use Rattle.cell_state.specs.State.{MasterState}
 use Rattle.over_core.specs.Kept.{AreGenerations, AreLockRows}
 use Rattle.world_cell.specs.declared.steps.Step.{Step}
 use Rattle.world_cell.specs.World.{WorldState, WorldView}

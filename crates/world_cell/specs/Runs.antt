@@ -12,19 +12,19 @@ use Rattle.node_core.specs.Nodes.{Nodes, changed, after, get_node}
 use Rattle.tags_cell.specs.declared.calls.Call.{Call}
 use Rattle.tags_cell.specs.declared.requests.Request.TheVariants as requests
 use Rattle.rows_cell.specs.Rows.{map_of}
-use Rattle.over_core.specs.declared.effects.Effect.{Effect}
+use Rattle.turn_core.specs.declared.effects.Effect.{Effect}
 use Rattle.rights_core.specs.declared.cache_rights.CacheRight.{CacheRight}
 use Rattle.rights_core.specs.declared.cache_rights.Status.{Status}
 use Rattle.rights_core.specs.declared.cache_rights.Status.TheVariants as statuses
 use Rattle.rights_core.specs.declared.totals.Totals.{Totals}
 use Rattle.rights_core.specs.Rights.{stands, was_acknowledged, has_expired, totals_of}
 use Rattle.gate_core.specs.declared.pending.Waiting.{Waiting}
-use Rattle.cell_core.specs.declared.pending.Task.{Task}
-use Rattle.cell_core.specs.declared.pending.Task.TheVariants as tasks
-use Rattle.cell_core.specs.declared.pending.Work.TheVariants as works
-use Rattle.cell_core.specs.State.{MasterState}
+use Rattle.cell_parts.specs.declared.pending.Task.{Task}
+use Rattle.cell_parts.specs.declared.pending.Task.TheVariants as tasks
+use Rattle.cell_parts.specs.declared.pending.Work.TheVariants as works
+use Rattle.cell_state.specs.State.{MasterState}
 use Rattle.cell_core.specs.Ephemerals.{is_idle_node}
-use Rattle.over_core.specs.Effect.{effect}
+use Rattle.turn_core.specs.Effect.{effect}
 use Rattle.world_cell.specs.declared.steps.Step.{Step}
 use Rattle.world_cell.specs.declared.steps.Step.TheVariants.{Take, Sweep, CutSweep}
 use Rattle.world_cell.specs.declared.steps.Commit.TheVariants.{Kept}
@@ -34,7 +34,7 @@ use Rattle.coherence.specs.Joint.{IsJoint}
 use Rattle.rows_cell.specs.Sound.{is_live_in}
 use Rattle.tags_cell.specs.declared.outs.Reply.{Reply}
 use Rattle.session_core.specs.declared.records.Session.{Session}
-use Rattle.cell_core.specs.Step.{session_of}
+use Rattle.cell_state.specs.Lookups.{session_of}
 use Rattle.client_core.specs.State.{lease_of}
 use Rattle.world_cell.specs.declared.seats.Seat.{Seat}
 use Rattle.world_cell.specs.World.{WorldState, WorldView, IsUndoubted, seat_of, world_step, step_edits, IsAt, IsStored, IsLeft, MayRefuseStep}

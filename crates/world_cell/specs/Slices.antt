@@ -26,12 +26,12 @@ use Rattle.rights_core.specs.Rights.{holds, invalidations_of}
 use Rattle.rights_core.specs.Laws.{asked_for, given_back_of, number_or_0}
 use Rattle.gate_core.specs.declared.pending.Waiting.{Waiting}
 use Rattle.gate_core.specs.Laws.{touching}
-use Rattle.cell_core.specs.declared.pending.Task.{Task}
-use Rattle.cell_core.specs.declared.pending.Task.TheVariants as tasks
-use Rattle.cell_core.specs.declared.pending.Work.{Work}
-use Rattle.cell_core.specs.declared.pending.Work.TheVariants as works
-use Rattle.cell_core.specs.State.{MasterState}
-use Rattle.cell_core.specs.Step.{session_of}
+use Rattle.cell_parts.specs.declared.pending.Task.{Task}
+use Rattle.cell_parts.specs.declared.pending.Task.TheVariants as tasks
+use Rattle.cell_parts.specs.declared.pending.Work.{Work}
+use Rattle.cell_parts.specs.declared.pending.Work.TheVariants as works
+use Rattle.cell_state.specs.State.{MasterState}
+use Rattle.cell_state.specs.Lookups.{session_of}
 use Rattle.cell_core.specs.Names.{name_asked, shown_by}
 use Rattle.client_parts.specs.Invalidations.{last_number}
 use Rattle.cache_core.specs.Caches.{entry_of}

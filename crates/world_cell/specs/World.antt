@@ -17,8 +17,8 @@ use Rattle.rows_cell.specs.Stores.{Store, left_by, IsWant, MayLeave, MayRefuse, 
 use Rattle.tags_cell.specs.declared.requests.Request.{Request}
 use Rattle.tags_cell.specs.declared.outs.Out.{Out}
 use Rattle.tags_cell.specs.Messages.{out_client}
-use Rattle.cell_core.specs.declared.pending.Taken.{Taken}
-use Rattle.cell_core.specs.State.{MasterState}
+use Rattle.cell_parts.specs.declared.pending.Taken.{Taken}
+use Rattle.cell_state.specs.State.{MasterState}
 use Rattle.cell_core.specs.Step.{take_step, is_past_end}
 use Rattle.over_core.specs.declared.sweeps.Swept.{Swept}
 use Rattle.over_core.specs.Sweep.{sweep_step, sweep_edits}

@@ -12,7 +12,7 @@ sweep_by-requires g c = sweep_sound _ _ c.self.inside.master _ c.self.invariant
 
 pub invariant_of-self : goal.invariant_of-self
 invariant_of-self g c =
-    swept_kept (g.R.Records.store c.self.inside.records) (g.R.Records.store c.sweep_by.new.records) c.self.inside.master c.sweep_by.new.master _ c.sweep_by.result c.self.invariant c.sweep_by.ensures.ok c.sweep_by.ensures.committed c.sweep_by.ensures.err c.sweep_by.ensures.fault
+    swept_kept (g.R.Records.store c.self.inside.records) (g.R.Records.store c.sweep_by.new.records) c.self.inside.master c.sweep_by.new.cell _ c.sweep_by.result c.self.invariant c.sweep_by.ensures.ok c.sweep_by.ensures.committed c.sweep_by.ensures.err c.sweep_by.ensures.fault
 
 pub returns-clause-ok : goal.returns-clause-ok
 returns-clause-ok g c = search rules
@@ -24,7 +24,7 @@ returns-clause-committed g c =
 
 pub returns-clause-fault : goal.returns-clause-fault
 returns-clause-fault g c =
-    let new : CellState = record { master = c.sweep_by.new.master; store = g.R.Records.store c.sweep_by.new.records } in
+    let new : CellState = record { master = c.sweep_by.new.cell; store = g.R.Records.store c.sweep_by.new.records } in
     let old : CellState = record { master = c.self.inside.master; store = g.R.Records.store c.self.inside.records } in
     let P : CellState → Type 0 = λ s. IfErr c.sweep_by.result (λ e. (sweep_step s.master c.args.now ≡ Err e × new ≡ s) ⊎ IsRefused e (sweep_edits s.master c.args.now) s.store new.store) in
     subst P c.self.view_is (refused_so old new c.args.now c.sweep_by.result c.sweep_by.ensures.err c.sweep_by.ensures.fault)

@@ -1,0 +1,13 @@
+use Rattle.std.proofs.Common.{rules, Some, refl, sym, ap, ◌∙◌}
+use Rattle.cell_core.specs.Step.{admit_step}
+use Rattle.cell_core.proofs.Notes.{noted}
+use Rattle.cell_core.proofs.takes.admit_noted.Goals as goal
+
+pub returns-in-Ok-clause-ok : goal.returns-in-Ok-clause-ok
+returns-in-Ok-clause-ok c =
+    sym (ap (λ s. admit_step s c.args.message.now c.args.touched c.args.told c.args.answer) (noted _ c.args.master.now c.put.new.self (Some c.args.note) c.args.note c.master.view_is refl c.in_ok-former.ensures.ok))
+    ∙ c.in-Ok.ensures.ok
+    ∙ ap (λ s. (s, c.in-Ok.taken)) (sym c.settle_note.ensures)
+
+pub returns-in-Err-clause-err : goal.returns-in-Err-clause-err
+returns-in-Err-clause-err c = search rules

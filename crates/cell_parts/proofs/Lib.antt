@@ -1,0 +1,5 @@
+pub mod Found
+pub mod PlacedHandles
+mod OpenOn
+mod NamedNodes
+pub mod Appended

@@ -1,0 +1,16 @@
+use Rattle.std.proofs.Common.{rules}
+use Rattle.std.specs.List.Sorted.{IsStrictlySortedBy}
+use Rattle.std.specs.Map.{keys_of}
+use Rattle.std.specs.Cmp.Lexicographic.{slice_cmp}
+use Rattle.std.specs.Ordering.{nat_cmp}
+use Rattle.node_core.specs.Nodes.{HasNamesInOrder}
+use Rattle.cell_parts.specs.EphemeralNames.{NameTable}
+use Rattle.cell_parts.proofs.NamedNodes.{named_without}
+use Rattle.cell_parts.proofs.nodes.Nodes.unset.Goals as goal
+
+pub invariant_of-self : goal.invariant_of-self
+invariant_of-self c = λ t.
+    let P : NameTable → Type 0 = λ l. IsStrictlySortedBy (slice_cmp nat_cmp) (keys_of l) in
+    let ordered : HasNamesInOrder c.self.inside.map = c.as_map-nodes.ensures.ordered in
+    let in_order : P c.self.inside.ephemerals = search rules in
+    named_without c.self.inside.map c.unset-former.new.self c.self.inside.ephemerals c.remove.new.self c.args.name.now c.unset-former.ensures.after c.remove.ensures.removed ordered.in_order in_order (c.self.invariant t)

@@ -1,0 +1,16 @@
+use Rattle.std.proofs.Common.{◌≡◌, List, rules}
+use Rattle.std.specs.List.Sorted.{IsStrictlySortedBy}
+use Rattle.std.specs.Map.{keys_of, remove_entry}
+use Rattle.std.specs.BTreeMap.{is_at}
+use Rattle.cell_parts.specs.declared.handles.HandleKey.{HandleKey}
+use Rattle.cell_parts.specs.declared.open_handles.Place.{Place}
+use Rattle.cell_parts.specs.OpenHandles.{place_order}
+use Rattle.cell_parts.proofs.PlacedHandles.{placed_settled}
+use Rattle.cell_parts.proofs.open_handles.Handles.settle.Goals as goal
+
+pub invariant_of-self : goal.invariant_of-self
+invariant_of-self c = λ t.
+    let P : List (Place × HandleKey) → Type 0 = λ l. IsStrictlySortedBy place_order (keys_of l) in
+    let sorted : P c.self.inside.places = search rules in
+    let removed : c.remove.new.self ≡ remove_entry (is_at (place_order c.of.result)) c.self.inside.places = search rules in
+    placed_settled c.self.inside.states c.self.inside.places c.remove.new.self c.args.key.now c.instance-instance.result c.of.result _ removed c.of.ensures c.get.ensures (c.is_open_on.ensures c.if-is_open_on.false) sorted (c.self.invariant t)

@@ -1,0 +1,156 @@
+//! The nodes of a cell, and which of them are ephemeral.
+ghost use Rattle.std.specs.Prelude.{◌≡◌, true, false, Some, IfOk, OnOk, OnErr};
+ghost use Rattle.std.specs.Option.{option_copied};
+ghost use Rattle.std.specs.BTreeMap.{is_at, insert_entry};
+ghost use Rattle.std.specs.Map.{remove_entry};
+ghost use Rattle.std.specs.Cmp.Lexicographic.{slice_cmp};
+ghost use Rattle.std.specs.Ordering.{nat_cmp};
+ghost use Rattle.plain.specs.Tables.{with_former};
+ghost use Rattle.node_core.specs.Nodes.{HasNamesInOrder, get_node};
+ghost use Rattle.cell_parts.specs.EphemeralNames.{is_ephemeral, NameTable, AreNamed, IsNamed, with_name, was_ephemeral, with_former_name};
+
+use names_cell::Name;
+use node_core::{Life, Map, View};
+use plain::Table;
+use std::alloc::{AllocError, Global};
+use std::marker::Model;
+
+/// The nodes of a cell, by their names. To a contract, the entries in the order of the names' bytes. The ephemeral ones
+/// are found by their names.
+#[derive(Drop)]
+pub struct Nodes {
+    map: Map,
+    // The name of each ephemeral node, and some others.
+    ephemerals: Table<Name, ()>,
+    // Whether each ephemeral node has its name there.
+    complete: bool,
+}
+
+impl Model for Nodes {
+    ghost use Rattle.std.specs.Prelude.{◌≡◌, List, ℕ, true};
+    ghost use Rattle.node_core.specs.declared.views.View.{View};
+    ghost use Rattle.cell_parts.specs.EphemeralNames.{AreNamed};
+
+    ghost Value = { List (List ℕ × View) };
+
+    ghost view = { λ n. n.map };
+
+    ghost invariant = { λ n. n.complete ≡ true → AreNamed n.map n.ephemerals };
+}
+
+impl Nodes {
+    /// The nodes of a map.
+    pub fn of_map(alloc: Global, map: Map) -> Result<Nodes, AllocError>
+        ensures { IfOk result (λ nodes. nodes ≡ map) }
+    {
+        let ephemerals = names_of(alloc, &map)?;
+        Ok(Nodes {
+            map,
+            ephemerals,
+            complete: true,
+        })
+    }
+
+    pub fn map(&self) -> &Map
+        ensures { result.now ≡ self.now }
+    {
+        &self.map
+    }
+
+    /// The names of the ephemeral nodes, and of some others; None where that of each isn't known.
+    pub fn ephemerals(&self) -> Option<&Table<Name, ()>>
+        ensures { (names : NameTable) → option_copied result ≡ Some names → AreNamed self.now names }
+    {
+        if self.complete {
+            Some(&self.ephemerals)
+        } else {
+            None
+        }
+    }
+
+    /// Sets a node. What stood at the name is given back.
+    pub fn set(&mut self, name: Name, view: View) -> Result<Option<View>, AllocError>
+        ensures ok { OnOk result (self.new ≡ insert_entry (slice_cmp nat_cmp) self.old name view) }
+        ensures former { IfOk result (λ former. former ≡ get_node self.old name) }
+        ensures undone { IfOk result (λ former. with_former (slice_cmp nat_cmp) self.new name former ≡ self.old) }
+        ensures err { OnErr result (self.new ≡ self.old) }
+    {
+        add_name(&mut self.ephemerals, &name, &view)?;
+        self.map.set(name, view)
+    }
+
+    /// Gives a name the node that it had before a `set`, or none where it had none. Takes no memory.
+    pub fn restore(&mut self, name: &Name, former: Option<View>)
+        ensures { self.new ≡ with_former (slice_cmp nat_cmp) self.old name.now former }
+    {
+        let _nodes = self.map.as_map();
+        let _count = self.ephemerals.as_map().len();
+        if !restore_name(&mut self.ephemerals, name, &former) {
+            self.complete = false;
+        }
+        self.map.restore(name, former);
+    }
+
+    /// Takes a node away. What stood at the name is given back. Takes no memory.
+    pub fn unset(&mut self, name: &Name) -> Option<View>
+        ensures after { self.new ≡ remove_entry (is_at (slice_cmp nat_cmp name.now)) self.old }
+        ensures former { result ≡ get_node self.old name.now }
+    {
+        let _nodes = self.map.as_map();
+        let _count = self.ephemerals.as_map().len();
+        let former = self.map.unset(name);
+        self.ephemerals.remove(name);
+        former
+    }
+}
+
+pub fn is_ephemeral(life: Life) -> bool
+    ensures { result ≡ is_ephemeral life }
+{
+    match life {
+        Life::Permanent => false,
+        Life::Ephemeral => true,
+    }
+}
+
+fn names_of(alloc: Global, map: &Map) -> Result<Table<Name, ()>, AllocError>
+    ensures { IfOk result (λ names. AreNamed map.now names) }
+{
+    let mut names = Table::new(alloc);
+    for (name, view) in map.as_map() {
+        add_name(&mut names, name, view)?;
+    }
+    Ok(names)
+}
+
+// The name of an ephemeral node is put among the others.
+fn add_name(names: &mut Table<Name, ()>, name: &Name, view: &View) -> Result<(), AllocError>
+    ensures ok { OnOk result (names.new ≡ with_name names.old name.now view.now) }
+    ensures err { OnErr result (names.new ≡ names.old) }
+{
+    if is_ephemeral(view.life) {
+        names.put(name.clone()?, ())?;
+    }
+    Ok(())
+}
+
+// The name stays where its node is an ephemeral one again. False where the name of such a node isn't there.
+fn restore_name(names: &mut Table<Name, ()>, name: &Name, former: &Option<View>) -> bool
+    ensures after { names.new ≡ with_former_name names.old name.now former.now }
+    ensures named { result ≡ true → IsNamed names.new name.now former.now }
+{
+    if was_ephemeral(former) {
+        return names.get(name).is_some();
+    }
+    names.remove(name);
+    true
+}
+
+fn was_ephemeral(former: &Option<View>) -> bool
+    ensures { result ≡ was_ephemeral former.now }
+{
+    match former {
+        Some(view) => is_ephemeral(view.life),
+        None => false,
+    }
+}

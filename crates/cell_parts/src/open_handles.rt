@@ -1,0 +1,314 @@
+//! What a master knows of handles, and which are open on a node.
+ghost use Rattle.std.specs.Prelude.{◌≡◌, ◌+◌, [], true, false, IfOk, OnOk, OnErr, length};
+ghost use Rattle.std.specs.Option.{option_copied};
+ghost use Rattle.std.specs.List.{list_any};
+ghost use Rattle.std.specs.List.Sorted.{IsStrictlySortedBy};
+ghost use Rattle.std.specs.Map.{keys_of};
+ghost use Rattle.std.specs.BTreeMap.{insert_entry};
+ghost use Rattle.plain.specs.Tables.{with_former};
+ghost use Rattle.cell_parts.specs.Keys.{handle_order};
+ghost use Rattle.cell_parts.specs.OpenHandles.{place_of, with_place, state_at, ArePlaced, IsPlaced, IsNotOpenOn, AreAmong, HasPlaced, HasAll, HasOpenOn, is_open_in, is_known_open};
+
+use crate::handles::{HandleKey, HandleState};
+use plain::Table;
+use session_core::Sessions;
+use std::alloc::{AllocError, Global};
+use std::marker::Model;
+use tags_cell::Reply;
+
+/// Where a handle stands: its node's instance first, so that all handles on a node stand next to each other.
+#[derive(Clone, Copy, Debug, PartialEq, Eq, PartialOrd, Ord)]
+pub struct Place {
+    pub instance: u64,
+    pub client: u64,
+    pub number: u64,
+}
+
+impl Place {
+    fn of(instance: u64, key: &HandleKey) -> Place
+        ensures { result ≡ place_of instance key.now }
+    {
+        Place {
+            instance,
+            client: key.client.get(),
+            number: key.number.get(),
+        }
+    }
+
+    // No handle on the instance stands before it.
+    fn first(instance: u64) -> Place
+        ensures { result ≡ record { instance = instance; client = 0; number = 0 } }
+    {
+        Place {
+            instance,
+            client: 0,
+            number: 0,
+        }
+    }
+}
+
+/// How each handle stands that was opened, shown or closed in this epoch. To a contract, the entries in the order of the
+/// keys. The handles that are open on a node are found by their places.
+#[derive(Drop)]
+pub struct Handles {
+    states: Table<HandleKey, HandleState>,
+    // The place of each open handle, and of some that are closed.
+    places: Table<Place, HandleKey>,
+    // Whether each open handle has its place.
+    complete: bool,
+}
+
+impl Model for Handles {
+    ghost use Rattle.std.specs.Prelude.{◌≡◌, List, true};
+    ghost use Rattle.cell_parts.specs.declared.handles.HandleKey.{HandleKey};
+    ghost use Rattle.cell_parts.specs.declared.handles.HandleState.{HandleState};
+    ghost use Rattle.cell_parts.specs.OpenHandles.{ArePlaced};
+
+    ghost Value = { List (HandleKey × HandleState) };
+
+    ghost view = { λ h. h.states };
+
+    ghost invariant = { λ h. h.complete ≡ true → ArePlaced h.states h.places };
+}
+
+impl Handles {
+    /// No handles; takes no memory yet.
+    pub fn new(alloc: Global) -> Handles
+        ensures { result ≡ [] }
+    {
+        Handles {
+            states: Table::new(alloc),
+            places: Table::new(alloc),
+            complete: true,
+        }
+    }
+
+    /// How many there are; their keys are in order.
+    pub fn len(&self) -> usize
+        ensures count { result ≡ length self.now }
+        ensures ordered { IsStrictlySortedBy handle_order (keys_of self.now) }
+    {
+        self.states.as_map().len()
+    }
+
+    /// How a handle stands: one look-up in a tree.
+    pub fn get(&self, key: &HandleKey) -> Option<&HandleState>
+        ensures { option_copied result ≡ state_at self.now key.now }
+    {
+        self.states.get(key)
+    }
+
+    /// Notes how a handle stands, and gives how it stood before.
+    pub fn put(
+        &mut self,
+        key: HandleKey,
+        state: HandleState,
+    ) -> Result<Option<HandleState>, AllocError>
+        ensures former { IfOk result (λ former. former ≡ state_at self.old key) }
+        ensures ok { OnOk result (self.new ≡ insert_entry handle_order self.old key state) }
+        ensures undone { IfOk result (λ former. with_former handle_order self.new key former ≡ self.old) }
+        ensures err { OnErr result (self.new ≡ self.old) }
+    {
+        add_place(&mut self.places, &key, &state)?;
+        self.states.put(key, state)
+    }
+
+    /// Notes again how a handle stood before a `put`. Takes no memory.
+    pub fn restore(&mut self, key: &HandleKey, former: Option<HandleState>)
+        ensures { self.new ≡ with_former handle_order self.old key.now former }
+    {
+        let _count = self.states.as_map().len();
+        if !is_placed(&self.places, key, &former) {
+            self.complete = false;
+        }
+        self.states.restore(key, former);
+    }
+
+    /// What was kept of how a handle stood before a `put` is forgotten. Takes no memory.
+    pub fn settle(&mut self, key: &HandleKey, former: Option<HandleState>)
+        ensures { self.new ≡ self.old }
+    {
+        let Some(HandleState::Open(noted)) = &former else {
+            return;
+        };
+        let instance = noted.instance();
+        if is_open_on(self.states.get(key), instance) {
+            return;
+        }
+        let _count = self.places.as_map().len();
+        self.places.remove(&Place::of(instance, key));
+    }
+
+    /// Whether a handle of a live session is open on an instance.
+    pub fn is_open_in(&self, instance: u64, sessions: &Sessions<Reply>) -> bool
+        ensures { result ≡ list_any (λ entry. is_open_in sessions.now instance entry.0 entry.1) self.now }
+    {
+        let Some(next) = instance.checked_add(1) else {
+            return any_open_in(&self.states, instance, sessions);
+        };
+        if self.complete {
+            any_placed_open(&self.states, &self.places, instance, next, sessions)
+        } else {
+            any_open_in(&self.states, instance, sessions)
+        }
+    }
+
+    /// Adds the keys of the handles that are open on an instance, and maybe of others, whose states are looked up.
+    pub fn add_open_on(
+        &self,
+        instance: u64,
+        keys: &mut Table<HandleKey, ()>,
+    ) -> Result<(), AllocError>
+        ensures kept { OnOk result (AreAmong keys.old keys.new) }
+        ensures found { OnOk result (HasOpenOn self.now instance keys.new) }
+    {
+        let Some(next) = instance.checked_add(1) else {
+            return add_all(&self.states, keys);
+        };
+        if self.complete {
+            add_placed(&self.places, instance, next, keys)
+        } else {
+            add_all(&self.states, keys)
+        }
+    }
+}
+
+// A handle that is open gets its place.
+fn add_place(
+    places: &mut Table<Place, HandleKey>,
+    key: &HandleKey,
+    state: &HandleState,
+) -> Result<(), AllocError>
+    ensures ok { OnOk result (places.new ≡ with_place places.old key.now state.now) }
+    ensures err { OnErr result (places.new ≡ places.old) }
+{
+    if let HandleState::Open(noted) = state {
+        places.put(Place::of(noted.instance(), key), *key)?;
+    }
+    Ok(())
+}
+
+// Whether a handle has its place, where it is open.
+fn is_placed(places: &Table<Place, HandleKey>, key: &HandleKey, state: &Option<HandleState>) -> bool
+    ensures { result ≡ true → IsPlaced places.now key.now state.now }
+{
+    let Some(HandleState::Open(noted)) = state else {
+        return true;
+    };
+    match places.get(&Place::of(noted.instance(), key)) {
+        Some(found) => found.is(key),
+        None => false,
+    }
+}
+
+// Whether a handle is open on an instance.
+fn is_open_on(state: Option<&HandleState>, instance: u64) -> bool
+    ensures { result ≡ false → IsNotOpenOn (option_copied state.entry) instance }
+{
+    match state {
+        Some(HandleState::Open(noted)) => noted.instance() == instance,
+        _ => false,
+    }
+}
+
+// Whether a handle of a live session is open on an instance.
+fn is_open_in(
+    instance: u64,
+    sessions: &Sessions<Reply>,
+    key: &HandleKey,
+    state: &HandleState,
+) -> bool
+    ensures { result ≡ is_open_in sessions.now instance key.now state.now }
+{
+    match state {
+        HandleState::Open(noted) => {
+            noted.instance() == instance && sessions.is_live(key.client.get())
+        }
+        HandleState::Closed => false,
+    }
+}
+
+fn any_open_in(
+    states: &Table<HandleKey, HandleState>,
+    instance: u64,
+    sessions: &Sessions<Reply>,
+) -> bool
+    ensures { result ≡ list_any (λ entry. is_open_in sessions.now instance entry.0 entry.1) states.now }
+{
+    for (key, state) in states.as_map() {
+        if is_open_in(instance, sessions, key, state) {
+            return true;
+        }
+    }
+    false
+}
+
+// The same by the places of the instance.
+fn any_placed_open(
+    states: &Table<HandleKey, HandleState>,
+    places: &Table<Place, HandleKey>,
+    instance: u64,
+    next: u64,
+    sessions: &Sessions<Reply>,
+) -> bool
+    requires next { next ≡ instance + 1 }
+    requires placed { ArePlaced states.now places.now }
+    ensures { result ≡ list_any (λ entry. is_open_in sessions.now instance entry.0 entry.1) states.now }
+{
+    let _count = states.as_map().len();
+    let first = Place::first(instance);
+    let end = Place::first(next);
+    for (_, key) in places.as_map().range(first..end) {
+        if is_known_open(states, instance, sessions, key) {
+            return true;
+        }
+    }
+    false
+}
+
+// Whether the handle of a key is open on an instance, and its session live.
+fn is_known_open(
+    states: &Table<HandleKey, HandleState>,
+    instance: u64,
+    sessions: &Sessions<Reply>,
+    key: &HandleKey,
+) -> bool
+    ensures { result ≡ is_known_open states.now sessions.now instance key.now }
+{
+    match states.get(key) {
+        Some(state) => is_open_in(instance, sessions, key, state),
+        None => false,
+    }
+}
+
+// The keys that stand in the places of an instance.
+fn add_placed(
+    places: &Table<Place, HandleKey>,
+    instance: u64,
+    next: u64,
+    keys: &mut Table<HandleKey, ()>,
+) -> Result<(), AllocError>
+    requires { next ≡ instance + 1 }
+    ensures kept { OnOk result (AreAmong keys.old keys.new) }
+    ensures found { OnOk result (HasPlaced places.now instance keys.new) }
+{
+    let first = Place::first(instance);
+    let end = Place::first(next);
+    for (_, key) in places.as_map().range(first..end) {
+        keys.put(*key, ())?;
+    }
+    Ok(())
+}
+
+fn add_all(
+    states: &Table<HandleKey, HandleState>,
+    keys: &mut Table<HandleKey, ()>,
+) -> Result<(), AllocError>
+    ensures kept { OnOk result (AreAmong keys.old keys.new) }
+    ensures found { OnOk result (HasAll states.now keys.new) }
+{
+    for (key, _) in states.as_map() {
+        keys.put(*key, ())?;
+    }
+    Ok(())
+}

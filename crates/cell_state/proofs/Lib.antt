@@ -1,0 +1,2 @@
+pub mod MissingRights
+mod ToldHandles

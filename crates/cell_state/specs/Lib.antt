@@ -1,0 +1,16 @@
+pub use Rattle.plain.specs.Results
+pub use Rattle.names_cell.specs.Text
+pub use Rattle.node_core.specs.Nodes
+pub use Rattle.rights_core.specs.Rights
+pub use Rattle.gate_core.specs.Gate
+pub use Rattle.lease_core.specs.Lease
+pub use Rattle.session_core.specs.Session
+pub use Rattle.session_core.specs.Sessions
+pub use Rattle.cell_parts.specs.Keys
+pub use Rattle.cell_parts.specs.OpenHandles
+pub use Rattle.cell_parts.specs.Calls
+pub use Rattle.cell_parts.specs.Events
+pub mod State
+pub mod Lookups
+pub mod Notices
+pub mod Concerned

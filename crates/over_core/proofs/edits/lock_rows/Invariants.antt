@@ -1,6 +1,0 @@
-use Rattle.std.proofs.Common.{◌≡◌, ◌++◌}
-use Rattle.cell_core.specs.Locks.{holder_rows, lock_rows}
-use Rattle.over_core.proofs.edits.lock_rows.Given as goal
-
-abbrev pub invariant-loop-owner : goal.invariant-loop-owner
-invariant-loop-owner l = l.rows ++ holder_rows l.instance l.owner-iterator ≡ lock_rows l.instance l.lock
