@@ -51,7 +51,8 @@ use Rattle.turn_core.specs.declared.effects.Effect.{Effect}
 use Rattle.over_core.specs.declared.sweeps.Swept.{Swept}
 use Rattle.turn_core.specs.Effect.{effect}
 use Rattle.over_core.specs.Kept.{IsKept, AreLocksKept, IsOwnCall, is_call}
-use Rattle.over_core.specs.Sweep.{action_edits, first_action, is_over, sweep_edits, sweep_step}
+use Rattle.over_core.specs.Sweep.{action_edits, is_over, sweep_edits, sweep_step}
+use Rattle.plan_core.specs.Plans.{first_action}
 use Rattle.over_core.specs.SweepCase.{IsTurn, SweepCase, rest, swept_by, swept_edits}
 use Rattle.over_core.specs.SweepCase.SweepCase.{Quiet, Recovers, Expires, AnswersBeat, TurnedAway, StartedAgain, Started, Reopens, Tidies, Spared, Tidied, OfEnded, Ended, Applied, Deleted, Locked, Awaited, Left}
 use Rattle.over_core.proofs.FitsByEffects.{effect_fits}

@@ -26,4 +26,3 @@ pub mod SweepCases
 mod SweepSteps
 pub mod ToldSessions
 pub mod Touching
-pub mod Unacknowledged

@@ -44,12 +44,13 @@ use Rattle.deed_core.specs.Deeds.{edits_of}
 use Rattle.cell_core.specs.Ephemerals.{next_idle, is_still_idle}
 use Rattle.cell_parts.specs.declared.notices.Telling.{Telling}
 use Rattle.turn_core.specs.Effect.{effect, gone_by_itself}
-use Rattle.over_core.specs.Sweep.{tellings_of, no_deed, no_plan, session_plan, alive_out, leaving, plan_session, plan_start, plan_effect, plan_asked, plan_call, plan_of, plan_work, plan_task, expiry_plan, answer_or_quiet, tidy_or_later, reopen_or_later, apply_or_later, first_action, swept_by_plan, acted, telling, swept, action_edits, is_over, sweep_edits, sweep_step}
+use Rattle.plan_core.specs.Plans.{tellings_of, no_deed, no_plan, session_plan, alive_out, leaving, plan_session, plan_start, plan_effect, plan_asked, plan_call, plan_of, plan_work, plan_task, expiry_plan, answer_or_quiet, tidy_or_later, reopen_or_later, apply_or_later, first_action}
+use Rattle.over_core.specs.Sweep.{swept_by_plan, acted, telling, swept, action_edits, is_over, sweep_edits, sweep_step}
 use Rattle.turn_core.specs.declared.effects.Effect.{Effect}
 use Rattle.turn_core.specs.declared.effects.Leave.{Leave}
-use Rattle.over_core.specs.declared.actions.Action.{Action}
-use Rattle.over_core.specs.declared.actions.Action.TheVariants as actions
-use Rattle.over_core.specs.declared.plans.Plan.{Plan}
+use Rattle.plan_core.specs.declared.actions.Action.{Action}
+use Rattle.plan_core.specs.declared.actions.Action.TheVariants as actions
+use Rattle.plan_core.specs.declared.plans.Plan.{Plan}
 use Rattle.over_core.specs.declared.sweeps.Swept.{Swept}
 use Rattle.turn_core.specs.Outcomes.{left_put}
 use Rattle.deed_core.specs.Replies.{puts_of}

@@ -11,10 +11,11 @@ use Rattle.cell_core.specs.Ephemerals.{tidied}
 use Rattle.cell_state.specs.State.{MasterState}
 use Rattle.cell_state.specs.Lookups.{noted}
 use Rattle.cell_state.specs.Notices.{telling_by}
-use Rattle.over_core.specs.declared.actions.Action.{Action}
-use Rattle.over_core.specs.declared.actions.Action.TheVariants.{Tidy}
+use Rattle.plan_core.specs.declared.actions.Action.{Action}
+use Rattle.plan_core.specs.declared.actions.Action.TheVariants.{Tidy}
 use Rattle.over_core.specs.declared.sweeps.Swept.{Swept}
-use Rattle.over_core.specs.Sweep.{tellings_of, first_action, no_plan, telling, swept, is_over, sweep_step}
+use Rattle.plan_core.specs.Plans.{tellings_of, first_action, no_plan}
+use Rattle.over_core.specs.Sweep.{telling, swept, is_over, sweep_step}
 
 -- of nothing nobody is told
 tells_nobody : (s : MasterState) (handles : List (HandleKey × HandleState)) → filter_map (telling_by s None []) handles ≡ []

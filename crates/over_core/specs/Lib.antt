@@ -20,6 +20,7 @@ pub use Rattle.deed_core.specs.Lapses
 pub use Rattle.turn_core.specs.Effect
 pub use Rattle.turn_core.specs.Outcomes
 pub use Rattle.turn_core.specs.Notices
+pub use Rattle.plan_core.specs.Plans
 pub mod Kept
 pub mod Sweep
 pub mod SweepCase

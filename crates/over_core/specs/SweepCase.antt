@@ -34,7 +34,7 @@ use Rattle.cell_core.specs.Step.{recorded}
 use Rattle.deed_core.specs.Deeds.{with_note, edit_of, with_kept, with_locks, without_lock, lock_changes}
 use Rattle.turn_core.specs.Effect.{effect}
 use Rattle.over_core.specs.declared.sweeps.Swept.{Swept}
-use Rattle.over_core.specs.Sweep.{first_action, started_out, alive_out}
+use Rattle.plan_core.specs.Plans.{first_action, started_out, alive_out}
 use Rattle.deed_core.specs.Lapses.{expiry_lines, lapses_of, lapses_puts, lapses_replies}
 use Rattle.deed_core.specs.Replies.{kept_puts, sent, turn_replies, locked_line, locked_lines, puts_of, replies_to}
 use Rattle.turn_core.specs.Outcomes.{leave_lines, left_put}
@@ -48,7 +48,7 @@ use Rattle.cell_parts.specs.declared.pending.Work.TheVariants as works
 use Rattle.tags_cell.specs.declared.outs.CallResult.TheVariants as results
 use Rattle.turn_core.specs.declared.effects.Locking.TheVariants as lockings
 use Rattle.session_core.specs.Session as of_session
-use Rattle.over_core.specs.declared.actions.Action.TheVariants as actions
+use Rattle.plan_core.specs.declared.actions.Action.TheVariants as actions
 
 -- a change has its turn: it waited between these, and no right holds it up
 pub record IsTurn (s : MasterState) (front : List (Waiting Task)) (task : Task) (back : List (Waiting Task)) : Type 0 where

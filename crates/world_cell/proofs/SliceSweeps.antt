@@ -58,7 +58,7 @@ use Rattle.cell_core.specs.Ephemerals.{is_ok, spared_for}
 use Rattle.deed_core.specs.Deeds.{edit_of, with_kept_put, with_locks, without_lock, lock_changes}
 use Rattle.client_parts.specs.Invalidations.{last_number}
 use Rattle.turn_core.specs.Effect.{effect}
-use Rattle.over_core.specs.Sweep.{started_out, alive_out, invalidations_for}
+use Rattle.plan_core.specs.Plans.{started_out, alive_out, invalidations_for}
 use Rattle.deed_core.specs.Replies.{sent, kept_puts, replies_to, turn_replies, puts_of}
 use Rattle.turn_core.specs.Outcomes.{left_put}
 use Rattle.deed_core.specs.Lapses.{lapses_of, lapses_puts, lapses_replies}
@@ -67,7 +67,7 @@ use Rattle.over_core.specs.SweepCase.SweepCase.{Quiet, Recovers, Expires, Reopen
 use Rattle.over_core.specs.Kept.{IsKept, names_touched_by}
 use Rattle.over_core.proofs.SweepCases.{first_tellings}
 use Rattle.over_core.proofs.Touching.{change_is_named}
-use Rattle.over_core.proofs.Unacknowledged.{IsAskedFor, each_is_asked, asked_is_named}
+use Rattle.plan_core.proofs.Unacknowledged.{IsAskedFor, each_is_asked, asked_is_named}
 use Rattle.world_cell.specs.declared.mail.Message.TheVariants.{ToClient}
 use Rattle.world_cell.specs.World.{WorldState}
 use Rattle.world_cell.specs.Slices.{Shown, slice, standing_so, standing_of, standing_in, parked_list, seen_of, heard_from, right_of, put_start, start_of, starts_of, beats_of, name_number, put_offer, offers_of, grants_of}

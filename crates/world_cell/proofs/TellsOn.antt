@@ -23,9 +23,10 @@ use Rattle.cell_state.specs.State.{MasterState}
 use Rattle.cell_state.specs.Lookups.{noted}
 use Rattle.cell_core.specs.Cases.{taken_by}
 use Rattle.over_core.specs.Kept.{IsKept}
-use Rattle.over_core.specs.declared.actions.Action.{Action}
-use Rattle.over_core.specs.declared.actions.Action.TheVariants.{Tidy}
-use Rattle.over_core.specs.Sweep.{acted, first_action, plan_of}
+use Rattle.plan_core.specs.declared.actions.Action.{Action}
+use Rattle.plan_core.specs.declared.actions.Action.TheVariants.{Tidy}
+use Rattle.over_core.specs.Sweep.{acted}
+use Rattle.plan_core.specs.Plans.{first_action, plan_of}
 use Rattle.over_core.specs.SweepCase.{swept_by, swept_edits}
 use Rattle.over_core.proofs.KeptBySweeps.{case_kept}
 use Rattle.over_core.proofs.SweepCases.{first_tellings}

@@ -25,7 +25,8 @@ use Rattle.cell_state.specs.Notices.{with_tellings}
 use Rattle.cell_core.specs.Step.{take_step, is_past_end}
 use Rattle.cell_state.specs.Lookups.{is_spent, noted}
 use Rattle.turn_core.specs.Effect.{is_last}
-use Rattle.over_core.specs.Sweep.{first_action, acted, telling, is_over, sweep_step, sweep_edits}
+use Rattle.plan_core.specs.Plans.{first_action}
+use Rattle.over_core.specs.Sweep.{acted, telling, is_over, sweep_step, sweep_edits}
 use Rattle.cell_core.specs.Cases.{TakeCase, taken_by}
 use Rattle.over_core.specs.SweepCase.{SweepCase, swept_by, swept_edits}
 use Rattle.cell_core.proofs.TakeCases.{taken_case, taken_unspent}

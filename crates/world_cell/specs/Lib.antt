@@ -13,6 +13,7 @@ pub use Rattle.cell_core.specs.Step
 pub use Rattle.turn_core.specs.Effect
 pub use Rattle.rows_cell.specs.Stores
 pub use Rattle.cell_core.specs.Cases
+pub use Rattle.plan_core.specs.Plans
 pub use Rattle.over_core.specs.Sweep
 pub use Rattle.over_core.specs.SweepCase
 pub use Rattle.over_core.specs.Kept

@@ -1,6 +1,6 @@
 //! What a master does by itself first.
 ghost use Rattle.std.specs.Prelude.{◌≡◌, IfOk};
-ghost use Rattle.over_core.specs.Sweep.{first_action, apply_or_later, reopen_or_later, tidy_or_later, answer_or_quiet};
+ghost use Rattle.plan_core.specs.Plans.{first_action, apply_or_later, reopen_or_later, tidy_or_later, answer_or_quiet};
 
 use cell_core::Cell;
 use cell_parts::Idle;
@@ -31,8 +31,8 @@ pub enum Action {
     Quiet,
 }
 
-// The first that there is.
-pub(crate) fn first_action(cell: &Cell) -> Result<Action, AllocError>
+/// The first action that there is.
+pub fn first_action(cell: &Cell) -> Result<Action, AllocError>
     ensures { IfOk result (λ action. action ≡ first_action cell.now) }
 {
     let master = cell.master();

@@ -15,7 +15,7 @@ use Rattle.rights_core.proofs.Unacked.{unacked_are_held, asked_is_issued}
 use Rattle.session_core.proofs.Keys.{at_itself, same_key}
 use Rattle.session_core.proofs.Lowest.{none_up_to}
 use Rattle.cell_state.specs.State.{MasterState}
-use Rattle.over_core.specs.Sweep.{invalidation_of, invalidations_for}
+use Rattle.plan_core.specs.Plans.{invalidation_of, invalidations_for}
 
 -- it asked for the name that it names, and is one of those that were issued
 pub record IsAskedFor (client : ℕ) (rights : List CacheRight) (invalidation : Invalidation) : Type 0 where

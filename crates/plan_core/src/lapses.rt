@@ -2,7 +2,7 @@
 ghost use Rattle.std.specs.Prelude.{◌≡◌, ◌∷◌, IfOk};
 ghost use Rattle.deed_core.specs.Replies.{kept_puts, sent, locked_lines};
 ghost use Rattle.deed_core.specs.Lapses.{lapses_replies, lapses_puts, expiry_lines, lapses_of};
-ghost use Rattle.over_core.specs.Sweep.{expiry_plan, plan_reopen};
+ghost use Rattle.plan_core.specs.Plans.{expiry_plan, plan_reopen};
 ghost use Rattle.node_core.specs.declared.lines.Line.TheVariants as lines;
 
 use crate::plans::Plan;

@@ -1,9 +1,9 @@
 //! What is planned for an action.
 ghost use Rattle.std.specs.Prelude.{◌≡◌, [], ◌∷◌, Some, None, map, IfOk};
 ghost use Rattle.node_core.specs.declared.lines.Line.TheVariants as lines;
-ghost use Rattle.over_core.specs.declared.actions.Action.TheVariants as actions;
+ghost use Rattle.plan_core.specs.declared.actions.Action.TheVariants as actions;
 ghost use Rattle.turn_core.specs.Effect.{gone_by_itself};
-ghost use Rattle.over_core.specs.Sweep.{no_deed, started_out, alive_out, plan_session, plan_start, plan_effect, plan_call, plan_asked, plan_work, plan_tidied, plan_task, plan_expiry, invalidation_of, plan_answer, plan_of};
+ghost use Rattle.plan_core.specs.Plans.{no_deed, started_out, alive_out, plan_session, plan_start, plan_effect, plan_call, plan_asked, plan_work, plan_tidied, plan_task, plan_expiry, invalidation_of, plan_answer, plan_of};
 ghost use Rattle.turn_core.specs.Outcomes.{lock_ended, locking_puts};
 
 use crate::actions::Action;
@@ -76,8 +76,8 @@ impl Plan {
     }
 }
 
-// What is done for an action, as the master stands now.
-pub(crate) fn plan_of(cell: &Cell, action: &Action) -> Result<Plan, AllocError>
+/// What is done for an action, as the master stands now.
+pub fn plan_of(cell: &Cell, action: &Action) -> Result<Plan, AllocError>
     ensures { IfOk result (λ plan. plan ≡ plan_of cell.now action.now) }
 {
     let master = cell.master();

@@ -1,6 +1,6 @@
 //! What the clients of open handles are told of what is planned.
 ghost use Rattle.std.specs.Prelude.{◌≡◌, IfOk};
-ghost use Rattle.over_core.specs.Sweep.{notices_of, tellings_of};
+ghost use Rattle.plan_core.specs.Plans.{notices_of, tellings_of};
 
 use crate::plans::Plan;
 use cell_parts::{Notice, Telling};
@@ -9,8 +9,8 @@ use plain::Items;
 use std::alloc::AllocError;
 use turn_core::{change_notices, contest_notices, locks_notices};
 
-// What the clients of open handles are told of what is planned.
-pub(crate) fn tellings_of(master: &Master, plan: &Plan) -> Result<Items<Telling>, AllocError>
+/// What the clients of open handles are told of what is planned.
+pub fn tellings_of(master: &Master, plan: &Plan) -> Result<Items<Telling>, AllocError>
     ensures { IfOk result (λ tellings. tellings ≡ tellings_of master.now plan.now) }
 {
     let notices = notices_of(master, plan)?;
