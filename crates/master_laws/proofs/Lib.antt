@@ -1,0 +1,4 @@
+mod Answered
+mod Creates
+mod NewCalls
+mod PlainOpens
