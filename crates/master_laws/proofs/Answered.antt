@@ -10,7 +10,7 @@ use Rattle.tags_cell.specs.declared.requests.CallMessage.{CallMessage}
 use Rattle.cell_core.specs.declared.pending.Taken.{Taken}
 use Rattle.cell_core.specs.State.{MasterState}
 use Rattle.cell_core.specs.Step.{reply_of, stamped_reply, with_note, admission_for}
-use Rattle.master_laws.specs.Calls.{IsAnsweredBy}
+use Rattle.master_laws.specs.Steps.{IsAnsweredBy}
 use Rattle.master_laws.proofs.NewCalls.{NewCase, new_by, IsNewCase}
 use Rattle.master_laws.proofs.NewCalls.NewCase.{Answers, Grants, Queues}
 

@@ -1,4 +1,5 @@
 mod Answered
+mod ClosedCalls
 mod Creates
 mod NewCalls
 mod PlainOpens

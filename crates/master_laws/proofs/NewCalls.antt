@@ -12,7 +12,7 @@ use Rattle.cell_core.specs.Step.{kept_of, is_live, noted, replied, granting, wai
 use Rattle.cell_core.specs.Cases.{IsBehind, IsHeard, IsNew, IsAnswered, IsGranted, IsAdmitted, TakeCase, taken_by}
 use Rattle.cell_core.specs.Cases.TakeCase.{StartRefused, StartRecovering, StartFull, StartQueued, OldBeat, BeatRefused, BeatParked, OldEpoch, NoSession, Repeated, OlderCall, Outstanding, Recovering, Answered, Granted, Waits}
 use Rattle.cell_core.proofs.TakeCases.{taken_case}
-use Rattle.master_laws.specs.Calls.{TakesCall}
+use Rattle.master_laws.specs.Steps.{TakesCall}
 
 -- it is answered at once, it is answered by what may be kept in a cache, or it waits
 pub data NewCase (s : MasterState) (message : CallMessage) : Type 0 where

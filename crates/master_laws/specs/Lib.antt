@@ -1,3 +1,4 @@
-pub mod Calls
+pub mod Steps
 pub mod Opens
 pub mod Makes
+pub mod Closed

@@ -14,7 +14,7 @@ use Rattle.tags_cell.specs.declared.requests.CallMessage.{CallMessage}
 use Rattle.cell_core.specs.declared.pending.Taken.{Taken}
 use Rattle.cell_core.specs.State.{MasterState}
 use Rattle.cell_core.specs.Step.{may, is_of_cell}
-use Rattle.master_laws.specs.Calls.{TakesCall, IsAnsweredBy}
+use Rattle.master_laws.specs.Steps.{TakesCall, IsAnsweredBy}
 
 -- ---- who may open
 

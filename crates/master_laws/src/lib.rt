@@ -1,6 +1,8 @@
 //! What a master does for its clients, as laws of its tables: who is given a handle, what a closed handle is still good for, and what a refused call changes.
 #![tactic(auto)]
 
+mod handles;
 mod opens;
 
+pub use handles::closed_handle_is_refused;
 pub use opens::{makes_where_permitted, opens_where_permitted};

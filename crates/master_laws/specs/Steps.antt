@@ -1,4 +1,4 @@
--- A new call, and what it is answered.
+-- A new call that a master takes, and what it is answered.
 use Rattle.std.specs.Prelude.{◌≡◌, ℕ, false, Contains, Ok}
 use Rattle.tags_cell.specs.declared.requests.CallMessage.{CallMessage}
 use Rattle.tags_cell.specs.declared.requests.Request.TheVariants as requests
