@@ -1,5 +1,9 @@
 mod Answered
+mod ClosedByMessages
 mod ClosedCalls
+mod ClosedNotes
 mod Creates
 mod NewCalls
+mod OpenedKeys
 mod PlainOpens
+mod TakenNotes

@@ -78,14 +78,14 @@ pub record IsClosedForGood (s : MasterState) (key : HandleKey) : Type 0 where
   pub unasked : waits_to_open key s ≡ false
 
 -- a handle that was closed stays closed by each message but the Open that gave it
-abbrev pub ClosedHandleStaysByTakes : Type 0
-ClosedHandleStaysByTakes =
+abbrev pub ClosedHandleStaysClosed : Type 0
+ClosedHandleStaysClosed =
     (s new : MasterState) (now : ℕ) (request : Request) (key : HandleKey) (taken : Taken) → take_step s now request ≡ Ok (new, taken) → asks_to_open key request ≡ false → IsClosed s key
     → IsClosed new key
 
 -- and so does one that was closed for good ..
-abbrev pub ClosedForGoodByTakes : Type 0
-ClosedForGoodByTakes =
+abbrev pub ClosedForGoodByMessages : Type 0
+ClosedForGoodByMessages =
     (s new : MasterState) (now : ℕ) (request : Request) (key : HandleKey) (taken : Taken) → take_step s now request ≡ Ok (new, taken) → asks_to_open key request ≡ false → IsClosedForGood s key
     → IsClosedForGood new key
 

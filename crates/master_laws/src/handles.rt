@@ -1,8 +1,18 @@
 //! What a closed handle is still good for.
-ghost use Rattle.master_laws.specs.Closed.{ClosedHandleIsRefused};
+ghost use Rattle.master_laws.specs.Closed.{ClosedHandleIsRefused, ClosedHandleStaysClosed, ClosedForGoodByMessages};
 
 /// A new call that shows a handle that was closed in this epoch is refused as BadHandle, and changes nothing but what is
 /// kept of the call.
 pub fn closed_handle_is_refused()
     ensures { ClosedHandleIsRefused }
+{}
+
+/// A handle that was closed stays closed by each message but the Open of its own client under its own number.
+pub fn closed_handle_stays_closed()
+    ensures { ClosedHandleStaysClosed }
+{}
+
+/// A handle that was closed, whose Open doesn't wait to be done once more, stays so by each message but that Open.
+pub fn closed_for_good_by_messages()
+    ensures { ClosedForGoodByMessages }
 {}

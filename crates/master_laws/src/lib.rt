@@ -4,5 +4,7 @@
 mod handles;
 mod opens;
 
-pub use handles::closed_handle_is_refused;
+pub use handles::{
+    closed_for_good_by_messages, closed_handle_is_refused, closed_handle_stays_closed,
+};
 pub use opens::{makes_where_permitted, opens_where_permitted};
