@@ -1,5 +1,7 @@
+mod AfterSweeps
 mod Answered
 mod ClosedByMessages
+mod ClosedBySweeps
 mod ClosedCalls
 mod ClosedNotes
 mod Creates
@@ -7,3 +9,4 @@ mod NewCalls
 mod OpenedKeys
 mod PlainOpens
 mod TakenNotes
+mod TameEffects

@@ -1,5 +1,5 @@
 //! What a closed handle is still good for.
-ghost use Rattle.master_laws.specs.Closed.{ClosedHandleIsRefused, ClosedHandleStaysClosed, ClosedForGoodByMessages};
+ghost use Rattle.master_laws.specs.Closed.{ClosedHandleIsRefused, ClosedHandleStaysClosed, ClosedForGoodByMessages, ClosedForGoodBySweeps};
 
 /// A new call that shows a handle that was closed in this epoch is refused as BadHandle, and changes nothing but what is
 /// kept of the call.
@@ -15,4 +15,9 @@ pub fn closed_handle_stays_closed()
 /// A handle that was closed, whose Open doesn't wait to be done once more, stays so by each message but that Open.
 pub fn closed_for_good_by_messages()
     ensures { ClosedForGoodByMessages }
+{}
+
+/// So does it by each sweep.
+pub fn closed_for_good_by_sweeps()
+    ensures { ClosedForGoodBySweeps }
 {}

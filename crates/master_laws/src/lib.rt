@@ -1,10 +1,12 @@
-//! What a master does for its clients, as laws of its tables: who is given a handle, what a closed handle is still good for, and what a refused call changes.
+//! What a master does for its clients, as laws of its tables: who is given a handle, what a closed handle is still good
+//! for, and what a refused call changes.
 #![tactic(auto)]
 
 mod handles;
 mod opens;
 
 pub use handles::{
-    closed_for_good_by_messages, closed_handle_is_refused, closed_handle_stays_closed,
+    closed_for_good_by_messages, closed_for_good_by_sweeps, closed_handle_is_refused,
+    closed_handle_stays_closed,
 };
 pub use opens::{makes_where_permitted, opens_where_permitted};
