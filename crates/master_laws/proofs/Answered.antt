@@ -1,5 +1,5 @@
 -- What a new call is answered that is answered at once.
-use Rattle.std.proofs.Common.{◌≡◌, List, [], ◌∷◌, Some, None, refl, sym, ap, subst, ◌∙◌, inl, inr, ⊎_elim, arith}
+use Rattle.std.proofs.Common.{◌≡◌, List, [], ◌∷◌, false, Some, None, refl, sym, ap, subst, ◌∙◌, inl, inr, ⊎_elim, arith}
 use Rattle.std.specs.Prelude.{◌⊎◌, Contains}
 use Rattle.std.proofs.lemmas.List.Elements.{Contains-push, Contains-push_cases}
 use Rattle.tags_cell.specs.declared.outs.CallResult.{CallResult}
@@ -12,7 +12,7 @@ use Rattle.cell_core.specs.State.{MasterState}
 use Rattle.cell_core.specs.Step.{reply_of, stamped_reply, with_note, admission_for}
 use Rattle.master_laws.specs.Steps.{IsAnsweredBy}
 use Rattle.master_laws.proofs.NewCalls.{NewCase, new_by, IsNewCase}
-use Rattle.master_laws.proofs.NewCalls.NewCase.{Answers, Grants, Queues}
+use Rattle.master_laws.proofs.NewCalls.NewCase.{Recovers, Answers, Grants, Queues}
 
 -- ---- a single reply
 
@@ -48,17 +48,18 @@ same_answer taken message result other h k =
 
 -- ---- by the tests of the call
 
-module _ (s : MasterState) (message : CallMessage) (new : MasterState) (taken : Taken) (answer : CallResult) (at_once : (admission_for s message).answer ≡ Some answer) where
+module _ (s : MasterState) (message : CallMessage) (new : MasterState) (taken : Taken) (answer : CallResult) (serving : s.recovering ≡ false) (at_once : (admission_for s message).answer ≡ Some answer) where
   -- it is answered by the tests
   sent_as : (c : NewCase s message) → (new, taken) ≡ new_by s message c → IsSent taken message answer
-  sent_as (Answers noted other h) is =
+  sent_as (Recovers recovering) is = absurd cc
+  sent_as (Answers noted other going h) is =
       let same : other ≡ answer = ⊎_elim (λ l. let e = l.0 in cc) (λ r. let e = r.0 in absurd cc) h.is_answer in
       record { reply = reply_of (with_note s noted) message.client message.number other; alone = ap (λ p. p.1.outs) is; client = refl; number = refl; is_result = same }
-  sent_as (Grants noted other name h) is =
+  sent_as (Grants noted other name going h) is =
       let e = h.is_answer in
       let same : other ≡ answer = cc in
       record { reply = stamped_reply (with_note s noted) message.client message.number other; alone = ap (λ p. p.1.outs) is; client = refl; number = refl; is_result = same }
-  sent_as (Queues noted touched h) is = let e = h.passes in absurd cc
+  sent_as (Queues noted touched going h) is = let e = h.passes in absurd cc
 
   pub sent_at_once : IsNewCase s message (new, taken) → IsSent taken message answer
   sent_at_once c = sent_as c.0 c.1

@@ -17,22 +17,23 @@ use Rattle.cell_core.specs.State.{MasterState}
 use Rattle.cell_core.specs.Step.{handle_state_of, key_of, is_usable, own_handle, shown_handle, answering, handle_admission, admission_of, admission_for, noted, replied, with_note}
 use Rattle.master_laws.specs.Closed.{IsClosed, shown_bytes, IsShown, ClosedHandleIsRefused}
 use Rattle.master_laws.proofs.NewCalls.{NewCase, new_by, IsNewCase, new_case}
-use Rattle.master_laws.proofs.NewCalls.NewCase.{Answers, Grants, Queues}
+use Rattle.master_laws.proofs.NewCalls.NewCase.{Recovers, Answers, Grants, Queues}
 
 -- ---- an answer that notes nothing, and tells of no name
 
-module _ (s : MasterState) (message : CallMessage) (answer : CallResult) (admitted : admission_for s message ≡ answering answer) where
+module _ (s : MasterState) (message : CallMessage) (answer : CallResult) (serving : s.recovering ≡ false) (admitted : admission_for s message ≡ answering answer) where
   as_case : (p : MasterState × Taken) (c : NewCase s message) → p ≡ new_by s message c → p ≡ replied s message.client message.number answer
-  as_case p (Answers noted other h) is =
+  as_case p (Recovers recovering) is = absurd cc
+  as_case p (Answers noted other going h) is =
       let nothing : noted ≡ None = h.is_noted ∙ ap (λ a. a.note) admitted in
       let has : (admission_for s message).answer ≡ Some answer = ap (λ a. a.answer) admitted in
       let same : other ≡ answer = ⊎_elim (λ l. let e = l.0 in cc) (λ r. let e = r.0 in absurd cc) h.is_answer in
       is ∙ ap (λ n. replied (with_note s n) message.client message.number other) nothing ∙ ap (λ a. replied s message.client message.number a) same
-  as_case p (Grants noted other name h) is =
+  as_case p (Grants noted other name going h) is =
       let none : (admission_for s message).told ≡ None = ap (λ a. a.told) admitted in
       let some = h.is_told in
       absurd cc
-  as_case p (Queues noted touched h) is =
+  as_case p (Queues noted touched going h) is =
       let has : (admission_for s message).answer ≡ Some answer = ap (λ a. a.answer) admitted in
       let none = h.passes in
       absurd cc
@@ -70,4 +71,4 @@ closed_handle_is_refused s new now message handle taken takes shown closed =
     let none : shown_handle there message.client shown.bytes ≡ None = none_shown s message.client shown.bytes handle shown.reads closed in
     let admitted : admission_for there message ≡ answering answer =
     by_bytes there message.client message.number message.call message.sequencer shown.bytes shown.shown ∙ ap (handle_admission there message.call message.sequencer) none in
-    answered_plainly there message answer admitted (new, taken) (new_case s new now message taken takes)
+    answered_plainly there message answer takes.serving admitted (new, taken) (new_case s new now message taken takes.step takes.is_new)

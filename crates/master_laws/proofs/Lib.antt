@@ -8,5 +8,6 @@ mod Creates
 mod NewCalls
 mod OpenedKeys
 mod PlainOpens
+mod RefusedTurns
 mod TakenNotes
 mod TameEffects

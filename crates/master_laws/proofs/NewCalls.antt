@@ -1,6 +1,8 @@
 -- The arm of the table that a new call takes.
-use Rattle.std.proofs.Common.{◌≡◌, ◌<◌, ℕ, List, Bool, true, false, Option, Some, None, refl, sym, ap, subst, ◌∙◌, arith}
+use Rattle.std.proofs.Common.{◌≡◌, ◌<◌, ℕ, List, Bool, true, false, Option, Some, None, Ok, refl, sym, ap, subst, ◌∙◌, arith}
+use Rattle.node_core.specs.declared.refusals.Fault.TheVariants as faults
 use Rattle.tags_cell.specs.declared.outs.CallResult.{CallResult}
+use Rattle.tags_cell.specs.declared.outs.CallResult.TheVariants as results
 use Rattle.tags_cell.specs.declared.requests.CallMessage.{CallMessage}
 use Rattle.tags_cell.specs.declared.requests.Request.TheVariants as requests
 use Rattle.tags_cell.specs.declared.outs.Reply.{Reply}
@@ -8,22 +10,23 @@ use Rattle.session_core.specs.declared.records.Kept.{Kept}
 use Rattle.cell_core.specs.declared.handles.Note.{Note}
 use Rattle.cell_core.specs.declared.pending.Taken.{Taken}
 use Rattle.cell_core.specs.State.{MasterState}
-use Rattle.cell_core.specs.Step.{kept_of, is_live, noted, replied, granting, waits, with_note}
+use Rattle.cell_core.specs.Step.{kept_of, is_live, noted, take_step, replied, granting, waits, with_note}
 use Rattle.cell_core.specs.Cases.{IsBehind, IsHeard, IsNew, IsAnswered, IsGranted, IsAdmitted, TakeCase, taken_by}
 use Rattle.cell_core.specs.Cases.TakeCase.{StartRefused, StartRecovering, StartFull, StartQueued, OldBeat, BeatRefused, BeatParked, OldEpoch, NoSession, Repeated, OlderCall, Outstanding, Recovering, Answered, Granted, Waits}
 use Rattle.cell_core.proofs.TakeCases.{taken_case}
-use Rattle.master_laws.specs.Steps.{TakesCall}
 
--- it is answered at once, it is answered by what may be kept in a cache, or it waits
+-- it is refused in a recovery, it is answered at once, it is answered by what may be kept in a cache, or it waits
 pub data NewCase (s : MasterState) (message : CallMessage) : Type 0 where
-  Answers : (note : Option Note) (answer : CallResult) → IsAnswered s message note answer → NewCase s message
-  Grants : (note : Option Note) (answer : CallResult) (name : List ℕ) → IsGranted s message note answer name → NewCase s message
-  Queues : (note : Option Note) (touched : Option (List ℕ)) → IsAdmitted s message note touched → NewCase s message
+  Recovers : s.recovering ≡ true → NewCase s message
+  Answers : (note : Option Note) (answer : CallResult) → s.recovering ≡ false → IsAnswered s message note answer → NewCase s message
+  Grants : (note : Option Note) (answer : CallResult) (name : List ℕ) → s.recovering ≡ false → IsGranted s message note answer name → NewCase s message
+  Queues : (note : Option Note) (touched : Option (List ℕ)) → s.recovering ≡ false → IsAdmitted s message note touched → NewCase s message
 
 abbrev pub new_by : (s : MasterState) (message : CallMessage) → NewCase s message → MasterState × Taken
-new_by s message (Answers note answer h) = replied (with_note s note) message.client message.number answer
-new_by s message (Grants note answer name h) = granting (with_note s note) message.client message.number answer name
-new_by s message (Queues note touched h) = waits (with_note s note) message touched
+new_by s message (Recovers recovering) = replied s message.client message.number (results.Refused faults.Recovering)
+new_by s message (Answers note answer serving h) = replied (with_note s note) message.client message.number answer
+new_by s message (Grants note answer name serving h) = granting (with_note s note) message.client message.number answer name
+new_by s message (Queues note touched serving h) = waits (with_note s note) message touched
 
 -- one of the cases is what is done
 abbrev pub IsNewCase : (s : MasterState) → CallMessage → MasterState × Taken → Type 0
@@ -54,7 +57,7 @@ not_waiting (Some other) kept number is none h =
     let has : kept.reply ≡ Some h.0 = subst (λ k. k.reply ≡ Some h.0) e h.1 in
     cc
 
-module _ (s : MasterState) (message : CallMessage) (new : IsNew s (requests.Call message) message) (serving : s.recovering ≡ false) where
+module _ (s : MasterState) (message : CallMessage) (new : IsNew s (requests.Call message) message) where
   -- the message of a case is the call
   abbrev IsOf : CallMessage → Type 0
   IsOf other = requests.Call message ≡ requests.Call other
@@ -81,15 +84,16 @@ module _ (s : MasterState) (message : CallMessage) (new : IsNew s (requests.Call
   of_case p (Repeated other kept heard is equal) h = absurd (not_same (kept_of s other.client) kept other.number is equal (behind other heard.is_call))
   of_case p (OlderCall other kept heard is less) h = absurd (not_older (kept_of s other.client) kept other.number is less (behind other heard.is_call))
   of_case p (Outstanding other kept heard is more none) h = absurd (not_waiting (kept_of s other.client) kept other.number is none (behind other heard.is_call))
-  of_case p (Recovering other fresh recovering) h = absurd cc
+  of_case p (Recovering other fresh recovering) h =
+      subst (λ m. p ≡ replied s m.client m.number (results.Refused faults.Recovering) → IsNewCase s message p) (same other fresh.heard.is_call) (λ e. (Recovers recovering, e)) h
   of_case p (Answered other note answer fresh going answered) h =
-      subst (λ m. IsAnswered s m note answer → p ≡ replied (with_note s note) m.client m.number answer → IsNewCase s message p) (same other fresh.heard.is_call) (λ a e. (Answers note answer a, e)) answered h
+      subst (λ m. IsAnswered s m note answer → p ≡ replied (with_note s note) m.client m.number answer → IsNewCase s message p) (same other fresh.heard.is_call) (λ a e. (Answers note answer going a, e)) answered h
   of_case p (Granted other note answer name fresh going granted) h =
-      subst (λ m. IsGranted s m note answer name → p ≡ granting (with_note s note) m.client m.number answer name → IsNewCase s message p) (same other fresh.heard.is_call) (λ a e. (Grants note answer name a, e)) granted h
+      subst (λ m. IsGranted s m note answer name → p ≡ granting (with_note s note) m.client m.number answer name → IsNewCase s message p) (same other fresh.heard.is_call) (λ a e. (Grants note answer name going a, e)) granted h
   of_case p (Waits other note touched fresh going admitted) h =
-      subst (λ m. IsAdmitted s m note touched → p ≡ waits (with_note s note) m touched → IsNewCase s message p) (same other fresh.heard.is_call) (λ a e. (Queues note touched a, e)) admitted h
+      subst (λ m. IsAdmitted s m note touched → p ≡ waits (with_note s note) m touched → IsNewCase s message p) (same other fresh.heard.is_call) (λ a e. (Queues note touched going a, e)) admitted h
 
-pub new_case : (s new : MasterState) (now : ℕ) (message : CallMessage) (taken : Taken) → TakesCall s now message new taken → IsNewCase (noted s now) message (new, taken)
-new_case s new now message taken h =
-    let c = taken_case s new now (requests.Call message) taken h.step in
-    of_case (noted s now) message h.is_new h.serving (new, taken) c.0 c.1
+pub new_case : (s new : MasterState) (now : ℕ) (message : CallMessage) (taken : Taken) → take_step s now (requests.Call message) ≡ Ok (new, taken) → IsNew (noted s now) (requests.Call message) message → IsNewCase (noted s now) message (new, taken)
+new_case s new now message taken step is_new =
+    let c = taken_case s new now (requests.Call message) taken step in
+    of_case (noted s now) message is_new (new, taken) c.0 c.1

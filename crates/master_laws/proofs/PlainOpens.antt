@@ -102,7 +102,7 @@ opens_where_permitted s new now message opening taken takes plain carried =
     let there : MasterState = noted s now in
     let result : Result Handle Fault = plain_open s message.client message.number opening in
     let at_once : (admission_for there message).answer ≡ Some (opened_answer there result) = ap (λ a. a.answer) (tested there message opening (record { is_open = plain.is_open; makes_nothing = plain.makes_nothing; under_none = plain.under_none; of_cell = plain.of_cell })) in
-    let sent : IsSent taken message (opened_answer there result) = sent_at_once there message new taken (opened_answer there result) at_once (new_case s new now message taken takes) in (
+    let sent : IsSent taken message (opened_answer there result) = sent_at_once there message new taken (opened_answer there result) takes.serving at_once (new_case s new now message taken takes.step takes.is_new) in (
       λ given.
           let t = opened there result given.0 (same_answer taken message (opened_answer there result) (results.Opened given.0) sent given.1) in
           opened_where s message.client message.number opening t.0 t.1,

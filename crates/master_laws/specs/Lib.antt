@@ -2,3 +2,4 @@ pub mod Steps
 pub mod Opens
 pub mod Makes
 pub mod Closed
+pub mod Refused

@@ -4,9 +4,11 @@
 
 mod handles;
 mod opens;
+mod refusals;
 
 pub use handles::{
     closed_for_good_by_messages, closed_for_good_by_sweeps, closed_handle_is_refused,
     closed_handle_stays_closed,
 };
 pub use opens::{makes_where_permitted, opens_where_permitted};
+pub use refusals::refused_turn_changes_nothing;

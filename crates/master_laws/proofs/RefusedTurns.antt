@@ -1,0 +1,135 @@
+-- A call that is refused when its turn comes changes nothing but that its reply is kept.
+use Rattle.std.proofs.Common.{◌≡◌, ◌≢◌, ℕ, List, [], ◌∷◌, Bool, true, false, cond, Option, Some, None, Ok, refl, sym, ap, subst, ◌∙◌, arith}
+use Rattle.std.specs.Prelude.{◌==◌, fold, is_some}
+use Rattle.std.specs.Option.{option_map, option_map_or, option_and_then}
+use Rattle.std.proofs.lemmas.Bool.Decides.{nat_tests}
+use Rattle.node_core.specs.declared.refusals.Fault.{Fault}
+use Rattle.rows_cell.specs.declared.tables.Edit.{Edit}
+use Rattle.tags_cell.specs.declared.calls.Call.{Call}
+use Rattle.tags_cell.specs.declared.outs.CallResult.TheVariants as results
+use Rattle.tags_cell.specs.declared.outs.Out.TheVariants as outs
+use Rattle.tags_cell.specs.declared.outs.Reply.{Reply}
+use Rattle.session_core.specs.declared.records.Kept.{Kept}
+use Rattle.session_core.specs.declared.records.Session.{Session}
+use Rattle.session_core.specs.Session.{keeping}
+use Rattle.session_core.specs.Sessions.{SessionTable, with_session}
+use Rattle.session_core.specs.Sessions as of_sessions
+use Rattle.session_core.proofs.OneClient.{own_session, other_session, kept_session}
+use Rattle.cell_core.specs.declared.notices.Telling.{Telling}
+use Rattle.cell_core.specs.declared.pending.Asked.{Asked}
+use Rattle.cell_core.specs.declared.pending.Task.{Task}
+use Rattle.cell_core.specs.declared.pending.Work.{Work}
+use Rattle.cell_core.specs.Deeds.{edits_of}
+use Rattle.cell_core.specs.Notices.{with_telling}
+use Rattle.cell_core.specs.State.{MasterState, task_at}
+use Rattle.cell_core.specs.Step.{is_live, reply_of, answered_by, noted}
+use Rattle.over_core.specs.declared.actions.Action.{Action}
+use Rattle.over_core.specs.declared.actions.Action.TheVariants as actions
+use Rattle.over_core.specs.declared.effects.Effect.{Effect}
+use Rattle.over_core.specs.declared.plans.Plan.{Plan}
+use Rattle.over_core.specs.declared.sweeps.Swept.{Swept}
+use Rattle.over_core.specs.Effect.{refused, effect}
+use Rattle.over_core.specs.Notices.{tellings_of}
+use Rattle.over_core.specs.Sweep.{first_action, no_plan, plan_asked, plan_work, plan_task, plan_of, leaving, swept_by_plan, telling, swept, action_edits, is_over, sweep_edits, sweep_step}
+use Rattle.over_core.proofs.ToldSessions.{reads_told}
+use Rattle.master_laws.specs.Refused.{HasTurn, life_of, IsRefusedAlone, RefusedTurnChangesNothing}
+use Rattle.master_laws.proofs.AfterSweeps.{does_first}
+use Rattle.master_laws.proofs.TameEffects.{tame}
+
+-- ---- sessions
+
+there : (table : SessionTable Reply) (client : ℕ) → of_sessions.is_live table client ≡ true → is_some (of_sessions.session_of table client) ≡ true
+there table client live =
+    (elim (of_sessions.session_of table client) as (λ o. option_map_or (λ (session : Session Reply). session.live) o false ≡ true → is_some o ≡ true) [
+      | None ↦ (λ h. absurd cc)
+      | Some session ↦ (λ h. refl)
+    ]) live
+
+same_client : (a b : ℕ) → (a == b) ≡ true → a ≡ b
+same_client a b h = grind (arith, nat_tests)
+
+other_client : (a b : ℕ) → (a == b) ≡ false → a ≢ b
+other_client a b h = grind (arith, nat_tests)
+
+same_life : (kept : Kept Reply) (o : Option (Session Reply)) → option_map life_of (option_map (keeping kept) o) ≡ option_map life_of o
+same_life kept None = refl
+same_life kept (Some session) = refl
+
+module _ (table : SessionTable Reply) (client : ℕ) (kept : Kept Reply) (tellings : List Telling) where
+  abbrev after : SessionTable Reply
+  after = fold with_telling (with_session table client (keeping kept)) tellings
+
+  is_kept : of_sessions.is_live table client ≡ true → of_sessions.kept_of after client ≡ Some kept
+  is_kept live =
+      reads_told (option_and_then (λ (session : Session Reply). session.kept)) (λ event before. refl) tellings (with_session table client (keeping kept)) client
+      ∙ kept_session table client kept (there table client live)
+
+  others_kept : (q : ℕ) → q ≢ client → of_sessions.kept_of after q ≡ of_sessions.kept_of table q
+  others_kept q other =
+      reads_told (option_and_then (λ (session : Session Reply). session.kept)) (λ event before. refl) tellings (with_session table client (keeping kept)) q
+      ∙ ap (option_and_then (λ (session : Session Reply). session.kept)) (other_session table client (keeping kept) q other)
+
+  recorded_lives : (q : ℕ) → option_map life_of (of_sessions.session_of (with_session table client (keeping kept)) q) ≡ option_map life_of (of_sessions.session_of table q)
+  recorded_lives q =
+      (elim (q == client) as (λ b. (q == client) ≡ b → option_map life_of (of_sessions.session_of (with_session table client (keeping kept)) q) ≡ option_map life_of (of_sessions.session_of table q)) [
+        | true ↦ (λ h.
+            let P : ℕ → Type 0 = λ n. option_map life_of (of_sessions.session_of (with_session table client (keeping kept)) n) ≡ option_map life_of (of_sessions.session_of table n) in
+            let own : P client = ap (option_map life_of) (own_session table client (keeping kept)) ∙ same_life kept (of_sessions.session_of table client) in
+            subst P (sym (same_client q client h)) own)
+        | false ↦ (λ h. ap (option_map life_of) (other_session table client (keeping kept) q (other_client q client h)))
+      ]) refl
+
+  lives : (q : ℕ) → option_map life_of (of_sessions.session_of after q) ≡ option_map life_of (of_sessions.session_of table q)
+  lives q = reads_told (option_map life_of) (λ event before. refl) tellings (with_session table client (keeping kept)) q ∙ recorded_lives q
+
+-- ---- the plan
+
+-- what is planned for a refused call
+abbrev plan_for : MasterState → ℕ → Asked → Call → Fault → Plan
+plan_for s number asked call fault = leaving number (plan_asked s asked.client asked.number call (refused fault))
+
+module _ (s : MasterState) (number : ℕ) (asked : Asked) (call : Call) (sequencer : Option (List ℕ)) (fault : Fault) (turn : HasTurn s number asked call sequencer) (refusal : (effect s asked.client asked.number call sequencer).answer ≡ Some (results.Refused fault)) where
+  planned : plan_of s (first_action s) ≡ plan_for s number asked call fault
+  planned =
+      let client : ℕ = asked.client in
+      let alone : effect s client asked.number call sequencer ≡ refused fault = (tame s client asked.number call sequencer).refuses fault refusal in
+      ap (plan_of s) turn.is_first
+      ∙ ap (λ o. option_map_or (λ (task : Task). leaving number (plan_task s task)) o no_plan) turn.waits
+      ∙ ap (λ work. leaving number (plan_work s client asked.number work)) turn.work
+      ∙ ap (λ b. leaving number (cond b (plan_asked s client asked.number call (effect s client asked.number call sequencer)) no_plan)) turn.live
+      ∙ ap (λ effected. leaving number (plan_asked s client asked.number call effected)) alone
+
+  done_so : swept s (first_action s) ≡ telling (tellings_of s (plan_for s number asked call fault)) (swept_by_plan s (plan_for s number asked call fault) false)
+  done_so =
+      ap (swept s) turn.is_first
+      ∙ ap (λ plan. telling (tellings_of s plan) (swept_by_plan s plan false)) (ap (plan_of s) (sym turn.is_first) ∙ planned)
+
+  edits_so : action_edits s (first_action s) ≡ []
+  edits_so = ap (λ (plan : Plan). edits_of s plan.deed) planned
+
+either_edits : (b : Bool) (edits : List Edit) → edits ≡ [] → cond b [] edits ≡ []
+either_edits true edits h = refl
+either_edits false edits h = h
+
+pub refused_turn_changes_nothing : RefusedTurnChangesNothing
+refused_turn_changes_nothing s new now number told asked call sequencer fault h turn refusal =
+    let now_there : MasterState = noted s now in
+    let is = sym (does_first s new now told h) ∙ done_so now_there number asked call sequencer fault turn refusal in
+    let master = ap (λ p. p.0) is in
+    let out = ap (λ p. p.1) is in
+    let reply : Reply = reply_of s asked.client asked.number (results.Refused fault) in
+    let tellings : List Telling = tellings_of now_there (plan_for now_there number asked call fault) in
+    record {
+      commits_nothing = either_edits (is_over s now) (action_edits now_there (first_action now_there)) (edits_so now_there number asked call sequencer fault turn refusal);
+      prints_nothing = ap (λ t. t.lines) out;
+      is_sent = ap (λ t. t.outs) out;
+      has_left = ap (λ m. m.gate.waiting) master;
+      is_kept = ap (λ m. of_sessions.kept_of m.sessions asked.client) master ∙ is_kept s.sessions asked.client (answered_by reply) tellings turn.live;
+      others_kept = λ q other. ap (λ m. of_sessions.kept_of m.sessions q) master ∙ others_kept s.sessions asked.client (answered_by reply) tellings q other;
+      lives = λ q. ap (λ m. option_map life_of (of_sessions.session_of m.sessions q)) master ∙ lives s.sessions asked.client (answered_by reply) tellings q;
+      nodes = ap (λ m. m.nodes) master;
+      next_instance = ap (λ m. m.next_instance) master;
+      locks = ap (λ m. m.locks) master;
+      rights = ap (λ m. m.rights) master;
+      handles = ap (λ m. m.handles) master;
+    }
