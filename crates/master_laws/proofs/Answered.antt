@@ -16,7 +16,7 @@ use Rattle.master_laws.proofs.NewCalls.NewCase.{Recovers, Answers, Grants, Queue
 
 -- ---- a single reply
 
-none_in : {X : Type 0} (x : X) → Contains [] x → ⊥
+pub none_in : {X : Type 0} (x : X) → Contains [] x → ⊥
 none_in x h = omega (arith, h.1)
 
 pub only_one : {X : Type 0} (x y : X) → Contains (x ∷ []) y → x ≡ y

@@ -8,6 +8,9 @@ mod Creates
 mod NewCalls
 mod OpenedKeys
 mod PlainOpens
+mod RefusedAdmissions
+mod RefusedCalls
 mod RefusedTurns
 mod TakenNotes
 mod TameEffects
+mod TurnedAway

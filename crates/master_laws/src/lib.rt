@@ -11,4 +11,7 @@ pub use handles::{
     closed_handle_stays_closed,
 };
 pub use opens::{makes_where_permitted, opens_where_permitted};
-pub use refusals::refused_turn_changes_nothing;
+pub use refusals::{
+    refusal_grants_absence_alone, refused_call_changes_nothing, refused_turn_changes_nothing,
+    turned_away_changes_nothing,
+};
