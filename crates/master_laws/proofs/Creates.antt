@@ -1,9 +1,10 @@
 -- When its turn comes an Open that makes a node gives a handle only where the client may make it, or may find it there.
-use Rattle.std.proofs.Common.{◌≡◌, ℕ, List, Bool, true, false, cond, Option, Some, None, Result, Ok, Err, refl, sym, ap, subst, inl, inr}
-use Rattle.std.specs.Prelude.{◌⊎◌, nat_lt, length}
+use Rattle.std.proofs.Common.{◌≡◌, ◌≤◌, ◌<◌, ℕ, List, Bool, true, false, cond, Option, Some, None, Result, Ok, Err, refl, sym, ap, subst, ◌∙◌, inl, inr, ⊎_elim, arith}
+use Rattle.std.specs.Prelude.{◌⊎◌, nat_lt, nat_le, length}
+use Rattle.std.proofs.lemmas.Bool.Decides.{nat_tests}
 use Rattle.std.specs.Option.{option_map_or}
 use Rattle.names_cell.specs.Text.{parent_of}
-use Rattle.node_core.specs.Limits.{content_limit}
+use Rattle.node_core.specs.Limits.{content_limit, lock_delay_limit, number_limit}
 use Rattle.node_core.specs.Nodes.{get_node}
 use Rattle.node_core.specs.declared.kinds.Kind.{Kind}
 use Rattle.node_core.specs.declared.kinds.Kind.TheVariants.{File, Directory}
@@ -11,6 +12,7 @@ use Rattle.node_core.specs.declared.kinds.Right.TheVariants as rights
 use Rattle.node_core.specs.declared.refusals.Fault.{Fault}
 use Rattle.node_core.specs.declared.refusals.Fault.TheVariants as faults
 use Rattle.node_core.specs.declared.views.View.{View}
+use Rattle.tags_cell.specs.Handles.{is_ordinal, handle_bytes}
 use Rattle.tags_cell.specs.declared.calls.Call.TheVariants as calls
 use Rattle.tags_cell.specs.declared.calls.Create.{Create}
 use Rattle.tags_cell.specs.declared.calls.Disposition.{Disposition}
@@ -25,10 +27,10 @@ use Rattle.tags_cell.specs.declared.outs.NewHandle.{NewHandle}
 use Rattle.cell_core.specs.State.{MasterState}
 use Rattle.cell_core.specs.Step.{may, missing_right, is_of_cell, is_too_long, create_fault, sequencer_fault, new_handle, open_present, plain_open}
 use Rattle.over_core.specs.declared.effects.Effect.{Effect}
-use Rattle.over_core.specs.Effect.{answered, refused, is_last, opened_effect, new_view, acls_of, create_made, create_numbered, create_permitted, create_in, create_under, create_new, create_over, create_effect, create_tested, create_under_sequencer, create_here, open_effect, effect}
-use Rattle.master_laws.specs.Opens.{MayOpen}
-use Rattle.master_laws.specs.Makes.{MayMake, MayFind, MakesWherePermitted}
-use Rattle.master_laws.proofs.PlainOpens.{permitted_by, opened_where, opened}
+use Rattle.over_core.specs.Effect.{answered, refused, content_of, is_last, opened_effect, new_view, acls_of, create_made, create_numbered, create_permitted, create_in, create_under, create_new, create_over, create_effect, create_tested, create_under_sequencer, create_here, open_effect, effect}
+use Rattle.master_laws.specs.Opens.{MayOpen, AreCarried}
+use Rattle.master_laws.specs.Makes.{IsWithinLimits, MayMake, MayFind, MayMakeOrFind, MakesOnlyWherePermitted, MakesWherePermitted}
+use Rattle.master_laws.proofs.PlainOpens.{within, not_beyond, permitted_by, none_missing, opened_where, opened}
 
 -- whose answer is a handle only where this holds
 abbrev Gives : Type 0 → Effect → Type 0
@@ -45,15 +47,43 @@ by_option Q (Some x) f y h k = h x refl
 of_fault : (Q : Type 0) (fault : Fault) → Gives Q (refused fault)
 of_fault Q fault handle h = absurd cc
 
--- a create is refused at once by a fault
-no_handle : (content : List ℕ) (o : Bool) (p : Bool) (handle : NewHandle) → option_map_or (λ (answer : CallResult). Some answer) (cond o (Some (results.Refused faults.TooLarge)) None) (cond p (Some (results.Refused faults.DelayTooLong)) None) ≡ Some (results.Opened handle) → ⊥
-no_handle content true p handle h = cc
-no_handle content false true handle h = cc
-no_handle content false false handle h = cc
+-- ---- the limits
+
+tested : (content_too_long delay_too_long : Bool) → option_map_or (λ (answer : CallResult). Some answer) (cond content_too_long (Some (results.Refused faults.TooLarge)) None) (cond delay_too_long (Some (results.Refused faults.DelayTooLong)) None) ≡ None → (content_too_long ≡ false) × (delay_too_long ≡ false)
+tested true delay_too_long h = absurd cc
+tested false true h = absurd cc
+tested false false h = (refl, refl)
+
+is_within : (opening : Open) (create : Create) (node : NewNode) → create.node ≡ node → create_fault opening node ≡ None → IsWithinLimits opening create
+is_within opening create (made.File content) is h =
+    let t = tested (nat_lt content_limit (length content)) (is_too_long opening.delay) h in
+    let fits : length content ≤ content_limit = within content_limit (length content) t.0 in
+    record { content = subst (λ n. length (content_of n) ≤ content_limit) (sym is) fits; delay = within lock_delay_limit opening.delay t.1 }
+is_within opening create made.Directory is h =
+    let t = tested false (is_too_long opening.delay) h in
+    record { content = subst (λ n. length (content_of n) ≤ content_limit) (sym is) (omega arith); delay = within lock_delay_limit opening.delay t.1 }
+
+passes : (opening : Open) (node : NewNode) → length (content_of node) ≤ content_limit → opening.delay ≤ lock_delay_limit → create_fault opening node ≡ None
+passes opening (made.File content) fits short = rw (not_beyond content_limit (length content) fits, not_beyond lock_delay_limit opening.delay short) refl
+passes opening made.Directory fits short = rw (not_beyond lock_delay_limit opening.delay short) refl
+
+-- the answer to a create that is refused at once
+no_handle : (content_too_long delay_too_long : Bool) (handle : NewHandle) → option_map_or (λ (answer : CallResult). Some answer) (cond content_too_long (Some (results.Refused faults.TooLarge)) None) (cond delay_too_long (Some (results.Refused faults.DelayTooLong)) None) ≡ Some (results.Opened handle) → ⊥
+no_handle true delay_too_long handle h = cc
+no_handle false true handle h = cc
+no_handle false false handle h = cc
 
 faulted : (opening : Open) (node : NewNode) (handle : NewHandle) → create_fault opening node ≡ Some (results.Opened handle) → ⊥
-faulted opening (made.File content) handle h = no_handle content (nat_lt content_limit (length content)) (is_too_long opening.delay) handle h
-faulted opening made.Directory handle h = no_handle opening.name false (is_too_long opening.delay) handle h
+faulted opening (made.File content) handle h = no_handle (nat_lt content_limit (length content)) (is_too_long opening.delay) handle h
+faulted opening made.Directory handle h = no_handle false (is_too_long opening.delay) handle h
+
+not_last : (limit n : ℕ) → nat_le limit n ≡ false → n < limit
+not_last limit n h = grind (arith, nat_tests)
+
+below_last : (limit n : ℕ) → n < limit → nat_le limit n ≡ false
+below_last limit n h = grind (arith, nat_tests)
+
+-- ---- where a handle is given
 
 module _ (s : MasterState) (client number : ℕ) (opening : Open) (create : Create) where
   abbrev Q : Type 0
@@ -66,8 +96,20 @@ module _ (s : MasterState) (client number : ℕ) (opening : Open) (create : Crea
     by_rights directory write =
         let view : View = new_view s.next_instance create.node create.life (acls_of above create.acls) in
         by_option Q (missing_right s client opening.mode view) (λ right. refused (faults.Denied right)) (create_numbered s client number opening view) (λ right is. of_fault Q (faults.Denied right))
-        (λ none handle h.
-        inl (record { absent = absent; parent = parent; is_parent = is_parent; above = above; there = there; directory = directory; write = write; permitted = permitted_by s client opening.mode view none }))
+        (λ none.
+        either Q (is_last s.next_instance) (refused faults.Exhausted) (create_made s opening view (new_handle s client number opening view)) (λ last. of_fault Q faults.Exhausted)
+        (λ left handle h.
+        inl (record {
+          absent = absent;
+          parent = parent;
+          is_parent = is_parent;
+          above = above;
+          there = there;
+          directory = directory;
+          write = write;
+          permitted = permitted_by s client opening.mode view none;
+          left = not_last number_limit s.next_instance left;
+        })))
 
     by_kind : (kind : Kind) → above.kind ≡ kind → Gives Q (create_in s client number opening create above kind)
     by_kind File is = of_fault Q (faults.WrongKind File)
@@ -98,24 +140,66 @@ module _ (s : MasterState) (client number : ℕ) (opening : Open) (create : Crea
 
   -- ---- the tests before
 
-  by_tests : Gives Q (create_tested s client number opening create)
+  by_tests : Gives (MayMakeOrFind s client opening create) (create_tested s client number opening create)
   by_tests =
-      by_option Q (create_fault opening create.node) (λ answer. answered answer) (create_effect s client number opening create)
+      by_option (MayMakeOrFind s client opening create) (create_fault opening create.node) (λ answer. answered answer) (create_effect s client number opening create)
       (λ answer is handle h. absurd (faulted opening create.node handle (cc)))
-      (λ none.
+      (λ none handle h.
+      let found =
       by_option Q (get_node s.nodes opening.name) (λ view. create_over s client number opening create.disposition view) (create_new s client number opening create)
-      (λ view is. by_disposition view is create.disposition refl) by_parent)
+      (λ view is. by_disposition view is create.disposition refl) by_parent in
+      record { within = is_within opening create create.node refl none; may = found handle h })
 
-  by_sequencer : (o : Option Fault) → Gives Q (create_under_sequencer s client number opening create o)
+  by_sequencer : (o : Option Fault) → Gives (MayMakeOrFind s client opening create) (create_under_sequencer s client number opening create o)
   by_sequencer None = by_tests
-  by_sequencer (Some fault) = of_fault Q fault
+  by_sequencer (Some fault) = of_fault (MayMakeOrFind s client opening create) fault
 
-  by_cell : (sequencer : Option (List ℕ)) → Gives Q (create_here s client number opening create sequencer)
+  by_cell : (sequencer : Option (List ℕ)) → Gives (MayMakeOrFind s client opening create) (create_here s client number opening create sequencer)
   by_cell sequencer =
       let fault = sequencer_fault s sequencer in
-      either Q (is_of_cell s opening.name) (create_under_sequencer s client number opening create fault) (refused faults.OtherCell) (λ own. by_sequencer fault) (λ other. of_fault Q faults.OtherCell)
+      either (MayMakeOrFind s client opening create) (is_of_cell s opening.name) (create_under_sequencer s client number opening create fault) (refused faults.OtherCell) (λ own. by_sequencer fault)
+      (λ other. of_fault (MayMakeOrFind s client opening create) faults.OtherCell)
+
+pub makes_only_where_permitted : MakesOnlyWherePermitted
+unfolding effect
+makes_only_where_permitted s client number opening create sequencer makes given =
+    by_cell s client number opening create sequencer given.0 (subst (λ o. (open_effect s client number opening sequencer o).answer ≡ Some (results.Opened given.0)) makes given.1)
+
+-- ---- where the client may make the node, or find it
+
+module _ (s : MasterState) (client number : ℕ) (opening : Open) (create : Create) (within_limits : IsWithinLimits opening create) (carried : AreCarried s opening.name) (ordinal : is_ordinal s.next_instance ≡ true) where
+  short : is_too_long opening.delay ≡ false
+  short = not_beyond lock_delay_limit opening.delay within_limits.delay
+
+  fits : create_fault opening create.node ≡ None
+  fits = passes opening create.node within_limits.content within_limits.delay
+
+  abbrev IsGiven : Effect → Type 0
+  IsGiven effected = (handle : NewHandle) × (effected.answer ≡ Some (results.Opened handle))
+
+  abbrev handle_of : View → Handle
+  handle_of view = record { epoch = s.epoch; client = client; number = number; instance = view.instance; mode = opening.mode; life = view.life; events = opening.events; delay = opening.delay; name = opening.name }
+
+  abbrev given_of : View → NewHandle
+  given_of view = record { bytes = handle_bytes s.secret (handle_of view); instance = view.instance; life = view.life }
+
+  makes : MayMake s client opening create → IsGiven (create_tested s client number opening create)
+  makes m =
+      let view : View = new_view s.next_instance create.node create.life (acls_of m.above create.acls) in
+      let none : missing_right s client opening.mode view ≡ None = none_missing s client opening.mode view m.permitted in
+      let left : is_last s.next_instance ≡ false = below_last number_limit s.next_instance m.left in
+      (given_of view, rw (fits, m.absent, m.is_parent, m.there, m.directory, m.write, none, left, short, carried.epoch, ordinal) refl)
+
+  finds : MayFind s client opening create → IsGiven (create_tested s client number opening create)
+  finds m =
+      let view : View = m.may_open.view in
+      let none : missing_right s client opening.mode view ≡ None = none_missing s client opening.mode view m.may_open.permitted in
+      (given_of view, rw (fits, m.may_open.there, m.disposition, none, short, carried.epoch, carried.instance view m.may_open.there) refl)
 
 pub makes_where_permitted : MakesWherePermitted
 unfolding effect
-makes_where_permitted s client number opening create sequencer handle makes h =
-    by_cell s client number opening create sequencer handle (subst (λ o. (open_effect s client number opening sequencer o).answer ≡ Some (results.Opened handle)) makes h)
+makes_where_permitted s client number opening create makes_node own carried ordinal h =
+    let given = ⊎_elim (makes s client number opening create h.within carried ordinal) (finds s client number opening create h.within carried ordinal) h.may in
+    let same : open_effect s client number opening None opening.create ≡ create_tested s client number opening create =
+    ap (open_effect s client number opening None) makes_node ∙ ap (λ b. cond b (create_tested s client number opening create) (refused faults.OtherCell)) own in
+    (given.0, ap (λ effected. effected.answer) same ∙ given.1)

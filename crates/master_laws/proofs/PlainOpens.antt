@@ -60,10 +60,10 @@ none_missing s client mode view h =
 
 -- ---- the tests of an Open
 
-within : (limit delay : ℕ) → nat_lt limit delay ≡ false → delay ≤ limit
+pub within : (limit delay : ℕ) → nat_lt limit delay ≡ false → delay ≤ limit
 within limit delay h = grind (arith, nat_tests)
 
-not_beyond : (limit delay : ℕ) → delay ≤ limit → nat_lt limit delay ≡ false
+pub not_beyond : (limit delay : ℕ) → delay ≤ limit → nat_lt limit delay ≡ false
 not_beyond limit delay h = grind (arith, nat_tests)
 
 -- a handle is given where no right is missing, and the lock-delay isn't too long

@@ -1,6 +1,6 @@
 //! Whom a master gives a handle.
 ghost use Rattle.master_laws.specs.Opens.{OpensWherePermitted};
-ghost use Rattle.master_laws.specs.Makes.{MakesWherePermitted};
+ghost use Rattle.master_laws.specs.Makes.{MakesOnlyWherePermitted, MakesWherePermitted};
 
 /// An Open that makes nothing is answered with a handle exactly where the node is there, each right of its mode is
 /// permitted to the client's principal by the ACL files that the node names, and its lock-delay is within the limit.
@@ -8,8 +8,14 @@ pub fn opens_where_permitted()
     ensures { OpensWherePermitted }
 {}
 
-/// When its turn comes an Open that makes a node gives a handle only where write is permitted on the directory above and
-/// each right of its mode on the new node; or, where a node of the name is there and may be, each right on that one.
+/// When its turn comes an Open that makes a node gives a handle only where content and lock-delay are within the limits,
+/// and write is permitted on the directory above and each right of its mode on the new node; or, where a node of the name
+/// is there and may be, each right on that one.
+pub fn makes_only_where_permitted()
+    ensures { MakesOnlyWherePermitted }
+{}
+
+/// Under no sequencer, and of a name of the master's cell, it gives a handle there.
 pub fn makes_where_permitted()
     ensures { MakesWherePermitted }
 {}
