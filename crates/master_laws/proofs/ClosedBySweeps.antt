@@ -41,7 +41,7 @@ use Rattle.master_laws.proofs.TameEffects.{tame}
 
 -- ---- changes that wait
 
-or_parts : (a b : Bool) → (a || b) ≡ false → (a ≡ false) × (b ≡ false)
+pub or_parts : (a b : Bool) → (a || b) ≡ false → (a ≡ false) × (b ≡ false)
 or_parts true b h = absurd cc
 or_parts false b h = (refl, h)
 

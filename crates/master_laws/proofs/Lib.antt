@@ -3,7 +3,9 @@ mod Answered
 mod ClosedByMessages
 mod ClosedBySweeps
 mod ClosedCalls
+mod ClosedForever
 mod ClosedNotes
+mod Closes
 mod Creates
 mod NewCalls
 mod OpenedKeys
@@ -14,3 +16,4 @@ mod RefusedTurns
 mod TakenNotes
 mod TameEffects
 mod TurnedAway
+mod Turns

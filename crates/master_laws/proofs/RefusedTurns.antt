@@ -32,8 +32,10 @@ use Rattle.over_core.specs.Effect.{refused, effect}
 use Rattle.over_core.specs.Notices.{tellings_of}
 use Rattle.over_core.specs.Sweep.{first_action, no_plan, plan_asked, plan_work, plan_task, plan_of, leaving, swept_by_plan, telling, swept, action_edits, is_over, sweep_edits, sweep_step}
 use Rattle.over_core.proofs.ToldSessions.{reads_told}
-use Rattle.master_laws.specs.Refused.{HasTurn, life_of, IsRefusedAlone, RefusedTurnChangesNothing}
+use Rattle.master_laws.specs.Steps.{HasTurn}
+use Rattle.master_laws.specs.Refused.{life_of, IsRefusedAlone, RefusedTurnChangesNothing}
 use Rattle.master_laws.proofs.AfterSweeps.{does_first}
+use Rattle.master_laws.proofs.Turns.{plan_for, done_as, planned, done_so}
 use Rattle.master_laws.proofs.TameEffects.{tame}
 
 -- ---- sessions
@@ -84,28 +86,15 @@ module _ (table : SessionTable Reply) (client : ℕ) (kept : Kept Reply) (tellin
 
 -- ---- the plan
 
--- what is planned for a refused call
-abbrev plan_for : MasterState → ℕ → Asked → Call → Fault → Plan
-plan_for s number asked call fault = leaving number (plan_asked s asked.client asked.number call (refused fault))
-
 module _ (s : MasterState) (number : ℕ) (asked : Asked) (call : Call) (sequencer : Option (List ℕ)) (fault : Fault) (turn : HasTurn s number asked call sequencer) (refusal : (effect s asked.client asked.number call sequencer).answer ≡ Some (results.Refused fault)) where
-  planned : plan_of s (first_action s) ≡ plan_for s number asked call fault
-  planned =
-      let client : ℕ = asked.client in
-      let alone : effect s client asked.number call sequencer ≡ refused fault = (tame s client asked.number call sequencer).refuses fault refusal in
-      ap (plan_of s) turn.is_first
-      ∙ ap (λ o. option_map_or (λ (task : Task). leaving number (plan_task s task)) o no_plan) turn.waits
-      ∙ ap (λ work. leaving number (plan_work s client asked.number work)) turn.work
-      ∙ ap (λ b. leaving number (cond b (plan_asked s client asked.number call (effect s client asked.number call sequencer)) no_plan)) turn.live
-      ∙ ap (λ effected. leaving number (plan_asked s client asked.number call effected)) alone
+  alone : plan_for s number asked call (effect s asked.client asked.number call sequencer) ≡ plan_for s number asked call (refused fault)
+  alone = ap (plan_for s number asked call) ((tame s asked.client asked.number call sequencer).refuses fault refusal)
 
-  done_so : swept s (first_action s) ≡ telling (tellings_of s (plan_for s number asked call fault)) (swept_by_plan s (plan_for s number asked call fault) false)
-  done_so =
-      ap (swept s) turn.is_first
-      ∙ ap (λ plan. telling (tellings_of s plan) (swept_by_plan s plan false)) (ap (plan_of s) (sym turn.is_first) ∙ planned)
+  refused_so : swept s (first_action s) ≡ done_as s (plan_for s number asked call (refused fault))
+  refused_so = done_so s number asked call sequencer turn ∙ ap (done_as s) alone
 
   edits_so : action_edits s (first_action s) ≡ []
-  edits_so = ap (λ (plan : Plan). edits_of s plan.deed) planned
+  edits_so = ap (λ (plan : Plan). edits_of s plan.deed) (planned s number asked call sequencer turn ∙ alone)
 
 either_edits : (b : Bool) (edits : List Edit) → edits ≡ [] → cond b [] edits ≡ []
 either_edits true edits h = refl
@@ -114,11 +103,11 @@ either_edits false edits h = h
 pub refused_turn_changes_nothing : RefusedTurnChangesNothing
 refused_turn_changes_nothing s new now number told asked call sequencer fault h turn refusal =
     let now_there : MasterState = noted s now in
-    let is = sym (does_first s new now told h) ∙ done_so now_there number asked call sequencer fault turn refusal in
+    let is = sym (does_first s new now told h) ∙ refused_so now_there number asked call sequencer fault turn refusal in
     let master = ap (λ p. p.0) is in
     let out = ap (λ p. p.1) is in
     let reply : Reply = reply_of s asked.client asked.number (results.Refused fault) in
-    let tellings : List Telling = tellings_of now_there (plan_for now_there number asked call fault) in
+    let tellings : List Telling = tellings_of now_there (plan_for now_there number asked call (refused fault)) in
     record {
       commits_nothing = either_edits (is_over s now) (action_edits now_there (first_action now_there)) (edits_so now_there number asked call sequencer fault turn refusal);
       prints_nothing = ap (λ t. t.lines) out;

@@ -1,17 +1,20 @@
 -- A handle that was closed.
-use Rattle.std.specs.Prelude.{◌≡◌, ℕ, Bool, false, List, Option, Some, None, Ok}
+use Rattle.std.specs.Prelude.{◌≡◌, ℕ, Bool, false, List, fold, Contains, Option, Some, None, Result, Ok, Err}
 use Rattle.std.specs.List.{list_any}
+use Rattle.node_core.specs.declared.refusals.Fault.{Fault}
 use Rattle.node_core.specs.declared.refusals.Fault.TheVariants as faults
 use Rattle.tags_cell.specs.Handles.{read_handle}
 use Rattle.tags_cell.specs.declared.calls.Call.{Call}
 use Rattle.tags_cell.specs.declared.calls.Call.TheVariants as calls
 use Rattle.tags_cell.specs.declared.handles.Handle.{Handle}
 use Rattle.tags_cell.specs.declared.outs.CallResult.TheVariants as results
+use Rattle.tags_cell.specs.declared.outs.Out.TheVariants as outs
 use Rattle.tags_cell.specs.declared.requests.CallMessage.{CallMessage}
 use Rattle.tags_cell.specs.declared.requests.Request.{Request}
 use Rattle.tags_cell.specs.declared.requests.Request.TheVariants as requests
 use Rattle.cell_core.specs.declared.handles.HandleKey.{HandleKey}
 use Rattle.cell_core.specs.declared.handles.HandleState.TheVariants as states
+use Rattle.cell_core.specs.declared.pending.Asked.{Asked}
 use Rattle.cell_core.specs.declared.pending.Taken.{Taken}
 use Rattle.cell_core.specs.declared.pending.Task.{Task}
 use Rattle.cell_core.specs.declared.pending.Task.TheVariants as tasks
@@ -19,14 +22,22 @@ use Rattle.cell_core.specs.declared.pending.Work.{Work}
 use Rattle.cell_core.specs.declared.pending.Work.TheVariants as works
 use Rattle.cell_core.specs.Notices.{is_key}
 use Rattle.cell_core.specs.State.{MasterState}
-use Rattle.cell_core.specs.Step.{handle_state_of, key_of, bytes_of, noted, replied, take_step}
+use Rattle.cell_core.specs.Step.{handle_state_of, key_of, bytes_of, noted, replied, reply_of, take_step}
 use Rattle.over_core.specs.declared.sweeps.Swept.{Swept}
 use Rattle.over_core.specs.Sweep.{sweep_step}
-use Rattle.master_laws.specs.Steps.{TakesCall}
+use Rattle.master_laws.specs.Steps.{TakesCall, HasTurn}
 
 -- the handle with this key was closed in the master's epoch
 abbrev pub IsClosed : MasterState → HandleKey → Type 0
 IsClosed s key = handle_state_of s key ≡ Some states.Closed
+
+-- when a Close has its turn its handle is closed, and it is answered so
+abbrev pub CloseCloses : Type 0
+CloseCloses =
+    (s new : MasterState) (now number : ℕ) (told : Swept) (asked : Asked) (bytes : List ℕ) (sequencer : Option (List ℕ)) (handle : Handle) → sweep_step s now ≡ Ok (new, told)
+    → HasTurn (noted s now) number asked (calls.Close bytes) sequencer
+    → read_handle s.secret bytes ≡ Some handle
+    → IsClosed new (key_of handle) × Contains told.outs (outs.Reply (reply_of s asked.client asked.number results.Closed))
 
 -- ---- calls by it
 
@@ -92,3 +103,28 @@ ClosedForGoodByMessages =
 -- .. also by each sweep
 abbrev pub ClosedForGoodBySweeps : Type 0
 ClosedForGoodBySweeps = (s new : MasterState) (now : ℕ) (key : HandleKey) (told : Swept) → sweep_step s now ≡ Ok (new, told) → IsClosedForGood s key → IsClosedForGood new key
+
+-- ---- over many steps
+
+-- at a moment a master takes a message, or sweeps
+pub data MasterStep : Type 0 where
+  Takes : (now : ℕ) (request : Request) → MasterStep
+  Sweeps : (now : ℕ) → MasterStep
+
+-- one that is refused leaves the master as it was
+abbrev pub left_by : {A : Type 0} → MasterState → Result (MasterState × A) Fault → MasterState
+left_by s (Ok done) = done.0
+left_by s (Err fault) = s
+
+abbrev pub master_behind : MasterState → MasterStep → MasterState
+master_behind s (Takes now request) = left_by s (take_step s now request)
+master_behind s (Sweeps now) = left_by s (sweep_step s now)
+
+abbrev pub step_opens : HandleKey → MasterStep → Bool
+step_opens key (Takes now request) = asks_to_open key request
+step_opens key (Sweeps now) = false
+
+-- a handle that was closed for good is closed for good behind every list of steps, of which none is the Open that gave it
+abbrev pub ClosedForGoodForever : Type 0
+ClosedForGoodForever =
+    (s : MasterState) (steps : List MasterStep) (key : HandleKey) → IsClosedForGood s key → list_any (step_opens key) steps ≡ false → IsClosedForGood (fold master_behind s steps) key

@@ -18,15 +18,13 @@ use Rattle.session_core.specs.declared.records.Session.{Session}
 use Rattle.cell_core.specs.declared.handles.Note.{Note}
 use Rattle.cell_core.specs.declared.pending.Asked.{Asked}
 use Rattle.cell_core.specs.declared.pending.Taken.{Taken}
-use Rattle.cell_core.specs.declared.pending.Task.TheVariants as tasks
-use Rattle.cell_core.specs.declared.pending.Work.TheVariants as works
 use Rattle.cell_core.specs.Cases.{IsNew}
-use Rattle.cell_core.specs.State.{MasterState, task_at}
-use Rattle.cell_core.specs.Step.{session_of, kept_of, is_live, sends, reply_of, answered_by, recorded, with_note, with_right, shown_handle, shown_note, noted, take_step}
-use Rattle.over_core.specs.declared.actions.Action.TheVariants as actions
+use Rattle.cell_core.specs.State.{MasterState}
+use Rattle.cell_core.specs.Step.{session_of, kept_of, sends, reply_of, answered_by, recorded, with_note, with_right, shown_handle, shown_note, noted, take_step}
 use Rattle.over_core.specs.declared.sweeps.Swept.{Swept}
 use Rattle.over_core.specs.Effect.{effect}
-use Rattle.over_core.specs.Sweep.{first_action, sweep_edits, sweep_step}
+use Rattle.over_core.specs.Sweep.{sweep_edits, sweep_step}
+use Rattle.master_laws.specs.Steps.{HasTurn}
 use Rattle.master_laws.specs.Closed.{shown_bytes}
 
 -- ---- by a message
@@ -74,13 +72,6 @@ RefusalGrantsAbsenceAlone =
     → (new ≡ with_refusal (noted s now) message reply) ⊎ GrantsAbsence (noted s now) message new reply fault
 
 -- ---- when its turn comes
-
--- the change of this number has its turn, and is a call of a live session
-pub record HasTurn (s : MasterState) (number : ℕ) (asked : Asked) (call : Call) (sequencer : Option (List ℕ)) : Type 0 where
-  pub is_first : first_action s ≡ actions.Apply number
-  pub waits : task_at number s.gate.waiting ≡ Some (tasks.Asked asked)
-  pub work : asked.work ≡ works.Calls call sequencer
-  pub live : is_live s asked.client ≡ true
 
 -- a session but for its events, and the last call of its client
 abbrev pub life_of : Session Reply → Session Reply

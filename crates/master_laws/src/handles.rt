@@ -1,5 +1,10 @@
 //! What a closed handle is still good for.
-ghost use Rattle.master_laws.specs.Closed.{ClosedHandleIsRefused, ClosedHandleStaysClosed, ClosedForGoodByMessages, ClosedForGoodBySweeps};
+ghost use Rattle.master_laws.specs.Closed.{CloseCloses, ClosedHandleIsRefused, ClosedHandleStaysClosed, ClosedForGoodByMessages, ClosedForGoodBySweeps, ClosedForGoodForever};
+
+/// When a Close has its turn its handle is closed, and it is answered so.
+pub fn close_closes()
+    ensures { CloseCloses }
+{}
 
 /// A new call that shows a handle that was closed in this epoch is refused as BadHandle, and changes nothing but what is
 /// kept of the call.
@@ -20,4 +25,9 @@ pub fn closed_for_good_by_messages()
 /// So does it by each sweep.
 pub fn closed_for_good_by_sweeps()
     ensures { ClosedForGoodBySweeps }
+{}
+
+/// So is it behind every list of messages and sweeps, of which none is that Open.
+pub fn closed_for_good_forever()
+    ensures { ClosedForGoodForever }
 {}

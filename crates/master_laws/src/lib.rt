@@ -7,8 +7,8 @@ mod opens;
 mod refusals;
 
 pub use handles::{
-    closed_for_good_by_messages, closed_for_good_by_sweeps, closed_handle_is_refused,
-    closed_handle_stays_closed,
+    close_closes, closed_for_good_by_messages, closed_for_good_by_sweeps, closed_for_good_forever,
+    closed_handle_is_refused, closed_handle_stays_closed,
 };
 pub use opens::{makes_only_where_permitted, makes_where_permitted, opens_where_permitted};
 pub use refusals::{
