@@ -7,6 +7,7 @@ mod ClosedForever
 mod ClosedNotes
 mod Closes
 mod Creates
+mod GivenHandles
 mod NewCalls
 mod OpenedKeys
 mod PlainOpens

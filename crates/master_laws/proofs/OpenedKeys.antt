@@ -22,7 +22,7 @@ itself n = grind (arith, nat_tests)
 abbrev pub IsOfCall : ℕ → ℕ → Handle → Type 0
 IsOfCall client number handle = is_key (key_of handle) (record { client = client; number = number }) ≡ true
 
-if_so : (b : Bool) (given handle : Handle) → cond b (Ok given) (Err faults.Exhausted) ≡ Ok handle → given ≡ handle
+pub if_so : (b : Bool) (given handle : Handle) → cond b (Ok given) (Err faults.Exhausted) ≡ Ok handle → given ≡ handle
 if_so true given handle h = cc
 if_so false given handle h = absurd cc
 

@@ -90,7 +90,7 @@ opens_where s client number opening carried h =
 
 -- ---- what it is answered
 
-tested : (s : MasterState) (message : CallMessage) (opening : Open) → IsPlainOpen s message opening → admission_for s message ≡ admission_of_open s message.client message.number opening None
+pub tested : (s : MasterState) (message : CallMessage) (opening : Open) → IsPlainOpen s message opening → admission_for s message ≡ admission_of_open s message.client message.number opening None
 tested s message opening h = rw (h.is_open, h.under_none, h.of_cell, h.makes_nothing) refl
 
 pub opened : (s : MasterState) (r : Result Handle Fault) (handle : NewHandle) → results.Opened handle ≡ opened_answer s r → (given : Handle) × (r ≡ Ok given)

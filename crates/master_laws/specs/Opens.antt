@@ -4,16 +4,18 @@ use Rattle.node_core.specs.Limits.{lock_delay_limit}
 use Rattle.node_core.specs.Nodes.{get_node}
 use Rattle.node_core.specs.declared.kinds.Right.{Right}
 use Rattle.node_core.specs.declared.views.View.{View}
-use Rattle.tags_cell.specs.Handles.{is_ordinal}
+use Rattle.tags_cell.specs.Handles.{is_ordinal, handle_bytes}
 use Rattle.tags_cell.specs.Modes.{Rights, has_right}
 use Rattle.tags_cell.specs.declared.calls.Call.TheVariants as calls
 use Rattle.tags_cell.specs.declared.calls.Open.{Open}
+use Rattle.tags_cell.specs.declared.handles.Handle.{Handle}
 use Rattle.tags_cell.specs.declared.outs.CallResult.TheVariants as results
 use Rattle.tags_cell.specs.declared.outs.NewHandle.{NewHandle}
 use Rattle.tags_cell.specs.declared.requests.CallMessage.{CallMessage}
+use Rattle.cell_core.specs.declared.handles.HandleState.TheVariants as states
 use Rattle.cell_core.specs.declared.pending.Taken.{Taken}
 use Rattle.cell_core.specs.State.{MasterState}
-use Rattle.cell_core.specs.Step.{may, is_of_cell}
+use Rattle.cell_core.specs.Step.{may, is_of_cell, handle_state_of, key_of}
 use Rattle.master_laws.specs.Steps.{TakesCall, IsAnsweredBy}
 
 -- ---- who may open
@@ -52,3 +54,35 @@ abbrev pub OpensWherePermitted : Type 0
 OpensWherePermitted =
     (s new : MasterState) (now : ℕ) (message : CallMessage) (opening : Open) (taken : Taken) → TakesCall s now message new taken → IsPlainOpen s message opening → AreCarried s opening.name
     → IsGivenHandle taken message ↔ MayOpen s message.client opening
+
+-- ---- the handle that is given
+
+-- of the call's client and number, on the node of its name with this view, in the mode that it asks for
+abbrev pub handle_for : MasterState → CallMessage → Open → View → Handle
+handle_for s message opening view = record {
+  epoch = s.epoch;
+  client = message.client;
+  number = message.number;
+  instance = view.instance;
+  mode = opening.mode;
+  life = view.life;
+  events = opening.events;
+  delay = opening.delay;
+  name = opening.name;
+}
+
+-- the handle that a call was given is that one, and the master knows from then on that it is open
+pub record IsOpened (s : MasterState) (message : CallMessage) (opening : Open) (new : MasterState) (given : NewHandle) : Type 0 where
+  pub view : View
+  pub there : get_node s.nodes opening.name ≡ Some view
+  pub bytes : given.bytes ≡ handle_bytes s.secret (handle_for s message opening view)
+  pub instance : given.instance ≡ view.instance
+  pub life : given.life ≡ view.life
+  pub known : handle_state_of new (key_of (handle_for s message opening view)) ≡ Some (states.Open (record { handle = handle_for s message opening view; bytes = given.bytes }))
+
+-- a handle that an Open gives is that of its call, on the node and in the mode, and it is open
+abbrev pub GivenHandleIsOpen : Type 0
+GivenHandleIsOpen =
+    (s new : MasterState) (now : ℕ) (message : CallMessage) (opening : Open) (taken : Taken) (given : NewHandle) → TakesCall s now message new taken → IsPlainOpen s message opening
+    → IsAnsweredBy taken message (results.Opened given)
+    → IsOpened s message opening new given

@@ -10,7 +10,9 @@ pub use handles::{
     close_closes, closed_for_good_by_messages, closed_for_good_by_sweeps, closed_for_good_forever,
     closed_handle_is_refused, closed_handle_stays_closed,
 };
-pub use opens::{makes_only_where_permitted, makes_where_permitted, opens_where_permitted};
+pub use opens::{
+    given_handle_is_open, makes_only_where_permitted, makes_where_permitted, opens_where_permitted,
+};
 pub use refusals::{
     refusal_grants_absence_alone, refused_call_changes_nothing, refused_turn_changes_nothing,
     turned_away_changes_nothing,

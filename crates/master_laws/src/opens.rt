@@ -1,11 +1,16 @@
 //! Whom a master gives a handle.
-ghost use Rattle.master_laws.specs.Opens.{OpensWherePermitted};
+ghost use Rattle.master_laws.specs.Opens.{OpensWherePermitted, GivenHandleIsOpen};
 ghost use Rattle.master_laws.specs.Makes.{MakesOnlyWherePermitted, MakesWherePermitted};
 
 /// An Open that makes nothing is answered with a handle exactly where the node is there, each right of its mode is
 /// permitted to the client's principal by the ACL files that the node names, and its lock-delay is within the limit.
 pub fn opens_where_permitted()
     ensures { OpensWherePermitted }
+{}
+
+/// The handle that it gives is of its client and its number, on that node and in that mode, and it is open from then on.
+pub fn given_handle_is_open()
+    ensures { GivenHandleIsOpen }
 {}
 
 /// When its turn comes an Open that makes a node gives a handle only where content and lock-delay are within the limits,
