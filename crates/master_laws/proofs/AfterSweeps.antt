@@ -1,5 +1,5 @@
 -- Which handles and which changes that wait a sweep leaves.
-use Rattle.std.proofs.Common.{◌≡◌, ℕ, List, Bool, true, false, cond, Option, Some, None, Result, Ok, Err, refl, sym, ap, ◌∙◌}
+use Rattle.std.proofs.Common.{◌≡◌, ℕ, List, Bool, true, false, cond, Option, Some, None, Result, Ok, Err, refl, ap, ◌∙◌}
 use Rattle.std.specs.BTreeMap.{insert_entry}
 use Rattle.node_core.specs.declared.refusals.Fault.{Fault}
 use Rattle.node_core.specs.declared.refusals.Fault.TheVariants as faults
@@ -7,7 +7,7 @@ use Rattle.node_core.specs.declared.views.Mod.{Mod}
 use Rattle.node_core.specs.declared.views.Mod.TheVariants.{Put, Gone}
 use Rattle.gate_core.specs.Gate.{GateState, without}
 use Rattle.cell_core.specs.Keys.{handle_order}
-use Rattle.cell_core.specs.Deeds.{with_begun, with_put, with_node, with_locks, grown, rest_of, session_rest, map_rest, with_session_rest, with_kept, without_gone, with_map, without_lock, recovered, left, with_rest, done}
+use Rattle.cell_core.specs.Deeds.{with_begun, with_put, with_node, grown, session_rest, map_rest, with_session_rest, with_kept, without_gone, with_map, without_lock, recovered, left, done}
 use Rattle.cell_core.specs.State.{MasterState}
 use Rattle.cell_core.specs.Step.{with_note, noted}
 use Rattle.cell_core.specs.declared.deeds.Change.{Change}
@@ -15,8 +15,6 @@ use Rattle.cell_core.specs.declared.deeds.Deed.{Deed}
 use Rattle.cell_core.specs.declared.deeds.MapRest.{MapRest}
 use Rattle.cell_core.specs.declared.deeds.SessionDeed.{SessionDeed}
 use Rattle.cell_core.specs.declared.deeds.SessionDeed.TheVariants.{Begins, Prolongs, Ends, Answers}
-use Rattle.cell_core.specs.declared.handles.HandleKey.{HandleKey}
-use Rattle.cell_core.specs.declared.handles.HandleState.{HandleState}
 use Rattle.cell_core.specs.declared.handles.Note.{Note}
 use Rattle.cell_core.specs.declared.pending.Task.{Task}
 use Rattle.over_core.specs.Sweep.{first_action, is_over, swept, sweep_step}

@@ -1,6 +1,6 @@
 -- A closed handle stays closed by each message but the Open that gave it, and no such Open comes to wait.
-use Rattle.std.proofs.Common.{◌≡◌, ℕ, List, [], ◌∷◌, ◌++◌, Bool, true, false, Option, Some, None, refl, sym, ap, subst, ◌∙◌}
-use Rattle.std.specs.Prelude.{◌||◌, ◌+◌}
+use Rattle.std.proofs.Common.{◌≡◌, ℕ, List, [], ◌∷◌, ◌++◌, false, Option, Some, None, refl, sym, ap, subst, ◌∙◌}
+use Rattle.std.specs.Prelude.{◌+◌}
 use Rattle.std.specs.List.{list_any}
 use Rattle.std.proofs.lemmas.List.Folds.{list_any-append}
 use Rattle.gate_core.specs.declared.pending.Waiting.{Waiting}
@@ -9,7 +9,6 @@ use Rattle.tags_cell.specs.declared.requests.Request.{Request}
 use Rattle.tags_cell.specs.declared.requests.Request.TheVariants as requests
 use Rattle.cell_core.specs.declared.handles.HandleKey.{HandleKey}
 use Rattle.cell_core.specs.declared.handles.Note.{Note}
-use Rattle.cell_core.specs.declared.pending.Taken.{Taken}
 use Rattle.cell_core.specs.declared.pending.Task.{Task}
 use Rattle.cell_core.specs.declared.pending.Task.TheVariants as tasks
 use Rattle.cell_core.specs.declared.pending.Work.TheVariants as works

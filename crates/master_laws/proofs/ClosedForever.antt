@@ -1,14 +1,10 @@
 -- A handle that was closed for good is so behind every list of steps.
-use Rattle.std.proofs.Common.{◌≡◌, ℕ, List, [], ◌∷◌, Bool, true, false, Result, Ok, Err, refl}
-use Rattle.std.specs.Prelude.{fold}
+use Rattle.std.proofs.Common.{◌≡◌, ℕ, [], ◌∷◌, false, Ok, Err, refl}
 use Rattle.std.specs.List.{list_any}
-use Rattle.node_core.specs.declared.refusals.Fault.{Fault}
 use Rattle.tags_cell.specs.declared.requests.Request.{Request}
 use Rattle.cell_core.specs.declared.handles.HandleKey.{HandleKey}
-use Rattle.cell_core.specs.declared.pending.Taken.{Taken}
 use Rattle.cell_core.specs.State.{MasterState}
 use Rattle.cell_core.specs.Step.{take_step}
-use Rattle.over_core.specs.declared.sweeps.Swept.{Swept}
 use Rattle.over_core.specs.Sweep.{sweep_step}
 use Rattle.master_laws.specs.Closed.{asks_to_open, IsClosedForGood, MasterStep, left_by, master_behind, step_opens, ClosedForGoodForever}
 use Rattle.master_laws.specs.Closed.MasterStep.{Takes, Sweeps}

@@ -1,13 +1,11 @@
 -- What is noted of handles beside one that was closed.
-use Rattle.std.proofs.Common.{◌≡◌, ℕ, Bool, true, false, cond, Option, Some, None, refl, sym, ap, subst, ◌∙◌, inl, inr, ⊎_elim}
+use Rattle.std.proofs.Common.{◌≡◌, ℕ, true, false, cond, Option, Some, None, refl, ap, subst, ◌∙◌, inl, inr, ⊎_elim}
 use Rattle.std.specs.Prelude.{◌⊎◌}
-use Rattle.std.specs.Map.{lookup}
 use Rattle.std.specs.BTreeMap.{is_at}
 use Rattle.plain.proofs.Entries.{lookup_put}
 use Rattle.tags_cell.specs.declared.calls.Call.{Call}
 use Rattle.cell_core.specs.Keys.{handle_order}
 use Rattle.cell_core.specs.declared.handles.HandleKey.{HandleKey}
-use Rattle.cell_core.specs.declared.handles.HandleState.{HandleState}
 use Rattle.cell_core.specs.declared.handles.HandleState.TheVariants as states
 use Rattle.cell_core.specs.declared.handles.Note.{Note}
 use Rattle.cell_core.specs.State.{MasterState}

@@ -1,5 +1,5 @@
 -- When a Close has its turn its handle is closed.
-use Rattle.std.proofs.Common.{◌≡◌, ℕ, List, [], ◌∷◌, ◌++◌, cond, Option, Some, None, Ok, refl, sym, ap, subst, ◌∙◌}
+use Rattle.std.proofs.Common.{◌≡◌, ℕ, List, [], ◌∷◌, Option, Some, Ok, refl, sym, ap, subst, ◌∙◌}
 use Rattle.std.specs.Prelude.{Contains}
 use Rattle.std.specs.Map.{lookup}
 use Rattle.std.specs.BTreeMap.{is_at, insert_entry}
@@ -16,17 +16,16 @@ use Rattle.cell_core.specs.Keys.{handle_order}
 use Rattle.cell_core.specs.declared.handles.HandleKey.{HandleKey}
 use Rattle.cell_core.specs.declared.handles.HandleState.{HandleState}
 use Rattle.cell_core.specs.declared.handles.HandleState.TheVariants as states
-use Rattle.cell_core.specs.declared.handles.Note.{Note}
 use Rattle.cell_core.specs.declared.pending.Asked.{Asked}
 use Rattle.cell_core.specs.State.{MasterState}
-use Rattle.cell_core.specs.Step.{key_of, noted, with_note, reply_of}
+use Rattle.cell_core.specs.Step.{key_of, noted, reply_of}
 use Rattle.cell_core.proofs.PlacedHandles.{exact_handle, same_handle}
-use Rattle.over_core.specs.declared.effects.Effect.{Effect}
 use Rattle.over_core.specs.declared.plans.Plan.{Plan}
+use Rattle.over_core.specs.declared.sweeps.Swept.{Swept}
 use Rattle.over_core.specs.Effect.{close_at, handle_effect, effect}
-use Rattle.over_core.specs.Sweep.{sent, locking_replies}
+use Rattle.over_core.specs.Sweep.{sent, locking_replies, sweep_step}
 use Rattle.master_laws.specs.Steps.{HasTurn}
-use Rattle.master_laws.specs.Closed.{IsClosed, CloseCloses}
+use Rattle.master_laws.specs.Closed.{CloseCloses}
 use Rattle.master_laws.proofs.AfterSweeps.{done_handles, does_first}
 use Rattle.master_laws.proofs.Turns.{plan_for, done_as, done_so}
 
@@ -41,18 +40,24 @@ closing s client number bytes sequencer handle reads = ap (handle_effect s (call
 has_first : (x : Out) (rest : List Out) → Contains (x ∷ rest) x
 has_first x rest = Contains-append_left (x ∷ []) rest x (Contains-push [] x)
 
+-- what is planned for the Close
+abbrev pub close_plan : MasterState → ℕ → Asked → List ℕ → Handle → Plan
+close_plan s number asked bytes handle = plan_for s number asked (calls.Close bytes) (close_at s handle)
+
+pub closed_so : (s new : MasterState) (now number : ℕ) (told : Swept) (asked : Asked) (bytes : List ℕ) (sequencer : Option (List ℕ)) (handle : Handle) → sweep_step s now ≡ Ok (new, told) → HasTurn (noted s now) number asked (calls.Close bytes) sequencer → read_handle s.secret bytes ≡ Some handle → (new, told) ≡ done_as (noted s now) (close_plan (noted s now) number asked bytes handle)
+closed_so s new now number told asked bytes sequencer handle h turn reads =
+    let there : MasterState = noted s now in
+    sym (does_first s new now told h)
+    ∙ done_so there number asked (calls.Close bytes) sequencer turn
+    ∙ ap (λ effected. done_as there (plan_for there number asked (calls.Close bytes) effected)) (closing there asked.client asked.number bytes sequencer handle reads)
+
 pub close_closes : CloseCloses
 close_closes s new now number told asked bytes sequencer handle h turn reads =
     let there : MasterState = noted s now in
-    let close : Effect = close_at there handle in
-    let plan : Plan = plan_for there number asked (calls.Close bytes) close in
-    let is =
-    sym (does_first s new now told h)
-    ∙ done_so there number asked (calls.Close bytes) sequencer turn
-    ∙ ap (λ effected. done_as there (plan_for there number asked (calls.Close bytes) effected)) (closing there asked.client asked.number bytes sequencer handle reads) in
+    let is = closed_so s new now number told asked bytes sequencer handle h turn reads in
     let own : Reply = reply_of s asked.client asked.number results.Closed in (
       ap (λ p. lookup (is_at (handle_order (key_of handle))) p.0.handles) is
-          ∙ ap (λ entries. lookup (is_at (handle_order (key_of handle))) entries) (done_handles there plan.deed)
+          ∙ ap (λ entries. lookup (is_at (handle_order (key_of handle))) entries) (done_handles there (close_plan there number asked bytes handle).deed)
           ∙ known_note there (key_of handle) states.Closed,
-      subst (λ p. Contains p.1.outs (outs.Reply own)) (sym is) (has_first (outs.Reply own) (sent (locking_replies there close.locking))),
+      subst (λ p. Contains p.1.outs (outs.Reply own)) (sym is) (has_first (outs.Reply own) (sent (locking_replies there (close_at there handle).locking))),
     )

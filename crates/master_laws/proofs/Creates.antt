@@ -1,5 +1,5 @@
 -- When its turn comes an Open that makes a node gives a handle only where the client may make it, or may find it there.
-use Rattle.std.proofs.Common.{◌≡◌, ◌≤◌, ◌<◌, ℕ, List, Bool, true, false, cond, Option, Some, None, Result, Ok, Err, refl, sym, ap, subst, ◌∙◌, inl, inr, ⊎_elim, arith}
+use Rattle.std.proofs.Common.{◌≡◌, ◌≤◌, ◌<◌, ℕ, List, Bool, true, false, cond, Option, Some, None, Err, refl, sym, ap, subst, ◌∙◌, inl, inr, ⊎_elim, arith}
 use Rattle.std.specs.Prelude.{◌⊎◌, nat_lt, nat_le, length}
 use Rattle.std.proofs.lemmas.Bool.Decides.{nat_tests}
 use Rattle.std.specs.Option.{option_map_or}
@@ -13,7 +13,6 @@ use Rattle.node_core.specs.declared.refusals.Fault.{Fault}
 use Rattle.node_core.specs.declared.refusals.Fault.TheVariants as faults
 use Rattle.node_core.specs.declared.views.View.{View}
 use Rattle.tags_cell.specs.Handles.{is_ordinal, handle_bytes}
-use Rattle.tags_cell.specs.declared.calls.Call.TheVariants as calls
 use Rattle.tags_cell.specs.declared.calls.Create.{Create}
 use Rattle.tags_cell.specs.declared.calls.Disposition.{Disposition}
 use Rattle.tags_cell.specs.declared.calls.Disposition.TheVariants.{May, Must}
@@ -28,7 +27,7 @@ use Rattle.cell_core.specs.State.{MasterState}
 use Rattle.cell_core.specs.Step.{may, missing_right, is_of_cell, is_too_long, create_fault, sequencer_fault, new_handle, open_present, plain_open}
 use Rattle.over_core.specs.declared.effects.Effect.{Effect}
 use Rattle.over_core.specs.Effect.{answered, refused, content_of, is_last, opened_effect, new_view, acls_of, create_made, create_numbered, create_permitted, create_in, create_under, create_new, create_over, create_effect, create_tested, create_under_sequencer, create_here, open_effect, effect}
-use Rattle.master_laws.specs.Opens.{MayOpen, AreCarried}
+use Rattle.master_laws.specs.Opens.{AreCarried}
 use Rattle.master_laws.specs.Makes.{IsWithinLimits, MayMake, MayFind, MayMakeOrFind, MakesOnlyWherePermitted, MakesWherePermitted}
 use Rattle.master_laws.proofs.PlainOpens.{within, not_beyond, permitted_by, none_missing, opened_where, opened}
 

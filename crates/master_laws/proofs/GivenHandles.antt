@@ -1,5 +1,5 @@
 -- The handle that an Open gives is that of its call, and it is open.
-use Rattle.std.proofs.Common.{◌≡◌, ℕ, List, Bool, false, cond, Option, Some, None, Result, Ok, Err, refl, sym, ap, subst, ◌∙◌}
+use Rattle.std.proofs.Common.{◌≡◌, ℕ, false, Some, None, Result, Ok, Err, refl, sym, ap, ◌∙◌}
 use Rattle.std.specs.Prelude.{◌&&◌}
 use Rattle.std.specs.Option.{option_map_or}
 use Rattle.std.specs.Map.{lookup}
@@ -16,17 +16,14 @@ use Rattle.tags_cell.specs.declared.outs.CallResult.TheVariants as results
 use Rattle.tags_cell.specs.declared.outs.NewHandle.{NewHandle}
 use Rattle.tags_cell.specs.declared.requests.CallMessage.{CallMessage}
 use Rattle.cell_core.specs.Keys.{handle_order}
-use Rattle.cell_core.specs.declared.handles.HandleKey.{HandleKey}
-use Rattle.cell_core.specs.declared.handles.HandleState.{HandleState}
 use Rattle.cell_core.specs.declared.handles.HandleState.TheVariants as states
-use Rattle.cell_core.specs.declared.handles.Note.{Note}
 use Rattle.cell_core.specs.declared.pending.Taken.{Taken}
 use Rattle.cell_core.specs.State.{MasterState}
-use Rattle.cell_core.specs.Step.{noted, key_of, handle_state_of, open_note, with_note, missing_right, is_too_long, numbered_handle, open_present, plain_open, opened_answer, opened_note, admission_for}
-use Rattle.master_laws.specs.Opens.{IsPlainOpen, handle_for, IsOpened, GivenHandleIsOpen}
+use Rattle.cell_core.specs.Step.{noted, key_of, open_note, with_note, missing_right, is_too_long, numbered_handle, open_present, plain_open, opened_answer, opened_note, admission_for}
+use Rattle.master_laws.specs.Opens.{handle_for, GivenHandleIsOpen}
 use Rattle.master_laws.proofs.Answered.{IsSent, same_answer, sent_at_once}
 use Rattle.master_laws.proofs.Closes.{known_note}
-use Rattle.master_laws.proofs.NewCalls.{NewCase, new_by, IsNewCase, new_case}
+use Rattle.master_laws.proofs.NewCalls.{NewCase, new_by, new_case}
 use Rattle.master_laws.proofs.NewCalls.NewCase.{Recovers, Answers, Grants, Queues}
 use Rattle.master_laws.proofs.OpenedKeys.{if_so}
 use Rattle.master_laws.proofs.PlainOpens.{unless_missing, opened, tested}

@@ -6,6 +6,7 @@ mod ClosedCalls
 mod ClosedForever
 mod ClosedNotes
 mod Closes
+mod ClosesForGood
 mod Creates
 mod GivenHandles
 mod NewCalls

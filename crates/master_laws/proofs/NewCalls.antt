@@ -1,5 +1,5 @@
 -- The arm of the table that a new call takes.
-use Rattle.std.proofs.Common.{◌≡◌, ◌<◌, ℕ, List, Bool, true, false, Option, Some, None, Ok, refl, sym, ap, subst, ◌∙◌, arith}
+use Rattle.std.proofs.Common.{◌≡◌, ◌<◌, ℕ, List, Bool, true, false, Option, Some, None, Ok, sym, ap, subst, ◌∙◌, arith}
 use Rattle.node_core.specs.declared.refusals.Fault.TheVariants as faults
 use Rattle.tags_cell.specs.declared.outs.CallResult.{CallResult}
 use Rattle.tags_cell.specs.declared.outs.CallResult.TheVariants as results
@@ -11,7 +11,7 @@ use Rattle.cell_core.specs.declared.handles.Note.{Note}
 use Rattle.cell_core.specs.declared.pending.Taken.{Taken}
 use Rattle.cell_core.specs.State.{MasterState}
 use Rattle.cell_core.specs.Step.{kept_of, is_live, noted, take_step, replied, granting, waits, with_note}
-use Rattle.cell_core.specs.Cases.{IsBehind, IsHeard, IsNew, IsAnswered, IsGranted, IsAdmitted, TakeCase, taken_by}
+use Rattle.cell_core.specs.Cases.{IsBehind, IsNew, IsAnswered, IsGranted, IsAdmitted, TakeCase, taken_by}
 use Rattle.cell_core.specs.Cases.TakeCase.{StartRefused, StartRecovering, StartFull, StartQueued, OldBeat, BeatRefused, BeatParked, OldEpoch, NoSession, Repeated, OlderCall, Outstanding, Recovering, Answered, Granted, Waits}
 use Rattle.cell_core.proofs.TakeCases.{taken_case}
 

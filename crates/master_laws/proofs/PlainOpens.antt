@@ -1,6 +1,6 @@
 -- An Open that makes nothing is answered with a handle exactly where the client may open the node so.
-use Rattle.std.proofs.Common.{◌≡◌, ◌≤◌, ℕ, Bool, true, false, cond, Option, Some, None, Result, Ok, Err, refl, sym, ap, subst, ◌∙◌, arith}
-use Rattle.std.specs.Prelude.{◌&&◌, not, nat_lt, ◌↔◌}
+use Rattle.std.proofs.Common.{◌≡◌, ◌≤◌, ℕ, Bool, true, false, cond, Option, Some, None, Result, Ok, Err, refl, ap, subst, arith}
+use Rattle.std.specs.Prelude.{◌&&◌, not, nat_lt}
 use Rattle.std.specs.Option.{option_map_or}
 use Rattle.std.proofs.lemmas.Bool.Decides.{nat_tests}
 use Rattle.node_core.specs.Limits.{lock_delay_limit}
@@ -14,13 +14,12 @@ use Rattle.tags_cell.specs.Handles.{handle_bytes}
 use Rattle.tags_cell.specs.Modes.{Rights, has_right}
 use Rattle.tags_cell.specs.declared.calls.Open.{Open}
 use Rattle.tags_cell.specs.declared.handles.Handle.{Handle}
-use Rattle.tags_cell.specs.declared.outs.CallResult.{CallResult}
 use Rattle.tags_cell.specs.declared.outs.CallResult.TheVariants as results
 use Rattle.tags_cell.specs.declared.outs.NewHandle.{NewHandle}
 use Rattle.tags_cell.specs.declared.requests.CallMessage.{CallMessage}
 use Rattle.cell_core.specs.State.{MasterState}
-use Rattle.cell_core.specs.Step.{noted, may, missing_right, is_too_long, numbered_handle, new_handle, open_present, plain_open, opened_answer, admission_for, admission_of_open}
-use Rattle.master_laws.specs.Opens.{ArePermitted, MayOpen, IsPlainOpen, AreCarried, IsGivenHandle, OpensWherePermitted}
+use Rattle.cell_core.specs.Step.{noted, may, missing_right, is_too_long, numbered_handle, open_present, plain_open, opened_answer, admission_for, admission_of_open}
+use Rattle.master_laws.specs.Opens.{ArePermitted, MayOpen, IsPlainOpen, AreCarried, OpensWherePermitted}
 use Rattle.master_laws.proofs.Answered.{IsSent, is_answered, same_answer, sent_at_once}
 use Rattle.master_laws.proofs.NewCalls.{new_case}
 

@@ -1,7 +1,6 @@
 -- A call that is refused changes nothing but what is kept of it, unless it grants the right to cache that there is no node.
-use Rattle.std.proofs.Common.{◌≡◌, ℕ, ◌+◌, List, [], ◌∷◌, ◌++◌, true, false, cond, Option, Some, None, Result, Ok, Err, refl, sym, ap, subst, ◌∙◌, inl, inr, ⊎_elim, arith}
-use Rattle.std.specs.Prelude.{◌⊎◌, Contains, length}
-use Rattle.node_core.specs.declared.lines.Line.{Line}
+use Rattle.std.proofs.Common.{◌≡◌, ℕ, List, [], ◌∷◌, ◌++◌, true, false, cond, Option, Some, None, Result, Ok, Err, refl, sym, ap, subst, ◌∙◌, inl, inr, ⊎_elim}
+use Rattle.std.specs.Prelude.{◌⊎◌, Contains}
 use Rattle.node_core.specs.declared.refusals.Fault.{Fault}
 use Rattle.node_core.specs.declared.refusals.Fault.TheVariants as faults
 use Rattle.rights_core.specs.declared.cache_rights.CacheRight.{CacheRight}
@@ -12,7 +11,6 @@ use Rattle.tags_cell.specs.declared.calls.Call.TheVariants as calls
 use Rattle.tags_cell.specs.declared.calls.Open.{Open}
 use Rattle.tags_cell.specs.declared.outs.CallResult.{CallResult}
 use Rattle.tags_cell.specs.declared.outs.CallResult.TheVariants as results
-use Rattle.tags_cell.specs.declared.outs.NewHandle.{NewHandle}
 use Rattle.tags_cell.specs.declared.outs.Out.TheVariants as outs
 use Rattle.tags_cell.specs.declared.outs.Reply.{Reply}
 use Rattle.tags_cell.specs.declared.requests.CallMessage.{CallMessage}
@@ -21,9 +19,9 @@ use Rattle.cell_core.specs.declared.pending.Taken.{Taken}
 use Rattle.cell_core.specs.Cases.{IsAnswered, IsGranted}
 use Rattle.cell_core.specs.State.{MasterState}
 use Rattle.cell_core.specs.Step.{answered_by, recorded, replied, granting, granted_lines, stamped_reply, reply_of, sends, with_note, with_right, noted, admission_for}
-use Rattle.master_laws.specs.Refused.{first_shown, with_refusal, RefusesCall, GrantsAbsence, RefusedCallChangesNothing, RefusalGrantsAbsenceAlone}
+use Rattle.master_laws.specs.Refused.{first_shown, with_refusal, RefusesCall, RefusedCallChangesNothing, RefusalGrantsAbsenceAlone}
 use Rattle.master_laws.proofs.Answered.{only_one, none_in}
-use Rattle.master_laws.proofs.NewCalls.{NewCase, new_by, IsNewCase, new_case}
+use Rattle.master_laws.proofs.NewCalls.{NewCase, new_by, new_case}
 use Rattle.master_laws.proofs.NewCalls.NewCase.{Recovers, Answers, Grants, Queues}
 use Rattle.master_laws.proofs.RefusedAdmissions.{GivesNone, shown_first, notes_shown, TellsAbsence, tells_absence}
 

@@ -1,5 +1,5 @@
 -- A call that is refused when its turn comes changes nothing but that its reply is kept.
-use Rattle.std.proofs.Common.{◌≡◌, ◌≢◌, ℕ, List, [], ◌∷◌, Bool, true, false, cond, Option, Some, None, Ok, refl, sym, ap, subst, ◌∙◌, arith}
+use Rattle.std.proofs.Common.{◌≡◌, ◌≢◌, ℕ, List, [], Bool, true, false, cond, Option, Some, None, refl, sym, ap, subst, ◌∙◌, arith}
 use Rattle.std.specs.Prelude.{◌==◌, fold, is_some}
 use Rattle.std.specs.Option.{option_map, option_map_or, option_and_then}
 use Rattle.std.proofs.lemmas.Bool.Decides.{nat_tests}
@@ -7,7 +7,6 @@ use Rattle.node_core.specs.declared.refusals.Fault.{Fault}
 use Rattle.rows_cell.specs.declared.tables.Edit.{Edit}
 use Rattle.tags_cell.specs.declared.calls.Call.{Call}
 use Rattle.tags_cell.specs.declared.outs.CallResult.TheVariants as results
-use Rattle.tags_cell.specs.declared.outs.Out.TheVariants as outs
 use Rattle.tags_cell.specs.declared.outs.Reply.{Reply}
 use Rattle.session_core.specs.declared.records.Kept.{Kept}
 use Rattle.session_core.specs.declared.records.Session.{Session}
@@ -17,23 +16,17 @@ use Rattle.session_core.specs.Sessions as of_sessions
 use Rattle.session_core.proofs.OneClient.{own_session, other_session, kept_session}
 use Rattle.cell_core.specs.declared.notices.Telling.{Telling}
 use Rattle.cell_core.specs.declared.pending.Asked.{Asked}
-use Rattle.cell_core.specs.declared.pending.Task.{Task}
-use Rattle.cell_core.specs.declared.pending.Work.{Work}
 use Rattle.cell_core.specs.Deeds.{edits_of}
 use Rattle.cell_core.specs.Notices.{with_telling}
-use Rattle.cell_core.specs.State.{MasterState, task_at}
-use Rattle.cell_core.specs.Step.{is_live, reply_of, answered_by, noted}
-use Rattle.over_core.specs.declared.actions.Action.{Action}
-use Rattle.over_core.specs.declared.actions.Action.TheVariants as actions
-use Rattle.over_core.specs.declared.effects.Effect.{Effect}
+use Rattle.cell_core.specs.State.{MasterState}
+use Rattle.cell_core.specs.Step.{reply_of, answered_by, noted}
 use Rattle.over_core.specs.declared.plans.Plan.{Plan}
-use Rattle.over_core.specs.declared.sweeps.Swept.{Swept}
 use Rattle.over_core.specs.Effect.{refused, effect}
 use Rattle.over_core.specs.Notices.{tellings_of}
-use Rattle.over_core.specs.Sweep.{first_action, no_plan, plan_asked, plan_work, plan_task, plan_of, leaving, swept_by_plan, telling, swept, action_edits, is_over, sweep_edits, sweep_step}
+use Rattle.over_core.specs.Sweep.{first_action, swept, action_edits, is_over}
 use Rattle.over_core.proofs.ToldSessions.{reads_told}
 use Rattle.master_laws.specs.Steps.{HasTurn}
-use Rattle.master_laws.specs.Refused.{life_of, IsRefusedAlone, RefusedTurnChangesNothing}
+use Rattle.master_laws.specs.Refused.{life_of, RefusedTurnChangesNothing}
 use Rattle.master_laws.proofs.AfterSweeps.{does_first}
 use Rattle.master_laws.proofs.Turns.{plan_for, done_as, planned, done_so}
 use Rattle.master_laws.proofs.TameEffects.{tame}

@@ -1,13 +1,13 @@
 -- A call that is refused when its turn comes does nothing else; and what it notes of a handle otherwise.
-use Rattle.std.proofs.Common.{◌≡◌, ℕ, ◌+◌, List, Bool, true, false, cond, Option, Some, None, Result, Ok, Err, refl, ap, subst}
-use Rattle.std.specs.Prelude.{◌||◌, is_none, nat_lt, length}
+use Rattle.std.proofs.Common.{◌≡◌, ℕ, List, Bool, true, false, cond, Option, Some, None, Result, Ok, Err, refl, ap}
+use Rattle.std.specs.Prelude.{◌||◌, is_none}
 use Rattle.std.specs.Option.{option_map_or}
 use Rattle.names_cell.specs.Text.{parent_of}
 use Rattle.node_core.specs.declared.refusals.Fault.{Fault}
 use Rattle.node_core.specs.declared.refusals.Fault.TheVariants as faults
 use Rattle.node_core.specs.declared.views.View.{View}
 use Rattle.node_core.specs.declared.views.Mod.{Mod}
-use Rattle.node_core.specs.declared.views.Mod.TheVariants.{Put, Gone}
+use Rattle.node_core.specs.declared.views.Mod.TheVariants.{Put}
 use Rattle.node_core.specs.declared.kinds.Kind.{Kind}
 use Rattle.node_core.specs.declared.kinds.Kind.TheVariants.{File, Directory}
 use Rattle.node_core.specs.declared.kinds.Right.TheVariants as rights
@@ -27,7 +27,7 @@ use Rattle.lock_core.specs.declared.turns.Turn.{Turn}
 use Rattle.lock_core.specs.declared.turns.Acquired.{Acquired}
 use Rattle.lock_core.specs.declared.turns.Acquired.TheVariants as asked
 use Rattle.lock_core.specs.State.{LockState}
-use Rattle.lock_core.specs.Turns.{tried, acquired, released, closed_by}
+use Rattle.lock_core.specs.Turns.{tried, acquired, released}
 use Rattle.cell_core.specs.declared.handles.HandleState.TheVariants as states
 use Rattle.cell_core.specs.Locks.{owner_of, claim_of}
 use Rattle.cell_core.specs.State.{MasterState}

@@ -1,7 +1,6 @@
 -- A message that is turned away leaves the master as it was, but for the moment.
-use Rattle.std.proofs.Common.{◌≡◌, List, [], ◌∷◌, Option, Some, None, refl, sym, ap, subst, ◌∙◌, arith}
+use Rattle.std.proofs.Common.{◌≡◌, [], ◌∷◌, refl, ap, subst, ◌∙◌}
 use Rattle.std.specs.Prelude.{Contains}
-use Rattle.tags_cell.specs.declared.outs.Out.{Out}
 use Rattle.tags_cell.specs.declared.outs.Out.TheVariants as outs
 use Rattle.tags_cell.specs.declared.outs.Refused.{Refused}
 use Rattle.tags_cell.specs.declared.outs.Reply.{Reply}
@@ -9,7 +8,7 @@ use Rattle.tags_cell.specs.declared.requests.Request.{Request}
 use Rattle.cell_core.specs.State.{MasterState}
 use Rattle.cell_core.specs.Cases.{TakeCase, taken_by}
 use Rattle.cell_core.specs.Cases.TakeCase.{StartRefused, StartRecovering, StartFull, StartQueued, OldBeat, BeatRefused, BeatParked, OldEpoch, NoSession, Repeated, OlderCall, Outstanding, Recovering, Answered, Granted, Waits}
-use Rattle.cell_core.specs.Step.{noted, asking_for, with_call, with_note}
+use Rattle.cell_core.specs.Step.{noted}
 use Rattle.cell_core.proofs.TakeCases.{taken_case}
 use Rattle.master_laws.specs.Refused.{TurnedAwayChangesNothing}
 use Rattle.master_laws.proofs.Answered.{only_one, none_in}

@@ -1,5 +1,5 @@
 -- What a sweep does in which a call has its turn.
-use Rattle.std.proofs.Common.{◌≡◌, ℕ, List, Bool, false, cond, Option, sym, ap, ◌∙◌}
+use Rattle.std.proofs.Common.{◌≡◌, ℕ, List, false, cond, Option, sym, ap, ◌∙◌}
 use Rattle.std.specs.Option.{option_map_or}
 use Rattle.tags_cell.specs.declared.calls.Call.{Call}
 use Rattle.cell_core.specs.declared.pending.Asked.{Asked}

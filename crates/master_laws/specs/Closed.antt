@@ -3,6 +3,7 @@ use Rattle.std.specs.Prelude.{◌≡◌, ℕ, Bool, false, List, fold, Contains,
 use Rattle.std.specs.List.{list_any}
 use Rattle.node_core.specs.declared.refusals.Fault.{Fault}
 use Rattle.node_core.specs.declared.refusals.Fault.TheVariants as faults
+use Rattle.rows_cell.specs.declared.tables.Rows.{Rows}
 use Rattle.tags_cell.specs.Handles.{read_handle}
 use Rattle.tags_cell.specs.declared.calls.Call.{Call}
 use Rattle.tags_cell.specs.declared.calls.Call.TheVariants as calls
@@ -24,6 +25,7 @@ use Rattle.cell_core.specs.Notices.{is_key}
 use Rattle.cell_core.specs.State.{MasterState}
 use Rattle.cell_core.specs.Step.{handle_state_of, key_of, bytes_of, noted, replied, reply_of, take_step}
 use Rattle.over_core.specs.declared.sweeps.Swept.{Swept}
+use Rattle.over_core.specs.Kept.{IsKept}
 use Rattle.over_core.specs.Sweep.{sweep_step}
 use Rattle.master_laws.specs.Steps.{TakesCall, HasTurn}
 
@@ -128,3 +130,14 @@ step_opens key (Sweeps now) = false
 abbrev pub ClosedForGoodForever : Type 0
 ClosedForGoodForever =
     (s : MasterState) (steps : List MasterStep) (key : HandleKey) → IsClosedForGood s key → list_any (step_opens key) steps ≡ false → IsClosedForGood (fold master_behind s steps) key
+
+-- ---- where it begins
+
+-- when a Close has its turn in a master that is kept beside its rows, as each master is, its handle is closed for good
+abbrev pub CloseClosesForGood : Type 0
+CloseClosesForGood =
+    (cell : List ℕ) (rows : Rows) (s new : MasterState) (now number : ℕ) (told : Swept) (asked : Asked) (bytes : List ℕ) (sequencer : Option (List ℕ)) (handle : Handle) → IsKept cell rows s
+    → sweep_step s now ≡ Ok (new, told)
+    → HasTurn (noted s now) number asked (calls.Close bytes) sequencer
+    → read_handle s.secret bytes ≡ Some handle
+    → IsClosedForGood new (key_of handle)

@@ -1,9 +1,14 @@
 //! What a closed handle is still good for.
-ghost use Rattle.master_laws.specs.Closed.{CloseCloses, ClosedHandleIsRefused, ClosedHandleStaysClosed, ClosedForGoodByMessages, ClosedForGoodBySweeps, ClosedForGoodForever};
+ghost use Rattle.master_laws.specs.Closed.{CloseCloses, CloseClosesForGood, ClosedHandleIsRefused, ClosedHandleStaysClosed, ClosedForGoodByMessages, ClosedForGoodBySweeps, ClosedForGoodForever};
 
 /// When a Close has its turn its handle is closed, and it is answered so.
 pub fn close_closes()
     ensures { CloseCloses }
+{}
+
+/// In a master that is kept beside its rows, as each is, it is closed for good then: no Open of it waits to be done.
+pub fn close_closes_for_good()
+    ensures { CloseClosesForGood }
 {}
 
 /// A new call that shows a handle that was closed in this epoch is refused as BadHandle, and changes nothing but what is

@@ -7,8 +7,8 @@ mod opens;
 mod refusals;
 
 pub use handles::{
-    close_closes, closed_for_good_by_messages, closed_for_good_by_sweeps, closed_for_good_forever,
-    closed_handle_is_refused, closed_handle_stays_closed,
+    close_closes, close_closes_for_good, closed_for_good_by_messages, closed_for_good_by_sweeps,
+    closed_for_good_forever, closed_handle_is_refused, closed_handle_stays_closed,
 };
 pub use opens::{
     given_handle_is_open, makes_only_where_permitted, makes_where_permitted, opens_where_permitted,
