@@ -1,6 +1,10 @@
 -- A call that is refused when its turn comes changes nothing but that its reply is kept.
 use Rattle.std.proofs.Common.{◌≡◌, ◌≢◌, ℕ, List, [], Bool, true, false, cond, Option, Some, None, refl, sym, ap, subst, ◌∙◌, arith}
 use Rattle.std.specs.Prelude.{◌==◌, fold, is_some}
+use Rattle.std.specs.Map.{set_value}
+use Rattle.std.specs.BTreeMap.{is_at}
+use Rattle.std.specs.Ordering.{nat_cmp}
+use Rattle.gate_core.specs.Gate.{without}
 use Rattle.std.specs.Option.{option_map, option_map_or, option_and_then}
 use Rattle.std.proofs.lemmas.Bool.Decides.{nat_tests}
 use Rattle.node_core.specs.declared.refusals.Fault.{Fault}
@@ -24,7 +28,7 @@ use Rattle.over_core.specs.declared.plans.Plan.{Plan}
 use Rattle.over_core.specs.Effect.{refused, effect}
 use Rattle.over_core.specs.Notices.{tellings_of}
 use Rattle.over_core.specs.Sweep.{first_action, swept, action_edits, is_over}
-use Rattle.over_core.proofs.ToldSessions.{reads_told}
+use Rattle.over_core.proofs.ToldSessions.{reads_told, lease_told}
 use Rattle.master_laws.specs.Steps.{HasTurn}
 use Rattle.master_laws.specs.Refused.{life_of, RefusedTurnChangesNothing}
 use Rattle.master_laws.proofs.AfterSweeps.{does_first}
@@ -77,6 +81,17 @@ module _ (table : SessionTable Reply) (client : ℕ) (kept : Kept Reply) (tellin
   lives : (q : ℕ) → option_map life_of (of_sessions.session_of after q) ≡ option_map life_of (of_sessions.session_of table q)
   lives q = reads_told (option_map life_of) (λ event before. refl) tellings (with_session table client (keeping kept)) q ∙ recorded_lives q
 
+-- the lease is none of a client's
+recorded_lease : (table : SessionTable Reply) (client : ℕ) (kept : Kept Reply) → (with_session table client (keeping kept)).lease ≡ table.lease
+recorded_lease table client kept =
+    elim (of_sessions.session_of table client) as (λ o. (option_map_or (λ (session : Session Reply). record table { sessions = set_value (is_at (nat_cmp client)) table.sessions (keeping kept session) }) o table).lease ≡ table.lease) [
+      | None ↦ refl
+      | Some session ↦ refl
+    ]
+
+same_lease : (table : SessionTable Reply) (client : ℕ) (kept : Kept Reply) (tellings : List Telling) → (fold with_telling (with_session table client (keeping kept)) tellings).lease ≡ table.lease
+same_lease table client kept tellings = lease_told tellings (with_session table client (keeping kept)) ∙ recorded_lease table client kept
+
 -- ---- the plan
 
 module _ (s : MasterState) (number : ℕ) (asked : Asked) (call : Call) (sequencer : Option (List ℕ)) (fault : Fault) (turn : HasTurn s number asked call sequencer) (refusal : (effect s asked.client asked.number call sequencer).answer ≡ Some (results.Refused fault)) where
@@ -105,13 +120,9 @@ refused_turn_changes_nothing s new now number told asked call sequencer fault h 
       commits_nothing = either_edits (is_over s now) (action_edits now_there (first_action now_there)) (edits_so now_there number asked call sequencer fault turn refusal);
       prints_nothing = ap (λ t. t.lines) out;
       is_sent = ap (λ t. t.outs) out;
-      has_left = ap (λ m. m.gate.waiting) master;
+      stays = master ∙ ap (λ t. record now_there { sessions = t; gate = record s.gate { waiting = without number s.gate.waiting } }) (sym (ap (λ m. m.sessions) master));
       is_kept = ap (λ m. of_sessions.kept_of m.sessions asked.client) master ∙ is_kept s.sessions asked.client (answered_by reply) tellings turn.live;
       others_kept = λ q other. ap (λ m. of_sessions.kept_of m.sessions q) master ∙ others_kept s.sessions asked.client (answered_by reply) tellings q other;
       lives = λ q. ap (λ m. option_map life_of (of_sessions.session_of m.sessions q)) master ∙ lives s.sessions asked.client (answered_by reply) tellings q;
-      nodes = ap (λ m. m.nodes) master;
-      next_instance = ap (λ m. m.next_instance) master;
-      locks = ap (λ m. m.locks) master;
-      rights = ap (λ m. m.rights) master;
-      handles = ap (λ m. m.handles) master;
+      lease = ap (λ m. m.sessions.lease) master ∙ same_lease s.sessions asked.client (answered_by reply) tellings;
     }

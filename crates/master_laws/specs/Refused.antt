@@ -77,21 +77,17 @@ RefusalGrantsAbsenceAlone =
 abbrev pub life_of : Session Reply → Session Reply
 life_of session = record session { events = None; kept = None }
 
--- nothing is committed or printed; the change of this number has left the gate, and its reply is kept, and sent; map, locks, rights, handles and the lives of
--- sessions stay
+-- nothing is committed or printed, and the reply is sent. The change of this number has left the gate; map, locks, rights, handles and all else but the sessions stay. The reply
+-- is kept of its client's last call; each other client's last call, and the life of each session, stay
 pub record IsRefusedAlone (s : MasterState) (now number : ℕ) (new : MasterState) (told : Swept) (reply : Reply) : Type 0 where
   pub commits_nothing : sweep_edits s now ≡ []
   pub prints_nothing : told.lines ≡ []
   pub is_sent : told.outs ≡ outs.Reply reply ∷ []
-  pub has_left : new.gate.waiting ≡ without number s.gate.waiting
+  pub stays : new ≡ record (noted s now) { sessions = new.sessions; gate = record s.gate { waiting = without number s.gate.waiting } }
   pub is_kept : kept_of new reply.client ≡ Some (answered_by reply)
   pub others_kept : (client : ℕ) → client ≢ reply.client → kept_of new client ≡ kept_of s client
   pub lives : (client : ℕ) → option_map life_of (session_of new client) ≡ option_map life_of (session_of s client)
-  pub nodes : new.nodes ≡ s.nodes
-  pub next_instance : new.next_instance ≡ s.next_instance
-  pub locks : new.locks ≡ s.locks
-  pub rights : new.rights ≡ s.rights
-  pub handles : new.handles ≡ s.handles
+  pub lease : new.sessions.lease ≡ s.sessions.lease
 
 -- a call that is refused when its turn comes changes nothing but that its reply is kept, and it has left the gate; who holds a lock that it asked for in vain may be told of that by an event
 abbrev pub RefusedTurnChangesNothing : Type 0
