@@ -9,6 +9,7 @@ mod Closes
 mod ClosesForGood
 mod Creates
 mod GivenHandles
+mod KeptNumbers
 mod NewCalls
 mod OpenedKeys
 mod PlainOpens

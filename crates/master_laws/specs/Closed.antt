@@ -90,19 +90,19 @@ pub record IsClosedForGood (s : MasterState) (key : HandleKey) : Type 0 where
   pub closed : IsClosed s key
   pub unasked : waits_to_open key s ≡ false
 
--- a handle that was closed stays closed by each message but the Open that gave it
+-- a handle that was closed stays closed by each message but the Open that gives it
 abbrev pub ClosedHandleStaysClosed : Type 0
 ClosedHandleStaysClosed =
     (s new : MasterState) (now : ℕ) (request : Request) (key : HandleKey) (taken : Taken) → take_step s now request ≡ Ok (new, taken) → asks_to_open key request ≡ false → IsClosed s key
     → IsClosed new key
 
--- and so does one that was closed for good ..
+-- one that was closed for good stays so by each message but that Open ..
 abbrev pub ClosedForGoodByMessages : Type 0
 ClosedForGoodByMessages =
     (s new : MasterState) (now : ℕ) (request : Request) (key : HandleKey) (taken : Taken) → take_step s now request ≡ Ok (new, taken) → asks_to_open key request ≡ false → IsClosedForGood s key
     → IsClosedForGood new key
 
--- .. also by each sweep
+-- .. and by each sweep
 abbrev pub ClosedForGoodBySweeps : Type 0
 ClosedForGoodBySweeps = (s new : MasterState) (now : ℕ) (key : HandleKey) (told : Swept) → sweep_step s now ≡ Ok (new, told) → IsClosedForGood s key → IsClosedForGood new key
 

@@ -6,6 +6,7 @@ use Rattle.node_core.specs.Nodes.{get_node}
 use Rattle.node_core.specs.declared.kinds.Kind.TheVariants as kinds
 use Rattle.node_core.specs.declared.kinds.Right.TheVariants as rights
 use Rattle.node_core.specs.declared.views.View.{View}
+use Rattle.rows_cell.specs.declared.tables.Rows.{Rows}
 use Rattle.tags_cell.specs.Handles.{is_ordinal}
 use Rattle.tags_cell.specs.declared.calls.Call.TheVariants as calls
 use Rattle.tags_cell.specs.declared.calls.Create.{Create}
@@ -16,6 +17,7 @@ use Rattle.tags_cell.specs.declared.outs.NewHandle.{NewHandle}
 use Rattle.cell_core.specs.State.{MasterState}
 use Rattle.cell_core.specs.Step.{may, is_of_cell}
 use Rattle.over_core.specs.Effect.{new_view, acls_of, content_of, effect}
+use Rattle.over_core.specs.Kept.{IsKept}
 use Rattle.master_laws.specs.Opens.{ArePermitted, MayOpen, AreCarried}
 
 -- what is written into the new node, and the lock-delay of its handle, are within the limits
@@ -50,7 +52,7 @@ pub record MayMakeOrFind (s : MasterState) (client : ℕ) (opening : Open) (crea
 abbrev pub GivesHandle : MasterState → ℕ → ℕ → Open → Option (List ℕ) → Type 0
 GivesHandle s client number opening sequencer = (handle : NewHandle) × ((effect s client number (calls.Open opening) sequencer).answer ≡ Some (results.Opened handle))
 
--- an Open that makes a node gives a handle only where the client may make it, or may find it there
+-- when its turn comes an Open that makes a node gives a handle only where the client may make it, or may find it there
 abbrev pub MakesOnlyWherePermitted : Type 0
 MakesOnlyWherePermitted =
     (s : MasterState) (client number : ℕ) (opening : Open) (create : Create) (sequencer : Option (List ℕ)) → opening.create ≡ Some create → GivesHandle s client number opening sequencer
@@ -61,3 +63,7 @@ abbrev pub MakesWherePermitted : Type 0
 MakesWherePermitted =
     (s : MasterState) (client number : ℕ) (opening : Open) (create : Create) → opening.create ≡ Some create → is_of_cell s opening.name ≡ true → AreCarried s opening.name → is_ordinal s.next_instance ≡ true
     → MayMakeOrFind s client opening create → GivesHandle s client number opening None
+
+-- a handle can carry the numbers of a master that is kept beside its rows, as each master is, from epoch 1 on, which is the first that a master can come up with
+abbrev pub KeptNumbersAreCarried : Type 0
+KeptNumbersAreCarried = (cell name : List ℕ) (rows : Rows) (s : MasterState) → IsKept cell rows s → 1 ≤ s.epoch → AreCarried s name × (is_ordinal s.next_instance ≡ true)

@@ -11,7 +11,8 @@ pub use handles::{
     closed_for_good_forever, closed_handle_is_refused, closed_handle_stays_closed,
 };
 pub use opens::{
-    given_handle_is_open, makes_only_where_permitted, makes_where_permitted, opens_where_permitted,
+    given_handle_is_open, kept_numbers_are_carried, makes_only_where_permitted,
+    makes_where_permitted, opens_where_permitted,
 };
 pub use refusals::{
     refusal_grants_absence_alone, refused_call_changes_nothing, refused_turn_changes_nothing,

@@ -1,6 +1,6 @@
 //! Whom a master gives a handle.
 ghost use Rattle.master_laws.specs.Opens.{OpensWherePermitted, GivenHandleIsOpen};
-ghost use Rattle.master_laws.specs.Makes.{MakesOnlyWherePermitted, MakesWherePermitted};
+ghost use Rattle.master_laws.specs.Makes.{MakesOnlyWherePermitted, MakesWherePermitted, KeptNumbersAreCarried};
 
 /// An Open that makes nothing is answered with a handle exactly where the node is there, each right of its mode is
 /// permitted to the client's principal by the ACL files that the node names, and its lock-delay is within the limit.
@@ -23,4 +23,9 @@ pub fn makes_only_where_permitted()
 /// Under no sequencer, and of a name of the master's cell, it gives a handle there.
 pub fn makes_where_permitted()
     ensures { MakesWherePermitted }
+{}
+
+/// A handle can carry the epoch and the instances of each master that is kept beside its rows, from epoch 1 on.
+pub fn kept_numbers_are_carried()
+    ensures { KeptNumbersAreCarried }
 {}
