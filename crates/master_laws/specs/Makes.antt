@@ -58,7 +58,7 @@ MakesOnlyWherePermitted =
     (s : MasterState) (client number : ℕ) (opening : Open) (create : Create) (sequencer : Option (List ℕ)) → opening.create ≡ Some create → GivesHandle s client number opening sequencer
     → MayMakeOrFind s client opening create
 
--- under no sequencer, and of a name of this cell, it gives one there
+-- and wherever that is so it gives one, under no sequencer and of a name of this cell
 abbrev pub MakesWherePermitted : Type 0
 MakesWherePermitted =
     (s : MasterState) (client number : ℕ) (opening : Open) (create : Create) → opening.create ≡ Some create → is_of_cell s opening.name ≡ true → AreCarried s opening.name → is_ordinal s.next_instance ≡ true

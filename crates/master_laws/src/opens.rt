@@ -8,7 +8,8 @@ pub fn opens_where_permitted()
     ensures { OpensWherePermitted }
 {}
 
-/// The handle that it gives is of its client and its number, on that node and in that mode, and it is open from then on.
+/// The handle that an Open that makes nothing is answered with is of its client and its number, on the node and in the
+/// mode that it asked for, and it is open from then on.
 pub fn given_handle_is_open()
     ensures { GivenHandleIsOpen }
 {}
@@ -20,7 +21,8 @@ pub fn makes_only_where_permitted()
     ensures { MakesOnlyWherePermitted }
 {}
 
-/// Under no sequencer, and of a name of the master's cell, it gives a handle there.
+/// Wherever that is so, an Open that makes a node, under no sequencer and of a name of the master's cell, gives a handle
+/// when its turn comes.
 pub fn makes_where_permitted()
     ensures { MakesWherePermitted }
 {}
