@@ -1,0 +1,104 @@
+-- A closed handle stays closed by each message but the Open that gave it, and no such Open comes to wait.
+use Rattle.std.proofs.Common.{◌≡◌, ℕ, List, [], ◌∷◌, ◌++◌, false, Option, Some, None, refl, sym, ap, subst, ◌∙◌}
+use Rattle.std.specs.Prelude.{◌+◌}
+use Rattle.std.specs.List.{list_any}
+use Rattle.std.proofs.lemmas.List.Folds.{list_any-append}
+use Rattle.gate_core.specs.declared.pending.Waiting.{Waiting}
+use Rattle.tags_cell.specs.declared.requests.CallMessage.{CallMessage}
+use Rattle.tags_cell.specs.declared.requests.Request.{Request}
+use Rattle.tags_cell.specs.declared.requests.Request.TheVariants as requests
+use Rattle.cell_parts.specs.declared.handles.HandleKey.{HandleKey}
+use Rattle.cell_parts.specs.declared.handles.Note.{Note}
+use Rattle.cell_parts.specs.declared.pending.Task.{Task}
+use Rattle.cell_parts.specs.declared.pending.Task.TheVariants as tasks
+use Rattle.cell_parts.specs.declared.pending.Work.TheVariants as works
+use Rattle.cell_state.specs.State.{MasterState}
+use Rattle.cell_state.specs.Lookups.{noted}
+use Rattle.deed_core.specs.Deeds.{with_note}
+use Rattle.cell_core.specs.Step.{admission_for, asking_for, with_call, names_of, task_of}
+use Rattle.cell_core.specs.Cases.{IsNew, TakeCase, taken_by}
+use Rattle.cell_core.specs.Cases.TakeCase.{StartRefused, StartRecovering, StartFull, StartQueued, OldBeat, BeatRefused, BeatParked, OldEpoch, NoSession, Repeated, OlderCall, Outstanding, Recovering, Answered, Granted, Waits}
+use Rattle.cell_core.proofs.TakeCases.{taken_case}
+use Rattle.master_laws.specs.Closed.{IsClosed, opens_as, asks_to_open, task_opens, waits_to_open, ClosedHandleStaysClosed, ClosedForGoodByMessages}
+use Rattle.master_laws.proofs.ClosedNotes.{AreFair, stays_closed}
+use Rattle.master_laws.proofs.TakenNotes.{taken_fair}
+
+-- one more that waits, and isn't the Open
+unasked_behind : (key : HandleKey) (waiting : List (Waiting Task)) (w : Waiting Task) → task_opens key w.change.body ≡ false → list_any (λ (v : Waiting Task). task_opens key v.change.body) waiting ≡ false → list_any (λ (v : Waiting Task). task_opens key v.change.body) (waiting ++ w ∷ []) ≡ false
+unasked_behind key waiting w last h = list_any-append (λ (v : Waiting Task). task_opens key v.change.body) waiting (w ∷ []) ∙ rw (h, last) refl
+
+module _ (s : MasterState) (request : Request) (key : HandleKey) (other : asks_to_open key request ≡ false) where
+  not_opened : (message : CallMessage) → request ≡ requests.Call message → opens_as key message.client message.number message.call ≡ false
+  not_opened message is = subst (λ r. asks_to_open key r ≡ false) is other
+
+  module _ (closed : IsClosed s key) where
+    by_note : (message : CallMessage) (note : Option Note) → IsNew s request message → note ≡ (admission_for s message).note → IsClosed (with_note s note) key
+    by_note message note new is =
+        stays_closed s message.client message.number message.call key note closed (not_opened message new.heard.is_call)
+        (subst (AreFair s message.client message.number message.call) (sym is) (taken_fair s message))
+
+    asked_closed : (t : MasterState) (touched : Option (List ℕ)) → IsClosed t key → IsClosed (asking_for t touched) key
+    asked_closed t None h = h
+    asked_closed t (Some name) h = h
+
+    closed_by : (c : TakeCase s request) → IsClosed (taken_by s request c).0 key
+    closed_by (StartRefused start is may) = closed
+    closed_by (StartRecovering start is may recovering) = closed
+    closed_by (StartFull start is may going full) = closed
+    closed_by (StartQueued start is may going room) = closed
+    closed_by (OldBeat beat is old) = closed
+    closed_by (BeatRefused beat fault is epoch refused) = closed
+    closed_by (BeatParked beat is epoch passes) = closed
+    closed_by (OldEpoch message is old) = closed
+    closed_by (NoSession message is epoch ended) = closed
+    closed_by (Repeated message kept heard is equal) = closed
+    closed_by (OlderCall message kept heard is less) = closed
+    closed_by (Outstanding message kept heard is more none) = closed
+    closed_by (Recovering message new recovering) = closed
+    closed_by (Answered message note answer new going answered) = by_note message note new answered.is_noted
+    closed_by (Granted message note answer name new going granted) = by_note message note new granted.is_noted
+    closed_by (Waits message note touched new going admitted) = asked_closed (with_call (with_note s note) message touched) touched (by_note message note new admitted.is_noted)
+
+  module _ (unasked : waits_to_open key s ≡ false) where
+    asked_unasked : (t : MasterState) (touched : Option (List ℕ)) → waits_to_open key t ≡ false → waits_to_open key (asking_for t touched) ≡ false
+    asked_unasked t None h = h
+    asked_unasked t (Some name) h = h
+
+    called_unasked : (message : CallMessage) (note : Option Note) (touched : Option (List ℕ)) → IsNew s request message → waits_to_open key (with_call (with_note s note) message touched) ≡ false
+    called_unasked message None touched new = unasked_behind key s.gate.waiting (record { number = s.gate.pushed + 1; change = record { touched = names_of touched; body = tasks.Asked (task_of message) } }) (not_opened message new.heard.is_call) unasked
+    called_unasked message (Some note) touched new = unasked_behind key s.gate.waiting (record { number = s.gate.pushed + 1; change = record { touched = names_of touched; body = tasks.Asked (task_of message) } }) (not_opened message new.heard.is_call) unasked
+
+    noted_unasked : (note : Option Note) → waits_to_open key (with_note s note) ≡ false
+    noted_unasked None = unasked
+    noted_unasked (Some note) = unasked
+
+    unasked_by : (c : TakeCase s request) → waits_to_open key (taken_by s request c).0 ≡ false
+    unasked_by (StartRefused start is may) = unasked
+    unasked_by (StartRecovering start is may recovering) = unasked
+    unasked_by (StartFull start is may going full) = unasked
+    unasked_by (StartQueued start is may going room) = unasked_behind key s.gate.waiting (record { number = s.gate.pushed + 1; change = record { touched = []; body = tasks.Asked (record { client = start.client; number = start.number; work = works.Starts start.principal s.clock }) } }) refl unasked
+    unasked_by (OldBeat beat is old) = unasked
+    unasked_by (BeatRefused beat fault is epoch refused) = unasked
+    unasked_by (BeatParked beat is epoch passes) = unasked
+    unasked_by (OldEpoch message is old) = unasked
+    unasked_by (NoSession message is epoch ended) = unasked
+    unasked_by (Repeated message kept heard is equal) = unasked
+    unasked_by (OlderCall message kept heard is less) = unasked
+    unasked_by (Outstanding message kept heard is more none) = unasked
+    unasked_by (Recovering message new recovering) = unasked
+    unasked_by (Answered message note answer new going answered) = noted_unasked note
+    unasked_by (Granted message note answer name new going granted) = noted_unasked note
+    unasked_by (Waits message note touched new going admitted) = asked_unasked (with_call (with_note s note) message touched) touched (called_unasked message note touched new)
+
+pub closed_handle_stays_closed : ClosedHandleStaysClosed
+closed_handle_stays_closed s new now request key taken h other closed =
+    let c = taken_case s new now request taken h in
+    subst (λ m. IsClosed m key) (sym (ap (λ p. p.0) c.1)) (closed_by (noted s now) request key other closed c.0)
+
+pub closed_for_good_by_messages : ClosedForGoodByMessages
+closed_for_good_by_messages s new now request key taken h other gone =
+    let c = taken_case s new now request taken h in
+    record {
+      closed = closed_handle_stays_closed s new now request key taken h other gone.closed;
+      unasked = subst (λ m. waits_to_open key m ≡ false) (sym (ap (λ p. p.0) c.1)) (unasked_by (noted s now) request key other gone.unasked c.0);
+    }

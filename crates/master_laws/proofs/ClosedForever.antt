@@ -1,0 +1,36 @@
+-- A handle that was closed for good is so behind every list of steps.
+use Rattle.std.proofs.Common.{◌≡◌, ℕ, [], ◌∷◌, false, Ok, Err, refl}
+use Rattle.std.specs.List.{list_any}
+use Rattle.tags_cell.specs.declared.requests.Request.{Request}
+use Rattle.cell_parts.specs.declared.handles.HandleKey.{HandleKey}
+use Rattle.cell_state.specs.State.{MasterState}
+use Rattle.cell_core.specs.Step.{take_step}
+use Rattle.over_core.specs.Sweep.{sweep_step}
+use Rattle.master_laws.specs.Closed.{asks_to_open, IsClosedForGood, MasterStep, left_by, master_behind, step_opens, ClosedForGoodForever}
+use Rattle.master_laws.specs.Closed.MasterStep.{Takes, Sweeps}
+use Rattle.master_laws.proofs.ClosedByMessages.{closed_for_good_by_messages}
+use Rattle.master_laws.proofs.ClosedBySweeps.{or_parts, closed_for_good_by_sweeps}
+
+by_take : (s : MasterState) (now : ℕ) (request : Request) (key : HandleKey) → asks_to_open key request ≡ false → IsClosedForGood s key → IsClosedForGood (left_by s (take_step s now request)) key
+by_take s now request key other gone =
+    (elim (take_step s now request) as (λ r. take_step s now request ≡ r → IsClosedForGood (left_by s r) key) [
+      | Ok done ↦ (λ h. closed_for_good_by_messages s done.0 now request key done.1 h other gone)
+      | Err fault ↦ (λ h. gone)
+    ]) refl
+
+by_sweep : (s : MasterState) (now : ℕ) (key : HandleKey) → IsClosedForGood s key → IsClosedForGood (left_by s (sweep_step s now)) key
+by_sweep s now key gone =
+    (elim (sweep_step s now) as (λ r. sweep_step s now ≡ r → IsClosedForGood (left_by s r) key) [
+      | Ok done ↦ (λ h. closed_for_good_by_sweeps s done.0 now key done.1 h gone)
+      | Err fault ↦ (λ h. gone)
+    ]) refl
+
+by_step : (s : MasterState) (step : MasterStep) (key : HandleKey) → step_opens key step ≡ false → IsClosedForGood s key → IsClosedForGood (master_behind s step) key
+by_step s (Takes now request) key other gone = by_take s now request key other gone
+by_step s (Sweeps now) key other gone = by_sweep s now key gone
+
+pub closed_for_good_forever : ClosedForGoodForever
+closed_for_good_forever s [] key gone others = gone
+closed_for_good_forever s (step ∷ steps) key gone others =
+    let t = or_parts (step_opens key step) (list_any (step_opens key) steps) others in
+    closed_for_good_forever (master_behind s step) steps key (by_step s step key t.0 gone) t.1

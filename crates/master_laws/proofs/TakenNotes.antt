@@ -1,0 +1,76 @@
+-- What a new call notes of a handle.
+use Rattle.std.proofs.Common.{◌≡◌, ℕ, List, true, false, cond, Option, Some, None, Result, Ok, Err, refl}
+use Rattle.std.specs.Prelude.{is_none}
+use Rattle.node_core.specs.declared.refusals.Fault.{Fault}
+use Rattle.node_core.specs.declared.refusals.Fault.TheVariants as faults
+use Rattle.tags_cell.specs.Handles.{handle_bytes}
+use Rattle.tags_cell.specs.declared.calls.Call.{Call}
+use Rattle.tags_cell.specs.declared.calls.Call.TheVariants as calls
+use Rattle.tags_cell.specs.declared.calls.Create.{Create}
+use Rattle.tags_cell.specs.declared.calls.Open.{Open}
+use Rattle.tags_cell.specs.declared.handles.Handle.{Handle}
+use Rattle.tags_cell.specs.declared.outs.CallResult.TheVariants as results
+use Rattle.tags_cell.specs.declared.requests.CallMessage.{CallMessage}
+use Rattle.cell_parts.specs.declared.handles.HandleState.{HandleState}
+use Rattle.cell_state.specs.State.{MasterState}
+use Rattle.cell_state.specs.Lookups.{handle_state_of, plain_open, opened_note, shown_handle, is_of_cell, sequencer_fault}
+use Rattle.cell_parts.specs.Keys.{key_of}
+use Rattle.cell_parts.specs.Notes.{open_note}
+use Rattle.cell_parts.specs.Calls.{bytes_of}
+use Rattle.cell_core.specs.Step.{shown_note, answering, admission_of_open, admission_under, open_admission, check_admission, handle_admission, admission_of, admission_for}
+use Rattle.master_laws.proofs.OpenedKeys.{plain_key}
+use Rattle.master_laws.proofs.ClosedNotes.{AreFair, is_first, is_by_open, none_fair, one_fair}
+
+no_value : (o : Option HandleState) → is_none o ≡ true → o ≡ None
+no_value None h = refl
+no_value (Some state) h = absurd cc
+
+module _ (s : MasterState) (client number : ℕ) where
+  -- ---- an Open
+
+  of_opened : (opening : Open) (r : Result Handle Fault) → plain_open s client number opening ≡ r → AreFair s client number (calls.Open opening) (opened_note s r)
+  of_opened opening (Ok handle) h =
+      one_fair s client number (calls.Open opening) (open_note handle (handle_bytes s.secret handle))
+      (is_by_open s client number (calls.Open opening) (open_note handle (handle_bytes s.secret handle)) (plain_key s client number opening handle h))
+  of_opened opening (Err fault) h = none_fair s client number (calls.Open opening)
+
+  of_create : (opening : Open) (o : Option Create) → AreFair s client number (calls.Open opening) (admission_of_open s client number opening o).note
+  of_create opening None = of_opened opening (plain_open s client number opening) refl
+  of_create opening (Some create) = none_fair s client number (calls.Open opening)
+
+  of_sequencer : (opening : Open) (o : Option Fault) → AreFair s client number (calls.Open opening) (admission_under s client number opening o).note
+  of_sequencer opening None = of_create opening opening.create
+  of_sequencer opening (Some fault) = none_fair s client number (calls.Open opening)
+
+  of_open : (opening : Open) (sequencer : Option (List ℕ)) → AreFair s client number (calls.Open opening) (open_admission s client number opening sequencer).note
+  of_open opening sequencer =
+      let fault = sequencer_fault s sequencer in
+      elim (is_of_cell s opening.name) as (λ b. AreFair s client number (calls.Open opening) (cond b (admission_under s client number opening fault) (answering (results.Refused faults.OtherCell))).note) [
+        | true ↦ of_sequencer opening fault
+        | false ↦ none_fair s client number (calls.Open opening)
+      ]
+
+  -- ---- any other
+
+  of_check : (bytes : List ℕ) (o : Option Fault) → AreFair s client number (calls.CheckSequencer bytes) (check_admission s bytes o).note
+  of_check bytes None = none_fair s client number (calls.CheckSequencer bytes)
+  of_check bytes (Some fault) = none_fair s client number (calls.CheckSequencer bytes)
+
+  of_shown : (call : Call) (handle : Handle) (bytes : List ℕ) → AreFair s client number call (shown_note s handle bytes)
+  of_shown call handle bytes =
+      (elim (is_none (handle_state_of s (key_of handle))) as (λ b. is_none (handle_state_of s (key_of handle)) ≡ b → AreFair s client number call (cond b (Some (open_note handle bytes)) None)) [
+        | true ↦ (λ h. one_fair s client number call (open_note handle bytes) (is_first s client number call (open_note handle bytes) (no_value (handle_state_of s (key_of handle)) h)))
+        | false ↦ (λ h. none_fair s client number call)
+      ]) refl
+
+  of_handle : (call : Call) (sequencer : Option (List ℕ)) (o : Option Handle) → AreFair s client number call (handle_admission s call sequencer o).note
+  of_handle call sequencer None = none_fair s client number call
+  of_handle call sequencer (Some handle) = of_shown call handle (bytes_of call)
+
+  of_call : (call : Call) (sequencer : Option (List ℕ)) → AreFair s client number call (admission_of s client number call sequencer).note
+  of_call (calls.Open opening) sequencer = of_open opening sequencer
+  of_call (calls.CheckSequencer bytes) sequencer = of_check bytes (sequencer_fault s sequencer)
+  of_call call sequencer = of_handle call sequencer (shown_handle s client (bytes_of call))
+
+pub taken_fair : (s : MasterState) (message : CallMessage) → AreFair s message.client message.number message.call (admission_for s message).note
+taken_fair s message = of_call s message.client message.number message.call message.sequencer

@@ -1,0 +1,211 @@
+-- A call that is refused when its turn comes does nothing else; and what it notes of a handle otherwise.
+use Rattle.std.proofs.Common.{◌≡◌, ℕ, List, Bool, true, false, cond, Option, Some, None, Result, Ok, Err, refl, ap}
+use Rattle.std.specs.Prelude.{◌||◌, is_none}
+use Rattle.std.specs.Option.{option_map_or}
+use Rattle.names_cell.specs.Text.{parent_of}
+use Rattle.node_core.specs.declared.refusals.Fault.{Fault}
+use Rattle.node_core.specs.declared.refusals.Fault.TheVariants as faults
+use Rattle.node_core.specs.declared.views.View.{View}
+use Rattle.node_core.specs.declared.views.Mod.{Mod}
+use Rattle.node_core.specs.declared.views.Mod.TheVariants.{Put}
+use Rattle.node_core.specs.declared.kinds.Kind.{Kind}
+use Rattle.node_core.specs.declared.kinds.Kind.TheVariants.{File, Directory}
+use Rattle.node_core.specs.declared.kinds.Right.TheVariants as rights
+use Rattle.node_core.specs.Nodes.{get_node, has_children}
+use Rattle.tags_cell.specs.Handles.{handle_bytes, read_handle}
+use Rattle.tags_cell.specs.declared.handles.Handle.{Handle}
+use Rattle.tags_cell.specs.declared.calls.Open.{Open}
+use Rattle.tags_cell.specs.declared.calls.Create.{Create}
+use Rattle.tags_cell.specs.declared.calls.Disposition.{Disposition}
+use Rattle.tags_cell.specs.declared.calls.Disposition.TheVariants.{May, Must}
+use Rattle.tags_cell.specs.declared.calls.Call.{Call}
+use Rattle.tags_cell.specs.declared.calls.Call.TheVariants as calls
+use Rattle.tags_cell.specs.declared.outs.CallResult.{CallResult}
+use Rattle.tags_cell.specs.declared.outs.CallResult.TheVariants as results
+use Rattle.lock_core.specs.declared.claims.Claim.{Claim}
+use Rattle.lock_core.specs.declared.turns.Turn.{Turn}
+use Rattle.lock_core.specs.declared.turns.Acquired.{Acquired}
+use Rattle.lock_core.specs.declared.turns.Acquired.TheVariants as asked
+use Rattle.lock_core.specs.State.{LockState}
+use Rattle.lock_core.specs.Turns.{tried, acquired, released}
+use Rattle.cell_parts.specs.declared.handles.HandleState.TheVariants as states
+use Rattle.cell_parts.specs.Claims.{owner_of, claim_of}
+use Rattle.cell_state.specs.State.{MasterState}
+use Rattle.cell_state.specs.Lookups.{may, missing_right, is_of_cell, sequencer_fault, lock_under, node_of_handle, new_handle, open_present, plain_open, answer_on}
+use Rattle.cell_parts.specs.Calls.{create_fault, bytes_of}
+use Rattle.cell_parts.specs.Keys.{key_of}
+use Rattle.cell_parts.specs.Notes.{open_note}
+use Rattle.turn_core.specs.declared.effects.Effect.{Effect}
+use Rattle.turn_core.specs.declared.effects.Locking.{Locking}
+use Rattle.turn_core.specs.Effect.{answered, refused, changes_to, is_last, opened_effect, new_view, acls_of, create_made, create_numbered, create_permitted, create_in, create_under, create_new, create_over, create_effect, create_tested, create_under_sequencer, open_effect, acquire_by, try_by, release_by, close_under, generation_fits, with_content, with_acls, put_at, deleted, delete_at, change_at, change_on, effect_on, handle_effect, effect}
+use Rattle.master_laws.proofs.OpenedKeys.{IsOfCall, new_key, present_key, plain_key}
+use Rattle.master_laws.proofs.ClosedNotes.{AreFair, closes, is_by_open, none_fair, one_fair}
+
+-- a refusal comes alone, and what is noted of a handle is fair
+pub record IsTame (s : MasterState) (client number : ℕ) (call : Call) (effected : Effect) : Type 0 where
+  pub refuses : (fault : Fault) → effected.answer ≡ Some (results.Refused fault) → effected ≡ refused fault
+  pub notes : AreFair s client number call effected.note
+
+same_answer : {a b : CallResult} → Some a ≡ Some b → a ≡ b
+same_answer h = cc
+
+module _ (s : MasterState) (client number : ℕ) (call : Call) where
+  abbrev Tame : Effect → Type 0
+  Tame effected = IsTame s client number call effected
+
+  of_answer : (answer : CallResult) → Tame (answered answer)
+  of_answer answer = record { refuses = λ fault h. ap answered (same_answer h); notes = none_fair s client number call }
+
+  of_fault : (fault : Fault) → Tame (refused fault)
+  of_fault fault = of_answer (results.Refused fault)
+
+  of_change : (change : Mod) (next : ℕ) → Tame (changes_to change next results.Done)
+  of_change change next = record { refuses = λ fault h. absurd cc; notes = none_fair s client number call }
+
+  either : (b : Bool) (x y : Effect) → Tame x → Tame y → Tame (cond b x y)
+  either true x y h k = h
+  either false x y h k = k
+
+  by_option : {X : Type 0} (o : Option X) (f : X → Effect) (y : Effect) → ((x : X) → Tame (f x)) → Tame y → Tame (option_map_or f o y)
+  by_option None f y h k = k
+  by_option (Some x) f y h k = h x
+
+  -- ---- locks
+
+  of_acquired : (handle : Handle) (claim : Claim) (r : Result Acquired Fault) → Tame (acquire_by handle claim r)
+  of_acquired handle claim (Ok (asked.Held lock)) = record { refuses = λ fault h. absurd cc; notes = none_fair s client number call }
+  of_acquired handle claim (Ok (asked.Waits lock)) = record { refuses = λ fault h. absurd cc; notes = none_fair s client number call }
+  of_acquired handle claim (Err fault) = of_fault fault
+
+  of_tried : (handle : Handle) (claim : Claim) (r : Result LockState Fault) → Tame (try_by handle claim r)
+  of_tried handle claim (Ok lock) = record { refuses = λ fault h. absurd cc; notes = none_fair s client number call }
+  of_tried handle claim (Err fault) = of_fault fault
+
+  of_released : (handle : Handle) (r : Result Turn Fault) → Tame (release_by handle r)
+  of_released handle (Ok turn) = record { refuses = λ fault h. absurd cc; notes = none_fair s client number call }
+  of_released handle (Err fault) = of_fault fault
+
+  of_closed : (handle : Handle) (locking : Locking) → Tame (record { note = Some (record { key = key_of handle; state = states.Closed }); change = None; locking = locking; answer = Some results.Closed })
+  of_closed handle locking = record {
+    refuses = λ fault h. absurd cc;
+    notes = one_fair s client number call (record { key = key_of handle; state = states.Closed }) (closes s client number call (record { key = key_of handle; state = states.Closed }) refl);
+  }
+
+  -- ---- a change of a node that stands
+
+  of_put : (handle : Handle) (present : ℕ) (wanted : Option ℕ) (view : View) → Tame (put_at s handle present wanted view)
+  of_put handle present wanted view =
+      let written : Effect = changes_to (Put handle.name view) s.next_instance results.Done in
+      either (generation_fits wanted present) (cond (is_last present) (refused faults.Exhausted) written) (refused (faults.WrongGeneration present))
+      (either (is_last present) (refused faults.Exhausted) written (of_fault faults.Exhausted) (of_change (Put handle.name view) s.next_instance))
+      (of_fault (faults.WrongGeneration present))
+
+  of_deleted : (handle : Handle) → Tame (deleted s handle)
+  of_deleted handle = record { refuses = λ fault h. absurd cc; notes = none_fair s client number call }
+
+  of_delete : (handle : Handle) → Tame (delete_at s handle)
+  of_delete handle =
+      either (has_children s.nodes handle.name || is_none (parent_of handle.name)) (refused faults.NotEmpty) (deleted s handle) (of_fault faults.NotEmpty) (of_deleted handle)
+
+  of_node : (handle : Handle) (on : Call) (view : View) → Tame (change_at s handle on view)
+  of_node handle (calls.Set bytes content generation) view = of_put handle view.content_generation generation (with_content view content)
+  of_node handle (calls.SetAcl bytes acls generation) view = of_put handle view.acl_generation generation (with_acls view acls)
+  of_node handle (calls.Delete bytes) view = of_delete handle
+  of_node handle (calls.Acquire bytes mode) view = of_acquired handle (claim_of handle mode) (acquired (lock_under s handle) (claim_of handle mode))
+  of_node handle (calls.TryAcquire bytes mode) view = of_tried handle (claim_of handle mode) (tried (lock_under s handle) (claim_of handle mode) s.clock)
+  of_node handle (calls.Release bytes) view = of_released handle (released (lock_under s handle) (owner_of handle))
+  of_node handle _ view = of_fault faults.BadHandle
+
+  of_turn : (handle : Handle) (on : Call) (o : Option CallResult) → Tame (option_map_or (λ answer. answered answer) o (change_on s handle on))
+  of_turn handle on o =
+      by_option o (λ answer. answered answer) (change_on s handle on) of_answer
+      (by_option (node_of_handle s handle) (λ view. change_at s handle on view) (refused faults.StaleInstance) (of_node handle on) (of_fault faults.StaleInstance))
+
+  of_call : (handle : Handle) (on : Call) (sequencer : Option (List ℕ)) → Tame (effect_on s handle on sequencer)
+  of_call handle (calls.Close bytes) sequencer = of_closed handle (close_under s handle (node_of_handle s handle))
+  of_call handle on sequencer = of_turn handle on (answer_on s handle on sequencer)
+
+  of_handle : (on : Call) (sequencer : Option (List ℕ)) (o : Option Handle) → Tame (handle_effect s on sequencer o)
+  of_handle on sequencer None = of_fault faults.BadHandle
+  of_handle on sequencer (Some handle) = of_call handle on sequencer
+
+-- ---- creates
+
+module _ (s : MasterState) (client number : ℕ) (opening : Open) where
+  abbrev Tamed : Effect → Type 0
+  Tamed effected = IsTame s client number (calls.Open opening) effected
+
+  fault_of : (fault : Fault) → Tamed (refused fault)
+  fault_of fault = of_fault s client number (calls.Open opening) fault
+
+  -- of a handle that is given
+  fair_handle : (handle : Handle) → IsOfCall client number handle → AreFair s client number (calls.Open opening) (Some (open_note handle (handle_bytes s.secret handle)))
+  fair_handle handle own =
+      one_fair s client number (calls.Open opening) (open_note handle (handle_bytes s.secret handle))
+      (is_by_open s client number (calls.Open opening) (open_note handle (handle_bytes s.secret handle)) own)
+
+  of_opened : (opened : Result Handle Fault) → ((handle : Handle) → opened ≡ Ok handle → IsOfCall client number handle) → Tamed (opened_effect s opened)
+  of_opened (Ok handle) own = record { refuses = λ fault h. absurd cc; notes = fair_handle handle (own handle refl) }
+  of_opened (Err fault) own = fault_of fault
+
+  of_made : (view : View) (opened : Result Handle Fault) → ((handle : Handle) → opened ≡ Ok handle → IsOfCall client number handle) → Tamed (create_made s opening view opened)
+  of_made view (Ok handle) own = record { refuses = λ fault h. absurd cc; notes = fair_handle handle (own handle refl) }
+  of_made view (Err fault) own = fault_of fault
+
+  of_numbered : (view : View) → Tamed (create_numbered s client number opening view)
+  of_numbered view =
+      let opened = new_handle s client number opening view in
+      either s client number (calls.Open opening) (is_last s.next_instance) (refused faults.Exhausted) (create_made s opening view opened) (fault_of faults.Exhausted)
+      (of_made view opened (λ handle h. new_key s client number opening handle view h))
+
+  of_permitted : (view : View) → Tamed (create_permitted s client number opening view)
+  of_permitted view =
+      by_option s client number (calls.Open opening) (missing_right s client opening.mode view) (λ right. refused (faults.Denied right)) (create_numbered s client number opening view) (λ right. fault_of (faults.Denied right))
+      (of_numbered view)
+
+  of_kind : (create : Create) (above : View) (kind : Kind) → Tamed (create_in s client number opening create above kind)
+  of_kind create above File = fault_of (faults.WrongKind File)
+  of_kind create above Directory =
+      let view : View = new_view s.next_instance create.node create.life (acls_of above create.acls) in
+      either s client number (calls.Open opening) (may s client above rights.Write) (create_permitted s client number opening view) (refused (faults.Denied rights.Write)) (of_permitted view)
+      (fault_of (faults.Denied rights.Write))
+
+  of_above : (create : Create) (o : Option View) → Tamed (create_under s client number opening create o)
+  of_above create None = fault_of faults.NotFound
+  of_above create (Some above) = of_kind create above above.kind
+
+  of_new : (create : Create) → Tamed (create_new s client number opening create)
+  of_new create =
+      by_option s client number (calls.Open opening) (parent_of opening.name) (λ parent. create_under s client number opening create (get_node s.nodes parent)) (refused faults.NotFound)
+      (λ parent. of_above create (get_node s.nodes parent)) (fault_of faults.NotFound)
+
+  of_present : (disposition : Disposition) (view : View) → Tamed (create_over s client number opening disposition view)
+  of_present Must view = fault_of faults.Exists
+  of_present May view = of_opened (open_present s client number opening view) (λ handle h. present_key s client number opening handle view h)
+
+  of_create : (create : Create) → Tamed (create_effect s client number opening create)
+  of_create create =
+      by_option s client number (calls.Open opening) (get_node s.nodes opening.name) (λ view. create_over s client number opening create.disposition view) (create_new s client number opening create)
+      (of_present create.disposition) (of_new create)
+
+  of_tested : (create : Create) → Tamed (create_tested s client number opening create)
+  of_tested create =
+      by_option s client number (calls.Open opening) (create_fault opening create.node) (λ answer. answered answer) (create_effect s client number opening create) (of_answer s client number (calls.Open opening)) (of_create create)
+
+  of_sequencer : (create : Create) (o : Option Fault) → Tamed (create_under_sequencer s client number opening create o)
+  of_sequencer create None = of_tested create
+  of_sequencer create (Some fault) = fault_of fault
+
+  of_open : (sequencer : Option (List ℕ)) (o : Option Create) → Tamed (open_effect s client number opening sequencer o)
+  of_open sequencer None = of_opened (plain_open s client number opening) (λ handle h. plain_key s client number opening handle h)
+  of_open sequencer (Some create) =
+      let fault = sequencer_fault s sequencer in
+      either s client number (calls.Open opening) (is_of_cell s opening.name) (create_under_sequencer s client number opening create fault) (refused faults.OtherCell) (of_sequencer create fault)
+      (fault_of faults.OtherCell)
+
+-- ---- any call
+
+pub tame : (s : MasterState) (client number : ℕ) (call : Call) (sequencer : Option (List ℕ)) → IsTame s client number call (effect s client number call sequencer)
+unfolding effect
+tame s client number (calls.Open opening) sequencer = of_open s client number opening sequencer opening.create
+tame s client number call sequencer = of_handle s client number call call sequencer (read_handle s.secret (bytes_of call))

@@ -1,0 +1,5 @@
+pub mod Steps
+pub mod Opens
+pub mod Makes
+pub mod Closed
+pub mod Refused
