@@ -19,7 +19,7 @@ pub fn refusal_grants_absence_alone()
 {}
 
 /// A call that is refused when its turn comes commits and prints nothing, and changes nothing but that its reply is kept
-/// and it has left the gate.
+/// and it has left the gate; who holds the lock that it asked for in vain may be told of that by an event.
 pub fn refused_turn_changes_nothing()
     ensures { RefusedTurnChangesNothing }
 {}
