@@ -1,13 +1,11 @@
 //! A client with a file in its cache.
 use client_core::{Ask, Client, NodeCall};
+use messages_cell::{CallResult, NewHandle, Open, Out, Reply, Started};
 use names_cell::{Component, Name, Principal};
 use node_core::{Fault, Kind, Life, View};
 use plain::Bytes;
 use std::alloc::Global;
-use tags_cell::{
-    CallResult, ClientNumber, Events, HandleBytes, MessageNumber, Mode, NewHandle, Open, Ordinal,
-    Out, Reply, Started,
-};
+use tags_cell::{ClientNumber, Events, HandleBytes, MessageNumber, Mode, Ordinal};
 
 /// The client with the number 1, in the session of a first master, under a lease of a minute. Its handle 1 is to read, and
 /// its cache holds the file of that handle, of 64 bytes.

@@ -4,14 +4,14 @@ use Rattle.std.specs.Prelude.{◌==◌, ◌||◌, nat_lt, is_none}
 use Rattle.std.proofs.lemmas.Bool.Decides.{nat_tests}
 use Rattle.node_core.specs.declared.refusals.Fault.{Fault}
 use Rattle.node_core.specs.declared.refusals.Fault.TheVariants as faults
-use Rattle.tags_cell.specs.declared.requests.Start.{Start}
-use Rattle.tags_cell.specs.declared.beats.Beat.{Beat}
-use Rattle.tags_cell.specs.declared.requests.CallMessage.{CallMessage}
-use Rattle.tags_cell.specs.declared.requests.Request.{Request}
-use Rattle.tags_cell.specs.declared.requests.Request.TheVariants as requests
-use Rattle.tags_cell.specs.declared.outs.CallResult.{CallResult}
-use Rattle.tags_cell.specs.declared.outs.CallResult.TheVariants as results
-use Rattle.tags_cell.specs.declared.outs.Reply.{Reply}
+use Rattle.messages_cell.specs.declared.requests.Start.{Start}
+use Rattle.messages_cell.specs.declared.beats.Beat.{Beat}
+use Rattle.messages_cell.specs.declared.requests.CallMessage.{CallMessage}
+use Rattle.messages_cell.specs.declared.requests.Request.{Request}
+use Rattle.messages_cell.specs.declared.requests.Request.TheVariants as requests
+use Rattle.messages_cell.specs.declared.outs.CallResult.{CallResult}
+use Rattle.messages_cell.specs.declared.outs.CallResult.TheVariants as results
+use Rattle.messages_cell.specs.declared.outs.Reply.{Reply}
 use Rattle.cell_core.specs.declared.admissions.Admission.{Admission}
 use Rattle.cell_parts.specs.declared.pending.Taken.{Taken}
 use Rattle.session_core.specs.declared.records.Kept.{Kept}

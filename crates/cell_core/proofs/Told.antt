@@ -14,12 +14,12 @@ use Rattle.node_core.specs.Nodes.{get_node}
 use Rattle.tags_cell.specs.Modes.{has_right}
 use Rattle.tags_cell.specs.Handles.{read_handle, is_ordinal}
 use Rattle.tags_cell.specs.declared.handles.Handle.{Handle}
-use Rattle.tags_cell.specs.declared.calls.Open.{Open}
-use Rattle.tags_cell.specs.declared.calls.Create.{Create}
-use Rattle.tags_cell.specs.declared.calls.Call.{Call}
-use Rattle.tags_cell.specs.declared.calls.Call.TheVariants as calls
-use Rattle.tags_cell.specs.declared.outs.CallResult.{CallResult}
-use Rattle.tags_cell.specs.declared.outs.CallResult.TheVariants as results
+use Rattle.messages_cell.specs.declared.calls.Open.{Open}
+use Rattle.messages_cell.specs.declared.calls.Create.{Create}
+use Rattle.messages_cell.specs.declared.calls.Call.{Call}
+use Rattle.messages_cell.specs.declared.calls.Call.TheVariants as calls
+use Rattle.messages_cell.specs.declared.outs.CallResult.{CallResult}
+use Rattle.messages_cell.specs.declared.outs.CallResult.TheVariants as results
 use Rattle.cell_core.specs.declared.admissions.Admission.{Admission}
 use Rattle.cell_state.specs.State.{MasterState}
 use Rattle.cell_state.specs.Lookups.{own_handle, shown_handle, node_of_handle, is_usable, handle_state_of, list_answer, answer_on, answer_on_node, answer_under, missing_right, open_present, plain_open, opened_answer, is_of_cell, sequencer_fault, sequencer_result, release_fault, lock_under}

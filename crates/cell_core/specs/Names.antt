@@ -3,12 +3,12 @@ use Rattle.std.specs.Prelude.{ℕ, List, Option, Some, None, if◌then◌else◌
 use Rattle.std.specs.Option.{option_map, option_and_then}
 use Rattle.node_core.specs.declared.views.View.{View}
 use Rattle.tags_cell.specs.Handles.{read_handle}
-use Rattle.tags_cell.specs.declared.calls.Call.{Call}
-use Rattle.tags_cell.specs.declared.outs.CallResult.{CallResult}
+use Rattle.messages_cell.specs.declared.calls.Call.{Call}
+use Rattle.messages_cell.specs.declared.outs.CallResult.{CallResult}
 use Rattle.cell_core.specs.Step.{touched_by}
 use Rattle.cell_parts.specs.Calls.{bytes_of}
-use Rattle.tags_cell.specs.declared.calls.Call.TheVariants as calls
-use Rattle.tags_cell.specs.declared.outs.CallResult.TheVariants as results
+use Rattle.messages_cell.specs.declared.calls.Call.TheVariants as calls
+use Rattle.messages_cell.specs.declared.outs.CallResult.TheVariants as results
 
 -- the name whose view it may change
 abbrev pub name_changed : List ℕ → Call → Option (List ℕ)

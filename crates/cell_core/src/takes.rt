@@ -14,13 +14,14 @@ use cell_state::Master;
 use deed_core::settle_note;
 use gate_core::Pending;
 use lease_core::MOMENT_LIMIT;
+use messages_cell::{Beat, CallMessage, CallResult, Request, Start};
 use names_cell::Name;
 use node_core::Fault;
 use plain::Items;
 use rights_core::Ending;
 use session_core::Kept;
 use std::alloc::AllocError;
-use tags_cell::{Beat, CallMessage, CallResult, ClientNumber, MessageNumber, Request, Start};
+use tags_cell::{ClientNumber, MessageNumber};
 
 impl Cell {
     /// One step by a request that came. A moment, in milliseconds, that is earlier than the last one counts as that;

@@ -3,10 +3,11 @@ ghost use Rattle.std.specs.Prelude.{◌≡◌, false, Some, None, IfOk};
 ghost use Rattle.std.specs.Option.{SomeIff};
 ghost use Rattle.cell_parts.specs.Calls.{bytes_of, needing, write_fault, node_fault, create_fault, delay_fault, content_fault, is_too_long};
 
+use messages_cell::{Call, CallResult, NewNode, Open};
 use node_core::{CONTENT_LIMIT, Fault, Kind, Right, View};
 use plain::Bytes;
 use std::alloc::AllocError;
-use tags_cell::{Call, CallResult, Handle, LockDelay, NewNode, Open};
+use tags_cell::{Handle, LockDelay};
 
 /// The bytes of the handle that a call on a node shows; none for an Open and a CheckSequencer.
 pub fn bytes_of(call: &Call) -> &[u8]

@@ -10,11 +10,11 @@ ghost use Rattle.cell_parts.specs.Keys.{handle_order};
 ghost use Rattle.cell_parts.specs.OpenHandles.{place_of, with_place, state_at, ArePlaced, IsPlaced, IsNotOpenOn, AreAmong, HasPlaced, HasAll, HasOpenOn, is_open_in, is_known_open};
 
 use crate::handles::{HandleKey, HandleState};
+use messages_cell::Reply;
 use plain::Table;
 use session_core::Sessions;
 use std::alloc::{AllocError, Global};
 use std::marker::Model;
-use tags_cell::Reply;
 
 /// Where a handle stands: its node's instance first, so that all handles on a node stand next to each other.
 #[derive(Clone, Copy, Debug, PartialEq, Eq, PartialOrd, Ord)]

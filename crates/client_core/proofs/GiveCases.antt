@@ -9,13 +9,13 @@ use Rattle.cache_core.specs.declared.standings.Standing.TheVariants as standings
 use Rattle.node_core.specs.declared.refusals.Fault.{Fault}
 use Rattle.node_core.specs.declared.refusals.Fault.TheVariants as faults
 use Rattle.node_core.specs.declared.lines.Line.TheVariants as lines
-use Rattle.tags_cell.specs.declared.outs.Out.{Out}
-use Rattle.tags_cell.specs.declared.outs.Out.TheVariants as outs
-use Rattle.tags_cell.specs.declared.outs.Started.{Started as StartedMessage}
-use Rattle.tags_cell.specs.declared.beats.Alive.{Alive as AliveMessage}
-use Rattle.tags_cell.specs.declared.outs.Reply.{Reply}
-use Rattle.tags_cell.specs.declared.outs.Refused.{Refused as RefusedMessage}
-use Rattle.tags_cell.specs.Messages.{request_number, out_client}
+use Rattle.messages_cell.specs.declared.outs.Out.{Out}
+use Rattle.messages_cell.specs.declared.outs.Out.TheVariants as outs
+use Rattle.messages_cell.specs.declared.outs.Started.{Started as StartedMessage}
+use Rattle.messages_cell.specs.declared.beats.Alive.{Alive as AliveMessage}
+use Rattle.messages_cell.specs.declared.outs.Reply.{Reply}
+use Rattle.messages_cell.specs.declared.outs.Refused.{Refused as RefusedMessage}
+use Rattle.messages_cell.specs.Messages.{request_number, out_client}
 use Rattle.client_parts.specs.declared.sessions.Session.{Session}
 use Rattle.client_parts.specs.declared.sessions.Session.TheVariants as sessions
 use Rattle.client_parts.specs.declared.steps.Given.{Given}

@@ -7,10 +7,10 @@ use Rattle.lease_core.specs.Lease.{LeaseTerms, is_unexpired}
 use Rattle.cache_core.specs.Caches.{Entries, CacheState, AreCacheEntries, same_name, entry_of, is_leased, installed, flushed, noted as noted_cache}
 use Rattle.cache_core.proofs.OneName.{flushed_entry_goes, flush_keeps_others, installed_entry_stands, other_entry_stays_or_goes, limit_is_kept}
 use Rattle.node_core.specs.declared.views.View.{View}
-use Rattle.tags_cell.specs.declared.beats.Invalidation.{Invalidation}
-use Rattle.tags_cell.specs.declared.outs.Out.{Out}
-use Rattle.tags_cell.specs.declared.outs.Out.TheVariants as outs
-use Rattle.tags_cell.specs.declared.outs.Reply.{Reply}
+use Rattle.messages_cell.specs.declared.beats.Invalidation.{Invalidation}
+use Rattle.messages_cell.specs.declared.outs.Out.{Out}
+use Rattle.messages_cell.specs.declared.outs.Out.TheVariants as outs
+use Rattle.messages_cell.specs.declared.outs.Reply.{Reply}
 use Rattle.client_parts.specs.declared.asks.Ask.{Ask}
 use Rattle.client_parts.specs.declared.sessions.Session.{Session}
 use Rattle.client_parts.specs.declared.sessions.Session.TheVariants as sessions

@@ -7,7 +7,7 @@ pub use Rattle.client_parts.specs.Events
 pub use Rattle.cache_core.specs.Caches
 pub use Rattle.cache_core.specs.Kept
 pub use Rattle.cache_core.specs.Standings
-pub use Rattle.tags_cell.specs.Messages
+pub use Rattle.messages_cell.specs.Messages
 pub use Rattle.tags_cell.specs.Modes
 pub use Rattle.tags_cell.specs.Numbers
 pub mod State

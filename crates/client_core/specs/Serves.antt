@@ -7,8 +7,8 @@ use Rattle.node_core.specs.declared.refusals.Fault.TheVariants as faults
 use Rattle.node_core.specs.declared.answers.Answer.TheVariants as answers
 use Rattle.node_core.specs.declared.lines.Line.TheVariants as lines
 use Rattle.node_core.specs.declared.views.View.{View}
-use Rattle.tags_cell.specs.declared.calls.Open.{Open}
-use Rattle.tags_cell.specs.declared.outs.NewHandle.{NewHandle}
+use Rattle.messages_cell.specs.declared.calls.Open.{Open}
+use Rattle.messages_cell.specs.declared.outs.NewHandle.{NewHandle}
 use Rattle.client_parts.specs.declared.asks.NodeCall.{NodeCall}
 use Rattle.client_parts.specs.declared.asks.NodeCall.TheVariants as node_calls
 use Rattle.client_parts.specs.declared.handles.ClientHandle.{ClientHandle}

@@ -11,7 +11,7 @@ use Rattle.node_core.specs.Limits.{number_end}
 use Rattle.node_core.specs.declared.refusals.Fault.{Fault}
 use Rattle.node_core.specs.declared.refusals.Fault.TheVariants as faults
 use Rattle.node_core.specs.declared.lines.Line.{Line}
-use Rattle.tags_cell.specs.declared.outs.NewHandle.{NewHandle}
+use Rattle.messages_cell.specs.declared.outs.NewHandle.{NewHandle}
 use Rattle.client_parts.specs.declared.handles.ClientHandle.{ClientHandle}
 use Rattle.client_parts.specs.declared.targets.Outstanding.{Outstanding}
 use Rattle.client_parts.specs.declared.sessions.Session.{Session}

@@ -9,11 +9,12 @@ ghost use Rattle.client_core.specs.declared.plans.Plan.TheVariants as plans;
 use crate::client::Client;
 use crate::plans::Plan;
 use client_parts::{Ask, Asked, ClientHandle, Outcome, Outstanding, Target, one_line};
+use messages_cell::{Call, CallMessage, Request};
 use node_core::{Answer, Fault, Line, NUMBER_LIMIT};
 use plain::{Bytes, Items};
 use std::alloc::AllocError;
 use std::mem;
-use tags_cell::{Call, CallMessage, MessageNumber, Request};
+use tags_cell::MessageNumber;
 
 impl Client {
     /// Asks for a call. First the time is noted; where that prints lines they come first, also where the call is refused.

@@ -6,10 +6,10 @@ ghost use Rattle.client_core.specs.Lessons.{is_fresh, may_install, viewed, view_
 use crate::client::Client;
 use cache_core::Standing;
 use client_parts::{Target, is_plain};
+use messages_cell::{CallResult, Reply};
 use names_cell::Name;
 use node_core::{Fault, View};
 use std::alloc::AllocError;
-use tags_cell::{CallResult, Reply};
 
 impl Client {
     // The answer of a read or of a plain Open, where the cache takes it.

@@ -15,10 +15,10 @@ use client_parts::{
     with_events,
 };
 use lease_core::Lease;
+use messages_cell::{Alive, Started};
 use node_core::{Fault, Line};
 use plain::Items;
 use std::alloc::AllocError;
-use tags_cell::{Alive, Started};
 
 impl Client {
     // Takes the session that the newest Start asked for, and the lease on it.

@@ -7,9 +7,9 @@ ghost use Rattle.client_core.specs.Asks.{plan_of, send_plan, open_plan, close_pl
 
 use crate::client::Client;
 use client_parts::{Ask, ClientHandle, NodeCall, Target};
+use messages_cell::{Call, Open};
 use node_core::{Answer, Fault, Line};
 use plain::Bytes;
-use tags_cell::{Call, Open};
 
 /// What a client does next.
 #[derive(Drop)]

@@ -8,9 +8,9 @@ ghost use Rattle.client_core.specs.Gives.{lost, lose_step, refused_step};
 use crate::client::Client;
 use cache_core::Standing;
 use client_parts::{Given, Session, pushed};
+use messages_cell::Refused;
 use node_core::Line;
 use std::alloc::AllocError;
-use tags_cell::Refused;
 
 impl Client {
     // Learns a later epoch, or ends the session, where the master of the refusal knows none.

@@ -6,7 +6,7 @@ ghost use Rattle.cache_core.specs.Kept.{with_kept};
 ghost use Rattle.lease_core.specs.Lease.{IsMoment};
 ghost use Rattle.client_core.specs.State.{note, note_lines, Does};
 ghost use Rattle.client_core.specs.Lessons.{opening_of, lesson};
-ghost use Rattle.tags_cell.specs.declared.outs.CallResult.TheVariants as results;
+ghost use Rattle.messages_cell.specs.declared.outs.CallResult.TheVariants as results;
 ghost use Rattle.client_parts.specs.declared.targets.Target.TheVariants as targets;
 ghost use Rattle.client_core.specs.Handles.{handle_of};
 ghost use Rattle.client_core.specs.Gives.{awaited, answer_of, has_number, handles_behind, kept_behind, sequencer_of, put_under, ended_plainly, ended, finish_step, reply_for, reply_step};
@@ -14,11 +14,11 @@ ghost use Rattle.client_core.specs.Gives.{awaited, answer_of, has_number, handle
 use crate::client::Client;
 use cache_core::Kept;
 use client_parts::{ClientHandle, Given, Session, Target, is_shareable, pushed, share_of};
+use messages_cell::{CallResult, NewHandle, Open, Reply};
 use node_core::{Answer, Fault, Line, NUMBER_LIMIT};
 use plain::{Bytes, Items};
 use std::alloc::AllocError;
 use std::mem;
-use tags_cell::{CallResult, NewHandle, Open, Reply};
 
 impl Client {
     pub(crate) fn take_reply(&mut self, moment: u64, reply: &Reply) -> Result<Given, Fault>

@@ -7,10 +7,10 @@ ghost use Rattle.client_core.specs.Serves.{read_served, open_served, entry_serve
 use crate::client::Client;
 use crate::plans::Plan;
 use client_parts::{ClientHandle, NodeCall, is_plain, only_reads};
+use messages_cell::Open;
 use names_cell::Name;
 use node_core::{Answer, Fault, Line, Right, View};
 use std::alloc::AllocError;
-use tags_cell::Open;
 
 impl Client {
     // A read of this handle, where something is cached under its name. None where the handle has a sequencer.

@@ -2,7 +2,7 @@
 use Rattle.std.specs.Prelude.{ℕ, nat_lt, Bool, List, [], ◌∷◌, map, if◌then◌else◌}
 use Rattle.node_core.specs.declared.lines.Line.{Line}
 use Rattle.node_core.specs.declared.lines.Line.TheVariants as lines
-use Rattle.tags_cell.specs.declared.beats.NumberedEvent.{NumberedEvent}
+use Rattle.messages_cell.specs.declared.beats.NumberedEvent.{NumberedEvent}
 use Rattle.client_parts.specs.InOrder.{are_in_order}
 
 abbrev pub event_numbers : List NumberedEvent → List ℕ

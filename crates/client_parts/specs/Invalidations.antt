@@ -1,7 +1,7 @@
 -- The invalidations that an Alive carries, and what they leave of a cache.
 use Rattle.std.specs.Prelude.{ℕ, nat_lt, Bool, List, [], ◌∷◌, map, if◌then◌else◌}
 use Rattle.cache_core.specs.Caches.{Entries, flushed}
-use Rattle.tags_cell.specs.declared.beats.Invalidation.{Invalidation}
+use Rattle.messages_cell.specs.declared.beats.Invalidation.{Invalidation}
 use Rattle.client_parts.specs.InOrder.{are_in_order}
 
 abbrev pub invalidation_numbers : List Invalidation → List ℕ

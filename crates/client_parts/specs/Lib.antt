@@ -1,7 +1,7 @@
 pub use Rattle.cache_core.specs.Caches
 pub use Rattle.cache_core.specs.Kept
 pub use Rattle.cache_core.specs.Standings
-pub use Rattle.tags_cell.specs.Messages
+pub use Rattle.messages_cell.specs.Messages
 pub use Rattle.tags_cell.specs.Modes
 pub use Rattle.tags_cell.specs.Numbers
 pub mod Sessions

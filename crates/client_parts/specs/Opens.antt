@@ -8,8 +8,8 @@ use Rattle.node_core.specs.declared.answers.Answer.TheVariants as answers
 use Rattle.node_core.specs.declared.views.View.{View}
 use Rattle.tags_cell.specs.Masks.{is_no_events}
 use Rattle.tags_cell.specs.Modes.{Rights}
-use Rattle.tags_cell.specs.declared.calls.Open.{Open}
-use Rattle.tags_cell.specs.declared.outs.NewHandle.{NewHandle}
+use Rattle.messages_cell.specs.declared.calls.Open.{Open}
+use Rattle.messages_cell.specs.declared.outs.NewHandle.{NewHandle}
 use Rattle.client_parts.specs.declared.handles.ClientHandle.{ClientHandle}
 
 -- it makes nothing

@@ -2,10 +2,11 @@
 ghost use Rattle.std.specs.Prelude.{◌≡◌, IfOk};
 ghost use Rattle.client_parts.specs.Calls.{call_on};
 
+use messages_cell::{AclNames, Call, Open, Request};
 use node_core::{Answer, Fault, Line, LockMode};
 use plain::{Bytes, Items};
 use std::alloc::AllocError;
-use tags_cell::{AclNames, Call, HandleBytes, Open, Request};
+use tags_cell::HandleBytes;
 
 /// What a client is asked for (Burrows 2006, section 2.6). A handle is named by the client's own number for it: 1, 2, ..
 /// in the order in which its Opens succeed.

@@ -4,10 +4,10 @@ ghost use Rattle.std.specs.Prelude.{◌≡◌, ◌++◌, IfOk};
 ghost use Rattle.client_parts.specs.InOrder.{follow};
 ghost use Rattle.client_parts.specs.Events.{event_numbers, are_events_in_order, last_event, event_lines};
 
+use messages_cell::NumberedEvent;
 use node_core::Line;
 use plain::Items;
 use std::alloc::AllocError;
-use tags_cell::NumberedEvent;
 
 /// Whether the numbers rise by one, and begin at most one above what was processed.
 pub fn are_events_in_order(processed: u64, events: &[NumberedEvent]) -> bool

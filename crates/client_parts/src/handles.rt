@@ -3,11 +3,12 @@ ghost use Rattle.std.specs.Prelude.{◌≡◌, IfOk};
 ghost use Rattle.client_parts.specs.Opens.{is_plain, is_read_only, only_reads, is_shareable, kept_handle, read_answer};
 
 use cache_core::Kept;
+use messages_cell::{NewHandle, Open};
 use names_cell::Name;
 use node_core::{Answer, Fault, Life, Right, View};
 use plain::Bytes;
 use std::alloc::AllocError;
-use tags_cell::{HandleBytes, Mode, NewHandle, Open, Ordinal};
+use tags_cell::{HandleBytes, Mode, Ordinal};
 
 /// A handle of a client's: the bytes as its master sent them, which a client doesn't read; its name and mode, as they
 /// were asked for; the instance and the life of the node, as the master told them; whether it was poisoned; and the

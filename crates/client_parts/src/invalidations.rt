@@ -5,7 +5,7 @@ ghost use Rattle.client_parts.specs.InOrder.{follow};
 ghost use Rattle.client_parts.specs.Invalidations.{invalidation_numbers, is_in_order, last_number, all_flushed};
 
 use cache_core::Cache;
-use tags_cell::Invalidation;
+use messages_cell::Invalidation;
 
 /// Whether the numbers rise by one, and begin at most one above what was processed.
 pub fn is_in_order(processed: u64, invalidations: &[Invalidation]) -> bool

@@ -1,8 +1,8 @@
 //! What comes of a message, and of the asking for a Beat.
 
+use messages_cell::Request;
 use node_core::{Fault, Line};
 use plain::Items;
-use tags_cell::Request;
 
 /// What comes of a message that a client was given.
 #[derive(Debug, Drop)]

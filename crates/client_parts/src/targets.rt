@@ -4,8 +4,8 @@ ghost use Rattle.std.specs.Option.{option_copied};
 ghost use Rattle.client_parts.specs.Targets.{is_on};
 ghost use Rattle.client_parts.specs.Targets.{opening_by, sequencer_by};
 
+use messages_cell::{Call, Open, Request};
 use plain::Bytes;
-use tags_cell::{Call, Open, Request};
 
 /// What the reply to a call is for. Handles go by the client's own numbers for them.
 #[derive(Clone, Copy, Debug, PartialEq, Eq)]

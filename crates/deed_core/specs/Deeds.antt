@@ -13,7 +13,7 @@ use Rattle.rows_cell.specs.declared.tables.Edit.TheVariants.{NextInstance, PutNo
 use Rattle.rows_cell.specs.LockRows.{LockChange, locks_edits}
 use Rattle.session_core.specs.Session.{session_until, prolonged, ended, answered, keeping}
 use Rattle.session_core.specs.Sessions.{SessionTable, with_session, with_new, without}
-use Rattle.tags_cell.specs.declared.outs.Reply.{Reply}
+use Rattle.messages_cell.specs.declared.outs.Reply.{Reply}
 use Rattle.lock_core.specs.State.{LockState}
 use Rattle.lock_core.specs.Locks.{LockTable, lock_at, with_lock}
 use Rattle.deed_core.specs.declared.deeds.Change.{Change}

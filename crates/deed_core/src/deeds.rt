@@ -10,13 +10,14 @@ ghost use Rattle.deed_core.specs.Deeds.{with_note, BeginsNew, with_begun, with_p
 use cell_parts::{HandleKey, HandleState, Note};
 use cell_state::Master;
 use lock_core::Lock;
+use messages_cell::Reply;
 use names_cell::{Name, Principal};
 use node_core::{Mod, View};
 use plain::Items;
 use rights_core::Ending;
 use session_core::Kept;
 use std::alloc::AllocError;
-use tags_cell::{ClientNumber, Reply};
+use tags_cell::ClientNumber;
 
 /// What a step does to a client's session.
 #[derive(Debug, Drop)]

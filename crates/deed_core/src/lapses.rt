@@ -7,11 +7,11 @@ use crate::deeds::LockPut;
 use crate::replies::{line_if, locked_lines, puts_of, turn_replies};
 use cell_state::Master;
 use lock_core::{Lapse, Turn};
+use messages_cell::Reply;
 use node_core::Line;
 use plain::Items;
 use rights_core::Ending;
 use std::alloc::{AllocError, Global};
-use tags_cell::Reply;
 
 /// What is printed of a session that ends.
 pub fn expiry_lines(

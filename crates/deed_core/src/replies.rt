@@ -6,11 +6,12 @@ use crate::deeds::{KeptPut, LockPut};
 use cell_parts::{Taken, answered_by};
 use cell_state::Master;
 use lock_core::{Claim, Lock, Turn};
+use messages_cell::{CallResult, Out, Reply};
 use names_cell::Name;
 use node_core::{Fault, Line};
 use plain::Items;
 use std::alloc::{AllocError, Global};
-use tags_cell::{CallResult, ClientNumber, Out, Reply};
+use tags_cell::ClientNumber;
 
 /// What is kept, printed and sent.
 #[derive(Drop)]

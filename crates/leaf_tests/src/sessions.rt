@@ -1,11 +1,12 @@
 //! Sessions: Starts, Beats, events, what was issued and acknowledged, the last call, expiry, and a new master. The lease is
 //! 12,000 ms.
+use messages_cell::Beat;
 use names_cell::Principal;
 use node_core::{Event, Fault};
 use session_core::{Kept, Sessions};
 use std::alloc::Global;
 use std::process::Abort;
-use tags_cell::{Beat, ClientNumber, MessageNumber};
+use tags_cell::{ClientNumber, MessageNumber};
 
 const LEASE: u64 = 12_000;
 

@@ -1,7 +1,7 @@
 -- A handle that was closed for good is so behind every list of steps.
 use Rattle.std.proofs.Common.{◌≡◌, ℕ, [], ◌∷◌, false, Ok, Err, refl}
 use Rattle.std.specs.List.{list_any}
-use Rattle.tags_cell.specs.declared.requests.Request.{Request}
+use Rattle.messages_cell.specs.declared.requests.Request.{Request}
 use Rattle.cell_parts.specs.declared.handles.HandleKey.{HandleKey}
 use Rattle.cell_state.specs.State.{MasterState}
 use Rattle.cell_core.specs.Step.{take_step}

@@ -9,12 +9,12 @@ use Rattle.node_core.specs.declared.refusals.Fault.{Fault}
 use Rattle.node_core.specs.declared.refusals.Fault.TheVariants as faults
 use Rattle.node_core.specs.declared.views.View.{View}
 use Rattle.tags_cell.specs.Handles.{is_ordinal, handle_bytes}
-use Rattle.tags_cell.specs.declared.calls.Open.{Open}
+use Rattle.messages_cell.specs.declared.calls.Open.{Open}
 use Rattle.tags_cell.specs.declared.handles.Handle.{Handle}
-use Rattle.tags_cell.specs.declared.outs.CallResult.{CallResult}
-use Rattle.tags_cell.specs.declared.outs.CallResult.TheVariants as results
-use Rattle.tags_cell.specs.declared.outs.NewHandle.{NewHandle}
-use Rattle.tags_cell.specs.declared.requests.CallMessage.{CallMessage}
+use Rattle.messages_cell.specs.declared.outs.CallResult.{CallResult}
+use Rattle.messages_cell.specs.declared.outs.CallResult.TheVariants as results
+use Rattle.messages_cell.specs.declared.outs.NewHandle.{NewHandle}
+use Rattle.messages_cell.specs.declared.requests.CallMessage.{CallMessage}
 use Rattle.cell_parts.specs.Keys.{handle_order}
 use Rattle.cell_parts.specs.declared.handles.HandleState.TheVariants as states
 use Rattle.cell_parts.specs.declared.pending.Taken.{Taken}

@@ -14,14 +14,14 @@ use Rattle.node_core.specs.declared.kinds.Right.TheVariants as rights
 use Rattle.node_core.specs.Nodes.{get_node, has_children}
 use Rattle.tags_cell.specs.Handles.{handle_bytes, read_handle}
 use Rattle.tags_cell.specs.declared.handles.Handle.{Handle}
-use Rattle.tags_cell.specs.declared.calls.Open.{Open}
-use Rattle.tags_cell.specs.declared.calls.Create.{Create}
-use Rattle.tags_cell.specs.declared.calls.Disposition.{Disposition}
-use Rattle.tags_cell.specs.declared.calls.Disposition.TheVariants.{May, Must}
-use Rattle.tags_cell.specs.declared.calls.Call.{Call}
-use Rattle.tags_cell.specs.declared.calls.Call.TheVariants as calls
-use Rattle.tags_cell.specs.declared.outs.CallResult.{CallResult}
-use Rattle.tags_cell.specs.declared.outs.CallResult.TheVariants as results
+use Rattle.messages_cell.specs.declared.calls.Open.{Open}
+use Rattle.messages_cell.specs.declared.calls.Create.{Create}
+use Rattle.messages_cell.specs.declared.calls.Disposition.{Disposition}
+use Rattle.messages_cell.specs.declared.calls.Disposition.TheVariants.{May, Must}
+use Rattle.messages_cell.specs.declared.calls.Call.{Call}
+use Rattle.messages_cell.specs.declared.calls.Call.TheVariants as calls
+use Rattle.messages_cell.specs.declared.outs.CallResult.{CallResult}
+use Rattle.messages_cell.specs.declared.outs.CallResult.TheVariants as results
 use Rattle.lock_core.specs.declared.claims.Claim.{Claim}
 use Rattle.lock_core.specs.declared.turns.Turn.{Turn}
 use Rattle.lock_core.specs.declared.turns.Acquired.{Acquired}

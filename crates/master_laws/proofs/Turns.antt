@@ -1,7 +1,7 @@
 -- What a sweep does in which a call has its turn.
 use Rattle.std.proofs.Common.{◌≡◌, ℕ, List, false, cond, Option, sym, ap, ◌∙◌}
 use Rattle.std.specs.Option.{option_map_or}
-use Rattle.tags_cell.specs.declared.calls.Call.{Call}
+use Rattle.messages_cell.specs.declared.calls.Call.{Call}
 use Rattle.cell_parts.specs.declared.pending.Asked.{Asked}
 use Rattle.cell_parts.specs.declared.pending.Task.{Task}
 use Rattle.cell_state.specs.State.{MasterState}

@@ -4,16 +4,16 @@ use Rattle.std.specs.Option.{option_map, option_and_then}
 use Rattle.node_core.specs.declared.refusals.Fault.{Fault}
 use Rattle.node_core.specs.declared.refusals.Fault.TheVariants as faults
 use Rattle.gate_core.specs.Gate.{without}
-use Rattle.tags_cell.specs.declared.calls.Call.{Call}
-use Rattle.tags_cell.specs.declared.calls.Call.TheVariants as calls
-use Rattle.tags_cell.specs.declared.calls.Open.{Open}
-use Rattle.tags_cell.specs.declared.outs.CallResult.TheVariants as results
-use Rattle.tags_cell.specs.declared.outs.Out.TheVariants as outs
-use Rattle.tags_cell.specs.declared.outs.Refused.{Refused}
-use Rattle.tags_cell.specs.declared.outs.Reply.{Reply}
-use Rattle.tags_cell.specs.declared.requests.CallMessage.{CallMessage}
-use Rattle.tags_cell.specs.declared.requests.Request.{Request}
-use Rattle.tags_cell.specs.declared.requests.Request.TheVariants as requests
+use Rattle.messages_cell.specs.declared.calls.Call.{Call}
+use Rattle.messages_cell.specs.declared.calls.Call.TheVariants as calls
+use Rattle.messages_cell.specs.declared.calls.Open.{Open}
+use Rattle.messages_cell.specs.declared.outs.CallResult.TheVariants as results
+use Rattle.messages_cell.specs.declared.outs.Out.TheVariants as outs
+use Rattle.messages_cell.specs.declared.outs.Refused.{Refused}
+use Rattle.messages_cell.specs.declared.outs.Reply.{Reply}
+use Rattle.messages_cell.specs.declared.requests.CallMessage.{CallMessage}
+use Rattle.messages_cell.specs.declared.requests.Request.{Request}
+use Rattle.messages_cell.specs.declared.requests.Request.TheVariants as requests
 use Rattle.session_core.specs.declared.records.Session.{Session}
 use Rattle.cell_parts.specs.declared.handles.Note.{Note}
 use Rattle.cell_parts.specs.declared.pending.Asked.{Asked}

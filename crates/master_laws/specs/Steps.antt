@@ -1,11 +1,11 @@
 -- What a master does with a call: what it answers at once, and whose turn it is in a sweep.
 use Rattle.std.specs.Prelude.{◌≡◌, ℕ, true, false, List, Contains, Option, Some, Ok}
-use Rattle.tags_cell.specs.declared.calls.Call.{Call}
-use Rattle.tags_cell.specs.declared.requests.CallMessage.{CallMessage}
-use Rattle.tags_cell.specs.declared.requests.Request.TheVariants as requests
-use Rattle.tags_cell.specs.declared.outs.CallResult.{CallResult}
-use Rattle.tags_cell.specs.declared.outs.Out.TheVariants as outs
-use Rattle.tags_cell.specs.declared.outs.Reply.{Reply}
+use Rattle.messages_cell.specs.declared.calls.Call.{Call}
+use Rattle.messages_cell.specs.declared.requests.CallMessage.{CallMessage}
+use Rattle.messages_cell.specs.declared.requests.Request.TheVariants as requests
+use Rattle.messages_cell.specs.declared.outs.CallResult.{CallResult}
+use Rattle.messages_cell.specs.declared.outs.Out.TheVariants as outs
+use Rattle.messages_cell.specs.declared.outs.Reply.{Reply}
 use Rattle.cell_parts.specs.declared.pending.Asked.{Asked}
 use Rattle.cell_parts.specs.declared.pending.Taken.{Taken}
 use Rattle.cell_parts.specs.declared.pending.Task.TheVariants as tasks

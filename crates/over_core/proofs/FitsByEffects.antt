@@ -27,17 +27,17 @@ use Rattle.rows_cell.proofs.SoundParts.{five_parts}
 use Rattle.tags_cell.specs.Modes.{has_right}
 use Rattle.tags_cell.specs.Handles.{read_handle}
 use Rattle.tags_cell.specs.declared.handles.Handle.{Handle}
-use Rattle.tags_cell.specs.declared.calls.AclNames.{AclNames}
-use Rattle.tags_cell.specs.declared.calls.NewNode.{NewNode}
-use Rattle.tags_cell.specs.declared.calls.NewNode.TheVariants as made
-use Rattle.tags_cell.specs.declared.calls.Open.{Open}
-use Rattle.tags_cell.specs.declared.calls.Create.{Create}
-use Rattle.tags_cell.specs.declared.calls.Disposition.{Disposition}
-use Rattle.tags_cell.specs.declared.calls.Disposition.TheVariants.{May, Must}
-use Rattle.tags_cell.specs.declared.calls.Call.{Call}
-use Rattle.tags_cell.specs.declared.calls.Call.TheVariants as calls
-use Rattle.tags_cell.specs.declared.outs.CallResult.{CallResult}
-use Rattle.tags_cell.specs.declared.outs.CallResult.TheVariants as results
+use Rattle.messages_cell.specs.declared.calls.AclNames.{AclNames}
+use Rattle.messages_cell.specs.declared.calls.NewNode.{NewNode}
+use Rattle.messages_cell.specs.declared.calls.NewNode.TheVariants as made
+use Rattle.messages_cell.specs.declared.calls.Open.{Open}
+use Rattle.messages_cell.specs.declared.calls.Create.{Create}
+use Rattle.messages_cell.specs.declared.calls.Disposition.{Disposition}
+use Rattle.messages_cell.specs.declared.calls.Disposition.TheVariants.{May, Must}
+use Rattle.messages_cell.specs.declared.calls.Call.{Call}
+use Rattle.messages_cell.specs.declared.calls.Call.TheVariants as calls
+use Rattle.messages_cell.specs.declared.outs.CallResult.{CallResult}
+use Rattle.messages_cell.specs.declared.outs.CallResult.TheVariants as results
 use Rattle.tags_cell.specs.Numbers.{is_client_number}
 use Rattle.lock_core.specs.Locks.{lock_at}
 use Rattle.cell_parts.specs.declared.pending.Idle.{Idle}

@@ -24,8 +24,8 @@ use Rattle.rows_cell.specs.Stores.{Store, IsCommitted, IsRefused}
 use Rattle.rows_cell.proofs.EntriesInOrder.{sorted_put}
 use Rattle.rows_cell.proofs.SoundChanges.{session_sound}
 use Rattle.tags_cell.specs.Numbers.{is_client_number}
-use Rattle.tags_cell.specs.declared.calls.Call.{Call}
-use Rattle.tags_cell.specs.declared.outs.Reply.{Reply}
+use Rattle.messages_cell.specs.declared.calls.Call.{Call}
+use Rattle.messages_cell.specs.declared.outs.Reply.{Reply}
 use Rattle.gate_core.specs.declared.pending.Waiting.{Waiting}
 use Rattle.gate_core.specs.Gate.{pending_limit, push_answer}
 use Rattle.session_core.specs.declared.records.Parked.{Parked}

@@ -28,9 +28,9 @@ use Rattle.rows_cell.proofs.RowViews.{views_put, views_gone}
 use Rattle.rows_cell.proofs.SoundChanges.{PutFits, put_sound}
 use Rattle.rows_cell.proofs.SoundRemovals.{GoneFits, gone_sound}
 use Rattle.tags_cell.specs.Numbers.{is_client_number}
-use Rattle.tags_cell.specs.declared.outs.CallResult.{CallResult}
-use Rattle.tags_cell.specs.declared.outs.CallResult.TheVariants as results
-use Rattle.tags_cell.specs.declared.outs.Reply.{Reply}
+use Rattle.messages_cell.specs.declared.outs.CallResult.{CallResult}
+use Rattle.messages_cell.specs.declared.outs.CallResult.TheVariants as results
+use Rattle.messages_cell.specs.declared.outs.Reply.{Reply}
 use Rattle.gate_core.specs.declared.pending.Waiting.{Waiting}
 use Rattle.session_core.specs.declared.records.Kept.{Kept}
 use Rattle.session_core.specs.Sessions.{kept_of}

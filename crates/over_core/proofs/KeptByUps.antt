@@ -16,7 +16,7 @@ use Rattle.rows_cell.specs.declared.tables.Edit.TheVariants.{Epoch}
 use Rattle.rows_cell.specs.Rows.{changed_rows}
 use Rattle.rows_cell.specs.Sound.{sound}
 use Rattle.rows_cell.specs.Stores.{Store, IsCommitted}
-use Rattle.tags_cell.specs.declared.outs.Reply.{Reply}
+use Rattle.messages_cell.specs.declared.outs.Reply.{Reply}
 use Rattle.gate_core.specs.declared.pending.Waiting.{Waiting}
 use Rattle.session_core.specs.declared.records.Session.{Session}
 use Rattle.event_core.specs.Queue.{empty_queue}

@@ -27,7 +27,7 @@ use Rattle.rows_cell.proofs.PutEntries.{all_found}
 use Rattle.rows_cell.proofs.SoundParts.{parts_of}
 use Rattle.rows_cell.proofs.SoundGenerations.{found_by_instance}
 use Rattle.rows_cell.proofs.LockChanges.{ChangeFits, ChangesFit, nodes_behind, locks_behind, new_rows_of, new_generation_of, changes_locks, changes_generations}
-use Rattle.tags_cell.specs.declared.outs.Reply.{Reply}
+use Rattle.messages_cell.specs.declared.outs.Reply.{Reply}
 use Rattle.session_core.specs.declared.records.Session.{Session}
 use Rattle.session_core.specs.Sessions.{SessionTable, session_of, is_live}
 use Rattle.session_core.proofs.RowsOfSessions.{lookup-rows_of}

@@ -17,7 +17,7 @@ use Rattle.rows_cell.specs.Sound.{sound, is_number, are_distinct}
 use Rattle.rows_cell.proofs.SoundParts.{has_instance}
 use Rattle.rows_cell.proofs.SoundGenerations.{found_there}
 use Rattle.rows_cell.proofs.LockChanges.{ChangesFit, nodes_behind, locks_behind, changes_sound, changes_in_order, changes_map, locks_edits_done}
-use Rattle.tags_cell.specs.declared.outs.Reply.{Reply}
+use Rattle.messages_cell.specs.declared.outs.Reply.{Reply}
 use Rattle.session_core.specs.Sessions.{SessionTable, is_live}
 use Rattle.lock_core.specs.declared.claims.Owner.{Owner}
 use Rattle.lock_core.specs.declared.claims.Hold.{Hold}

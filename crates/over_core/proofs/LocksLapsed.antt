@@ -25,7 +25,7 @@ use Rattle.rows_cell.proofs.PutEntries.{all_more}
 use Rattle.rows_cell.proofs.SoundEnds.{holds}
 use Rattle.rows_cell.proofs.LockChanges.{are_among, are_free}
 use Rattle.tags_cell.specs.Numbers.{is_client_number}
-use Rattle.tags_cell.specs.declared.outs.Reply.{Reply}
+use Rattle.messages_cell.specs.declared.outs.Reply.{Reply}
 use Rattle.session_core.specs.Sessions.{SessionTable, is_live}
 use Rattle.lock_core.specs.declared.claims.Owner.{Owner}
 use Rattle.lock_core.specs.declared.claims.Hold.{Hold}

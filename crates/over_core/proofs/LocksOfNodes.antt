@@ -29,7 +29,7 @@ use Rattle.rows_cell.proofs.SoundChanges.{PutFits}
 use Rattle.rows_cell.proofs.SoundGenerations.{any_found, found_by_instance}
 use Rattle.rows_cell.proofs.SoundParts.{has_instance, instances, parts_of, numbers_of}
 use Rattle.rows_cell.proofs.SoundRemovals.{all_from_both, all_gone, any_gone}
-use Rattle.tags_cell.specs.declared.outs.Reply.{Reply}
+use Rattle.messages_cell.specs.declared.outs.Reply.{Reply}
 use Rattle.session_core.specs.Sessions.{SessionTable}
 use Rattle.lock_core.specs.State.{LockState, IsLegal, lock_of, nobody_holds}
 use Rattle.lock_core.specs.Turns.{is_nobody}

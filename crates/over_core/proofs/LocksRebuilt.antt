@@ -33,7 +33,7 @@ use Rattle.rows_cell.proofs.PutEntries.{all_more, all_put, all_found}
 use Rattle.rows_cell.proofs.SoundParts.{five_parts, has_instance, instances, numbers_of, parts_of}
 use Rattle.rows_cell.proofs.SoundLocks.{sound_legal, sound_generation}
 use Rattle.rows_cell.proofs.SoundRemovals.{all_let_through}
-use Rattle.tags_cell.specs.declared.outs.Reply.{Reply}
+use Rattle.messages_cell.specs.declared.outs.Reply.{Reply}
 use Rattle.session_core.specs.declared.records.Session.{Session}
 use Rattle.session_core.specs.Sessions.{SessionTable, is_live}
 use Rattle.lock_core.specs.declared.claims.Owner.{Owner}

@@ -25,7 +25,7 @@ use Rattle.rows_cell.proofs.RowViews.{keys_of_views}
 use Rattle.rows_cell.proofs.SoundParts.{parts_of}
 use Rattle.rows_cell.proofs.LockChanges.{ChangesFit, nodes_behind, locks_behind, expiry_sound, expiry_done}
 use Rattle.tags_cell.specs.Numbers.{is_client_number}
-use Rattle.tags_cell.specs.declared.outs.Reply.{Reply}
+use Rattle.messages_cell.specs.declared.outs.Reply.{Reply}
 use Rattle.rights_core.specs.declared.endings.Ending.TheVariants as endings
 use Rattle.gate_core.specs.declared.pending.Waiting.{Waiting}
 use Rattle.session_core.specs.declared.records.Session.{Session}

@@ -23,7 +23,7 @@ use Rattle.cell_parts.specs.declared.pending.Work.{Work}
 use Rattle.cell_core.specs.Step.{names_of}
 use Rattle.cell_parts.specs.Calls.{bytes_of}
 use Rattle.cell_core.specs.Names.{name_changed}
-use Rattle.tags_cell.specs.declared.outs.Reply.{Reply}
+use Rattle.messages_cell.specs.declared.outs.Reply.{Reply}
 use Rattle.session_core.specs.declared.records.Session.{Session}
 use Rattle.session_core.specs.declared.records.Kept.{Kept}
 use Rattle.session_core.specs.Session.{events_of}

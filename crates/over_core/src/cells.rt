@@ -17,12 +17,12 @@ ghost use Rattle.over_core.specs.Up.{up_edits, next_epoch, ComesUp, StaysDown, C
 use crate::sweeps::{Swept, sweep_by};
 use cell_parts::Taken;
 use lease_core::MOMENT_LIMIT;
+use messages_cell::Request;
 use node_core::{Fault, Line, NUMBER_LIMIT};
 use plain::Items;
 use rows_cell::{Edit, Records, Rows};
 use std::alloc::Global;
 use std::marker::Model;
-use tags_cell::Request;
 
 /// A master of a cell with the records that outlive it (Burrows 2006, sections 2.7 and 2.13). To a contract, what the
 /// master is, the name of its cell, the rows that stand, the rows that a crash may leave, how often the store refused, and

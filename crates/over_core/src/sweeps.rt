@@ -15,12 +15,12 @@ use cell_parts::{Idle, Taken, Telling};
 use cell_state::Master;
 use deed_core::{Deed, Grown, edits_of};
 use lease_core::MOMENT_LIMIT;
+use messages_cell::Out;
 use node_core::{Fault, Line};
 use plain::Items;
 use plan_core::{Action, Plan, first_action, plan_of, tellings_of};
 use rows_cell::{Edit, Records};
 use std::alloc::AllocError;
-use tags_cell::Out;
 
 /// What a sweep prints and sends, and whether it found nothing to do.
 #[derive(Debug, Drop)]

@@ -7,7 +7,7 @@ use Rattle.std.specs.Map.{keys_of, lookup}
 use Rattle.std.specs.BTreeMap.{is_at}
 use Rattle.std.specs.Ordering.{nat_cmp}
 use Rattle.std.proofs.lemmas.List.Elements.{All-nil, All-cons}
-use Rattle.tags_cell.specs.declared.beats.Invalidation.{Invalidation}
+use Rattle.messages_cell.specs.declared.beats.Invalidation.{Invalidation}
 use Rattle.rights_core.specs.declared.cache_rights.CacheRight.{CacheRight}
 use Rattle.rights_core.specs.Rights.{invalidations_of, unacked_of, IsRecorded}
 use Rattle.rights_core.specs.Laws.{asked_for}

@@ -8,9 +8,9 @@ use Rattle.plan_core.specs.declared.plans.Plan.{Plan}
 use Rattle.turn_core.specs.Notices.{change_notices, locks_notices, contest_notices, contested_by}
 use Rattle.std.specs.Option.{option_map_or}
 use Rattle.node_core.specs.declared.lines.Line.{Line}
-use Rattle.tags_cell.specs.declared.beats.Invalidation.{Invalidation}
-use Rattle.tags_cell.specs.declared.outs.Out.{Out}
-use Rattle.tags_cell.specs.declared.calls.Call.{Call}
+use Rattle.messages_cell.specs.declared.beats.Invalidation.{Invalidation}
+use Rattle.messages_cell.specs.declared.outs.Out.{Out}
+use Rattle.messages_cell.specs.declared.calls.Call.{Call}
 use Rattle.rights_core.specs.Rights.{unacked_of}
 use Rattle.session_core.specs.declared.records.Offer.{Offer}
 use Rattle.session_core.specs.Session.{is_client_expired, is_client_due, offered_span}
@@ -36,7 +36,7 @@ use Rattle.turn_core.specs.Outcomes.{locking_lines, locking_puts, lock_ended, ap
 use Rattle.deed_core.specs.Lapses.{lapses_replies, lapses_puts, lapses_of, expiry_lines}
 use Rattle.node_core.specs.declared.refusals.Fault.TheVariants as faults
 use Rattle.node_core.specs.declared.lines.Line.TheVariants as lines
-use Rattle.tags_cell.specs.declared.outs.Out.TheVariants as outs
+use Rattle.messages_cell.specs.declared.outs.Out.TheVariants as outs
 use Rattle.cell_parts.specs.declared.pending.Task.TheVariants as tasks
 use Rattle.cell_parts.specs.declared.pending.Work.TheVariants as works
 

@@ -12,12 +12,13 @@ use cell_core::Cell;
 use cell_parts::{Asked, Idle, Taken, Task, Work};
 use cell_state::Master;
 use deed_core::{Deed, LockPut, SessionDeed, Told, told_by};
+use messages_cell::{Alive, Call, Invalidation, Out, Started};
 use names_cell::{Name, Principal};
 use node_core::{Fault, Line};
 use plain::{Bytes, Items, Table};
 use session_core::Offer;
 use std::alloc::{AllocError, Global};
-use tags_cell::{Alive, Call, ClientNumber, Invalidation, MessageNumber, Out, Started};
+use tags_cell::{ClientNumber, MessageNumber};
 use turn_core::{
     Effect, contested_by, effect_lines, effect_of, effect_replies, gone_by_itself, lock_ended,
     locking_puts, locking_replies,

@@ -2,12 +2,12 @@
 use Rattle.std.proofs.Common.{◌≡◌, ◌≢◌, inl, inr, ◌∷◌, [], ◌++◌, ◌+◌, ◌-◌, ◌<◌, List, ℕ, suc, length, take, drop, Option, None, Some, sym, ap, subst, arith, ◌∙◌, codes, length-append, length-drop, Bor}
 use Rattle.std.proofs.lemmas.List.{drop-map, take-map, take_all, take-append-drop}
 use Rattle.std.proofs.Math.Seq.{take-append_seam, drop-append_seam}
-use Rattle.tags_cell.specs.declared.calls.AclNames.{AclNames}
-use Rattle.tags_cell.specs.declared.calls.Create.{Create}
-use Rattle.tags_cell.specs.declared.calls.Disposition.{Disposition}
-use Rattle.tags_cell.specs.declared.calls.Disposition.TheVariants.{May, Must}
-use Rattle.tags_cell.specs.declared.calls.NewNode.{NewNode}
-use Rattle.tags_cell.specs.declared.calls.NewNode.TheVariants.{File, Directory}
+use Rattle.messages_cell.specs.declared.calls.AclNames.{AclNames}
+use Rattle.messages_cell.specs.declared.calls.Create.{Create}
+use Rattle.messages_cell.specs.declared.calls.Disposition.{Disposition}
+use Rattle.messages_cell.specs.declared.calls.Disposition.TheVariants.{May, Must}
+use Rattle.messages_cell.specs.declared.calls.NewNode.{NewNode}
+use Rattle.messages_cell.specs.declared.calls.NewNode.TheVariants.{File, Directory}
 use Rattle.tags_cell.specs.declared.masks.Events.{Events}
 use Rattle.script_cell.specs.Steps.{life_word, WritesCreate, WritesNode, WritesMaking, WritesOptions, IsOptionWord, BeginsOptions, WritesSomeCreate, WritesSomeNode, WritesSomeFile, WritesSomeAcls, IsCut, new_acl_words, disposition_word, create_fault, texts}
 use Rattle.script_cell.proofs.Lifts.{IsPart}

@@ -11,13 +11,13 @@ use Rattle.node_core.specs.declared.kinds.Life.TheVariants.{Permanent, Ephemeral
 use Rattle.node_core.specs.Words.{lock_mode_text}
 use Rattle.tags_cell.specs.Masks.{no_events, is_no_events}
 use Rattle.tags_cell.specs.Numbers.{IsClientNumber}
-use Rattle.tags_cell.specs.declared.calls.AclNames.{AclNames}
-use Rattle.tags_cell.specs.declared.calls.Create.{Create}
-use Rattle.tags_cell.specs.declared.calls.Disposition.{Disposition}
-use Rattle.tags_cell.specs.declared.calls.Disposition.TheVariants.{May, Must}
-use Rattle.tags_cell.specs.declared.calls.NewNode.{NewNode}
-use Rattle.tags_cell.specs.declared.calls.NewNode.TheVariants.{File, Directory}
-use Rattle.tags_cell.specs.declared.calls.Open.{Open}
+use Rattle.messages_cell.specs.declared.calls.AclNames.{AclNames}
+use Rattle.messages_cell.specs.declared.calls.Create.{Create}
+use Rattle.messages_cell.specs.declared.calls.Disposition.{Disposition}
+use Rattle.messages_cell.specs.declared.calls.Disposition.TheVariants.{May, Must}
+use Rattle.messages_cell.specs.declared.calls.NewNode.{NewNode}
+use Rattle.messages_cell.specs.declared.calls.NewNode.TheVariants.{File, Directory}
+use Rattle.messages_cell.specs.declared.calls.Open.{Open}
 use Rattle.tags_cell.specs.declared.masks.Events.{Events}
 use Rattle.client_parts.specs.declared.asks.Ask.{Ask}
 use Rattle.client_parts.specs.declared.asks.Ask.TheVariants as calls

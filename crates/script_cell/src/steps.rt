@@ -7,12 +7,13 @@ ghost use Rattle.script_cell.specs.Readings.{Reads, IsParsed, flaw_of};
 
 use crate::words::{content, events, mode, number, written};
 use client_core::{Ask, NodeCall};
+use messages_cell::{AclNames, Create, Disposition, NewNode, Open};
 use names_cell::{Component, Name, NameFault, Principal};
 use node_core::{Fault, Life, LockMode};
 use plain::{Bytes, Items};
 use std::alloc::{AllocError, Global};
 use std::str;
-use tags_cell::{AclNames, ClientNumber, Create, Disposition, Events, NewNode, Open};
+use tags_cell::{ClientNumber, Events};
 use world_cell::{Commit, Step, Ticks};
 
 /// What a line of a script asks for.

@@ -1,4 +1,5 @@
 //! Masters by themselves: what comes to them, and what they print and send.
+use messages_cell::{Beat, Call, CallMessage, CallResult, Open, Out, Request, Start};
 use names_cell::{Name, Principal};
 use node_core::{Fault, Line};
 use over_core::Cell;
@@ -7,10 +8,7 @@ use rows_cell::{ListRecords, Settings};
 use std::alloc::Global;
 use std::process::Abort;
 use std::test::Fail;
-use tags_cell::{
-    Beat, Call, CallMessage, CallResult, ClientNumber, MessageNumber, Mode, Open, Out, Request,
-    Start,
-};
+use tags_cell::{ClientNumber, MessageNumber, Mode};
 
 // What comes to a master, or what it does by itself.
 #[derive(Clone, Copy)]

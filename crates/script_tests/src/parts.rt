@@ -1,5 +1,6 @@
 //! Masters and a client by themselves.
 use client_core::{Ask, Client, Given, NodeCall, Outcome};
+use messages_cell::{Alive, Open, Out, Request, Started};
 use names_cell::{Name, Principal};
 use node_core::Fault;
 use over_core::Cell;
@@ -8,7 +9,7 @@ use rows_cell::{ListRecords, Settings};
 use std::alloc::Global;
 use std::process::Abort;
 use std::test::Fail;
-use tags_cell::{Alive, ClientNumber, Events, MessageNumber, Mode, Open, Out, Request, Started};
+use tags_cell::{ClientNumber, Events, MessageNumber, Mode};
 
 fn new_records(alloc: Global) -> Result<ListRecords, Fail> {
     let settings = Settings::standard(alloc)?;

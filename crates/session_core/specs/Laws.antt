@@ -6,7 +6,7 @@ use Rattle.std.specs.Map.{lookup, keys_of}
 use Rattle.std.specs.BTreeMap.{is_at}
 use Rattle.std.specs.List.Sorted.{IsStrictlySortedBy}
 use Rattle.node_core.specs.declared.events.Event.{Event}
-use Rattle.tags_cell.specs.declared.beats.Beat.{Beat}
+use Rattle.messages_cell.specs.declared.beats.Beat.{Beat}
 use Rattle.session_core.specs.declared.records.Parked.{Parked}
 use Rattle.session_core.specs.declared.records.Kept.{Kept}
 use Rattle.session_core.specs.declared.records.Session.{Session}

@@ -9,7 +9,7 @@ use Rattle.node_core.specs.declared.refusals.Fault.{Fault}
 use Rattle.node_core.specs.declared.refusals.Fault.TheVariants as faults
 use Rattle.lease_core.specs.Lease.{recovery_timeout}
 use Rattle.tags_cell.specs.Numbers.{is_client_number}
-use Rattle.tags_cell.specs.declared.beats.Beat.{Beat}
+use Rattle.messages_cell.specs.declared.beats.Beat.{Beat}
 use Rattle.event_core.specs.Queue.{EventQueue, empty_queue, count_of, has_waiting, queued, pushed, acknowledged_to}
 use Rattle.session_core.specs.declared.records.Tally.{Tally}
 use Rattle.session_core.specs.declared.records.Parked.{Parked}

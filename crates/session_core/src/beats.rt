@@ -7,8 +7,9 @@ ghost use Rattle.session_core.specs.Session.{events_of, live_beat_fault, beat_fa
 
 use crate::records::{Offer, Parked, Session};
 use crate::sessions::Sessions;
+use messages_cell::Beat;
 use node_core::Fault;
-use tags_cell::{Beat, ClientNumber};
+use tags_cell::ClientNumber;
 
 impl<K> Session<K> {
     // Why a Beat of this live session is refused.

@@ -1,8 +1,6 @@
-//! The messages between a client and its master.
+//! What messages carry: numbers in their ranges, modes and masks, and the bytes of handles and sequencers.
 #![tactic(auto)]
 
-mod beats;
-mod calls;
 mod clients;
 mod delays;
 mod digits;
@@ -14,14 +12,10 @@ mod masks;
 mod modes;
 mod numbers;
 mod ordinals;
-mod outs;
 mod places;
-mod requests;
 mod sequencer_faults;
 mod sequencers;
 
-pub use beats::{Alive, Beat, Invalidation, NumberedEvent};
-pub use calls::{AclNames, Call, Create, Disposition, NewNode, Open};
 pub use clients::ClientNumber;
 pub use delays::LockDelay;
 pub use handle_bytes::HandleBytes;
@@ -35,7 +29,5 @@ pub use masks::Events;
 pub use modes::Mode;
 pub use numbers::MessageNumber;
 pub use ordinals::Ordinal;
-pub use outs::{CallResult, NewHandle, Out, Refused, Reply, Started};
-pub use requests::{CallMessage, Request, Start};
 pub use sequencer_faults::SequencerFault;
 pub use sequencers::Sequencer;

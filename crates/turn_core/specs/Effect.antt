@@ -13,14 +13,14 @@ use Rattle.node_core.specs.Limits.{number_limit}
 use Rattle.node_core.specs.Nodes.{get_node, has_children}
 use Rattle.tags_cell.specs.Handles.{read_handle}
 use Rattle.tags_cell.specs.declared.handles.Handle.{Handle}
-use Rattle.tags_cell.specs.declared.calls.AclNames.{AclNames}
-use Rattle.tags_cell.specs.declared.calls.NewNode.{NewNode}
-use Rattle.tags_cell.specs.declared.calls.Open.{Open}
-use Rattle.tags_cell.specs.declared.calls.Create.{Create}
-use Rattle.tags_cell.specs.declared.calls.Disposition.{Disposition}
-use Rattle.tags_cell.specs.declared.calls.Disposition.TheVariants.{May, Must}
-use Rattle.tags_cell.specs.declared.calls.Call.{Call}
-use Rattle.tags_cell.specs.declared.outs.CallResult.{CallResult}
+use Rattle.messages_cell.specs.declared.calls.AclNames.{AclNames}
+use Rattle.messages_cell.specs.declared.calls.NewNode.{NewNode}
+use Rattle.messages_cell.specs.declared.calls.Open.{Open}
+use Rattle.messages_cell.specs.declared.calls.Create.{Create}
+use Rattle.messages_cell.specs.declared.calls.Disposition.{Disposition}
+use Rattle.messages_cell.specs.declared.calls.Disposition.TheVariants.{May, Must}
+use Rattle.messages_cell.specs.declared.calls.Call.{Call}
+use Rattle.messages_cell.specs.declared.outs.CallResult.{CallResult}
 use Rattle.turn_core.specs.declared.effects.Effect.{Effect}
 use Rattle.cell_parts.specs.declared.pending.Idle.{Idle}
 use Rattle.turn_core.specs.declared.effects.Locking.{Locking}
@@ -40,9 +40,9 @@ use Rattle.cell_parts.specs.Keys.{key_of}
 use Rattle.node_core.specs.declared.refusals.Fault.TheVariants as faults
 use Rattle.node_core.specs.declared.kinds.Kind.TheVariants as kinds
 use Rattle.node_core.specs.declared.kinds.Right.TheVariants as rights
-use Rattle.tags_cell.specs.declared.calls.NewNode.TheVariants as made
-use Rattle.tags_cell.specs.declared.calls.Call.TheVariants as calls
-use Rattle.tags_cell.specs.declared.outs.CallResult.TheVariants as results
+use Rattle.messages_cell.specs.declared.calls.NewNode.TheVariants as made
+use Rattle.messages_cell.specs.declared.calls.Call.TheVariants as calls
+use Rattle.messages_cell.specs.declared.outs.CallResult.TheVariants as results
 use Rattle.cell_parts.specs.declared.handles.HandleState.TheVariants as states
 use Rattle.lock_core.specs.declared.turns.Acquired.TheVariants as asked
 

@@ -8,8 +8,8 @@ use Rattle.node_core.specs.declared.views.Mod.TheVariants.{Put, Gone}
 use Rattle.node_core.specs.Nodes.{get_node}
 use Rattle.lock_core.specs.Locks.{LockTable, lock_at}
 use Rattle.tags_cell.specs.Handles.{read_handle}
-use Rattle.tags_cell.specs.declared.calls.Call.{Call}
-use Rattle.tags_cell.specs.declared.outs.CallResult.{CallResult}
+use Rattle.messages_cell.specs.declared.calls.Call.{Call}
+use Rattle.messages_cell.specs.declared.outs.CallResult.{CallResult}
 use Rattle.deed_core.specs.declared.deeds.Change.{Change}
 use Rattle.deed_core.specs.declared.deeds.LockPut.{LockPut}
 use Rattle.cell_parts.specs.declared.notices.Notice.{Notice}
@@ -17,8 +17,8 @@ use Rattle.deed_core.specs.Deeds.{new_generation}
 use Rattle.cell_state.specs.State.{MasterState}
 use Rattle.turn_core.specs.declared.effects.Effect.{Effect}
 use Rattle.node_core.specs.declared.refusals.Fault.TheVariants as faults
-use Rattle.tags_cell.specs.declared.calls.Call.TheVariants as calls
-use Rattle.tags_cell.specs.declared.outs.CallResult.TheVariants as results
+use Rattle.messages_cell.specs.declared.calls.Call.TheVariants as calls
+use Rattle.messages_cell.specs.declared.outs.CallResult.TheVariants as results
 use Rattle.cell_parts.specs.declared.notices.Notice.TheVariants as notices
 
 -- ---- a change of the map

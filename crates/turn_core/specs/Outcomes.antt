@@ -1,8 +1,8 @@
 -- What is printed and sent of an effect, and which locks it changes.
 use Rattle.std.specs.Prelude.{ℕ, List, [], ◌∷◌, ◌++◌, Option, Some, None}
 use Rattle.node_core.specs.declared.lines.Line.{Line}
-use Rattle.tags_cell.specs.declared.outs.CallResult.{CallResult}
-use Rattle.tags_cell.specs.declared.outs.Reply.{Reply}
+use Rattle.messages_cell.specs.declared.outs.CallResult.{CallResult}
+use Rattle.messages_cell.specs.declared.outs.Reply.{Reply}
 use Rattle.deed_core.specs.declared.deeds.LockPut.{LockPut}
 use Rattle.turn_core.specs.declared.effects.Effect.{Effect}
 use Rattle.turn_core.specs.declared.effects.Leave.{Leave}
@@ -14,7 +14,7 @@ use Rattle.cell_state.specs.Lookups.{reply_of}
 use Rattle.deed_core.specs.Replies.{replies_to, turn_replies, locked_line, locked_lines, line_if}
 use Rattle.node_core.specs.declared.refusals.Fault.TheVariants as faults
 use Rattle.node_core.specs.declared.lines.Line.TheVariants as lines
-use Rattle.tags_cell.specs.declared.outs.CallResult.TheVariants as results
+use Rattle.messages_cell.specs.declared.outs.CallResult.TheVariants as results
 
 -- ---- locks
 

@@ -7,13 +7,12 @@ ghost use Rattle.cell_state.specs.Lookups.{may};
 use crate::effects::{Effect, Locking, opened_effect};
 use cell_state::Master;
 use deed_core::Change;
+use messages_cell::{AclNames, Create, Disposition, NewNode, Open};
 use names_cell::Name;
 use node_core::{Fault, Kind, Mod, NUMBER_LIMIT, Right, View};
 use plain::Bytes;
 use std::alloc::{AllocError, Global};
-use tags_cell::{
-    AclNames, ClientNumber, Create, Disposition, Handle, MessageNumber, NewNode, Open,
-};
+use tags_cell::{ClientNumber, Handle, MessageNumber};
 
 pub(crate) fn create_effect(
     master: &Master,

@@ -9,11 +9,12 @@ use cell_parts::{Note, bytes_of, create_fault};
 use cell_state::Master;
 use deed_core::{Change, LockPut};
 use lock_core::{Claim, Turn};
+use messages_cell::{Call, CallResult, Create, Open};
 use names_cell::Name;
 use node_core::{Fault, Mod};
 use plain::{Bytes, Items};
 use std::alloc::AllocError;
-use tags_cell::{Call, CallResult, ClientNumber, Create, Handle, MessageNumber, Open};
+use tags_cell::{ClientNumber, Handle, MessageNumber};
 
 /// What becomes of a lock that the caller left.
 #[derive(Drop)]

@@ -9,10 +9,11 @@ use cell_parts::{HandleKey, HandleState, Idle, Note, claim_of, owner_of};
 use cell_state::Master;
 use deed_core::{Change, LockPut};
 use lock_core::{Acquired, Claim, Lock, Turn};
+use messages_cell::CallResult;
 use node_core::{Fault, LockMode, Mod};
 use plain::Items;
 use std::alloc::AllocError;
-use tags_cell::{CallResult, Handle};
+use tags_cell::Handle;
 
 pub(crate) fn acquire_at(
     master: &Master,

@@ -9,11 +9,12 @@ use crate::effects::Effect;
 use cell_parts::Notice;
 use cell_state::Master;
 use deed_core::{Change, LockPut};
+use messages_cell::{Call, CallResult};
 use names_cell::Name;
 use node_core::{Fault, Mod, View};
 use plain::Items;
 use std::alloc::{AllocError, Global};
-use tags_cell::{Call, CallResult, ClientNumber};
+use tags_cell::ClientNumber;
 
 // ---- a change of the map
 

@@ -6,10 +6,11 @@ use crate::effects::{Effect, Leave, Locking};
 use cell_state::Master;
 use deed_core::{Change, LockPut, line_if, locked_line, locked_lines, replies_to, turn_replies};
 use lock_core::Turn;
+use messages_cell::{CallResult, Reply};
 use node_core::{Fault, Line};
 use plain::Items;
 use std::alloc::{AllocError, Global};
-use tags_cell::{CallResult, ClientNumber, MessageNumber, Reply};
+use tags_cell::{ClientNumber, MessageNumber};
 
 /// The replies to those that waited for the lock.
 pub fn locking_replies(master: &Master, locking: &Locking) -> Result<Items<Reply>, AllocError>

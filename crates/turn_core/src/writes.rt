@@ -5,10 +5,11 @@ ghost use Rattle.turn_core.specs.Effect.{changes_to, put_at, delete_at, change_a
 use crate::effects::Effect;
 use crate::locks::{acquire_at, deleted, release_at, try_at};
 use cell_state::Master;
+use messages_cell::{AclNames, Call, CallResult};
 use node_core::{Fault, Mod, NUMBER_LIMIT, View};
 use plain::Bytes;
 use std::alloc::AllocError;
-use tags_cell::{AclNames, Call, CallResult, Handle};
+use tags_cell::Handle;
 
 pub(crate) fn change_on(master: &Master, handle: &Handle, call: &Call) -> Result<Effect, AllocError>
     ensures { IfOk result (λ done. done ≡ change_on master.now handle.now call.now) }

@@ -13,19 +13,19 @@ use Rattle.node_core.specs.declared.lines.Line.TheVariants as lines
 use Rattle.cache_core.specs.Standings.{turn_line}
 use Rattle.cache_core.specs.declared.standings.Standing.{Standing}
 use Rattle.cache_core.specs.declared.standings.Standing.TheVariants as standings
-use Rattle.tags_cell.specs.declared.outs.CallResult.{CallResult}
-use Rattle.tags_cell.specs.declared.outs.CallResult.TheVariants as results
-use Rattle.tags_cell.specs.declared.outs.Out.{Out}
-use Rattle.tags_cell.specs.declared.outs.Out.TheVariants as outs
-use Rattle.tags_cell.specs.declared.outs.Reply.{Reply}
-use Rattle.tags_cell.specs.declared.beats.Alive.{Alive}
-use Rattle.tags_cell.specs.declared.beats.NumberedEvent.{NumberedEvent}
-use Rattle.tags_cell.specs.Messages.{request_number, out_client}
+use Rattle.messages_cell.specs.declared.outs.CallResult.{CallResult}
+use Rattle.messages_cell.specs.declared.outs.CallResult.TheVariants as results
+use Rattle.messages_cell.specs.declared.outs.Out.{Out}
+use Rattle.messages_cell.specs.declared.outs.Out.TheVariants as outs
+use Rattle.messages_cell.specs.declared.outs.Reply.{Reply}
+use Rattle.messages_cell.specs.declared.beats.Alive.{Alive}
+use Rattle.messages_cell.specs.declared.beats.NumberedEvent.{NumberedEvent}
+use Rattle.messages_cell.specs.Messages.{request_number, out_client}
 use Rattle.rights_core.specs.declared.endings.Ending.TheVariants as endings
 use Rattle.rights_core.specs.declared.grants.Grant.{Grant}
 use Rattle.rights_core.specs.declared.grants.Grant.TheVariants as grants
 use Rattle.rights_core.specs.Rights.{grant_answer, numbers_ending}
-use Rattle.tags_cell.specs.declared.requests.Request.{Request}
+use Rattle.messages_cell.specs.declared.requests.Request.{Request}
 use Rattle.lock_core.specs.declared.claims.Claim.{Claim}
 use Rattle.lock_core.specs.declared.turns.Lapse.{Lapse}
 use Rattle.lock_core.specs.Turns.{is_nobody, reopened}

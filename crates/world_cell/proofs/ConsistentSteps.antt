@@ -22,16 +22,16 @@ use Rattle.rows_cell.specs.declared.tables.Rows.{Rows}
 use Rattle.rows_cell.specs.declared.tables.Session as stored
 use Rattle.rows_cell.specs.declared.tables.Edit.TheVariants.{NextInstance}
 use Rattle.rows_cell.specs.Rows.{changed_rows, map_of}
-use Rattle.tags_cell.specs.declared.requests.Request.{Request}
-use Rattle.tags_cell.specs.declared.requests.Request.TheVariants as requests
-use Rattle.tags_cell.specs.declared.requests.CallMessage.{CallMessage}
-use Rattle.tags_cell.specs.declared.beats.Beat.{Beat}
-use Rattle.tags_cell.specs.declared.outs.Out.{Out}
-use Rattle.tags_cell.specs.declared.outs.Out.TheVariants as outs
-use Rattle.tags_cell.specs.declared.outs.Started.{Started}
-use Rattle.tags_cell.specs.declared.outs.CallResult.TheVariants as results
-use Rattle.tags_cell.specs.declared.outs.Refused.{Refused}
-use Rattle.tags_cell.specs.declared.outs.Reply.{Reply}
+use Rattle.messages_cell.specs.declared.requests.Request.{Request}
+use Rattle.messages_cell.specs.declared.requests.Request.TheVariants as requests
+use Rattle.messages_cell.specs.declared.requests.CallMessage.{CallMessage}
+use Rattle.messages_cell.specs.declared.beats.Beat.{Beat}
+use Rattle.messages_cell.specs.declared.outs.Out.{Out}
+use Rattle.messages_cell.specs.declared.outs.Out.TheVariants as outs
+use Rattle.messages_cell.specs.declared.outs.Started.{Started}
+use Rattle.messages_cell.specs.declared.outs.CallResult.TheVariants as results
+use Rattle.messages_cell.specs.declared.outs.Refused.{Refused}
+use Rattle.messages_cell.specs.declared.outs.Reply.{Reply}
 use Rattle.cell_parts.specs.declared.handles.Note.{Note}
 use Rattle.session_core.specs.declared.records.Kept.{Kept}
 use Rattle.session_core.specs.declared.records.Session.{Session}

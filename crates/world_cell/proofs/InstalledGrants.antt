@@ -10,13 +10,13 @@ use Rattle.node_core.specs.declared.refusals.Fault.{Fault}
 use Rattle.node_core.specs.declared.refusals.Fault.TheVariants as faults
 use Rattle.node_core.specs.declared.views.View.{View}
 use Rattle.tags_cell.specs.Handles.{name_in, fields_of, is_handle, handle_bytes, read_handle}
-use Rattle.tags_cell.specs.declared.calls.Call.{Call}
-use Rattle.tags_cell.specs.declared.calls.Call.TheVariants as calls
-use Rattle.tags_cell.specs.declared.calls.Open.{Open}
-use Rattle.tags_cell.specs.declared.requests.CallMessage.{CallMessage}
-use Rattle.tags_cell.specs.declared.outs.Reply.{Reply}
-use Rattle.tags_cell.specs.declared.outs.CallResult.{CallResult}
-use Rattle.tags_cell.specs.declared.outs.CallResult.TheVariants as results
+use Rattle.messages_cell.specs.declared.calls.Call.{Call}
+use Rattle.messages_cell.specs.declared.calls.Call.TheVariants as calls
+use Rattle.messages_cell.specs.declared.calls.Open.{Open}
+use Rattle.messages_cell.specs.declared.requests.CallMessage.{CallMessage}
+use Rattle.messages_cell.specs.declared.outs.Reply.{Reply}
+use Rattle.messages_cell.specs.declared.outs.CallResult.{CallResult}
+use Rattle.messages_cell.specs.declared.outs.CallResult.TheVariants as results
 use Rattle.cell_core.specs.Names.{name_asked, shown_by}
 use Rattle.client_parts.specs.Calls.{call_on}
 use Rattle.client_parts.specs.Opens.{is_plain}

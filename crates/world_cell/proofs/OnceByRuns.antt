@@ -9,20 +9,20 @@ use Rattle.std.proofs.lemmas.List.{append-nil}
 use Rattle.node_core.specs.declared.lines.Line.{Line}
 use Rattle.node_core.specs.declared.lines.Line.TheVariants as lines
 use Rattle.node_core.specs.declared.views.Mod.{Mod}
-use Rattle.tags_cell.specs.declared.requests.Request.{Request}
-use Rattle.tags_cell.specs.declared.requests.Request.TheVariants as requests
-use Rattle.tags_cell.specs.declared.requests.CallMessage.{CallMessage}
-use Rattle.tags_cell.specs.declared.calls.Call.{Call}
-use Rattle.tags_cell.specs.declared.outs.Out.{Out}
-use Rattle.tags_cell.specs.declared.outs.CallResult.{CallResult}
-use Rattle.tags_cell.specs.declared.outs.CallResult.TheVariants as results
+use Rattle.messages_cell.specs.declared.requests.Request.{Request}
+use Rattle.messages_cell.specs.declared.requests.Request.TheVariants as requests
+use Rattle.messages_cell.specs.declared.requests.CallMessage.{CallMessage}
+use Rattle.messages_cell.specs.declared.calls.Call.{Call}
+use Rattle.messages_cell.specs.declared.outs.Out.{Out}
+use Rattle.messages_cell.specs.declared.outs.CallResult.{CallResult}
+use Rattle.messages_cell.specs.declared.outs.CallResult.TheVariants as results
 use Rattle.node_core.specs.declared.refusals.Fault.{Fault}
 use Rattle.node_core.specs.declared.refusals.Fault.TheVariants as faults
 use Rattle.rights_core.specs.declared.grants.Grant.{Grant}
 use Rattle.rights_core.specs.declared.grants.Grant.TheVariants as grants
 use Rattle.rights_core.specs.declared.endings.Ending.TheVariants as endings
 use Rattle.rights_core.specs.Rights.{grant_answer, clients_to_ask, numbers_ending}
-use Rattle.tags_cell.specs.declared.outs.Reply.{Reply}
+use Rattle.messages_cell.specs.declared.outs.Reply.{Reply}
 use Rattle.cell_parts.specs.declared.handles.Note.{Note}
 use Rattle.session_core.specs.declared.records.Kept.{Kept}
 use Rattle.session_core.specs.Session.{beaten, keeping, prolonged, answered, session_until}

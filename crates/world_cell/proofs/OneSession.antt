@@ -4,7 +4,7 @@ use Rattle.std.specs.Prelude.{is_some}
 use Rattle.std.specs.Option.{option_map, option_map_or, option_and_then}
 use Rattle.std.proofs.lemmas.Bool.Decides.{nat_tests}
 use Rattle.plain.proofs.OneKey.{lookup_put, lookup_put_apart}
-use Rattle.tags_cell.specs.declared.outs.Reply.{Reply}
+use Rattle.messages_cell.specs.declared.outs.Reply.{Reply}
 use Rattle.session_core.specs.declared.records.Kept.{Kept}
 use Rattle.session_core.specs.declared.records.Session.{Session}
 use Rattle.session_core.specs.Session.{keeping, answered, prolonged, issued_through}

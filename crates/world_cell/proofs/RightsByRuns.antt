@@ -11,8 +11,8 @@ use Rattle.node_core.specs.declared.refusals.Fault.{Fault}
 use Rattle.node_core.specs.declared.refusals.Fault.TheVariants as faults
 use Rattle.node_core.specs.declared.lines.Line.{Line}
 use Rattle.node_core.specs.declared.lines.Line.TheVariants as lines
-use Rattle.tags_cell.specs.declared.requests.Request.{Request}
-use Rattle.tags_cell.specs.declared.outs.Reply.{Reply}
+use Rattle.messages_cell.specs.declared.requests.Request.{Request}
+use Rattle.messages_cell.specs.declared.outs.Reply.{Reply}
 use Rattle.rights_core.specs.declared.cache_rights.CacheRight.{CacheRight}
 use Rattle.rights_core.specs.declared.cache_rights.Status.{Status}
 use Rattle.rights_core.specs.declared.cache_rights.Status.TheVariants as statuses

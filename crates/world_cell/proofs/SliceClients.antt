@@ -8,12 +8,12 @@ use Rattle.coherence.specs.Slice as one
 use Rattle.coherence.specs.Slice.{IsIn, Slice, Event, SendBeat, StartAnew, Prolong, Process, Invalidate, LearnEpoch, Install, Forget, Reached, Leads}
 use Rattle.coherence.proofs.Runs.{always}
 use Rattle.node_core.specs.declared.lines.Line.{Line}
-use Rattle.tags_cell.specs.declared.requests.Request.{Request}
-use Rattle.tags_cell.specs.declared.outs.Out.{Out}
-use Rattle.tags_cell.specs.declared.outs.Out.TheVariants as outs
-use Rattle.tags_cell.specs.declared.beats.Alive.{Alive}
-use Rattle.tags_cell.specs.declared.outs.Reply.{Reply}
-use Rattle.tags_cell.specs.Messages.{out_client}
+use Rattle.messages_cell.specs.declared.requests.Request.{Request}
+use Rattle.messages_cell.specs.declared.outs.Out.{Out}
+use Rattle.messages_cell.specs.declared.outs.Out.TheVariants as outs
+use Rattle.messages_cell.specs.declared.beats.Alive.{Alive}
+use Rattle.messages_cell.specs.declared.outs.Reply.{Reply}
+use Rattle.messages_cell.specs.Messages.{out_client}
 use Rattle.session_core.proofs.OneClient.{lookup_set, lookup_set_apart}
 use Rattle.cache_core.specs.Caches.{CacheState, entry_of, is_leased, noted as noted_cache}
 use Rattle.client_parts.specs.declared.asks.Ask.{Ask}

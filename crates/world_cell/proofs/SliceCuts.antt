@@ -6,8 +6,8 @@ use Rattle.coherence.specs.Slice as one
 use Rattle.coherence.specs.Slice.{IsIn, Event, GoDown, Reorder, Reached}
 use Rattle.rows_cell.specs.declared.tables.Rows.{Rows}
 use Rattle.rows_cell.specs.Rows.{changed_rows}
-use Rattle.tags_cell.specs.declared.outs.Out.{Out}
-use Rattle.tags_cell.specs.declared.outs.Out.TheVariants as outs
+use Rattle.messages_cell.specs.declared.outs.Out.{Out}
+use Rattle.messages_cell.specs.declared.outs.Out.TheVariants as outs
 use Rattle.cell_state.specs.State.{MasterState}
 use Rattle.cell_state.specs.Lookups.{noted}
 use Rattle.over_core.specs.SweepCase.{SweepCase, swept_by, swept_edits}

@@ -8,7 +8,7 @@ use Rattle.lease_core.specs.Lease.{IsUnexpired}
 use Rattle.coherence.specs.Slice.{Live}
 use Rattle.coherence.proofs.Reached.{reached_is_joint}
 use Rattle.rows_cell.specs.declared.tables.Session as of_rows
-use Rattle.tags_cell.specs.declared.outs.Reply.{Reply}
+use Rattle.messages_cell.specs.declared.outs.Reply.{Reply}
 use Rattle.session_core.specs.declared.records.Session.{Session}
 use Rattle.cell_state.specs.State.{MasterState}
 use Rattle.cell_state.specs.Lookups.{session_of}

@@ -2,9 +2,9 @@
 use Rattle.std.proofs.Common.{◌≡◌, ℕ, true, false, List, Ok, Some, None, subst}
 use Rattle.coherence.specs.Slice.{Reached}
 use Rattle.node_core.specs.declared.lines.Line.{Line}
-use Rattle.tags_cell.specs.declared.requests.Request.{Request}
-use Rattle.tags_cell.specs.declared.outs.Out.{Out}
-use Rattle.tags_cell.specs.Messages.{out_client}
+use Rattle.messages_cell.specs.declared.requests.Request.{Request}
+use Rattle.messages_cell.specs.declared.outs.Out.{Out}
+use Rattle.messages_cell.specs.Messages.{out_client}
 use Rattle.client_parts.specs.declared.asks.Ask.{Ask}
 use Rattle.client_core.specs.Cases.{AskCase, asked_in, BeatCase, beaten_in, GiveCase, given_in}
 use Rattle.cell_state.specs.State.{MasterState}

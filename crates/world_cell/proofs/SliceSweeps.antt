@@ -20,11 +20,11 @@ use Rattle.rows_cell.specs.declared.tables.Edit.TheVariants.{NextInstance, PutSe
 use Rattle.rows_cell.specs.Rows.{changed_rows, map_of}
 use Rattle.rows_cell.specs.LockRows.{LockChange, locks_edits}
 use Rattle.rows_cell.proofs.RowViews.{views_put, views_gone}
-use Rattle.tags_cell.specs.declared.outs.Out.{Out}
-use Rattle.tags_cell.specs.declared.outs.CallResult.{CallResult}
-use Rattle.tags_cell.specs.declared.outs.CallResult.TheVariants as results
-use Rattle.tags_cell.specs.declared.outs.Reply.{Reply}
-use Rattle.tags_cell.specs.declared.calls.Call.{Call}
+use Rattle.messages_cell.specs.declared.outs.Out.{Out}
+use Rattle.messages_cell.specs.declared.outs.CallResult.{CallResult}
+use Rattle.messages_cell.specs.declared.outs.CallResult.TheVariants as results
+use Rattle.messages_cell.specs.declared.outs.Reply.{Reply}
+use Rattle.messages_cell.specs.declared.calls.Call.{Call}
 use Rattle.rights_core.specs.declared.endings.Ending.TheVariants as endings
 use Rattle.rights_core.specs.Rights.{holds, invalidations_of}
 use Rattle.rights_core.specs.Laws.{asked_for, number_or_0}

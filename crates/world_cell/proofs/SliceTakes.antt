@@ -8,14 +8,14 @@ use Rattle.coherence.specs.Slice.{IsIn, Event, Receive, KeepReceipts, Acknowledg
 use Rattle.node_core.specs.declared.refusals.Fault.{Fault}
 use Rattle.node_core.specs.declared.refusals.Fault.TheVariants as faults
 use Rattle.node_core.specs.Nodes.{get_node}
-use Rattle.tags_cell.specs.declared.beats.Beat.{Beat}
-use Rattle.tags_cell.specs.declared.requests.Start.{Start}
-use Rattle.tags_cell.specs.declared.requests.CallMessage.{CallMessage}
-use Rattle.tags_cell.specs.declared.requests.Request.{Request}
-use Rattle.tags_cell.specs.declared.requests.Request.TheVariants as requests
-use Rattle.tags_cell.specs.declared.outs.CallResult.{CallResult}
-use Rattle.tags_cell.specs.declared.outs.CallResult.TheVariants as results
-use Rattle.tags_cell.specs.declared.outs.Reply.{Reply}
+use Rattle.messages_cell.specs.declared.beats.Beat.{Beat}
+use Rattle.messages_cell.specs.declared.requests.Start.{Start}
+use Rattle.messages_cell.specs.declared.requests.CallMessage.{CallMessage}
+use Rattle.messages_cell.specs.declared.requests.Request.{Request}
+use Rattle.messages_cell.specs.declared.requests.Request.TheVariants as requests
+use Rattle.messages_cell.specs.declared.outs.CallResult.{CallResult}
+use Rattle.messages_cell.specs.declared.outs.CallResult.TheVariants as results
+use Rattle.messages_cell.specs.declared.outs.Reply.{Reply}
 use Rattle.session_core.specs.declared.records.Kept.{Kept}
 use Rattle.session_core.specs.declared.records.Session.{Session}
 use Rattle.session_core.specs.Session.{beat_fault, live_beat_fault, beaten}

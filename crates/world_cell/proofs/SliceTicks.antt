@@ -12,7 +12,7 @@ use Rattle.coherence.specs.Slice.{Slice, Event, TickBeforeJoin, TickAboveLeast, 
 use Rattle.node_core.specs.Nodes.{get_node}
 use Rattle.rows_cell.specs.declared.tables.Session as of_rows
 use Rattle.rows_cell.specs.Rows.{changed_rows, map_of}
-use Rattle.tags_cell.specs.declared.outs.Reply.{Reply}
+use Rattle.messages_cell.specs.declared.outs.Reply.{Reply}
 use Rattle.session_core.specs.declared.records.Session.{Session}
 use Rattle.session_core.specs.Session.{recovered_session, has_heard}
 use Rattle.session_core.specs.Sessions.{all_heard}

@@ -18,7 +18,7 @@ use Rattle.plain.proofs.Keys.{bytes_self, bytes_same}
 use Rattle.node_core.specs.Nodes.{Nodes, get_node, changed, name_of}
 use Rattle.node_core.specs.declared.views.Mod.{Mod}
 use Rattle.node_core.specs.declared.views.Mod.TheVariants.{Put, Gone}
-use Rattle.tags_cell.specs.declared.beats.Invalidation.{Invalidation}
+use Rattle.messages_cell.specs.declared.beats.Invalidation.{Invalidation}
 use Rattle.rights_core.specs.declared.cache_rights.CacheRight.{CacheRight}
 use Rattle.rights_core.specs.Rights.{holds, held_on, invalidations_of}
 use Rattle.rights_core.specs.Laws.{asked_for}

@@ -4,8 +4,8 @@ use Rattle.std.specs.Prelude.{fold}
 use Rattle.std.specs.Option.{option_and_then}
 use Rattle.coherence.specs.Slice.{Leads}
 use Rattle.rows_cell.specs.declared.tables.Rows.{Rows}
-use Rattle.tags_cell.specs.declared.outs.Out.{Out}
-use Rattle.tags_cell.specs.declared.outs.Reply.{Reply}
+use Rattle.messages_cell.specs.declared.outs.Out.{Out}
+use Rattle.messages_cell.specs.declared.outs.Reply.{Reply}
 use Rattle.session_core.specs.declared.records.Session.{Session}
 use Rattle.session_core.specs.Sessions.{session_of as session_in}
 use Rattle.cell_parts.specs.declared.notices.Telling.{Telling}

@@ -5,21 +5,21 @@ use Rattle.std.specs.List.Sorted.{IsStrictlySortedBy}
 use Rattle.std.specs.Map.{keys_of}
 use Rattle.std.specs.Ordering.{nat_cmp}
 use Rattle.tags_cell.specs.Handles.{name_in}
-use Rattle.tags_cell.specs.declared.calls.Call.{Call}
-use Rattle.tags_cell.specs.declared.calls.Call.TheVariants as calls
-use Rattle.tags_cell.specs.declared.calls.Open.{Open}
-use Rattle.tags_cell.specs.declared.requests.Request.TheVariants as requests
-use Rattle.tags_cell.specs.declared.requests.CallMessage.{CallMessage}
-use Rattle.tags_cell.specs.declared.outs.Out.TheVariants as outs
-use Rattle.tags_cell.specs.declared.outs.CallResult.{CallResult}
-use Rattle.tags_cell.specs.declared.outs.CallResult.TheVariants as results
-use Rattle.tags_cell.specs.declared.outs.NewHandle.{NewHandle}
-use Rattle.tags_cell.specs.declared.outs.Started.{Started}
-use Rattle.tags_cell.specs.declared.outs.Refused.{Refused}
+use Rattle.messages_cell.specs.declared.calls.Call.{Call}
+use Rattle.messages_cell.specs.declared.calls.Call.TheVariants as calls
+use Rattle.messages_cell.specs.declared.calls.Open.{Open}
+use Rattle.messages_cell.specs.declared.requests.Request.TheVariants as requests
+use Rattle.messages_cell.specs.declared.requests.CallMessage.{CallMessage}
+use Rattle.messages_cell.specs.declared.outs.Out.TheVariants as outs
+use Rattle.messages_cell.specs.declared.outs.CallResult.{CallResult}
+use Rattle.messages_cell.specs.declared.outs.CallResult.TheVariants as results
+use Rattle.messages_cell.specs.declared.outs.NewHandle.{NewHandle}
+use Rattle.messages_cell.specs.declared.outs.Started.{Started}
+use Rattle.messages_cell.specs.declared.outs.Refused.{Refused}
 use Rattle.node_core.specs.declared.refusals.Fault.TheVariants as faults
 use Rattle.session_core.specs.declared.records.Kept.{Kept}
 use Rattle.session_core.specs.declared.records.Session.{Session}
-use Rattle.tags_cell.specs.declared.outs.Reply.{Reply}
+use Rattle.messages_cell.specs.declared.outs.Reply.{Reply}
 use Rattle.lease_core.specs.Lease.{longest_lease}
 use Rattle.coherence.specs.Slice as one
 use Rattle.coherence.specs.Slice.{Reached}

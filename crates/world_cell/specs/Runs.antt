@@ -9,8 +9,8 @@ use Rattle.node_core.specs.declared.views.Mod.{Mod}
 use Rattle.node_core.specs.declared.views.Mod.TheVariants.{Gone}
 use Rattle.node_core.specs.declared.views.View.{View}
 use Rattle.node_core.specs.Nodes.{Nodes, changed, after, get_node}
-use Rattle.tags_cell.specs.declared.calls.Call.{Call}
-use Rattle.tags_cell.specs.declared.requests.Request.TheVariants as requests
+use Rattle.messages_cell.specs.declared.calls.Call.{Call}
+use Rattle.messages_cell.specs.declared.requests.Request.TheVariants as requests
 use Rattle.rows_cell.specs.Rows.{map_of}
 use Rattle.turn_core.specs.declared.effects.Effect.{Effect}
 use Rattle.rights_core.specs.declared.cache_rights.CacheRight.{CacheRight}
@@ -32,7 +32,7 @@ use Rattle.world_cell.specs.Messages.{request_at, call_of}
 use Rattle.lease_core.specs.Lease.{IsUnexpired}
 use Rattle.coherence.specs.Joint.{IsJoint}
 use Rattle.rows_cell.specs.Sound.{is_live_in}
-use Rattle.tags_cell.specs.declared.outs.Reply.{Reply}
+use Rattle.messages_cell.specs.declared.outs.Reply.{Reply}
 use Rattle.session_core.specs.declared.records.Session.{Session}
 use Rattle.cell_state.specs.Lookups.{session_of}
 use Rattle.client_core.specs.State.{lease_of}

@@ -14,9 +14,9 @@ use Rattle.rows_cell.specs.declared.tables.Rows.{Rows}
 use Rattle.rows_cell.specs.declared.tables.Edit.{Edit}
 use Rattle.rows_cell.specs.Rows.{changed_rows}
 use Rattle.rows_cell.specs.Stores.{Store, left_by, IsWant, MayLeave, MayRefuse, IsRead, IsUnread}
-use Rattle.tags_cell.specs.declared.requests.Request.{Request}
-use Rattle.tags_cell.specs.declared.outs.Out.{Out}
-use Rattle.tags_cell.specs.Messages.{out_client}
+use Rattle.messages_cell.specs.declared.requests.Request.{Request}
+use Rattle.messages_cell.specs.declared.outs.Out.{Out}
+use Rattle.messages_cell.specs.Messages.{out_client}
 use Rattle.cell_parts.specs.declared.pending.Taken.{Taken}
 use Rattle.cell_state.specs.State.{MasterState}
 use Rattle.cell_core.specs.Step.{take_step, is_past_end}

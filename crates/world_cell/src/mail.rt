@@ -4,8 +4,8 @@ ghost use Rattle.std.specs.Option.{option_copied};
 ghost use Rattle.std.specs.Vec.{vec_len, vec_capacity};
 ghost use Rattle.world_cell.specs.Messages.{message_at, request_at, out_at};
 
+use messages_cell::{Out, Request};
 use plain::Items;
-use tags_cell::{Out, Request};
 
 /// A message that was sent, by its direction.
 #[derive(Debug, Drop)]

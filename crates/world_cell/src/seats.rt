@@ -15,12 +15,13 @@ ghost use Rattle.world_cell.specs.World.{own_step, clock_then};
 use crate::steps::Ticks;
 use client_core::{Ask, Asked, Beaten, Client, Given};
 use lease_core::MOMENT_LIMIT;
+use messages_cell::Out;
 use names_cell::Principal;
 use node_core::Fault;
 use std::alloc::{AllocError, Global};
 use std::collections::BTreeMap;
 use std::marker::Model;
-use tags_cell::{ClientNumber, Out};
+use tags_cell::ClientNumber;
 
 /// A client with its own clock.
 #[derive(Drop)]

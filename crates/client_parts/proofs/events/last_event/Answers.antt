@@ -1,5 +1,5 @@
 use Rattle.std.proofs.Common.{◌≡◌, ℕ, ◌+◌, length, List, [], ◌∷◌, get_or, ap, subst, arith}
-use Rattle.tags_cell.specs.declared.beats.NumberedEvent.{NumberedEvent}
+use Rattle.messages_cell.specs.declared.beats.NumberedEvent.{NumberedEvent}
 use Rattle.client_parts.specs.Events.{last_event}
 use Rattle.client_parts.proofs.events.last_event.Goals as goal
 

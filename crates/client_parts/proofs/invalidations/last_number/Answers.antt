@@ -1,5 +1,5 @@
 use Rattle.std.proofs.Common.{◌≡◌, ℕ, ◌+◌, length, List, [], ◌∷◌, get_or, ap, subst, arith}
-use Rattle.tags_cell.specs.declared.beats.Invalidation.{Invalidation}
+use Rattle.messages_cell.specs.declared.beats.Invalidation.{Invalidation}
 use Rattle.client_parts.specs.Invalidations.{last_number}
 use Rattle.client_parts.proofs.invalidations.last_number.Goals as goal
 

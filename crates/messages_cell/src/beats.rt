@@ -1,12 +1,11 @@
 //! What a client and its master tell each other to keep the client's session (Burrows 2006, section 2.8: KeepAlives).
 ghost use Rattle.std.specs.Prelude.{◌≡◌};
 
-use crate::clients::ClientNumber;
-use crate::numbers::MessageNumber;
 use names_cell::Name;
 use node_core::Event;
 use plain::{Items, Same};
 use std::alloc::AllocError;
+use tags_cell::{ClientNumber, MessageNumber};
 
 /// A client with a session lets its master hear of it, and acknowledges what it has processed.
 #[derive(Clone, Copy, Debug, PartialEq)]

@@ -1,0 +1,12 @@
+//! The messages between a client and its master.
+#![tactic(auto)]
+
+mod beats;
+mod calls;
+mod outs;
+mod requests;
+
+pub use beats::{Alive, Beat, Invalidation, NumberedEvent};
+pub use calls::{AclNames, Call, Create, Disposition, NewNode, Open};
+pub use outs::{CallResult, NewHandle, Out, Refused, Reply, Started};
+pub use requests::{CallMessage, Request, Start};
