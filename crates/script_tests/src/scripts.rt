@@ -11,7 +11,7 @@ use std::io::{Read, Write};
 use std::process::Abort;
 use std::test::Fail;
 use std::{io, str};
-use step_words::{Parsed, read_step};
+use step_words::{Parsed, number, read_step};
 use world_cell::{Step, World};
 
 // What a row's script begins with.
