@@ -1,9 +1,7 @@
-//! Tests of masters and clients by themselves, and of the words and steps of a script.
+//! Tests of masters and clients by themselves.
 #![tactic(auto)]
 
 #[cfg(test)]
 mod masters;
 #[cfg(test)]
 mod parts;
-#[cfg(test)]
-mod words;

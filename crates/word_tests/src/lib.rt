@@ -1,0 +1,5 @@
+//! Tests of the words and steps of a script, as tables.
+#![tactic(auto)]
+
+#[cfg(test)]
+mod words;
