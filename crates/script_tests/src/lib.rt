@@ -17,5 +17,3 @@ mod locks;
 mod rights;
 #[cfg(test)]
 mod scripts;
-#[cfg(test)]
-mod stores;

@@ -1,6 +1,6 @@
 //! Worlds over stores in SQL, in files that are kept in memory.
-use crate::scripts::{steps_of, text_of, text_of_lines};
 use names_cell::Component;
+use node_core::Line;
 use rows_cell::Settings;
 use rows_file::{inspect_file, verdict};
 use rows_sql::SqlRecords;
@@ -8,7 +8,8 @@ use sqlite::{Connection, FileStore, Files, Options};
 use sqlite_disk::{Disk, Memory};
 use std::alloc::Global;
 use std::test::Fail;
-use world_cell::World;
+use step_words::{Parsed, read_step};
+use world_cell::{Step, World};
 
 type Store = FileStore<Memory>;
 
@@ -50,6 +51,36 @@ fn taken(alloc: Global, files: Files<Memory>) -> Result<World<SqlRecords<Store>>
     Ok(World::new(alloc, records, &settings))
 }
 
+// Each line of a row, with LF behind it.
+fn text_of(alloc: Global, row: &str) -> Result<String, Fail> {
+    let mut text = String::new(alloc);
+    for line in row.split("; ") {
+        text.push_str(line)?;
+        text.push_str("\n")?;
+    }
+    Ok(text)
+}
+
+// The steps of a row, none of which is bad or refused.
+fn steps_of(alloc: Global, row: &str) -> Result<Vec<Step>, Fail> {
+    let mut steps = Vec::new(alloc);
+    for line in row.split("; ") {
+        match read_step(alloc, line)? {
+            Parsed::Step(step) => steps.push(step)?,
+            _ => return Err(Fail::from("no step")),
+        }
+    }
+    Ok(steps)
+}
+
+fn text_of_lines(alloc: Global, lines: &[Line]) -> Result<String, Fail> {
+    let mut text = String::new(alloc);
+    for line in lines {
+        text.push_str(format!(in alloc; "{line}\n")?.as_str())?;
+    }
+    Ok(text)
+}
+
 // Whether steps over the store in the files print these lines, and the files behind them.
 fn prints(
     alloc: Global,
@@ -60,10 +91,7 @@ fn prints(
     let mut world = taken(alloc, files)?;
     let printed = printed(alloc, &mut world, steps)?;
     let files = closed(world.close().release())?;
-    Ok((
-        printed.as_str() == text_of(alloc, "", lines)?.as_str(),
-        files,
-    ))
+    Ok((printed.as_str() == text_of(alloc, lines)?.as_str(), files))
 }
 
 fn printed(
