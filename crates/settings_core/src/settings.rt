@@ -2,7 +2,7 @@
 ghost use Rattle.std.specs.Prelude.{◌≡◌, ◌≤◌, Ok, IfOk, length, true};
 ghost use Rattle.plain.specs.Results.{Gives};
 ghost use Rattle.names_cell.specs.Text.{is_component};
-ghost use Rattle.rows_cell.specs.Opening.{settled_or, base_of, standard};
+ghost use Rattle.settings_core.specs.Settings.{settled_or, base_of, standard};
 
 use names_cell::{Component, Principal};
 use node_core::CONTENT_LIMIT;
@@ -24,7 +24,7 @@ pub enum SettingsFault {
 
 impl From<AllocError> for SettingsFault {
     ghost use Rattle.std.specs.Prelude.{◌≡◌};
-    ghost use Rattle.rows_cell.specs.declared.settings.SettingsFault.TheVariants.{NoMemory};
+    ghost use Rattle.settings_core.specs.declared.settings.SettingsFault.TheVariants.{NoMemory};
 
     ghost from_gives = { λ _ e. e ≡ NoMemory };
 
@@ -45,7 +45,7 @@ pub struct Settings {
 
 impl Model for Settings {
     ghost use Rattle.std.specs.Prelude.{◌≤◌, length};
-    ghost use Rattle.rows_cell.specs.Opening.{Settled};
+    ghost use Rattle.settings_core.specs.Settings.{Settled};
 
     ghost Value = { Settled };
 
@@ -131,8 +131,8 @@ fn base_of(alloc: Global, principals: &[Principal]) -> Result<Bytes, AllocError>
     Bytes::from_vec(text)
 }
 
-// A text that is a component.
-pub(crate) fn component(alloc: Global, text: &str) -> Result<Component, AllocError>
+/// A text that is known to be a component. Refused where memory is wanting alone.
+pub fn component(alloc: Global, text: &str) -> Result<Component, AllocError>
     requires { is_component text.now ≡ true }
     ensures { IfOk result (λ c. c ≡ text.now) }
 {

@@ -1,5 +1,5 @@
 use Rattle.std.proofs.Common.{rules}
-use Rattle.rows_cell.proofs.settings.Settings.new.Goals as goal
+use Rattle.settings_core.proofs.settings.Settings.new.Goals as goal
 
 pub returns-then-len-gt-CONTENT_LIMIT : goal.returns-then-len-gt-CONTENT_LIMIT
 returns-then-len-gt-CONTENT_LIMIT c = search rules
