@@ -337,6 +337,16 @@ sweep_case s order orderly =
 abbrev pub first_tellings : MasterState → List Telling
 first_tellings s = tellings_of s (plan_of s (first_action s))
 
+-- a sweep that is made does the first action that there is
+pub does_first : (s : MasterState) (now : ℕ) (p : MasterState × Swept) → sweep_step s now ≡ Ok p → swept (noted s now) (first_action (noted s now)) ≡ p
+unfolding sweep_step
+does_first s now p h =
+    let planned : MasterState × Swept = swept (noted s now) (first_action (noted s now)) in
+    (elim (is_over s now) as (λ b. cond {A = Result (MasterState × Swept) Fault} b (Err faults.Exhausted) (Ok planned) ≡ Ok p → planned ≡ p) [
+      | true ↦ (λ e. cc)
+      | false ↦ (λ e. cc)
+    ]) h
+
 -- one of the cases is what is done, and committed, and behind it clients are told
 abbrev pub IsSweptAndTold : (s : MasterState) → MasterState × Swept → List Edit → Type 0
 IsSweptAndTold s p edits = (c : SweepCase s) × (p ≡ telling (first_tellings s) (swept_by s c)) × (edits ≡ swept_edits s c)

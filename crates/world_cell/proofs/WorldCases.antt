@@ -30,7 +30,7 @@ use Rattle.over_core.specs.Sweep.{acted, telling, is_over, sweep_step, sweep_edi
 use Rattle.cell_core.specs.Cases.{TakeCase, taken_by}
 use Rattle.over_core.specs.SweepCase.{SweepCase, swept_by, swept_edits}
 use Rattle.cell_core.proofs.TakeCases.{taken_case, taken_unspent}
-use Rattle.over_core.proofs.SweepCases.{first_tellings, swept_case}
+use Rattle.over_core.proofs.SweepCases.{first_tellings, swept_case, does_first}
 use Rattle.over_core.specs.Kept.{IsKept}
 use Rattle.over_core.specs.Up.{up_step, up_edits, master_by}
 use Rattle.client_parts.specs.declared.asks.Ask.{Ask}
@@ -213,13 +213,21 @@ in_order w m s up agrees =
 
 -- what a sweep does is what was planned, and then clients are told
 swept_is : (s : MasterState) (now : ℕ) (p : MasterState × Swept) → sweep_step s now ≡ Ok p → p ≡ telling (first_tellings (noted s now)) (acted (noted s now) (first_action (noted s now)))
-unfolding sweep_step
-swept_is s now p h =
-    let planned : MasterState × Swept = telling (first_tellings (noted s now)) (acted (noted s now) (first_action (noted s now))) in
-    (elim (is_over s now) as (λ b. cond {A = Result (MasterState × Swept) Fault} b (Err faults.Exhausted) (Ok planned) ≡ Ok p → p ≡ planned) [
-      | true ↦ (λ e. cc)
-      | false ↦ (λ e. let is : planned ≡ p = cc in sym is)
-    ]) h
+swept_is s now p h = sym (does_first s now p h)
+
+-- ---- rows of the table that deliver and sweep, for whoever knows no more than that a step was made
+
+pub takes : (w : WorldState) (number : ℕ) → world_step w (steps.Take number) ≡ world_take w number w.master
+unfolding world_step
+takes w number = refl
+
+pub gives : (w : WorldState) (number : ℕ) → world_step w (steps.Give number) ≡ world_give w number
+unfolding world_step
+gives w number = refl
+
+pub sweeps : (w : WorldState) → world_step w steps.Sweep ≡ without_quiet (world_sweep w w.master)
+unfolding world_step
+sweeps w = refl
 
 module _ (w : WorldState) (step : Step) (new : WorldState) (printed : List Line) where
   -- ---- a master comes up
