@@ -77,7 +77,7 @@ use Rattle.world_cell.proofs.AwaitedCalls.{awaits_unanswered, shows_own}
 use Rattle.world_cell.proofs.SeatsFound.{some_same, own_seat, other_seat, at_seats, each_found, at_each_seat, all_found, moves_so, fair_at_once, fair_beside}
 use Rattle.world_cell.specs.Runs.{WasMade, WasRefused}
 use Rattle.world_cell.proofs.AsRead.{made_doubts, made_sure, refused_doubts, refused_sure}
-use Rattle.world_cell.proofs.WorldCases.{sweeps, swept_master, IsUp, IsSweep, WorldCase, world_case}
+use Rattle.world_cell.proofs.WorldCases.{step_sweeps, swept_master, IsUp, IsSweep, WorldCase, world_case}
 use Rattle.world_cell.proofs.WorldCases.WorldCase.{ComesUp, Joins, Asks, Beats, Gives, Ticks, Takes, Sweeps, GoesDown, CutsSweep, CutsUp, LosesUp}
 use Rattle.world_cell.proofs.OwnSteps.{IsNoCall, IsNextCall, Sends, OfEpoch, sending, IsOwn, asks_own, beats_own, gives_own}
 use Rattle.world_cell.proofs.OwnSteps.Sends.{Nothing, NoCall, NextCall}
@@ -802,7 +802,7 @@ pub swept_holds : LeadsOn → (old new : WorldView) (r : Result Turn Fault) → 
 swept_holds leads old new (Ok turn) fits agrees made stored left none =
     let rises = stored.doubted in
     let sure : old.doubt ≡ 0 = omega arith in
-    step_keeps leads old.world steps.Sweep new.world turn.lines (fits sure) agrees (sweeps old.world ∙ ap without_quiet made)
+    step_keeps leads old.world steps.Sweep new.world turn.lines (fits sure) agrees (step_sweeps old.world ∙ ap without_quiet made)
 swept_holds leads old new (Err fault) fits agrees made stored left none =
     let rises = left.doubted in
     let sure : old.doubt ≡ 0 = omega arith in

@@ -217,17 +217,17 @@ swept_is s now p h = sym (does_first s now p h)
 
 -- ---- rows of the table that deliver and sweep, for whoever knows no more than that a step was made
 
-pub takes : (w : WorldState) (number : ℕ) → world_step w (steps.Take number) ≡ world_take w number w.master
+pub step_takes : (w : WorldState) (number : ℕ) → world_step w (steps.Take number) ≡ world_take w number w.master
 unfolding world_step
-takes w number = refl
+step_takes w number = refl
 
-pub gives : (w : WorldState) (number : ℕ) → world_step w (steps.Give number) ≡ world_give w number
+pub step_gives : (w : WorldState) (number : ℕ) → world_step w (steps.Give number) ≡ world_give w number
 unfolding world_step
-gives w number = refl
+step_gives w number = refl
 
-pub sweeps : (w : WorldState) → world_step w steps.Sweep ≡ without_quiet (world_sweep w w.master)
+pub step_sweeps : (w : WorldState) → world_step w steps.Sweep ≡ without_quiet (world_sweep w w.master)
 unfolding world_step
-sweeps w = refl
+step_sweeps w = refl
 
 module _ (w : WorldState) (step : Step) (new : WorldState) (printed : List Line) where
   -- ---- a master comes up
