@@ -30,13 +30,13 @@ use Rattle.deed_core.specs.Deeds.{with_note}
 use Rattle.turn_core.specs.Effect.{effect, gone_by_itself}
 use Rattle.plan_core.specs.Plans.{first_action, no_plan, session_plan, started_out, alive_out, plan_session, plan_start, plan_of, plan_task, plan_work, plan_call, plan_asked, plan_effect, leaving, expiry_plan}
 use Rattle.deed_core.specs.Lapses.{lapses_of}
-use Rattle.over_core.specs.Sweep.{acted, swept}
+use Rattle.sweep_laws.specs.Sweep.{acted, swept}
 use Rattle.plan_core.specs.declared.plans.Plan.{Plan}
 use Rattle.plan_core.specs.declared.actions.Action.{Action}
 use Rattle.plan_core.specs.declared.actions.Action.TheVariants as actions
 use Rattle.master_laws.specs.Closed.{IsClosed, IsClosedForGood, task_opens, work_opens, waits_to_open, ClosedForGoodBySweeps}
 use Rattle.master_laws.proofs.AfterSweeps.{done_handles, done_gate}
-use Rattle.over_core.proofs.SweepCases.{does_first}
+use Rattle.sweep_laws.proofs.SweepCases.{does_first}
 use Rattle.master_laws.proofs.ClosedNotes.{stays_closed}
 use Rattle.master_laws.proofs.TameEffects.{tame}
 

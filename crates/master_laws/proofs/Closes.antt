@@ -22,15 +22,15 @@ use Rattle.cell_parts.specs.Keys.{key_of}
 use Rattle.cell_state.specs.Lookups.{noted, reply_of}
 use Rattle.cell_parts.proofs.PlacedHandles.{exact_handle, same_handle}
 use Rattle.plan_core.specs.declared.plans.Plan.{Plan}
-use Rattle.over_core.specs.declared.sweeps.Swept.{Swept}
+use Rattle.sweep_laws.specs.declared.swept.Swept.{Swept}
 use Rattle.turn_core.specs.Effect.{close_at, handle_effect, effect}
 use Rattle.deed_core.specs.Replies.{sent}
 use Rattle.turn_core.specs.Outcomes.{locking_replies}
-use Rattle.over_core.specs.Sweep.{sweep_step}
+use Rattle.sweep_laws.specs.Sweep.{sweep_step}
 use Rattle.master_laws.specs.Steps.{HasTurn}
 use Rattle.master_laws.specs.Closed.{CloseCloses}
 use Rattle.master_laws.proofs.AfterSweeps.{done_handles}
-use Rattle.over_core.proofs.SweepCases.{does_first}
+use Rattle.sweep_laws.proofs.SweepCases.{does_first}
 use Rattle.master_laws.proofs.Turns.{plan_for, done_as, done_so}
 
 -- what is noted of a handle is what is known of it

@@ -29,11 +29,11 @@ use Rattle.plan_core.specs.declared.plans.Plan.{Plan}
 use Rattle.turn_core.specs.Effect.{refused, effect}
 use Rattle.plan_core.specs.Plans.{tellings_of}
 use Rattle.plan_core.specs.Plans.{first_action}
-use Rattle.over_core.specs.Sweep.{swept, action_edits, is_over}
-use Rattle.over_core.proofs.ToldSessions.{reads_told, lease_told}
+use Rattle.sweep_laws.specs.Sweep.{swept, action_edits, is_over}
+use Rattle.sweep_laws.proofs.ToldSessions.{reads_told, lease_told}
 use Rattle.master_laws.specs.Steps.{HasTurn}
 use Rattle.master_laws.specs.Refused.{life_of, RefusedTurnChangesNothing}
-use Rattle.over_core.proofs.SweepCases.{does_first}
+use Rattle.sweep_laws.proofs.SweepCases.{does_first}
 use Rattle.master_laws.proofs.Turns.{plan_for, done_as, planned, done_so}
 use Rattle.master_laws.proofs.TameEffects.{tame}
 

@@ -45,15 +45,15 @@ use Rattle.cell_state.specs.Lookups.{session_of, repeated_reply, noted}
 use Rattle.deed_core.specs.Deeds.{with_note, edit_of, lock_changes}
 use Rattle.cell_core.specs.Step.{with_call, asking_for}
 use Rattle.cell_core.specs.Cases.{TakeCase, taken_by}
-use Rattle.over_core.specs.SweepCase.{SweepCase, swept_by, swept_edits, gone_replies}
-use Rattle.over_core.proofs.SweepCases.{first_tellings}
+use Rattle.sweep_laws.specs.SweepCase.{SweepCase, swept_by, swept_edits, gone_replies}
+use Rattle.sweep_laws.proofs.SweepCases.{first_tellings}
 use Rattle.cell_core.specs.Cases.TakeCase.{Repeated, StartQueued, OldBeat, BeatRefused, BeatParked, OldEpoch, Answered, Granted, Waits}
 use Rattle.turn_core.specs.Outcomes.{left_put}
 use Rattle.deed_core.specs.Replies.{turn_replies, puts_of, replies_to}
 use Rattle.deed_core.specs.Lapses.{lapses_of, lapses_puts, lapses_replies}
-use Rattle.over_core.specs.SweepCase.SweepCase.{Quiet, Recovers, Expires, Reopens, Tidies, Spared, Tidied, StartedAgain, Started as StartedFirst, OfEnded, Ended, Applied, Deleted, Locked, Awaited, Left}
-use Rattle.over_core.specs.Kept.{IsKept}
-use Rattle.over_core.specs.Up.{up_edits}
+use Rattle.sweep_laws.specs.SweepCase.SweepCase.{Quiet, Recovers, Expires, Reopens, Tidies, Spared, Tidied, StartedAgain, Started as StartedFirst, OfEnded, Ended, Applied, Deleted, Locked, Awaited, Left}
+use Rattle.sweep_laws.specs.Kept.{IsKept}
+use Rattle.sweep_laws.specs.Up.{up_edits}
 use Rattle.client_parts.specs.declared.sessions.Session.TheVariants as sessions
 use Rattle.client_core.specs.State.{ClientState}
 use Rattle.world_cell.specs.declared.steps.Step.{Step}

@@ -43,7 +43,7 @@ use Rattle.cell_parts.specs.declared.pending.Work.TheVariants as works
 use Rattle.cell_state.specs.State.{MasterState}
 use Rattle.cell_core.specs.Names.{name_asked}
 use Rattle.cell_state.specs.Lookups.{session_of, kept_of}
-use Rattle.over_core.specs.Kept.{IsKept}
+use Rattle.sweep_laws.specs.Kept.{IsKept}
 use Rattle.world_cell.specs.declared.mail.Message.{Message}
 use Rattle.world_cell.specs.declared.seats.Seat.{Seat}
 use Rattle.world_cell.specs.Messages.{request_at, out_at, call_of}
