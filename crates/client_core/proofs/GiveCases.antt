@@ -23,8 +23,10 @@ use Rattle.client_parts.specs.declared.targets.Target.{Target}
 use Rattle.client_parts.specs.declared.targets.Target.TheVariants as targets
 use Rattle.client_parts.specs.declared.targets.Outstanding.{Outstanding}
 use Rattle.client_core.specs.State.{ClientState, standing_then, session_then, note_in, note, note_live}
-use Rattle.client_core.specs.Lessons.{Lesson, is_safe, is_fresh, may_install, taught, lesson}
-use Rattle.client_core.specs.Gives.{is_live, is_unstarted, is_span, told, passed_over, rejected, offered, begun, with_processed, takes_offer, bettered, with_lease, safe_lines, kept_alive, is_numbered, target_for, awaited, answer_of, has_number, ended_plainly, ended, finish_step, reply_for, lost, lose_step, later_epoch, unknown_lines, learned, learn_step, taken, taken_own, give_at, give_step}
+use Rattle.client_parts.specs.Opens.{Lesson}
+use Rattle.client_core.specs.Lessons.{is_safe, is_fresh, may_install, taught, lesson}
+use Rattle.client_parts.specs.Targets.{unknown_lines}
+use Rattle.client_core.specs.Gives.{is_live, is_unstarted, is_span, told, passed_over, rejected, offered, begun, with_processed, takes_offer, bettered, with_lease, safe_lines, kept_alive, is_numbered, target_for, awaited, answer_of, has_number, ended_plainly, ended, finish_step, reply_for, lost, lose_step, later_epoch, learned, learn_step, taken, taken_own, give_at, give_step}
 use Rattle.client_parts.specs.Invalidations.{is_in_order}
 use Rattle.client_parts.specs.Events.{are_events_in_order, event_lines}
 use Rattle.client_parts.specs.Sessions.{session_without, session_after}

@@ -34,13 +34,14 @@ use Rattle.client_parts.specs.declared.targets.Target.{Target}
 use Rattle.client_parts.specs.declared.targets.Target.TheVariants as targets
 use Rattle.client_parts.specs.declared.targets.Outstanding.{Outstanding}
 use Rattle.client_core.specs.State.{ClientState, at_moment, session_then, note, note_live, note_lines}
-use Rattle.client_core.specs.Handles.{handle_of}
-use Rattle.client_parts.specs.Opens.{read_answer, is_plain, only_reads, kept_handle}
+use Rattle.client_parts.specs.Handles.{handle_of}
+use Rattle.client_parts.specs.Opens.{read_answer, is_plain, only_reads, kept_handle, Lesson}
 use Rattle.client_core.specs.Asks.{fault_then, plan_of, asked_for, message_of, with_call, with_shared, without_handle}
 use Rattle.client_core.specs.Poisons.{with_poisoned, poison_lines}
 use Rattle.client_core.specs.Beats.{start_message, beat_message, with_beat, beaten}
-use Rattle.client_core.specs.Lessons.{Lesson, lesson}
-use Rattle.client_core.specs.Gives.{is_numbered, later_epoch, unknown_lines, learned, told, passed_over, rejected, offered, begun, with_processed, bettered, safe_lines, awaited, answer_of, has_number, ended_plainly, with_lesson, lost}
+use Rattle.client_core.specs.Lessons.{lesson}
+use Rattle.client_parts.specs.Targets.{unknown_lines}
+use Rattle.client_core.specs.Gives.{is_numbered, later_epoch, learned, told, passed_over, rejected, offered, begun, with_processed, bettered, safe_lines, awaited, answer_of, has_number, ended_plainly, with_lesson, lost}
 use Rattle.client_parts.specs.Invalidations.{is_in_order}
 use Rattle.client_parts.specs.Events.{are_events_in_order, event_lines}
 use Rattle.client_parts.specs.Sessions.{session_after}
