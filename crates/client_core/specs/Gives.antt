@@ -39,7 +39,7 @@ use Rattle.client_parts.specs.Events.{are_events_in_order, last_event, event_lin
 use Rattle.client_parts.specs.Targets.{opening_of, sequencer_of, unknown_lines}
 use Rattle.client_parts.specs.Moments.{moment}
 use Rattle.client_core.specs.State.{ClientState, session_then, note, note_lines}
-use Rattle.client_parts.specs.Handles.{handle_of, put_under, handles_behind, kept_behind}
+use Rattle.client_parts.specs.Handles.{handle_of, has_number, put_under, handles_behind, kept_behind}
 use Rattle.client_parts.specs.Opens.{Lesson}
 use Rattle.client_parts.specs.Leased.{under}
 use Rattle.client_core.specs.Lessons.{lesson}
@@ -200,15 +200,10 @@ abbrev pub ended : ClientState → ℕ → Target → CallResult → Option Less
 ended s moment target result None = ended_plainly (note s moment) target result
 ended s moment target result (Some taught) = with_lesson s moment taught
 
--- a handle wants a number
-abbrev pub has_number : ClientState → CallResult → Bool
-has_number s (results.Opened handle) = nat_lt (s.opened + 1) number_end
-has_number s _ = true
-
 -- behind the last handle number nothing changes
 abbrev pub finish_step : ClientState → ℕ → Reply → Target → ClientState × Result Given Fault
 finish_step s moment message target =
-    if has_number s message.result
+    if has_number s.opened message.result
     then (ended s moment target message.result (lesson s moment message target), Ok (told s moment (lines.Done s.number message.number (answer_of s message.result) ∷ []) None))
     else (s, Err faults.Exhausted)
 

@@ -5,7 +5,7 @@ ghost use Rattle.client_core.specs.Lessons.{is_fresh, may_install, viewed, view_
 
 use crate::client::Client;
 use cache_core::Standing;
-use client_parts::{Target, absence_taught};
+use client_parts::{Target, absence_taught, standing_by};
 use messages_cell::{CallResult, Reply};
 use names_cell::Name;
 use node_core::{Fault, View};
@@ -36,7 +36,9 @@ impl Client {
     fn may_install(&self, moment: u64, stamp: Option<u64>) -> bool
         ensures { result ≡ may_install self.now moment stamp }
     {
-        if !self.cache.is_enabled() || self.standing_then(moment) != Standing::Safe {
+        if !self.cache.is_enabled()
+            || standing_by(self.standing, &self.cache, moment) != Standing::Safe
+        {
             return false;
         }
         match stamp {

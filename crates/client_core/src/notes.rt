@@ -6,24 +6,20 @@ ghost use Rattle.client_core.specs.Asks.{fault_then};
 
 use crate::client::Client;
 use cache_core::Standing;
-use client_parts::{Session, turn_lines};
+use client_parts::{Session, standing_by, turn_lines};
 use node_core::{Fault, Line};
 use plain::Items;
 use std::alloc::AllocError;
 
 impl Client {
-    // How a client in a session stands at a moment.
-    pub(crate) fn standing_then(&self, moment: u64) -> Standing
-        ensures { result ≡ standing_then self.now moment }
-    {
-        self.standing.at(self.cache.is_leased(moment), moment)
-    }
-
     // What has become of its session by then.
     pub(crate) fn session_then(&self, moment: u64) -> Session
         ensures { result ≡ session_then self.now moment }
     {
-        match (self.session, self.standing_then(moment)) {
+        match (
+            self.session,
+            standing_by(self.standing, &self.cache, moment),
+        ) {
             (Session::Live, Standing::Lost) => Session::Lost,
             (session, _) => session,
         }
@@ -33,7 +29,8 @@ impl Client {
     pub(crate) fn fault_then(&self, moment: u64) -> Option<Fault>
         ensures { result ≡ fault_then self.now moment }
     {
-        self.session.fault(self.standing_then(moment))
+        self.session
+            .fault(standing_by(self.standing, &self.cache, moment))
     }
 
     // The lines that the noting of the time prints.
@@ -45,7 +42,7 @@ impl Client {
                 self.alloc,
                 self.number.get(),
                 self.standing,
-                self.standing_then(moment),
+                standing_by(self.standing, &self.cache, moment),
             ),
             Session::Unstarted | Session::Lost | Session::TurnedAway => Ok(Items::new(self.alloc)),
         }

@@ -16,8 +16,6 @@ use client_parts::{
 use lease_core::Lease;
 use messages_cell::{Alive, Started};
 use node_core::{Fault, Line};
-use plain::Items;
-use std::alloc::AllocError;
 
 impl Client {
     // Takes the session that the newest Start asked for, and the lease on it.
@@ -60,26 +58,18 @@ impl Client {
         self.keep_alive(moment, alive, lease)
     }
 
-    // What the noting of the time prints, and the events.
-    fn alive_lines(&self, moment: u64, alive: &Alive) -> Result<Items<Line>, AllocError>
-        ensures { IfOk result (λ lines. lines ≡ note_lines self.now moment ++ event_lines self.now.number self.now.heard alive.now.events) }
-    {
-        let lines = self.note_lines(moment)?;
-        with_events(
-            lines,
-            self.number.get(),
-            self.heard,
-            alive.events.as_slice(),
-        )
-    }
-
     // The lines that there may be are made before anything changes.
     fn keep_alive(&mut self, moment: u64, alive: &Alive, lease: Lease) -> Result<Given, Fault>
         requires moment { IsMoment moment }
         requires lease { lease ≡ offered self.old alive.now.span }
         ensures { Does self.old self.new result (kept_alive self.old moment alive.now) }
     {
-        let mut lines = self.alive_lines(moment, alive)?;
+        let mut lines = with_events(
+            self.note_lines(moment)?,
+            self.number.get(),
+            self.heard,
+            alive.events.as_slice(),
+        )?;
         lines.push(Line::Safe(self.number.get()))?;
         self.note(moment);
         self.process(alive);

@@ -5,12 +5,15 @@ ghost use Rattle.client_core.specs.State.{note, note_lines, Does};
 ghost use Rattle.client_core.specs.Lessons.{lesson};
 ghost use Rattle.messages_cell.specs.declared.outs.CallResult.TheVariants as results;
 ghost use Rattle.client_parts.specs.declared.targets.Target.TheVariants as targets;
-ghost use Rattle.client_core.specs.Gives.{awaited, answer_of, has_number, ended_plainly, ended, finish_step, reply_for, reply_step};
+ghost use Rattle.client_parts.specs.Handles.{has_number};
+ghost use Rattle.client_core.specs.Gives.{awaited, answer_of, ended_plainly, ended, finish_step, reply_for, reply_step};
 
 use crate::client::Client;
-use client_parts::{Given, Session, Target, keep_handle, pushed, put_sequencer, sent_sequencer};
+use client_parts::{
+    Given, Session, Target, has_number, keep_handle, pushed, put_sequencer, sent_sequencer,
+};
 use messages_cell::{CallResult, Reply};
-use node_core::{Answer, Fault, Line, NUMBER_LIMIT};
+use node_core::{Answer, Fault, Line};
 use plain::Items;
 use std::alloc::AllocError;
 
@@ -49,7 +52,7 @@ impl Client {
         requires { IsMoment moment }
         ensures { Does self.old self.new result (finish_step self.old moment reply.now target) }
     {
-        if !self.has_number(&reply.result) {
+        if !has_number(self.opened, &reply.result) {
             return Err(Fault::Exhausted);
         }
         let lines = self.reply_lines(moment, reply)?;
@@ -60,19 +63,9 @@ impl Client {
         })
     }
 
-    // Whether there is a number for what it gives.
-    fn has_number(&self, outcome: &CallResult) -> bool
-        ensures { result ≡ has_number self.now outcome.now }
-    {
-        match outcome {
-            CallResult::Opened(_) => self.opened < NUMBER_LIMIT,
-            _ => true,
-        }
-    }
-
     // What the noting of the time prints, and how the call ended.
     fn reply_lines(&self, moment: u64, reply: &Reply) -> Result<Items<Line>, AllocError>
-        requires { has_number self.now reply.now.result ≡ true }
+        requires { has_number self.now.opened reply.now.result ≡ true }
         ensures { IfOk result (λ lines. lines ≡ note_lines self.now moment ++ Line.Done self.now.number reply.now.number (answer_of self.now reply.now.result) ∷ []) }
     {
         let answer = self.answer_of(&reply.result)?;
@@ -101,7 +94,7 @@ impl Client {
 
     // How a call ended, as it is told.
     fn answer_of(&self, outcome: &CallResult) -> Result<Answer, AllocError>
-        requires { has_number self.now outcome.now ≡ true }
+        requires { has_number self.now.opened outcome.now ≡ true }
         ensures { IfOk result (λ answer. answer ≡ answer_of self.now outcome.now) }
     {
         Ok(match outcome {
@@ -119,7 +112,7 @@ impl Client {
     // Ends the outstanding call, and holds what the reply teaches of a name, where the cache takes it.
     fn end_call(&mut self, moment: u64, reply: &Reply, target: Target) -> Result<(), AllocError>
         requires moment { IsMoment moment }
-        requires number { has_number self.old reply.now.result ≡ true }
+        requires number { has_number self.old.opened reply.now.result ≡ true }
         ensures ok { OnOk result (self.new ≡ ended self.old moment target reply.now.result (lesson self.old moment reply.now target)) }
         ensures err { OnErr result (self.new ≡ self.old) }
     {
@@ -140,7 +133,7 @@ impl Client {
         outcome: &CallResult,
     ) -> Result<(), AllocError>
         requires moment { IsMoment moment }
-        requires number { has_number self.old outcome.now ≡ true }
+        requires number { has_number self.old.opened outcome.now ≡ true }
         ensures ok { OnOk result (self.new ≡ ended_plainly (note self.old moment) target outcome.now) }
         ensures err { OnErr result (self.new ≡ self.old) }
     {

@@ -5,13 +5,13 @@ ghost use Rattle.std.specs.Ordering.{nat_cmp};
 ghost use Rattle.plain.specs.Results.{Gives};
 ghost use Rattle.cache_core.specs.Kept.{with_kept};
 ghost use Rattle.client_parts.specs.Targets.{opening_of};
-ghost use Rattle.client_parts.specs.Handles.{handle_of, usable_handle, put_under, handles_behind, kept_behind};
+ghost use Rattle.client_parts.specs.Handles.{handle_of, usable_handle, has_number, put_under, handles_behind, kept_behind};
 
 use crate::handles::{ClientHandle, is_shareable, share_of};
 use crate::targets::Outstanding;
 use cache_core::{Kept, KeptHandles};
-use messages_cell::NewHandle;
-use node_core::Fault;
+use messages_cell::{CallResult, NewHandle};
+use node_core::{Fault, NUMBER_LIMIT};
 use plain::{Bytes, Table};
 use std::alloc::AllocError;
 use std::mem;
@@ -27,6 +27,16 @@ pub fn usable_handle(handles: &Table<u64, ClientHandle>, number: u64) -> Result<
         return Err(Fault::Poisoned);
     }
     Ok(handle.clone()?)
+}
+
+/// Whether there is a number for what a reply gives, where this one is the newest.
+pub fn has_number(opened: u64, outcome: &CallResult) -> bool
+    ensures { result ≡ has_number opened outcome.now }
+{
+    match outcome {
+        CallResult::Opened(_) => opened < NUMBER_LIMIT,
+        _ => true,
+    }
 }
 
 /// The calls on the handle of this number are under this sequencer from here on, if it is still open.
