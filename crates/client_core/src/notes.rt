@@ -1,7 +1,7 @@
 //! A client notes the time.
 ghost use Rattle.std.specs.Prelude.{◌≡◌, IfOk};
 ghost use Rattle.lease_core.specs.Lease.{IsMoment};
-ghost use Rattle.client_core.specs.State.{standing_then, session_then, note, note_lines};
+ghost use Rattle.client_core.specs.State.{session_then, note, note_lines};
 ghost use Rattle.client_core.specs.Asks.{fault_then};
 
 use crate::client::Client;

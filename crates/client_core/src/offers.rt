@@ -2,10 +2,9 @@
 //! answered, in milliseconds by its own clock, and not from when the answer came. So where the clocks are fair its count
 //! ends no later than the master's promise, however long the answer was on its way (Gray and Cheriton 1989, section 2;
 //! Burrows 2006, section 2.8).
-ghost use Rattle.std.specs.Prelude.{◌≡◌, ◌&&◌, ◌++◌, Some, None, IfOk, if◌then◌else◌};
+ghost use Rattle.std.specs.Prelude.{◌≡◌, ◌&&◌, Some, None, if◌then◌else◌};
 ghost use Rattle.lease_core.specs.Lease.{IsMoment, is_unexpired};
-ghost use Rattle.client_parts.specs.Events.{event_lines};
-ghost use Rattle.client_core.specs.State.{note_lines, Does};
+ghost use Rattle.client_core.specs.State.{Does};
 ghost use Rattle.client_core.specs.Gives.{is_span, offered, started_step, is_numbered, alive_step, kept_alive, with_processed, with_lease, takes_offer, is_jeopardy};
 
 use crate::client::Client;
