@@ -9,7 +9,6 @@ ghost use Rattle.script_cell.specs.Texts.{Advances};
 
 use crate::deliveries::Deliveries;
 use crate::lines::{LINE_COUNT_LIMIT, ScriptLines};
-use crate::steps::{Parsed, read_line};
 use crate::stops::Stop;
 use node_core::{Fault, Line};
 use plain::Items;
@@ -17,6 +16,7 @@ use rows_cell::Records;
 use settings_core::Settings;
 use std::alloc::Global;
 use std::io::{self, Read, Write};
+use step_words::{Parsed, read_line};
 use world_cell::{Turn, World};
 
 /// Runs a script on a new world over the records: reads its steps, one a line, and writes the lines that they print.
