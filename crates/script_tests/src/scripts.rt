@@ -1,9 +1,10 @@
 //! Whole scripts, and the limits of the reader.
 use names_cell::{Component, Principal};
 use plain::Secret;
-use rows_cell::{ListRecords, Settings};
+use rows_cell::ListRecords;
 use rows_sql::SqlRecords;
 use script_cell::{Counted, script};
+use settings_core::Settings;
 use sqlite::Connection;
 use std::alloc::Global;
 use std::io::{Read, Write};

@@ -1,7 +1,8 @@
 //! Steps one by one on a new world, by `World::run`.
 use node_core::Line;
 use plain::Items;
-use rows_cell::{ListRecords, Settings};
+use rows_cell::ListRecords;
+use settings_core::Settings;
 use std::alloc::Global;
 use std::test::Fail;
 use step_words::{Parsed, read_step};

@@ -1,9 +1,9 @@
 //! Worlds over stores in SQL, in files that are kept in memory.
 use names_cell::Component;
 use node_core::Line;
-use rows_cell::Settings;
 use rows_file::{inspect_file, verdict};
 use rows_sql::SqlRecords;
+use settings_core::Settings;
 use sqlite::{Connection, FileStore, Files, Options};
 use sqlite_disk::{Disk, Memory};
 use std::alloc::Global;

@@ -11,7 +11,8 @@ use crate::stages::Stage;
 use crate::steps::Step;
 use node_core::{Fault, Line};
 use plain::Items;
-use rows_cell::{Records, Settings};
+use rows_cell::Records;
+use settings_core::Settings;
 use std::alloc::Global;
 use std::marker::Model;
 
