@@ -6,12 +6,13 @@ use rows_cell::{ListRecords, Settings};
 use rows_sql::SqlRecords;
 use script_cell::{Counted, Parsed, content, events, mode, number, read_step, script};
 use sqlite::Connection;
+use stage_core::Step;
 use std::alloc::Global;
 use std::io::{Read, Write};
 use std::process::Abort;
 use std::test::Fail;
 use std::{io, str};
-use world_cell::{Step, World};
+use world_cell::World;
 
 // What a row's script begins with.
 #[derive(Clone, Copy)]
