@@ -32,7 +32,8 @@ pub struct Turn {
     pub quiet: bool,
 }
 
-/// The parts of a world: records, at most one master, clients, and every message that was sent.
+/// The parts of a world: records, at most one master, clients, and every message that was sent. To a contract, plain
+/// lists of these.
 #[derive(Drop)]
 pub struct Stage<R: Records> {
     alloc: Global,
@@ -57,6 +58,7 @@ impl<R: Records> Model for Stage<R> {
 }
 
 impl<R: Records + Drop> Stage<R> {
+    /// No master is up, no client has joined, nothing was sent. Takes no memory yet.
     pub fn new(alloc: Global, records: R, settings: &Settings) -> Stage<R>
         ensures is { result ≡ opened (R.store records) settings.now.lease }
         ensures range { settings.now.lease ≤ longest_lease }
@@ -72,6 +74,8 @@ impl<R: Records + Drop> Stage<R> {
         }
     }
 
+    /// One step, by the table of steps. What a client refuses by itself is no refusal of the step: it is a line, and the last
+    /// one. A refusal changes nothing but perhaps the store's count of its refusals, or what was read.
     #[tactic(auto, using(crate::proofs::AsRead::made_now, crate::proofs::AsRead::refused_now), unfolding(crate::specs::World::world_step))]
     pub fn step(&mut self, step: &Step) -> Result<Items<Line>, Fault>
         ensures made { IfOk result (λ lines. WasMade self.old step.now self.new lines) }
@@ -92,6 +96,7 @@ impl<R: Records + Drop> Stage<R> {
         }
     }
 
+    /// The step by which the master sweeps, with word of whether it found nothing to do.
     pub fn sweep(&mut self) -> Result<Turn, Fault>
         ensures ok { IfOk result (λ turn. world_sweep self.old.world self.old.world.master ≡ Ok (self.new.world, turn)) }
         ensures stored { OnOk result (IsStored (step_edits self.old.world Step.Sweep) self.old self.new) }
@@ -109,18 +114,21 @@ impl<R: Records + Drop> Stage<R> {
         })
     }
 
+    /// All messages that were sent, in order.
     pub fn messages(&self) -> &[Message]
         ensures { result.now ≡ self.now.world.messages }
     {
         self.messages.as_slice()
     }
 
+    /// Whether a master is up.
     pub fn is_up(&self) -> bool
         ensures { result ≡ is_some self.now.world.master }
     {
         self.master.is_some()
     }
 
+    /// The records, with the rows that stand. A master that is up is gone.
     pub fn close(self) -> R
         ensures { R.store result ≡ store_in self }
     {
@@ -139,11 +147,12 @@ impl<R: Records + Drop> Stage<R> {
         }
     }
 
+    /// Its allocator.
     pub fn alloc(&self) -> Global {
         self.alloc
     }
 
-    // What the master knows of its rows is what they hold.
+    /// What the master knows of its rows is what they hold.
     pub fn kept(&self)
         ensures { Agrees self.now.world self.now.world.master }
     {
