@@ -1,7 +1,8 @@
 //! The rows of a new store, and each public call once on its happy path.
 use names_cell::{Component, Principal};
 use plain::Secret;
-use rows_cell::{ListRecords, Records, Rows, Settings, SettingsFault};
+use rows_cell::{ListRecords, Records, Rows};
+use settings_core::{Settings, SettingsFault};
 use std::alloc::Global;
 use std::test::Fail;
 

@@ -4,8 +4,9 @@ ghost use Rattle.cellctl.specs.Exits.{IsExit};
 
 use crate::exits::unwritten_status;
 use anyhow::{Context, Result, bail};
-use rows_cell::{Counts, Settings, StoreFault};
+use rows_cell::{Counts, StoreFault};
 use rows_file::{inspect_file, verdict};
+use settings_core::Settings;
 use std::{fs, io};
 
 /// Tests the store at a path by the standard settings' cell, prints what is found, and answers the exit status: 0 where

@@ -3,7 +3,7 @@ ghost use Rattle.std.specs.Prelude.{IfErr};
 ghost use Rattle.cellctl.specs.Exits.{IsExit};
 
 use crate::exits::unread_status;
-use rows_cell::Settings;
+use settings_core::Settings;
 use settings_file::{TextFault, read_settings};
 use std::fs;
 

@@ -3,9 +3,10 @@ ghost use Rattle.std.specs.Prelude.{IfOk};
 ghost use Rattle.cellctl.specs.Exits.{IsExit};
 
 use anyhow::{Context, Result};
-use rows_cell::{Settings, StoreFault};
+use rows_cell::StoreFault;
 use rows_sql::SqlRecords;
 use script_cell::script;
+use settings_core::Settings;
 use sqlite::{Alter, Connection, Error, ErrorCode};
 use std::io::BufWriter;
 

@@ -1,8 +1,9 @@
 //! Runs a script of standard input over rows in lists, and prints its lines.
 #![tactic(auto)]
 
-use rows_cell::{ListRecords, Settings};
+use rows_cell::ListRecords;
 use script_cell::script;
+use settings_core::Settings;
 use std::io::BufWriter;
 use std::process::ExitCode;
 

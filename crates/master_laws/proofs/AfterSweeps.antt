@@ -1,8 +1,6 @@
 -- Which handles and which changes that wait a sweep leaves.
-use Rattle.std.proofs.Common.{◌≡◌, ℕ, List, Bool, true, false, cond, Option, Some, None, Result, Ok, Err, refl, ap, ◌∙◌}
+use Rattle.std.proofs.Common.{◌≡◌, ℕ, List, Bool, true, false, Option, Some, None, refl, ap, ◌∙◌}
 use Rattle.std.specs.BTreeMap.{insert_entry}
-use Rattle.node_core.specs.declared.refusals.Fault.{Fault}
-use Rattle.node_core.specs.declared.refusals.Fault.TheVariants as faults
 use Rattle.node_core.specs.declared.views.Mod.{Mod}
 use Rattle.node_core.specs.declared.views.Mod.TheVariants.{Put, Gone}
 use Rattle.gate_core.specs.Gate.{GateState, without}
@@ -18,9 +16,6 @@ use Rattle.deed_core.specs.declared.deeds.SessionDeed.{SessionDeed}
 use Rattle.deed_core.specs.declared.deeds.SessionDeed.TheVariants.{Begins, Prolongs, Ends, Answers}
 use Rattle.cell_parts.specs.declared.handles.Note.{Note}
 use Rattle.cell_parts.specs.declared.pending.Task.{Task}
-use Rattle.plan_core.specs.Plans.{first_action}
-use Rattle.over_core.specs.Sweep.{is_over, swept, sweep_step}
-use Rattle.over_core.specs.declared.sweeps.Swept.{Swept}
 
 -- the same handles are noted, and the same changes wait
 pub record IsSame (a b : MasterState) : Type 0 where
@@ -128,15 +123,3 @@ module _ (s : MasterState) (deed : Deed) where
 
   pub done_gate : (done s deed).gate ≡ (left s deed.leaves).gate
   done_gate = left_gate over_master s deed.leaves (behind_note.gate ∙ note_gate begun_master deed.note ∙ (begun s deed.session).gate)
-
--- ---- a sweep
-
--- it does the first action that there is
-pub does_first : (s new : MasterState) (now : ℕ) (told : Swept) → sweep_step s now ≡ Ok (new, told) → swept (noted s now) (first_action (noted s now)) ≡ (new, told)
-unfolding sweep_step
-does_first s new now told h =
-    let there : MasterState = noted s now in
-    (elim (is_over s now) as (λ b. cond {A = Result (MasterState × Swept) Fault} b (Err faults.Exhausted) (Ok (swept there (first_action there))) ≡ Ok (new, told) → swept there (first_action there) ≡ (new, told)) [
-      | true ↦ (λ e. absurd cc)
-      | false ↦ (λ e. cc)
-    ]) h

@@ -30,12 +30,13 @@ use Rattle.deed_core.specs.Deeds.{with_note}
 use Rattle.turn_core.specs.Effect.{effect, gone_by_itself}
 use Rattle.plan_core.specs.Plans.{first_action, no_plan, session_plan, started_out, alive_out, plan_session, plan_start, plan_of, plan_task, plan_work, plan_call, plan_asked, plan_effect, leaving, expiry_plan}
 use Rattle.deed_core.specs.Lapses.{lapses_of}
-use Rattle.over_core.specs.Sweep.{acted, swept}
+use Rattle.sweep_laws.specs.Sweep.{acted, swept}
 use Rattle.plan_core.specs.declared.plans.Plan.{Plan}
 use Rattle.plan_core.specs.declared.actions.Action.{Action}
 use Rattle.plan_core.specs.declared.actions.Action.TheVariants as actions
 use Rattle.master_laws.specs.Closed.{IsClosed, IsClosedForGood, task_opens, work_opens, waits_to_open, ClosedForGoodBySweeps}
-use Rattle.master_laws.proofs.AfterSweeps.{done_handles, done_gate, does_first}
+use Rattle.master_laws.proofs.AfterSweeps.{done_handles, done_gate}
+use Rattle.sweep_laws.proofs.SweepCases.{does_first}
 use Rattle.master_laws.proofs.ClosedNotes.{stays_closed}
 use Rattle.master_laws.proofs.TameEffects.{tame}
 
@@ -133,5 +134,5 @@ pub closed_for_good_by_sweeps : ClosedForGoodBySweeps
 closed_for_good_by_sweeps s new now key told h gone =
     let there : MasterState = noted s now in
     let after = by_action there key gone.closed gone.unasked (first_action there) in
-    let is : (swept there (first_action there)).0 ≡ new = ap (λ p. p.0) (does_first s new now told h) in
+    let is : (swept there (first_action there)).0 ≡ new = ap (λ p. p.0) (does_first s now (new, told) h) in
     subst (λ m. IsClosedForGood m key) is (record { closed = after.closed; unasked = after.unasked })

@@ -5,7 +5,7 @@ use Rattle.messages_cell.specs.declared.requests.Request.{Request}
 use Rattle.cell_parts.specs.declared.handles.HandleKey.{HandleKey}
 use Rattle.cell_state.specs.State.{MasterState}
 use Rattle.cell_core.specs.Step.{take_step}
-use Rattle.over_core.specs.Sweep.{sweep_step}
+use Rattle.sweep_laws.specs.Sweep.{sweep_step}
 use Rattle.master_laws.specs.Closed.{asks_to_open, IsClosedForGood, MasterStep, left_by, master_behind, step_opens, ClosedForGoodForever}
 use Rattle.master_laws.specs.Closed.MasterStep.{Takes, Sweeps}
 use Rattle.master_laws.proofs.ClosedByMessages.{closed_for_good_by_messages}

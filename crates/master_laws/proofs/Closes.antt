@@ -22,14 +22,15 @@ use Rattle.cell_parts.specs.Keys.{key_of}
 use Rattle.cell_state.specs.Lookups.{noted, reply_of}
 use Rattle.cell_parts.proofs.PlacedHandles.{exact_handle, same_handle}
 use Rattle.plan_core.specs.declared.plans.Plan.{Plan}
-use Rattle.over_core.specs.declared.sweeps.Swept.{Swept}
+use Rattle.sweep_laws.specs.declared.swept.Swept.{Swept}
 use Rattle.turn_core.specs.Effect.{close_at, handle_effect, effect}
 use Rattle.deed_core.specs.Replies.{sent}
 use Rattle.turn_core.specs.Outcomes.{locking_replies}
-use Rattle.over_core.specs.Sweep.{sweep_step}
+use Rattle.sweep_laws.specs.Sweep.{sweep_step}
 use Rattle.master_laws.specs.Steps.{HasTurn}
 use Rattle.master_laws.specs.Closed.{CloseCloses}
-use Rattle.master_laws.proofs.AfterSweeps.{done_handles, does_first}
+use Rattle.master_laws.proofs.AfterSweeps.{done_handles}
+use Rattle.sweep_laws.proofs.SweepCases.{does_first}
 use Rattle.master_laws.proofs.Turns.{plan_for, done_as, done_so}
 
 -- what is noted of a handle is what is known of it
@@ -50,7 +51,7 @@ close_plan s number asked bytes handle = plan_for s number asked (calls.Close by
 pub closed_so : (s new : MasterState) (now number : ℕ) (told : Swept) (asked : Asked) (bytes : List ℕ) (sequencer : Option (List ℕ)) (handle : Handle) → sweep_step s now ≡ Ok (new, told) → HasTurn (noted s now) number asked (calls.Close bytes) sequencer → read_handle s.secret bytes ≡ Some handle → (new, told) ≡ done_as (noted s now) (close_plan (noted s now) number asked bytes handle)
 closed_so s new now number told asked bytes sequencer handle h turn reads =
     let there : MasterState = noted s now in
-    sym (does_first s new now told h)
+    sym (does_first s now (new, told) h)
     ∙ done_so there number asked (calls.Close bytes) sequencer turn
     ∙ ap (λ effected. done_as there (plan_for there number asked (calls.Close bytes) effected)) (closing there asked.client asked.number bytes sequencer handle reads)
 

@@ -21,7 +21,7 @@ use Rattle.cell_parts.specs.declared.pending.Work.TheVariants as works
 use Rattle.cell_state.specs.State.{MasterState, task_at}
 use Rattle.cell_parts.specs.Keys.{key_of}
 use Rattle.cell_state.specs.Lookups.{kept_of, noted}
-use Rattle.over_core.specs.Kept.{IsOwnTask, IsOwnCall, is_call, is_call_by, call_count, waits_count, is_unanswered, unanswered}
+use Rattle.sweep_laws.specs.Kept.{IsOwnTask, IsOwnCall, is_call, is_call_by, call_count, waits_count, is_unanswered, unanswered}
 use Rattle.master_laws.specs.Closed.{opens_as, work_opens, task_opens, waits_to_open, CloseClosesForGood}
 use Rattle.master_laws.proofs.AfterSweeps.{done_gate}
 use Rattle.master_laws.proofs.Closes.{close_plan, closed_so, close_closes}

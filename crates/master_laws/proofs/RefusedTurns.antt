@@ -29,11 +29,11 @@ use Rattle.plan_core.specs.declared.plans.Plan.{Plan}
 use Rattle.turn_core.specs.Effect.{refused, effect}
 use Rattle.plan_core.specs.Plans.{tellings_of}
 use Rattle.plan_core.specs.Plans.{first_action}
-use Rattle.over_core.specs.Sweep.{swept, action_edits, is_over}
-use Rattle.over_core.proofs.ToldSessions.{reads_told, lease_told}
+use Rattle.sweep_laws.specs.Sweep.{swept, action_edits, is_over}
+use Rattle.sweep_laws.proofs.ToldSessions.{reads_told, lease_told}
 use Rattle.master_laws.specs.Steps.{HasTurn}
 use Rattle.master_laws.specs.Refused.{life_of, RefusedTurnChangesNothing}
-use Rattle.master_laws.proofs.AfterSweeps.{does_first}
+use Rattle.sweep_laws.proofs.SweepCases.{does_first}
 use Rattle.master_laws.proofs.Turns.{plan_for, done_as, planned, done_so}
 use Rattle.master_laws.proofs.TameEffects.{tame}
 
@@ -113,7 +113,7 @@ either_edits false edits h = h
 pub refused_turn_changes_nothing : RefusedTurnChangesNothing
 refused_turn_changes_nothing s new now number told asked call sequencer fault h turn refusal =
     let now_there : MasterState = noted s now in
-    let is = sym (does_first s new now told h) ∙ refused_so now_there number asked call sequencer fault turn refusal in
+    let is = sym (does_first s now (new, told) h) ∙ refused_so now_there number asked call sequencer fault turn refusal in
     let master = ap (λ p. p.0) is in
     let out = ap (λ p. p.1) is in
     let reply : Reply = reply_of s asked.client asked.number (results.Refused fault) in

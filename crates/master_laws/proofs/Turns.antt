@@ -7,11 +7,11 @@ use Rattle.cell_parts.specs.declared.pending.Task.{Task}
 use Rattle.cell_state.specs.State.{MasterState}
 use Rattle.turn_core.specs.declared.effects.Effect.{Effect}
 use Rattle.plan_core.specs.declared.plans.Plan.{Plan}
-use Rattle.over_core.specs.declared.sweeps.Swept.{Swept}
+use Rattle.sweep_laws.specs.declared.swept.Swept.{Swept}
 use Rattle.turn_core.specs.Effect.{effect}
 use Rattle.plan_core.specs.Plans.{tellings_of}
 use Rattle.plan_core.specs.Plans.{first_action, no_plan, plan_asked, plan_work, plan_task, plan_of, leaving}
-use Rattle.over_core.specs.Sweep.{swept_by_plan, telling, swept}
+use Rattle.sweep_laws.specs.Sweep.{swept_by_plan, telling, swept}
 use Rattle.master_laws.specs.Steps.{HasTurn}
 
 -- what is planned for a call with this effect

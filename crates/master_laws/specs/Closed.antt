@@ -27,9 +27,9 @@ use Rattle.cell_state.specs.Lookups.{handle_state_of, noted, reply_of}
 use Rattle.cell_parts.specs.Keys.{key_of}
 use Rattle.cell_parts.specs.Calls.{bytes_of}
 use Rattle.cell_core.specs.Step.{replied, take_step}
-use Rattle.over_core.specs.declared.sweeps.Swept.{Swept}
-use Rattle.over_core.specs.Kept.{IsKept}
-use Rattle.over_core.specs.Sweep.{sweep_step}
+use Rattle.sweep_laws.specs.declared.swept.Swept.{Swept}
+use Rattle.sweep_laws.specs.Kept.{IsKept}
+use Rattle.sweep_laws.specs.Sweep.{sweep_step}
 use Rattle.master_laws.specs.Steps.{TakesCall, HasTurn}
 
 -- the handle with this key was closed in the master's epoch

@@ -24,9 +24,9 @@ use Rattle.cell_state.specs.Lookups.{session_of, kept_of, sends, reply_of, shown
 use Rattle.cell_parts.specs.Answered.{answered_by}
 use Rattle.cell_core.specs.Step.{recorded, with_right, shown_note, take_step}
 use Rattle.deed_core.specs.Deeds.{with_note}
-use Rattle.over_core.specs.declared.sweeps.Swept.{Swept}
+use Rattle.sweep_laws.specs.declared.swept.Swept.{Swept}
 use Rattle.turn_core.specs.Effect.{effect}
-use Rattle.over_core.specs.Sweep.{sweep_edits, sweep_step}
+use Rattle.sweep_laws.specs.Sweep.{sweep_edits, sweep_step}
 use Rattle.master_laws.specs.Steps.{HasTurn}
 use Rattle.master_laws.specs.Closed.{shown_bytes}
 

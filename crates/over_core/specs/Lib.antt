@@ -4,24 +4,10 @@ pub use Rattle.node_core.specs.Nodes
 pub use Rattle.rows_cell.specs.Rows
 pub use Rattle.rows_cell.specs.Sound
 pub use Rattle.rows_cell.specs.Stores
-pub use Rattle.rows_cell.specs.LockRows
-pub use Rattle.rows_cell.specs.Indexes
-pub use Rattle.lock_core.specs.State as LockStates
-pub use Rattle.lock_core.specs.Turns
-pub use Rattle.lock_core.specs.Locks as LockTables
-pub use Rattle.cell_parts.specs.Locks
 pub use Rattle.cell_state.specs.State
-pub use Rattle.cell_state.specs.Lookups
 pub use Rattle.cell_core.specs.Step
-pub use Rattle.cell_core.specs.Cases
 pub use Rattle.deed_core.specs.Deeds
-pub use Rattle.deed_core.specs.Replies
-pub use Rattle.deed_core.specs.Lapses
-pub use Rattle.turn_core.specs.Effect
-pub use Rattle.turn_core.specs.Outcomes
-pub use Rattle.turn_core.specs.Notices
 pub use Rattle.plan_core.specs.Plans
-pub mod Kept
-pub mod Sweep
-pub mod SweepCase
-pub mod Up
+pub use Rattle.sweep_laws.specs.Kept
+pub use Rattle.sweep_laws.specs.Sweep
+pub use Rattle.sweep_laws.specs.Up

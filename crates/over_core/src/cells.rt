@@ -10,11 +10,11 @@ ghost use Rattle.rows_cell.specs.Rows.{changed_rows};
 ghost use Rattle.rows_cell.specs.Sound.{sound};
 ghost use Rattle.cell_core.specs.Step.{take_step};
 ghost use Rattle.rows_cell.specs.Stores.{Commits, IsCommitted, IsRead, IsRefused, IsUnread};
-ghost use Rattle.over_core.specs.Sweep.{sweep_step, sweep_edits};
-ghost use Rattle.over_core.specs.Kept.{IsKept};
-ghost use Rattle.over_core.specs.Up.{up_edits, next_epoch, ComesUp, StaysDown, CouldComeUp, CouldNotComeUp};
+ghost use Rattle.sweep_laws.specs.Sweep.{sweep_step, sweep_edits};
+ghost use Rattle.sweep_laws.specs.Kept.{IsKept};
+ghost use Rattle.sweep_laws.specs.Up.{up_edits, next_epoch, ComesUp, StaysDown, CouldComeUp, CouldNotComeUp};
 
-use crate::sweeps::{Swept, sweep_by};
+use crate::sweeps::sweep_by;
 use cell_parts::Taken;
 use lease_core::MOMENT_LIMIT;
 use messages_cell::Request;
@@ -23,6 +23,7 @@ use plain::Items;
 use rows_cell::{Edit, Records, Rows};
 use std::alloc::Global;
 use std::marker::Model;
+use sweep_laws::Swept;
 
 /// A master of a cell with the records that outlive it (Burrows 2006, sections 2.7 and 2.13). To a contract, what the
 /// master is, the name of its cell, the rows that stand, the rows that a crash may leave, how often the store refused, and
@@ -34,7 +35,7 @@ pub struct Cell<R: Records> {
 }
 
 impl<R: Records> Model for Cell<R> {
-    ghost use Rattle.over_core.specs.Kept.{CellState, IsKept};
+    ghost use Rattle.sweep_laws.specs.Kept.{CellState, IsKept};
 
     ghost Value = { CellState };
 

@@ -5,4 +5,3 @@ mod cells;
 mod sweeps;
 
 pub use cells::Cell;
-pub use sweeps::Swept;

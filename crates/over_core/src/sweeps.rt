@@ -8,7 +8,7 @@ ghost use Rattle.gate_core.specs.Gate.{push_answer};
 ghost use Rattle.deed_core.specs.Deeds.{BeginsNew, edits_of, done};
 ghost use Rattle.cell_core.specs.Ephemerals.{is_ok, tidied};
 ghost use Rattle.plan_core.specs.Plans.{tellings_of, first_action, plan_of};
-ghost use Rattle.over_core.specs.Sweep.{is_quiet, done_and_told, swept, action_edits, is_over, sweep_edits, sweep_step};
+ghost use Rattle.sweep_laws.specs.Sweep.{is_quiet, done_and_told, swept, action_edits, is_over, sweep_edits, sweep_step};
 
 use cell_core::Cell;
 use cell_parts::{Idle, Taken, Telling};
@@ -21,23 +21,7 @@ use plain::Items;
 use plan_core::{Action, Plan, first_action, plan_of, tellings_of};
 use rows_cell::{Edit, Records};
 use std::alloc::AllocError;
-
-/// What a sweep prints and sends, and whether it found nothing to do.
-#[derive(Debug, Drop)]
-pub struct Swept {
-    pub lines: Items<Line>,
-    pub outs: Items<Out>,
-    pub quiet: bool,
-}
-
-impl Swept {
-    fn of(taken: Taken, quiet: bool) -> Swept
-        ensures { result ≡ record { lines = taken.lines; outs = taken.outs; quiet = quiet } }
-    {
-        let Taken { lines, outs } = taken;
-        Swept { lines, outs, quiet }
-    }
-}
+use sweep_laws::Swept;
 
 // What is planned for an action, and what the clients of open handles are told of it.
 struct Prepared {
@@ -48,7 +32,7 @@ struct Prepared {
 /// A sweep at a moment, in milliseconds; an earlier one than the last counts as that, and one of 2^53 or more is refused
 /// as Exhausted, as is each sweep once a session's events have no number left. Room for what is printed and sent is made
 /// in a list of the caller's. A refusal leaves the master as it was.
-#[tactic(auto, unfolding(crate::specs::Sweep::sweep_step))]
+#[tactic(auto, unfolding(sweep_laws::specs::Sweep::sweep_step))]
 pub(crate) fn sweep_by<R: Records, T>(
     cell: &mut Cell,
     records: &mut R,

@@ -5,7 +5,6 @@ mod counts;
 mod keys;
 mod lists;
 mod records;
-mod settings;
 mod soundness;
 mod tables;
 
@@ -13,6 +12,5 @@ pub use counts::Counts;
 pub use keys::LockKey;
 pub use lists::ListRecords;
 pub use records::{Records, StoreFault};
-pub use settings::{Settings, SettingsFault};
 pub use soundness::is_sound;
 pub use tables::{Edit, LockRow, LockState, Node, Rows, Session};

@@ -10,7 +10,8 @@ use Rattle.sqlite.proofs.Callers.{survives_begin}
 use Rattle.sqlite_trees.specs.declared.store.Store.{Ghosts}
 use Rattle.rows_cell.specs.declared.tables.Rows.{Rows}
 use Rattle.rows_cell.specs.declared.tables.Edit.{Edit}
-use Rattle.rows_cell.specs.Opening.{Settled, opening}
+use Rattle.rows_cell.specs.Opening.{opening}
+use Rattle.settings_core.specs.Settings.{Settled}
 use Rattle.rows_cell.specs.Rows.{changed_rows}
 use Rattle.rows_read.specs.Held.{Says}
 use Rattle.rows_read.specs.Ready.{tables_of}

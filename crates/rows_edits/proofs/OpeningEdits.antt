@@ -8,7 +8,8 @@ use Rattle.names_cell.specs.Text.{root_of}
 use Rattle.node_core.specs.declared.views.View.{View}
 use Rattle.rows_cell.specs.declared.tables.Rows.{Rows}
 use Rattle.rows_cell.specs.declared.tables.Edit.TheVariants.{PutNode}
-use Rattle.rows_cell.specs.Opening.{Settled, opening}
+use Rattle.rows_cell.specs.Opening.{opening}
+use Rattle.settings_core.specs.Settings.{Settled}
 use Rattle.rows_cell.specs.Rows.{changed_rows}
 use Rattle.rows_edits.specs.Creation.{bare_rows, opening_edits}
 

@@ -7,7 +7,8 @@ ghost use Rattle.rows_edits.specs.Creation.{no_schema, with_meta, with_nodes, wi
 
 use crate::changes::edit_all;
 use crate::edits::run;
-use rows_cell::{Edit, Settings};
+use rows_cell::Edit;
+use settings_core::Settings;
 use sqlite::{Alter, Connection, Error, Transaction};
 use sqlite_value::value::ValueRef;
 

@@ -15,7 +15,8 @@ use Rattle.rows_cell.specs.declared.tables.Rows.{Rows}
 use Rattle.rows_cell.specs.declared.tables.Edit.{Edit}
 use Rattle.rows_cell.specs.declared.tables.Edit.TheVariants.{PutNode}
 use Rattle.rows_cell.specs.Rows.{StoredNodes}
-use Rattle.rows_cell.specs.Opening.{Settled, opening}
+use Rattle.rows_cell.specs.Opening.{opening}
+use Rattle.settings_core.specs.Settings.{Settled}
 use Rattle.rows_schema.specs.OurSchema.{the_schema}
 use Rattle.rows_read.specs.Held.{Says}
 use Rattle.rows_read.specs.Ready.{tables_of, IsReady, IsStill, Quiet}

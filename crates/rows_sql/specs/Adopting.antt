@@ -6,7 +6,8 @@ use Rattle.sqlite.specs.Tree.{Trees}
 use Rattle.sqlite.specs.Effect.{Database}
 use Rattle.sqlite.specs.State.{State, HasCleanDisk}
 use Rattle.sqlite.specs.Held.{Held, state}
-use Rattle.rows_cell.specs.Opening.{Settled, opening}
+use Rattle.rows_cell.specs.Opening.{opening}
+use Rattle.settings_core.specs.Settings.{Settled}
 use Rattle.rows_cell.specs.declared.tables.Rows.{Rows}
 use Rattle.rows_schema.specs.OurSchema.{the_schema}
 use Rattle.rows_read.specs.Held.{Says}

@@ -13,10 +13,11 @@ ghost use Rattle.rows_read.specs.Ready.{tables_of};
 ghost use Rattle.rows_sql.specs.Adopting.{IsAnew, IsForeign, IsTaken, IsLeftAlone, IsReopened};
 
 use plain::Items;
-use rows_cell::{Edit, ListRecords, Records, Rows, Settings, StoreFault};
+use rows_cell::{Edit, ListRecords, Records, Rows, StoreFault};
 use rows_edits::make_store;
 use rows_read::load_said;
 use rows_schema::is_ours;
+use settings_core::Settings;
 use sqlite::{Alter, Connection, Error};
 use sqlite_schema::schema::Schema;
 use std::alloc::{AllocError, Global};

@@ -2,10 +2,11 @@
 use names_cell::{Component, Name, Principal};
 use node_core::{Kind, Life, View};
 use plain::{Bytes, Items};
-use rows_cell::{Edit, LockKey, LockRow, LockState, Rows, Session, Settings};
+use rows_cell::{Edit, LockKey, LockRow, LockState, Rows, Session};
 use rows_edits::commit_all;
 use rows_read::load_said;
 use rows_sql::SqlRecords;
+use settings_core::Settings;
 use sqlite::{Alter, Connection, Error, MemStore};
 use std::alloc::Global;
 use std::test::Fail;

@@ -5,9 +5,10 @@ ghost use Rattle.sqlite_disk.specs.Fuse.{inner_of, IsFresh};
 
 use crate::changes::{Do, commit, edits};
 use names_cell::Component;
-use rows_cell::{LockState, Settings};
+use rows_cell::LockState;
 use rows_file::{inspect_file, verdict};
 use rows_sql::SqlRecords;
+use settings_core::Settings;
 use sqlite::{Connection, FileStore, Files, Options};
 use sqlite_disk::{Fuse, Memory};
 use std::alloc::Global;

@@ -1,5 +1,5 @@
 //! Settings as texts in TOML: those that are taken, and the key that the words of a refusal name.
-use rows_cell::Settings;
+use settings_core::Settings;
 use settings_file::{TextFault, read_settings};
 use std::alloc::Global;
 use std::test::Fail;

@@ -16,6 +16,7 @@ use Rattle.stage_core.specs.declared.stages.Turn.{Turn}
 use Rattle.stage_core.specs.World.{WorldState, WorldView, world_step, world_sweep, without_quiet, step_edits, IsStored, IsLeft, MayRefuseStep}
 use Rattle.stage_core.specs.Made.{IsMade, WasMade, WasRefused}
 use Rattle.world_laws.proofs.WereSent.{take_sent, give_sent}
+use Rattle.world_laws.proofs.WorldCases.{step_sweeps}
 use Rattle.script_cell.specs.Settling.{Played, played, step_of, first_waiting, AreDelivered, IsFirst, marked, place_of, marked_at, PlaysMade, PlaysRefused, turn_step, is_waiting, is_quiet, is_idle}
 
 -- ---- marks
@@ -139,9 +140,8 @@ turn_sweeps : (s : Played) → first_waiting s.view.world.messages s.delivered 1
 turn_sweeps s none = ap (λ o. unwrap_or o steps.Sweep) none
 
 pub swept_made : (old new : WorldView) (marks : List Bool) (r : Result Turn Fault) → first_waiting old.world.messages marks 1 ≡ None → IfOk r (λ turn. world_sweep old.world old.world.master ≡ Ok (new.world, turn)) → OnOk r (IsStored (step_edits old.world steps.Sweep) old new) → IfOk r (λ turn. PlaysMade (played old marks) (turn_step (played old marks)) (played new marks) turn.lines)
-unfolding world_step
 swept_made old new marks (Ok turn) none made stored =
-    rw (turn_sweeps (played old marks) none) (record { made = (old, refl, record { is_step = ap without_quiet made; stored = stored }); delivered = refl })
+    rw (turn_sweeps (played old marks) none) (record { made = (old, refl, record { is_step = step_sweeps old.world ∙ ap without_quiet made; stored = stored }); delivered = refl })
 swept_made old new marks (Err fault) none made stored = tt
 
 pub swept_quiet : (w : WorldView) (new : WorldState) (marks : List Bool) (r : Result Turn Fault) → first_waiting w.world.messages marks 1 ≡ None → IfOk r (λ turn. world_sweep w.world w.world.master ≡ Ok (new, turn)) → IfOk r (λ turn. turn.quiet ≡ is_idle (played w marks))
@@ -149,8 +149,7 @@ swept_quiet w new marks (Ok turn) none made = sym (ap (λ f. not (is_some f) && 
 swept_quiet w new marks (Err fault) none made = tt
 
 swept_why : (old new : WorldView) (fault : Fault) → MayRefuseStep (world_sweep old.world old.world.master) steps.Sweep fault old new → MayRefuseStep (world_step old.world steps.Sweep) steps.Sweep fault old new
-unfolding world_step
-swept_why old new fault (inl told) = inl (ap without_quiet told.0, told.1)
+swept_why old new fault (inl told) = inl (step_sweeps old.world ∙ ap without_quiet told.0, told.1)
 swept_why old new fault (inr outside) = inr outside
 
 pub swept_refused : (old new : WorldView) (marks : List Bool) (r : Result Turn Fault) → first_waiting old.world.messages marks 1 ≡ None → IfErr r (λ e. MayRefuseStep (world_sweep old.world old.world.master) steps.Sweep e old new) → OnErr r (IsLeft (step_edits old.world steps.Sweep) old new) → IfErr r (λ e. PlaysRefused (played old marks) (turn_step (played old marks)) (played new marks) (lines.Refused e ∷ []))

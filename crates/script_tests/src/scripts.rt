@@ -2,9 +2,10 @@
 use names_cell::{Component, Principal};
 use node_core::Line;
 use plain::{Items, Secret};
-use rows_cell::{ListRecords, Settings};
+use rows_cell::ListRecords;
 use rows_sql::SqlRecords;
 use script_cell::{Counted, Parsed, content, events, mode, number, read_step, script};
+use settings_core::Settings;
 use sqlite::Connection;
 use stage_core::Step;
 use std::alloc::Global;

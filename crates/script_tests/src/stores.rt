@@ -1,9 +1,9 @@
 //! Worlds over stores in SQL, in files that are kept in memory.
 use crate::scripts::{steps_of, text_of, text_of_lines};
 use names_cell::Component;
-use rows_cell::Settings;
 use rows_file::{inspect_file, verdict};
 use rows_sql::SqlRecords;
+use settings_core::Settings;
 use sqlite::{Connection, FileStore, Files, Options};
 use sqlite_disk::{Disk, Memory};
 use std::alloc::Global;

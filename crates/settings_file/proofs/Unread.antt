@@ -3,7 +3,7 @@ use Rattle.std.proofs.Common.{◌≡◌, List, ℕ, Some, Ok, Err}
 use Rattle.std.specs.Prelude.{Result, IfErr}
 use Rattle.toml.specs.Data.{Members}
 use Rattle.toml.specs.Parse.{parse_document}
-use Rattle.rows_cell.specs.Opening.{Settled}
+use Rattle.settings_core.specs.Settings.{Settled}
 use Rattle.settings_file.specs.declared.faults.TextFault.{TextFault}
 use Rattle.settings_file.specs.declared.faults.TextFault.TheVariants.{NoMemory, NotToml, UnknownKey, WrongCell, WrongLease, WrongPrincipals, WrongSecret}
 use Rattle.settings_file.specs.Said.{IsFault, IsUnread}

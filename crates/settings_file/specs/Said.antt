@@ -7,7 +7,7 @@ use Rattle.toml.specs.Data.{Data, Items, no_items, item, Members, no_members, me
 use Rattle.node_core.specs.Limits.{content_limit}
 use Rattle.toml.specs.Parse.{parse_document}
 use Rattle.names_cell.specs.Text.{is_component}
-use Rattle.rows_cell.specs.Opening.{Settled, base_of}
+use Rattle.settings_core.specs.Settings.{Settled, base_of}
 use Rattle.settings_file.specs.declared.faults.TextFault.{TextFault}
 use Rattle.settings_file.specs.declared.faults.TextFault.TheVariants.{NoMemory, NotToml, UnknownKey, WrongCell, WrongLease, WrongPrincipals, WrongSecret}
 

@@ -6,14 +6,14 @@ ghost use Rattle.toml.specs.Parse.{parse_document};
 ghost use Rattle.toml.specs.View.{table_view};
 ghost use Rattle.names_cell.specs.Text.{is_component};
 ghost use Rattle.node_core.specs.Limits.{content_limit};
-ghost use Rattle.rows_cell.specs.Opening.{base_of};
+ghost use Rattle.settings_core.specs.Settings.{base_of};
 ghost use Rattle.settings_file.specs.Said.{is_key, unknown_key, cell_said, lease_said, principals_said, secret_said, Says, IsFault, IsUnread, AreSaid};
 
 use crate::faults::TextFault;
 use crate::values::{cell_in, lease_in, principals_in, secret_in};
 use names_cell::{Component, Principal};
 use plain::{Items, Secret};
-use rows_cell::{Settings, SettingsFault};
+use settings_core::{Settings, SettingsFault};
 use std::alloc::{AllocError, Global};
 use toml::{Table, de};
 

@@ -9,7 +9,7 @@ use Rattle.rows_cell.specs.declared.tables.Rows.{Rows}
 use Rattle.rows_cell.specs.Stores.{Store, IsRead, IsUnread}
 use Rattle.cell_state.specs.State.{MasterState}
 use Rattle.cell_core.specs.Step.{is_past_end}
-use Rattle.over_core.specs.Up.{up_step, up_edits, up_commit, ComesUp, StaysDown, CouldComeUp, CouldNotComeUp}
+use Rattle.sweep_laws.specs.Up.{up_step, up_edits, up_commit, ComesUp, StaysDown, CouldComeUp, CouldNotComeUp}
 use Rattle.stage_core.specs.declared.steps.Step.TheVariants as steps
 use Rattle.stage_core.specs.declared.steps.Commit.{Commit}
 use Rattle.stage_core.specs.declared.steps.Commit.TheVariants.{Kept, Lost}

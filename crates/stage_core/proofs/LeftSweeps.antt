@@ -6,7 +6,7 @@ use Rattle.rows_cell.specs.declared.tables.Edit.{Edit}
 use Rattle.rows_cell.specs.declared.tables.Rows.{Rows}
 use Rattle.rows_cell.specs.Stores.{Store, IsRefused as Uncommitted}
 use Rattle.cell_state.specs.State.{MasterState}
-use Rattle.over_core.specs.Kept.{CellState}
+use Rattle.sweep_laws.specs.Kept.{CellState}
 use Rattle.stage_core.specs.declared.mail.Message.{Message}
 use Rattle.stage_core.specs.Seats.{Clients}
 use Rattle.stage_core.specs.World.{WorldState, WorldView, view_of, IsLeft}

@@ -11,7 +11,7 @@ use Rattle.rows_cell.specs.declared.tables.Edit.{Edit}
 use Rattle.rows_cell.specs.Stores.{Store, IsRead, IsUnread, MayLeave, MayRefuse, IsRefused as Uncommitted}
 use Rattle.cell_state.specs.State.{MasterState}
 use Rattle.cell_core.specs.Step.{is_past_end}
-use Rattle.over_core.specs.Up.{up_step, up_edits, up_commit, ComesUp, IsKeptDown, StaysDown}
+use Rattle.sweep_laws.specs.Up.{up_step, up_edits, up_commit, ComesUp, IsKeptDown, StaysDown}
 use Rattle.stage_core.specs.declared.mail.Message.{Message}
 use Rattle.stage_core.specs.declared.steps.Step.TheVariants as steps
 use Rattle.stage_core.specs.Seats.{Clients, each_seat, at_up}

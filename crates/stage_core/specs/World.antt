@@ -20,10 +20,10 @@ use Rattle.messages_cell.specs.Messages.{out_client}
 use Rattle.cell_parts.specs.declared.pending.Taken.{Taken}
 use Rattle.cell_state.specs.State.{MasterState}
 use Rattle.cell_core.specs.Step.{take_step, is_past_end}
-use Rattle.over_core.specs.declared.sweeps.Swept.{Swept}
-use Rattle.over_core.specs.Kept.{IsKept}
-use Rattle.over_core.specs.Sweep.{sweep_step, sweep_edits}
-use Rattle.over_core.specs.Up.{up_step, up_edits, up_commit}
+use Rattle.sweep_laws.specs.declared.swept.Swept.{Swept}
+use Rattle.sweep_laws.specs.Kept.{IsKept}
+use Rattle.sweep_laws.specs.Sweep.{sweep_step, sweep_edits}
+use Rattle.sweep_laws.specs.Up.{up_step, up_edits, up_commit}
 use Rattle.client_parts.specs.declared.asks.Ask.{Ask}
 use Rattle.client_parts.specs.declared.asks.Asked.{Asked}
 use Rattle.client_parts.specs.declared.asks.Outcome.{Outcome as AskOutcome}

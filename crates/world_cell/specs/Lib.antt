@@ -14,10 +14,10 @@ pub use Rattle.turn_core.specs.Effect
 pub use Rattle.rows_cell.specs.Stores
 pub use Rattle.cell_core.specs.Cases
 pub use Rattle.plan_core.specs.Plans
-pub use Rattle.over_core.specs.Sweep
-pub use Rattle.over_core.specs.SweepCase
-pub use Rattle.over_core.specs.Kept
-pub use Rattle.over_core.specs.Up
+pub use Rattle.sweep_laws.specs.Sweep
+pub use Rattle.sweep_laws.specs.SweepCase
+pub use Rattle.sweep_laws.specs.Kept
+pub use Rattle.sweep_laws.specs.Up
 pub use Rattle.client_core.specs.State as Clients
 pub use Rattle.client_core.specs.Asks
 pub use Rattle.client_core.specs.Beats

@@ -8,7 +8,8 @@ ghost use Rattle.world_laws.specs.Locks.{HasLegalLocks, CountsHolds};
 
 use node_core::{Fault, Line};
 use plain::Items;
-use rows_cell::{Records, Settings};
+use rows_cell::Records;
+use settings_core::Settings;
 use stage_core::{Message, Stage, Step, Turn};
 use std::alloc::Global;
 use std::marker::Model;

@@ -49,10 +49,10 @@ use Rattle.deed_core.specs.Replies.{locked_line, locked_lines}
 use Rattle.turn_core.specs.Outcomes.{leave_lines, left_put}
 use Rattle.deed_core.specs.Lapses.{lapses_lines, lapses_of}
 use Rattle.cell_core.specs.Cases.{TakeCase, taken_by}
-use Rattle.over_core.specs.SweepCase.{IsTurn, SweepCase, swept_by, rest, ended, mapped}
+use Rattle.sweep_laws.specs.SweepCase.{IsTurn, SweepCase, swept_by, rest, ended, mapped}
 use Rattle.cell_core.specs.Cases.TakeCase.{StartQueued, Answered, Granted, Waits}
-use Rattle.over_core.specs.SweepCase.SweepCase.{Quiet, Recovers, Expires, Reopens, Tidies, Spared, Tidied, AnswersBeat, TurnedAway, StartedAgain, Started as StartedFirst, OfEnded, Ended, Applied, Deleted, Locked, Awaited, Left}
-use Rattle.over_core.specs.Kept.{IsKept, task_fits, waiting_fits}
+use Rattle.sweep_laws.specs.SweepCase.SweepCase.{Quiet, Recovers, Expires, Reopens, Tidies, Spared, Tidied, AnswersBeat, TurnedAway, StartedAgain, Started as StartedFirst, OfEnded, Ended, Applied, Deleted, Locked, Awaited, Left}
+use Rattle.sweep_laws.specs.Kept.{IsKept, task_fits, waiting_fits}
 use Rattle.stage_core.specs.declared.steps.Step.{Step}
 use Rattle.stage_core.specs.declared.steps.Step.TheVariants.{Take, Sweep, CutSweep}
 use Rattle.stage_core.specs.declared.steps.Commit.TheVariants.{Kept}

@@ -47,8 +47,8 @@ use Rattle.turn_core.specs.declared.effects.Effect.{Effect}
 use Rattle.turn_core.specs.Effect.{effect}
 use Rattle.deed_core.specs.Replies.{kept_puts, sent, replies_to, reply_to, turn_replies}
 use Rattle.deed_core.specs.Lapses.{lapses_replies, lapses_of}
-use Rattle.over_core.specs.SweepCase.{SweepCase, swept_by, gone_replies}
-use Rattle.over_core.specs.SweepCase.SweepCase.{Quiet, Recovers, Expires, Reopens, Tidies, Spared, Tidied, AnswersBeat, StartedAgain, Started, OfEnded, Ended, Applied, Deleted, Locked, Awaited, Left}
+use Rattle.sweep_laws.specs.SweepCase.{SweepCase, swept_by, gone_replies}
+use Rattle.sweep_laws.specs.SweepCase.SweepCase.{Quiet, Recovers, Expires, Reopens, Tidies, Spared, Tidied, AnswersBeat, StartedAgain, Started, OfEnded, Ended, Applied, Deleted, Locked, Awaited, Left}
 use Rattle.world_laws.proofs.OneSession.{kept_in, each_session, each_with_new, each_issued}
 use Rattle.world_laws.proofs.EffectContents.{IsShown, IsShownIf, answer_shown, effect_faithful}
 

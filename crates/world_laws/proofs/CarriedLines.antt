@@ -39,8 +39,8 @@ use Rattle.turn_core.specs.declared.effects.Leave.{Leave}
 use Rattle.deed_core.specs.Replies.{locked_line, locked_lines, line_if}
 use Rattle.turn_core.specs.Outcomes.{leave_lines}
 use Rattle.deed_core.specs.Lapses.{lapse_lines, lapses_lines, lapses_of}
-use Rattle.over_core.specs.SweepCase.{SweepCase, swept_by}
-use Rattle.over_core.specs.SweepCase.SweepCase.{Recovers, Expires, Reopens, Tidied, Started as StartedFirst, Applied, Deleted, Locked, Left}
+use Rattle.sweep_laws.specs.SweepCase.{SweepCase, swept_by}
+use Rattle.sweep_laws.specs.SweepCase.SweepCase.{Recovers, Expires, Reopens, Tidied, Started as StartedFirst, Applied, Deleted, Locked, Left}
 use Rattle.client_parts.specs.declared.asks.Ask.{Ask}
 use Rattle.client_parts.specs.declared.sessions.Session.{Session}
 use Rattle.client_parts.specs.declared.sessions.Session.TheVariants as sessions

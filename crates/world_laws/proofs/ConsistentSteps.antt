@@ -45,15 +45,15 @@ use Rattle.cell_state.specs.Lookups.{session_of, repeated_reply, noted}
 use Rattle.deed_core.specs.Deeds.{with_note, edit_of, lock_changes}
 use Rattle.cell_core.specs.Step.{with_call, asking_for}
 use Rattle.cell_core.specs.Cases.{TakeCase, taken_by}
-use Rattle.over_core.specs.SweepCase.{SweepCase, swept_by, swept_edits, gone_replies}
-use Rattle.over_core.proofs.SweepCases.{first_tellings}
+use Rattle.sweep_laws.specs.SweepCase.{SweepCase, swept_by, swept_edits, gone_replies}
+use Rattle.sweep_laws.proofs.SweepCases.{first_tellings}
 use Rattle.cell_core.specs.Cases.TakeCase.{Repeated, StartQueued, OldBeat, BeatRefused, BeatParked, OldEpoch, Answered, Granted, Waits}
 use Rattle.turn_core.specs.Outcomes.{left_put}
 use Rattle.deed_core.specs.Replies.{turn_replies, puts_of, replies_to}
 use Rattle.deed_core.specs.Lapses.{lapses_of, lapses_puts, lapses_replies}
-use Rattle.over_core.specs.SweepCase.SweepCase.{Quiet, Recovers, Expires, Reopens, Tidies, Spared, Tidied, StartedAgain, Started as StartedFirst, OfEnded, Ended, Applied, Deleted, Locked, Awaited, Left}
-use Rattle.over_core.specs.Kept.{IsKept}
-use Rattle.over_core.specs.Up.{up_edits}
+use Rattle.sweep_laws.specs.SweepCase.SweepCase.{Quiet, Recovers, Expires, Reopens, Tidies, Spared, Tidied, StartedAgain, Started as StartedFirst, OfEnded, Ended, Applied, Deleted, Locked, Awaited, Left}
+use Rattle.sweep_laws.specs.Kept.{IsKept}
+use Rattle.sweep_laws.specs.Up.{up_edits}
 use Rattle.client_parts.specs.declared.sessions.Session.TheVariants as sessions
 use Rattle.client_core.specs.State.{ClientState}
 use Rattle.stage_core.specs.declared.steps.Step.{Step}
@@ -77,7 +77,7 @@ use Rattle.world_laws.proofs.AwaitedCalls.{awaits_unanswered, shows_own}
 use Rattle.world_laws.proofs.SeatsFound.{some_same, own_seat, other_seat, at_seats, each_found, at_each_seat, all_found, moves_so, fair_at_once, fair_beside}
 use Rattle.stage_core.specs.Made.{WasMade, WasRefused}
 use Rattle.stage_core.proofs.AsRead.{made_doubts, made_sure, refused_doubts, refused_sure}
-use Rattle.world_laws.proofs.WorldCases.{swept_master, IsUp, IsSweep, WorldCase, world_case}
+use Rattle.world_laws.proofs.WorldCases.{step_sweeps, swept_master, IsUp, IsSweep, WorldCase, world_case}
 use Rattle.world_laws.proofs.WorldCases.WorldCase.{ComesUp, Joins, Asks, Beats, Gives, Ticks, Takes, Sweeps, GoesDown, CutsSweep, CutsUp, LosesUp}
 use Rattle.world_laws.proofs.OwnSteps.{IsNoCall, IsNextCall, Sends, OfEpoch, sending, IsOwn, asks_own, beats_own, gives_own}
 use Rattle.world_laws.proofs.OwnSteps.Sends.{Nothing, NoCall, NextCall}
@@ -799,11 +799,10 @@ step_holds leads old new step (Err fault) fits agrees made refused none =
     subst IsConsistent (sym (refused_sure old step new (lines.Refused fault ∷ []) refused none).left.same) (fits sure)
 
 pub swept_holds : LeadsOn → (old new : WorldView) (r : Result Turn Fault) → (IsUndoubted old → IsConsistent old.world) → Agrees new.world new.world.master → IfOk r (λ turn. world_sweep old.world old.world.master ≡ Ok (new.world, turn)) → OnOk r (IsStored (step_edits old.world steps.Sweep) old new) → OnErr r (IsLeft (step_edits old.world steps.Sweep) old new) → IsUndoubted new → IsConsistent new.world
-unfolding world_step
 swept_holds leads old new (Ok turn) fits agrees made stored left none =
     let rises = stored.doubted in
     let sure : old.doubt ≡ 0 = omega arith in
-    step_keeps leads old.world steps.Sweep new.world turn.lines (fits sure) agrees (ap without_quiet made)
+    step_keeps leads old.world steps.Sweep new.world turn.lines (fits sure) agrees (step_sweeps old.world ∙ ap without_quiet made)
 swept_holds leads old new (Err fault) fits agrees made stored left none =
     let rises = left.doubted in
     let sure : old.doubt ≡ 0 = omega arith in

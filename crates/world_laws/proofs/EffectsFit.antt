@@ -57,7 +57,7 @@ use Rattle.cell_state.specs.Lookups.{missing_right, node_of_handle, new_handle, 
 use Rattle.cell_parts.specs.Calls.{node_fault, delay_fault, create_fault, write_fault, needing, bytes_of}
 use Rattle.turn_core.specs.declared.effects.Effect.{Effect}
 use Rattle.turn_core.specs.Effect.{answered, refused, changes_to, deleted, create_made, create_numbered, create_permitted, create_in, create_under, create_new, create_over, create_effect, create_under_sequencer, open_effect, generation_fits, is_last, put_at, acquire_by, try_by, release_by, delete_at, change_at, change_on, effect_on, handle_effect, effect, new_view, acls_of, with_content, with_acls}
-use Rattle.over_core.specs.Kept.{IsKept}
+use Rattle.sweep_laws.specs.Kept.{IsKept}
 use Rattle.world_laws.specs.Runs.{change_of}
 
 -- ---- by what is tested

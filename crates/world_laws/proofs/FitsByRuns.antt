@@ -8,7 +8,7 @@ use Rattle.node_core.specs.declared.lines.Line.TheVariants as lines
 use Rattle.node_core.specs.declared.views.Mod.{Mod}
 use Rattle.node_core.specs.Nodes.{Nodes, misfit, changed, after}
 use Rattle.rows_cell.specs.Rows.{map_of}
-use Rattle.over_core.specs.Kept.{IsKept}
+use Rattle.sweep_laws.specs.Kept.{IsKept}
 use Rattle.cell_state.specs.State.{MasterState}
 use Rattle.stage_core.specs.declared.steps.Step.{Step}
 use Rattle.stage_core.specs.World.{WorldState, WorldView, Agrees}

@@ -35,9 +35,9 @@ use Rattle.turn_core.specs.declared.effects.Effect.{Effect}
 use Rattle.deed_core.specs.Replies.{name_of, puts_of}
 use Rattle.turn_core.specs.Outcomes.{left_put}
 use Rattle.deed_core.specs.Lapses.{lapses_of, lapses_puts}
-use Rattle.over_core.specs.SweepCase.{SweepCase, swept_by, swept_edits}
-use Rattle.over_core.specs.SweepCase.SweepCase.{Quiet, Recovers, Expires, Tidies, Spared, Tidied, AnswersBeat, TurnedAway, StartedAgain, Started, Reopens, OfEnded, Ended, Applied, Deleted, Locked, Awaited, Left}
-use Rattle.over_core.specs.Kept.{IsKept, is_there}
+use Rattle.sweep_laws.specs.SweepCase.{SweepCase, swept_by, swept_edits}
+use Rattle.sweep_laws.specs.SweepCase.SweepCase.{Quiet, Recovers, Expires, Tidies, Spared, Tidied, AnswersBeat, TurnedAway, StartedAgain, Started, Reopens, OfEnded, Ended, Applied, Deleted, Locked, Awaited, Left}
+use Rattle.sweep_laws.specs.Kept.{IsKept, is_there}
 use Rattle.world_laws.specs.Locks.{AreLegalRows, begins_in, CountsHolds}
 use Rattle.world_laws.proofs.LocksRise.{RisesTo, begins, rises_same, rises_reopened, rises_lapsed}
 use Rattle.world_laws.proofs.LockHolders.{begins_by_rows, legal_rows}

@@ -12,8 +12,8 @@ use Rattle.rows_cell.proofs.SoundParts.{has_instance}
 use Rattle.lock_core.specs.Locks.{lock_at}
 use Rattle.cell_state.specs.State.{MasterState}
 use Rattle.cell_state.specs.Lookups.{noted}
-use Rattle.over_core.specs.Kept.{IsKept}
-use Rattle.over_core.proofs.KeptBySweeps.{case_kept}
+use Rattle.sweep_laws.specs.Kept.{IsKept}
+use Rattle.sweep_laws.proofs.KeptBySweeps.{case_kept}
 use Rattle.stage_core.specs.declared.steps.Step.{Step}
 use Rattle.stage_core.specs.declared.steps.Step.TheVariants as steps
 use Rattle.stage_core.specs.World.{WorldState, WorldView, IsUndoubted, Agrees}

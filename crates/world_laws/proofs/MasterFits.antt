@@ -59,12 +59,12 @@ use Rattle.cell_core.specs.Cases.TakeCase.{StartQueued, BeatParked, Recovering, 
 use Rattle.turn_core.specs.declared.effects.Effect.{Effect}
 use Rattle.turn_core.specs.declared.effects.Leave.{Leave}
 use Rattle.turn_core.specs.Effect.{effect}
-use Rattle.over_core.specs.Kept.{is_unanswered}
+use Rattle.sweep_laws.specs.Kept.{is_unanswered}
 use Rattle.deed_core.specs.Replies.{replies_to, turn_replies, puts_of}
 use Rattle.turn_core.specs.Outcomes.{left_put}
 use Rattle.deed_core.specs.Lapses.{lapses_of, lapses_puts, lapses_replies}
-use Rattle.over_core.specs.SweepCase.{IsTurn, SweepCase, swept_by, rest, ended, mapped, told, expired, gone_change, gone_replies}
-use Rattle.over_core.specs.SweepCase.SweepCase.{Quiet, Recovers, Expires, Reopens, Tidies, Spared, Tidied, AnswersBeat, TurnedAway, StartedAgain, Started as StartedFirst, OfEnded, Ended, Applied, Deleted, Locked, Awaited, Left}
+use Rattle.sweep_laws.specs.SweepCase.{IsTurn, SweepCase, swept_by, rest, ended, mapped, told, expired, gone_change, gone_replies}
+use Rattle.sweep_laws.specs.SweepCase.SweepCase.{Quiet, Recovers, Expires, Reopens, Tidies, Spared, Tidied, AnswersBeat, TurnedAway, StartedAgain, Started as StartedFirst, OfEnded, Ended, Applied, Deleted, Locked, Awaited, Left}
 use Rattle.stage_core.specs.declared.mail.Message.{Message}
 use Rattle.stage_core.specs.declared.mail.Message.TheVariants.{ToClient}
 use Rattle.stage_core.specs.Messages.{call_of}

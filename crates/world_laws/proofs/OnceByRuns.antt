@@ -50,10 +50,10 @@ use Rattle.deed_core.specs.Replies.{replies_to, turn_replies, locked_lines, puts
 use Rattle.turn_core.specs.Outcomes.{leave_lines, left_put}
 use Rattle.deed_core.specs.Lapses.{lapses_lines, lapses_of, lapses_puts, lapses_replies}
 use Rattle.turn_core.specs.declared.effects.Leave.{Leave}
-use Rattle.over_core.specs.SweepCase.{IsTurn, SweepCase, swept_by, rest, ended, mapped, told, expired, gone_change, gone_replies}
-use Rattle.over_core.proofs.SweepCases.{first_tellings}
+use Rattle.sweep_laws.specs.SweepCase.{IsTurn, SweepCase, swept_by, rest, ended, mapped, told, expired, gone_change, gone_replies}
+use Rattle.sweep_laws.proofs.SweepCases.{first_tellings}
 use Rattle.cell_core.specs.Cases.TakeCase.{StartRefused, OldBeat, BeatRefused, BeatParked, OldEpoch, NoSession, Repeated, OlderCall, Outstanding, Recovering, Answered, Granted, Waits}
-use Rattle.over_core.specs.SweepCase.SweepCase.{Quiet, Recovers, Expires, Reopens, Tidies, Spared, Tidied, AnswersBeat, TurnedAway, StartedAgain, Started as StartedFirst, OfEnded, Ended, Applied, Deleted, Locked, Awaited, Left}
+use Rattle.sweep_laws.specs.SweepCase.SweepCase.{Quiet, Recovers, Expires, Reopens, Tidies, Spared, Tidied, AnswersBeat, TurnedAway, StartedAgain, Started as StartedFirst, OfEnded, Ended, Applied, Deleted, Locked, Awaited, Left}
 use Rattle.stage_core.specs.declared.steps.Step.{Step}
 use Rattle.client_core.specs.State.{ClientState}
 use Rattle.stage_core.specs.declared.seats.Seat.{Seat}

@@ -31,11 +31,11 @@ use Rattle.cell_parts.specs.declared.pending.Task.{Task}
 use Rattle.cell_parts.specs.declared.pending.Task.TheVariants as tasks
 use Rattle.cell_parts.specs.declared.pending.Work.TheVariants as works
 use Rattle.gate_core.specs.declared.pending.Waiting.{Waiting}
-use Rattle.over_core.specs.SweepCase.{IsTurn, SweepCase, swept_by, swept_edits, gone_replies}
+use Rattle.sweep_laws.specs.SweepCase.{IsTurn, SweepCase, swept_by, swept_edits, gone_replies}
 use Rattle.turn_core.specs.Outcomes.{left_put}
 use Rattle.deed_core.specs.Replies.{turn_replies, puts_of, replies_to}
 use Rattle.deed_core.specs.Lapses.{lapses_of, lapses_puts, lapses_replies}
-use Rattle.over_core.specs.SweepCase.SweepCase.{Quiet, Recovers, Expires, Reopens, Tidies, Spared, Tidied, OfEnded, Ended, Applied, Deleted, Locked, Awaited, Left}
+use Rattle.sweep_laws.specs.SweepCase.SweepCase.{Quiet, Recovers, Expires, Reopens, Tidies, Spared, Tidied, OfEnded, Ended, Applied, Deleted, Locked, Awaited, Left}
 use Rattle.stage_core.specs.declared.mail.Message.{Message}
 use Rattle.stage_core.specs.declared.mail.Message.TheVariants.{ToMaster, ToClient}
 use Rattle.stage_core.specs.declared.steps.Step.{Step}

@@ -34,8 +34,8 @@ use Rattle.cell_core.specs.Cases.TakeCase.{BeatParked, Repeated, Answered, Grant
 use Rattle.deed_core.specs.Replies.{locked_lines}
 use Rattle.turn_core.specs.Outcomes.{leave_lines}
 use Rattle.deed_core.specs.Lapses.{lapses_lines, lapses_of}
-use Rattle.over_core.specs.SweepCase.{SweepCase, swept_by}
-use Rattle.over_core.specs.SweepCase.SweepCase.{Expires, Reopens, Tidies, Ended, Applied, Left}
+use Rattle.sweep_laws.specs.SweepCase.{SweepCase, swept_by}
+use Rattle.sweep_laws.specs.SweepCase.SweepCase.{Expires, Reopens, Tidies, Ended, Applied, Left}
 use Rattle.stage_core.specs.declared.steps.Step.{Step}
 use Rattle.stage_core.specs.World.{WorldState, WorldView, is_of_commit}
 use Rattle.world_laws.specs.Consistent.{IsConsistent}

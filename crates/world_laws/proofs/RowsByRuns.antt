@@ -21,8 +21,8 @@ use Rattle.deed_core.specs.Deeds.{edit_of, lock_changes}
 use Rattle.deed_core.specs.Replies.{locked_line, locked_lines, puts_of}
 use Rattle.turn_core.specs.Outcomes.{leave_lines, left_put}
 use Rattle.deed_core.specs.Lapses.{lapses_lines, lapses_of, lapses_puts}
-use Rattle.over_core.specs.SweepCase.{SweepCase, swept_by, swept_edits}
-use Rattle.over_core.specs.SweepCase.SweepCase.{Expires, Reopens, Tidied, Applied, Deleted, Locked, Awaited, Left}
+use Rattle.sweep_laws.specs.SweepCase.{SweepCase, swept_by, swept_edits}
+use Rattle.sweep_laws.specs.SweepCase.SweepCase.{Expires, Reopens, Tidied, Applied, Deleted, Locked, Awaited, Left}
 use Rattle.stage_core.specs.declared.steps.Step.{Step}
 use Rattle.stage_core.specs.World.{WorldState, WorldView}
 use Rattle.world_laws.specs.Consistent.{IsConsistent}

@@ -35,8 +35,8 @@ use Rattle.deed_core.specs.Deeds.{with_note}
 use Rattle.cell_core.specs.Cases.{TakeCase, taken_by}
 use Rattle.cell_core.specs.Cases.TakeCase.{StartRefused, OldBeat, BeatRefused, BeatParked, OldEpoch, NoSession, Repeated, OlderCall, Outstanding as StillOutstanding, Granted}
 use Rattle.deed_core.specs.Lapses.{lapses_lines, lapses_of}
-use Rattle.over_core.specs.SweepCase.{SweepCase, swept_by}
-use Rattle.over_core.specs.SweepCase.SweepCase.{Recovers, Expires, Reopens, Tidied, Started as StartedFirst, Applied, Deleted, Locked, Left}
+use Rattle.sweep_laws.specs.SweepCase.{SweepCase, swept_by}
+use Rattle.sweep_laws.specs.SweepCase.SweepCase.{Recovers, Expires, Reopens, Tidied, Started as StartedFirst, Applied, Deleted, Locked, Left}
 use Rattle.client_parts.specs.declared.asks.Ask.{Ask}
 use Rattle.client_parts.specs.declared.sessions.Session.{Session}
 use Rattle.client_parts.specs.declared.sessions.Session.TheVariants as sessions

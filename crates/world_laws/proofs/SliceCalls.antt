@@ -44,8 +44,8 @@ use Rattle.cell_parts.specs.Answered.{answered_by}
 use Rattle.cell_core.specs.Step.{replied, is_cachable, granting, names_of, task_of, with_call, waits}
 use Rattle.cell_core.specs.Names.{name_asked, shown_by}
 use Rattle.cell_core.specs.Ephemerals.{tidied}
-use Rattle.over_core.specs.Kept.{AreIssued, AreOwned}
-use Rattle.over_core.proofs.OwnedRights.{none_issued}
+use Rattle.sweep_laws.specs.Kept.{AreIssued, AreOwned}
+use Rattle.sweep_laws.proofs.OwnedRights.{none_issued}
 use Rattle.stage_core.specs.declared.mail.Message.TheVariants.{ToClient}
 use Rattle.stage_core.specs.Messages.{call_of}
 use Rattle.stage_core.specs.World.{WorldState}

@@ -10,7 +10,7 @@ use Rattle.messages_cell.specs.declared.outs.Out.{Out}
 use Rattle.messages_cell.specs.declared.outs.Out.TheVariants as outs
 use Rattle.cell_state.specs.State.{MasterState}
 use Rattle.cell_state.specs.Lookups.{noted}
-use Rattle.over_core.specs.SweepCase.{SweepCase, swept_by, swept_edits}
+use Rattle.sweep_laws.specs.SweepCase.{SweepCase, swept_by, swept_edits}
 use Rattle.stage_core.specs.declared.mail.Message.TheVariants.{ToClient}
 use Rattle.stage_core.specs.declared.seats.Seat.{Seat}
 use Rattle.stage_core.specs.Seats.{at_up}

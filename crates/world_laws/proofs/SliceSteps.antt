@@ -10,7 +10,7 @@ use Rattle.client_core.specs.Cases.{AskCase, asked_in, BeatCase, beaten_in, Give
 use Rattle.cell_state.specs.State.{MasterState}
 use Rattle.cell_state.specs.Lookups.{noted, is_spent}
 use Rattle.cell_core.specs.Cases.{TakeCase}
-use Rattle.over_core.specs.SweepCase.{SweepCase}
+use Rattle.sweep_laws.specs.SweepCase.{SweepCase}
 use Rattle.stage_core.specs.declared.seats.Seat.{Seat}
 use Rattle.stage_core.specs.declared.steps.Ticks.{Ticks}
 use Rattle.stage_core.specs.Messages.{request_at, out_at}

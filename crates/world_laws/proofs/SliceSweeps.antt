@@ -62,11 +62,11 @@ use Rattle.plan_core.specs.Plans.{started_out, alive_out, invalidations_for}
 use Rattle.deed_core.specs.Replies.{sent, kept_puts, replies_to, turn_replies, puts_of}
 use Rattle.turn_core.specs.Outcomes.{left_put}
 use Rattle.deed_core.specs.Lapses.{lapses_of, lapses_puts, lapses_replies}
-use Rattle.over_core.specs.SweepCase.{IsTurn, IsDueToEnd, IsDue, SweepCase, rest, ended, mapped, told, expired, relocking, gone_change, gone_replies, swept_by, swept_edits}
-use Rattle.over_core.specs.SweepCase.SweepCase.{Quiet, Recovers, Expires, Reopens, Tidies, Spared, Tidied, AnswersBeat, TurnedAway, StartedAgain, Started, OfEnded, Ended, Applied, Deleted, Locked, Awaited, Left}
-use Rattle.over_core.specs.Kept.{IsKept, names_touched_by}
-use Rattle.over_core.proofs.SweepCases.{first_tellings}
-use Rattle.over_core.proofs.Touching.{change_is_named}
+use Rattle.sweep_laws.specs.SweepCase.{IsTurn, IsDueToEnd, IsDue, SweepCase, rest, ended, mapped, told, expired, relocking, gone_change, gone_replies, swept_by, swept_edits}
+use Rattle.sweep_laws.specs.SweepCase.SweepCase.{Quiet, Recovers, Expires, Reopens, Tidies, Spared, Tidied, AnswersBeat, TurnedAway, StartedAgain, Started, OfEnded, Ended, Applied, Deleted, Locked, Awaited, Left}
+use Rattle.sweep_laws.specs.Kept.{IsKept, names_touched_by}
+use Rattle.sweep_laws.proofs.SweepCases.{first_tellings}
+use Rattle.sweep_laws.proofs.Touching.{change_is_named}
 use Rattle.plan_core.proofs.Unacknowledged.{IsAskedFor, each_is_asked, asked_is_named}
 use Rattle.stage_core.specs.declared.mail.Message.TheVariants.{ToClient}
 use Rattle.stage_core.specs.World.{WorldState}

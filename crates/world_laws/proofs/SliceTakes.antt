@@ -36,7 +36,7 @@ use Rattle.cell_core.specs.Names.{name_asked, shown_by}
 use Rattle.cell_core.specs.Cases.{IsHeard, IsGranted, TakeCase, taken_by}
 use Rattle.cell_core.specs.Cases.TakeCase.{StartQueued, BeatParked, Repeated, Recovering, Answered, Granted, Waits}
 use Rattle.cell_core.proofs.Told.{told_is_shown}
-use Rattle.over_core.specs.Kept.{IsKept}
+use Rattle.sweep_laws.specs.Kept.{IsKept}
 use Rattle.stage_core.specs.Messages.{request_at, call_of}
 use Rattle.stage_core.specs.World.{WorldState}
 use Rattle.stage_core.specs.declared.mail.Message.TheVariants.{ToClient}

@@ -20,7 +20,7 @@ use Rattle.session_core.proofs.OneClient.{lookup_put, lookup_put_apart}
 use Rattle.cell_state.specs.State.{MasterState}
 use Rattle.cell_state.specs.State as of_state
 use Rattle.cell_state.specs.Lookups.{session_of}
-use Rattle.over_core.specs.Up.{up_edits}
+use Rattle.sweep_laws.specs.Up.{up_edits}
 use Rattle.stage_core.specs.declared.seats.Seat.{Seat}
 use Rattle.stage_core.specs.declared.steps.Ticks.{Ticks}
 use Rattle.stage_core.specs.Seats.{new_seat, each_seat, at_up, is_least, is_fair}

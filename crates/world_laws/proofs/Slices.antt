@@ -33,7 +33,7 @@ use Rattle.cell_state.specs.State.{MasterState}
 use Rattle.cell_parts.specs.StoredSessions.{row_of, session_rows}
 use Rattle.cell_state.specs.Lookups.{session_of, noted}
 use Rattle.client_parts.specs.Invalidations.{last_number}
-use Rattle.over_core.specs.Kept.{AreByBeats, AreIssued, AreOwned, AreTouching, IsKept}
+use Rattle.sweep_laws.specs.Kept.{AreByBeats, AreIssued, AreOwned, AreTouching, IsKept}
 use Rattle.stage_core.specs.declared.mail.Message.{Message}
 use Rattle.stage_core.specs.declared.mail.Message.TheVariants.{ToMaster, ToClient}
 use Rattle.stage_core.specs.declared.seats.Seat.{Seat}

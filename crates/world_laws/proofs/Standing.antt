@@ -48,11 +48,11 @@ use Rattle.cell_state.specs.Lookups.{holds_lock}
 use Rattle.lock_core.specs.Locks.{LockTable, lock_at}
 use Rattle.turn_core.specs.declared.effects.Effect.{Effect}
 use Rattle.plan_core.specs.declared.plans.Plan.{Plan}
-use Rattle.over_core.specs.Kept.{IsKept}
+use Rattle.sweep_laws.specs.Kept.{IsKept}
 use Rattle.turn_core.specs.Notices.{above, put_notices, gone_notices, mod_notices, change_notices, lock_notices, locks_notices, contest_notices}
 use Rattle.plan_core.specs.Plans.{notices_of, tellings_of}
-use Rattle.over_core.specs.SweepCase.{SweepCase, swept_by, swept_edits, gone_change}
-use Rattle.over_core.specs.SweepCase.SweepCase.{Quiet, Recovers, Expires, Reopens, Tidies, Spared, Tidied, AnswersBeat, TurnedAway, StartedAgain, Started, OfEnded, Ended, Applied, Deleted, Locked, Awaited, Left}
+use Rattle.sweep_laws.specs.SweepCase.{SweepCase, swept_by, swept_edits, gone_change}
+use Rattle.sweep_laws.specs.SweepCase.SweepCase.{Quiet, Recovers, Expires, Reopens, Tidies, Spared, Tidied, AnswersBeat, TurnedAway, StartedAgain, Started, OfEnded, Ended, Applied, Deleted, Locked, Awaited, Left}
 use Rattle.world_laws.specs.Contents.{IsNoOlder, Stands, IsTrue}
 use Rattle.world_laws.proofs.EffectContents.{IsRenewed, Renews, IsFaithful, effect_faithful}
 use Rattle.world_laws.proofs.EffectInstances.{GivesBy, effect_gives}

@@ -22,14 +22,14 @@ use Rattle.deed_core.specs.Deeds.{done}
 use Rattle.cell_state.specs.State.{MasterState}
 use Rattle.cell_state.specs.Lookups.{noted}
 use Rattle.cell_core.specs.Cases.{taken_by}
-use Rattle.over_core.specs.Kept.{IsKept}
+use Rattle.sweep_laws.specs.Kept.{IsKept}
 use Rattle.plan_core.specs.declared.actions.Action.{Action}
 use Rattle.plan_core.specs.declared.actions.Action.TheVariants.{Tidy}
-use Rattle.over_core.specs.Sweep.{acted}
+use Rattle.sweep_laws.specs.Sweep.{acted}
 use Rattle.plan_core.specs.Plans.{first_action, plan_of}
-use Rattle.over_core.specs.SweepCase.{swept_by, swept_edits}
-use Rattle.over_core.proofs.KeptBySweeps.{case_kept}
-use Rattle.over_core.proofs.SweepCases.{first_tellings}
+use Rattle.sweep_laws.specs.SweepCase.{swept_by, swept_edits}
+use Rattle.sweep_laws.proofs.KeptBySweeps.{case_kept}
+use Rattle.sweep_laws.proofs.SweepCases.{first_tellings}
 use Rattle.stage_core.specs.declared.mail.Message.{Message}
 use Rattle.stage_core.specs.declared.mail.Message.TheVariants.{ToMaster, ToClient}
 use Rattle.stage_core.specs.declared.steps.Step.{Step}

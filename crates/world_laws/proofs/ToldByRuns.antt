@@ -25,7 +25,7 @@ use Rattle.session_core.specs.declared.records.Session.{Session}
 use Rattle.cell_parts.specs.declared.notices.Telling.{Telling}
 use Rattle.cell_state.specs.State.{MasterState}
 use Rattle.cell_state.specs.Lookups.{session_of, kept_of, noted}
-use Rattle.over_core.proofs.SweepCases.{first_tellings}
+use Rattle.sweep_laws.proofs.SweepCases.{first_tellings}
 use Rattle.stage_core.specs.declared.seats.Seat.{Seat}
 use Rattle.stage_core.specs.declared.steps.Step.{Step}
 use Rattle.stage_core.specs.Messages.{out_at, call_of}

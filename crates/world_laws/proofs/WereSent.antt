@@ -1,5 +1,5 @@
 -- A message that a step delivers was sent.
-use Rattle.std.proofs.Common.{◌≡◌, ℕ, ◌-◌, ◌<◌, List, length, true, false, cond, Result, Ok, Err, Option, Some, None, refl}
+use Rattle.std.proofs.Common.{◌≡◌, ℕ, ◌-◌, ◌<◌, List, length, true, false, cond, Result, Ok, Err, Option, Some, None, refl, sym, ◌∙◌}
 use Rattle.std.specs.Prelude.{◌==◌}
 use Rattle.std.specs.Option.{option_map_or}
 use Rattle.std.specs.List.{slice_get}
@@ -12,6 +12,7 @@ use Rattle.stage_core.specs.declared.steps.Step.TheVariants as steps
 use Rattle.stage_core.specs.declared.mail.Message.{Message}
 use Rattle.stage_core.specs.Messages.{message_at, as_request, as_out}
 use Rattle.stage_core.specs.World.{WorldState, took, given_to, world_take, world_step}
+use Rattle.world_laws.proofs.WorldCases.{step_takes, step_gives}
 
 message_within : {X : Type 0} (part : Message → Option X) (sent : List Message) (number : ℕ) (x : X) → option_map_or part (message_at sent number) None ≡ Some x → number - 1 < length sent
 message_within {X} part sent number x h =
@@ -37,9 +38,7 @@ take_within w new number (Some master) printed h =
     found_within as_request w.messages number (λ request. took w (take_step master w.clock request)) faults.NoSuchMessage (new, printed) h
 
 pub take_sent : (w new : WorldState) (number : ℕ) (printed : List Line) → world_step w (steps.Take number) ≡ Ok (new, printed) → number - 1 < length w.messages
-unfolding world_step
-take_sent w new number printed h = take_within w new number w.master printed h
+take_sent w new number printed h = take_within w new number w.master printed (sym (step_takes w number) ∙ h)
 
 pub give_sent : (w new : WorldState) (number : ℕ) (printed : List Line) → world_step w (steps.Give number) ≡ Ok (new, printed) → number - 1 < length w.messages
-unfolding world_step
-give_sent w new number printed h = found_within as_out w.messages number (λ out. given_to w out) faults.NoSuchMessage (new, printed) h
+give_sent w new number printed h = found_within as_out w.messages number (λ out. given_to w out) faults.NoSuchMessage (new, printed) (sym (step_gives w number) ∙ h)

@@ -18,7 +18,7 @@ use Rattle.messages_cell.specs.declared.requests.Request.{Request}
 use Rattle.messages_cell.specs.declared.outs.Out.{Out}
 use Rattle.messages_cell.specs.Messages.{out_client}
 use Rattle.cell_parts.specs.declared.pending.Taken.{Taken}
-use Rattle.over_core.specs.declared.sweeps.Swept.{Swept}
+use Rattle.sweep_laws.specs.declared.swept.Swept.{Swept}
 use Rattle.cell_state.specs.State.{MasterState, master_of}
 use Rattle.cell_parts.specs.StoredSessions.{row_of}
 use Rattle.cell_state.specs.Notices.{with_tellings}
@@ -26,13 +26,13 @@ use Rattle.cell_core.specs.Step.{take_step, is_past_end}
 use Rattle.cell_state.specs.Lookups.{is_spent, noted}
 use Rattle.turn_core.specs.Effect.{is_last}
 use Rattle.plan_core.specs.Plans.{first_action}
-use Rattle.over_core.specs.Sweep.{acted, telling, is_over, sweep_step, sweep_edits}
+use Rattle.sweep_laws.specs.Sweep.{acted, telling, is_over, sweep_step, sweep_edits}
 use Rattle.cell_core.specs.Cases.{TakeCase, taken_by}
-use Rattle.over_core.specs.SweepCase.{SweepCase, swept_by, swept_edits}
+use Rattle.sweep_laws.specs.SweepCase.{SweepCase, swept_by, swept_edits}
 use Rattle.cell_core.proofs.TakeCases.{taken_case, taken_unspent}
-use Rattle.over_core.proofs.SweepCases.{first_tellings, swept_case}
-use Rattle.over_core.specs.Kept.{IsKept}
-use Rattle.over_core.specs.Up.{up_step, up_edits, master_by}
+use Rattle.sweep_laws.proofs.SweepCases.{first_tellings, swept_case, does_first}
+use Rattle.sweep_laws.specs.Kept.{IsKept}
+use Rattle.sweep_laws.specs.Up.{up_step, up_edits, master_by}
 use Rattle.client_parts.specs.declared.asks.Ask.{Ask}
 use Rattle.client_core.specs.Asks.{ask_step}
 use Rattle.client_core.specs.Beats.{beat_step}
@@ -212,13 +212,21 @@ in_order w m s up agrees =
 
 -- what a sweep does is what was planned, and then clients are told
 swept_is : (s : MasterState) (now : ℕ) (p : MasterState × Swept) → sweep_step s now ≡ Ok p → p ≡ telling (first_tellings (noted s now)) (acted (noted s now) (first_action (noted s now)))
-unfolding sweep_step
-swept_is s now p h =
-    let planned : MasterState × Swept = telling (first_tellings (noted s now)) (acted (noted s now) (first_action (noted s now))) in
-    (elim (is_over s now) as (λ b. cond {A = Result (MasterState × Swept) Fault} b (Err faults.Exhausted) (Ok planned) ≡ Ok p → p ≡ planned) [
-      | true ↦ (λ e. cc)
-      | false ↦ (λ e. let is : planned ≡ p = cc in sym is)
-    ]) h
+swept_is s now p h = sym (does_first s now p h)
+
+-- ---- rows of the table that deliver and sweep, for whoever knows no more than that a step was made
+
+pub step_takes : (w : WorldState) (number : ℕ) → world_step w (steps.Take number) ≡ world_take w number w.master
+unfolding world_step
+step_takes w number = refl
+
+pub step_gives : (w : WorldState) (number : ℕ) → world_step w (steps.Give number) ≡ world_give w number
+unfolding world_step
+step_gives w number = refl
+
+pub step_sweeps : (w : WorldState) → world_step w steps.Sweep ≡ without_quiet (world_sweep w w.master)
+unfolding world_step
+step_sweeps w = refl
 
 module _ (w : WorldState) (step : Step) (new : WorldState) (printed : List Line) where
   -- ---- a master comes up

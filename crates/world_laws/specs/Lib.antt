@@ -9,8 +9,8 @@ pub use Rattle.cell_state.specs.State
 pub use Rattle.cell_state.specs.Lookups
 pub use Rattle.cell_core.specs.Cases
 pub use Rattle.turn_core.specs.Effect
-pub use Rattle.over_core.specs.SweepCase
-pub use Rattle.over_core.specs.Kept
+pub use Rattle.sweep_laws.specs.SweepCase
+pub use Rattle.sweep_laws.specs.Kept
 pub use Rattle.client_core.specs.State as Clients
 pub use Rattle.stage_core.specs.Messages
 pub use Rattle.stage_core.specs.Seats

@@ -1,5 +1,5 @@
 use Rattle.std.proofs.Common.{rules}
-use Rattle.over_core.proofs.KeptByUps.{up_stands}
+use Rattle.sweep_laws.proofs.KeptByUps.{up_stands}
 use Rattle.over_core.proofs.cells.next_master.Goals as goal
 
 pub returns-then-now-ge-MOMENT_LIMIT-clause-fault : goal.returns-then-now-ge-MOMENT_LIMIT-clause-fault

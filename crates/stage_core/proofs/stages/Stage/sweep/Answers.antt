@@ -1,8 +1,8 @@
 use denote.Param.{param}
 use Rattle.std.proofs.Common.{[], Option, Some, List, subst, sym}
 use Rattle.std.specs.Option.{option_map_or}
-use Rattle.over_core.specs.Kept.{CellState}
-use Rattle.over_core.specs.Sweep.{sweep_step, sweep_edits}
+use Rattle.sweep_laws.specs.Kept.{CellState}
+use Rattle.sweep_laws.specs.Sweep.{sweep_step, sweep_edits}
 use Rattle.stage_core.specs.declared.mail.Message.{Message}
 use Rattle.stage_core.specs.World.{WorldView, IsLeft}
 use Rattle.stage_core.specs.contracts.stages.Stage.{the_view}

@@ -1,0 +1,3 @@
+pub use Rattle.plain.specs.Results
+pub use Rattle.names_cell.specs.Text
+pub mod Settings
