@@ -49,7 +49,7 @@ use Rattle.stage_core.specs.declared.mail.Message.TheVariants.{ToClient}
 use Rattle.stage_core.specs.declared.seats.Seat.{Seat}
 use Rattle.stage_core.specs.Seats.{new_seat, each_seat, at_up}
 use Rattle.stage_core.specs.Messages.{request_at, out_at}
-use Rattle.stage_core.specs.World.{Agrees, WorldState, Outcome, world_step, world_up, came_up, seat_of, asked, beaten, took, world_take, gave, given_to, swept, world_sweep, without_quiet, without_master, world_down, is_of_commit, cut_sweep, world_cut_sweep, cut_up, world_cut_up, moves_nobody, are_joined, are_fair, goes_past_end, ticked}
+use Rattle.stage_core.specs.World.{Agrees, WorldState, Outcome, world_step, world_up, came_up, seat_of, asked, beaten, took, world_take, world_give, gave, given_to, swept, world_sweep, without_quiet, without_master, world_down, is_of_commit, cut_sweep, world_cut_sweep, cut_up, world_cut_up, moves_nobody, are_joined, are_fair, goes_past_end, ticked}
 
 -- ---- the rows
 
