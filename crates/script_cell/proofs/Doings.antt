@@ -10,7 +10,7 @@ use Rattle.node_core.specs.declared.lines.Line.{Line}
 use Rattle.node_core.specs.declared.lines.Line.TheVariants as lines
 use Rattle.node_core.specs.Texts.{line_text}
 use Rattle.stage_core.specs.declared.stages.Turn.{Turn}
-use Rattle.stage_core.specs.declared.steps.Step.{Step}
+use Rattle.seats_core.specs.declared.steps.Step.{Step}
 use Rattle.stage_core.specs.World.{WorldView}
 use Rattle.world_laws.proofs.PartsOfRuns.{take_more}
 use Rattle.script_cell.specs.declared.steps.Parsed.{Parsed}

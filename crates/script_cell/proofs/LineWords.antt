@@ -3,7 +3,7 @@ use Rattle.std.proofs.Common.{◌≡◌, ◌∷◌, [], suc, List, ℕ, Bool, tr
 use Rattle.std.specs.Prelude.{◌==◌, ◌||◌}
 use Rattle.std.specs.List.{list_any, slice_split}
 use Rattle.std.proofs.lemmas.Bool.{eqb-true}
-use Rattle.stage_core.specs.declared.steps.Step.{Step}
+use Rattle.seats_core.specs.declared.steps.Step.{Step}
 use Rattle.script_cell.specs.declared.steps.Flaw.{Flaw}
 use Rattle.script_cell.specs.declared.steps.Flaw.TheVariants.{Bad, Refused, NoMemory}
 use Rattle.script_cell.specs.Steps.{WritesStep, WritesWords, WritesLine, texts, is_blank, is_space, step_fault}

@@ -9,9 +9,9 @@ use Rattle.node_core.specs.declared.refusals.Fault.{Fault}
 use Rattle.node_core.specs.declared.refusals.Fault.TheVariants as faults
 use Rattle.node_core.specs.declared.lines.Line.{Line}
 use Rattle.node_core.specs.declared.lines.Line.TheVariants as lines
-use Rattle.stage_core.specs.declared.mail.Message.{Message}
-use Rattle.stage_core.specs.declared.steps.Step.{Step}
-use Rattle.stage_core.specs.declared.steps.Step.TheVariants as steps
+use Rattle.seats_core.specs.declared.mail.Message.{Message}
+use Rattle.seats_core.specs.declared.steps.Step.{Step}
+use Rattle.seats_core.specs.declared.steps.Step.TheVariants as steps
 use Rattle.stage_core.specs.declared.stages.Turn.{Turn}
 use Rattle.stage_core.specs.World.{WorldState, WorldView, world_step, world_sweep, without_quiet, step_edits, IsStored, IsLeft, MayRefuseStep}
 use Rattle.stage_core.specs.Made.{IsMade, WasMade, WasRefused}

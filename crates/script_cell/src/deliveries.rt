@@ -8,7 +8,7 @@ ghost use Rattle.script_cell.specs.Settling.{played, first_waiting, step_of, pla
 use node_core::{Fault, Line};
 use plain::Items;
 use rows_cell::Records;
-use stage_core::{Message, Step};
+use seats_core::{Message, Step};
 use std::alloc::{AllocError, Global};
 use std::marker::Model;
 use world_cell::World;

@@ -11,7 +11,7 @@ use messages_cell::{AclNames, Create, Disposition, NewNode, Open};
 use names_cell::{Component, Name, NameFault, Principal};
 use node_core::{Fault, Life, LockMode};
 use plain::{Bytes, Items};
-use stage_core::{Commit, Step, Ticks};
+use seats_core::{Commit, Step, Ticks};
 use std::alloc::{AllocError, Global};
 use std::str;
 use tags_cell::{ClientNumber, Events};

@@ -7,8 +7,8 @@ use Rattle.rows_cell.specs.declared.tables.Rows.{Rows}
 use Rattle.rows_cell.specs.Stores.{Store, IsRefused as Uncommitted}
 use Rattle.cell_state.specs.State.{MasterState}
 use Rattle.sweep_laws.specs.Kept.{CellState}
-use Rattle.stage_core.specs.declared.mail.Message.{Message}
-use Rattle.stage_core.specs.Seats.{Clients}
+use Rattle.seats_core.specs.declared.mail.Message.{Message}
+use Rattle.seats_core.specs.Seats.{Clients}
 use Rattle.stage_core.specs.World.{WorldState, WorldView, view_of, IsLeft}
 use Rattle.stage_core.proofs.RefusedUp.{leaves_same}
 

@@ -1,6 +1,4 @@
 pub mod OneMessage
-pub mod SeatAnswers
-pub mod SeatsMove
 pub mod TickOutcomes
 pub mod AsRead
 pub mod RefusedUp

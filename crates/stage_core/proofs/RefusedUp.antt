@@ -12,9 +12,9 @@ use Rattle.rows_cell.specs.Stores.{Store, IsRead, IsUnread, MayLeave, MayRefuse,
 use Rattle.cell_state.specs.State.{MasterState}
 use Rattle.cell_core.specs.Step.{is_past_end}
 use Rattle.sweep_laws.specs.Up.{up_step, up_edits, up_commit, ComesUp, IsKeptDown, StaysDown}
-use Rattle.stage_core.specs.declared.mail.Message.{Message}
-use Rattle.stage_core.specs.declared.steps.Step.TheVariants as steps
-use Rattle.stage_core.specs.Seats.{Clients, each_seat, at_up}
+use Rattle.seats_core.specs.declared.mail.Message.{Message}
+use Rattle.seats_core.specs.declared.steps.Step.TheVariants as steps
+use Rattle.seats_core.specs.Seats.{Clients, each_seat, at_up}
 use Rattle.stage_core.specs.World.{WorldState, WorldView, Outcome, store_in, held, view_of, as_read, came_up, world_step, world_up, came_up_edits, step_edits, IsAtUp, IsStored, IsOutsideUp}
 use Rattle.stage_core.specs.Made.{WasMade, WasRefused}
 use Rattle.stage_core.proofs.AsRead.{at_now}

@@ -7,11 +7,11 @@ use Rattle.lease_core.specs.Lease.{moment_limit}
 use Rattle.node_core.specs.declared.refusals.Fault.TheVariants as faults
 use Rattle.rows_cell.specs.Stores.{Store}
 use Rattle.cell_state.specs.State.{MasterState}
-use Rattle.stage_core.specs.declared.mail.Message.{Message}
-use Rattle.stage_core.specs.declared.steps.Step.TheVariants as steps
-use Rattle.stage_core.specs.declared.steps.Ticks.{Ticks as ClockSteps}
-use Rattle.stage_core.specs.Seats.{Clients, each_seat, moved_beside, moved_alone}
-use Rattle.stage_core.specs.World.{WorldView, world_tick, moves_nobody, are_joined, are_fair, goes_past_end, clock_then, ticked, view_of, MayRefuseStep}
+use Rattle.seats_core.specs.declared.mail.Message.{Message}
+use Rattle.seats_core.specs.declared.steps.Step.TheVariants as steps
+use Rattle.seats_core.specs.declared.steps.Ticks.{Ticks as ClockSteps}
+use Rattle.seats_core.specs.Seats.{Clients, each_seat, moved_beside, moved_alone, clock_then}
+use Rattle.stage_core.specs.World.{WorldView, world_tick, moves_nobody, are_joined, are_fair, goes_past_end, ticked, view_of, MayRefuseStep}
 
 module _ (old : WorldView) (ticks : ClockSteps) (somebody : moves_nobody old.world.master ticks ≡ false) where
   pub refused_unjoined : are_joined old.world ticks.own ≡ false → MayRefuseStep (world_tick old.world ticks) (steps.Tick ticks) faults.NoSession old old

@@ -14,7 +14,7 @@ pub use Rattle.client_core.specs.State as Clients
 pub use Rattle.client_core.specs.Asks
 pub use Rattle.client_core.specs.Beats
 pub use Rattle.client_core.specs.Gives
-pub mod Messages
-pub mod Seats
+pub use Rattle.seats_core.specs.Messages
+pub use Rattle.seats_core.specs.Seats
 pub mod World
 pub mod Made

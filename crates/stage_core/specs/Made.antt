@@ -3,7 +3,7 @@ use Rattle.std.specs.Prelude.{◌≡◌, ◌⊎◌, List, [], ◌∷◌, Ok}
 use Rattle.node_core.specs.declared.refusals.Fault.{Fault}
 use Rattle.node_core.specs.declared.lines.Line.{Line}
 use Rattle.node_core.specs.declared.lines.Line.TheVariants as lines
-use Rattle.stage_core.specs.declared.steps.Step.{Step}
+use Rattle.seats_core.specs.declared.steps.Step.{Step}
 use Rattle.stage_core.specs.World.{WorldView, world_step, step_edits, IsAt, IsStored, IsLeft, MayRefuseStep}
 
 -- the table makes the step, and the store does what it commits

@@ -34,17 +34,17 @@ use Rattle.client_core.specs.State.{ClientState}
 use Rattle.client_core.specs.Asks.{ask_step}
 use Rattle.client_core.specs.Beats.{beat_step}
 use Rattle.client_core.specs.Gives.{give_step}
-use Rattle.stage_core.specs.declared.mail.Message.{Message}
-use Rattle.stage_core.specs.declared.mail.Message.TheVariants.{ToMaster, ToClient}
-use Rattle.stage_core.specs.declared.seats.Seat.{Seat}
-use Rattle.stage_core.specs.declared.steps.Step.{Step}
-use Rattle.stage_core.specs.declared.steps.Step.TheVariants as steps
+use Rattle.seats_core.specs.declared.mail.Message.{Message}
+use Rattle.seats_core.specs.declared.mail.Message.TheVariants.{ToMaster, ToClient}
+use Rattle.seats_core.specs.declared.seats.Seat.{Seat}
+use Rattle.seats_core.specs.declared.steps.Step.{Step}
+use Rattle.seats_core.specs.declared.steps.Step.TheVariants as steps
 use Rattle.stage_core.specs.declared.stages.Turn.{Turn}
-use Rattle.stage_core.specs.declared.steps.Ticks.{Ticks}
-use Rattle.stage_core.specs.declared.steps.Commit.{Commit}
-use Rattle.stage_core.specs.declared.steps.Commit.TheVariants.{Kept, Lost}
-use Rattle.stage_core.specs.Seats.{Clients, new_seat, seated, each_seat, at_up, is_fair, moved_beside, moved_alone}
-use Rattle.stage_core.specs.Messages.{request_at, out_at}
+use Rattle.seats_core.specs.declared.steps.Ticks.{Ticks}
+use Rattle.seats_core.specs.declared.steps.Commit.{Commit}
+use Rattle.seats_core.specs.declared.steps.Commit.TheVariants.{Kept, Lost}
+use Rattle.seats_core.specs.Seats.{Clients, new_seat, seated, each_seat, at_up, clock_then, is_fair, moved_beside, moved_alone}
+use Rattle.seats_core.specs.Messages.{request_at, out_at}
 
 -- cell: its name, by the settings of its store. rows: those that stand. clock: the master's, in milliseconds. clients: by number, each with its own clock. messages: all that were sent, in
 -- order; they only grow. lease: in milliseconds
@@ -178,14 +178,6 @@ abbrev pub world_beat : WorldState → ℕ → Outcome
 world_beat w number = option_map_or (λ seat. beaten w number seat (beat_step seat.client seat.clock)) (seat_of w number) (Err faults.NoSession)
 
 -- ---- clocks move
-
--- by how much a client's clock moves: its own step where it has one, else that of all
-abbrev pub own_step : Ticks → ℕ → ℕ
-own_step ticks number = option_map_or (λ step. step) (lookup (is_at (nat_cmp number)) ticks.own) ticks.clients
-
--- where a client's clock is then
-abbrev pub clock_then : Ticks → ℕ → Seat → ℕ
-clock_then ticks number seat = seat.clock + own_step ticks number
 
 -- each step of its own is of a client that has joined
 abbrev pub are_joined : WorldState → List (ℕ × ℕ) → Bool

@@ -2,12 +2,6 @@
 //! does to them.
 #![tactic(auto)]
 
-mod mail;
-mod seats;
 mod stages;
-mod steps;
 
-pub use mail::Message;
-pub use seats::Seat;
 pub use stages::{Stage, Turn};
-pub use steps::{Commit, Step, Ticks};

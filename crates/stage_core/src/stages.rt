@@ -5,9 +5,6 @@ ghost use Rattle.std.specs.Vec.{vec_len, vec_capacity};
 ghost use Rattle.stage_core.specs.World.{opened, store_in, with_refusal, world_join, world_ask, world_beat, world_tick, world_take, world_give, world_sweep, world_down, without_master, is_of_commit, world_cut_sweep, moves_nobody, are_fair, goes_past_end, ticked, step_edits, IsStored, IsLeft, MayRefuseStep, Agrees};
 ghost use Rattle.stage_core.specs.Made.{WasMade, WasRefused};
 
-use crate::mail::{self, Message};
-use crate::seats::Seats;
-use crate::steps::{Commit, Step, Ticks};
 use client_core::{Ask, Asked, Beaten, Given, Outcome};
 use lease_core::MOMENT_LIMIT;
 use names_cell::Principal;
@@ -15,6 +12,7 @@ use node_core::{Fault, Line};
 use over_core::Cell;
 use plain::Items;
 use rows_cell::Records;
+use seats_core::{Commit, Message, Seats, Step, Ticks, mail};
 use settings_core::Settings;
 use std::alloc::{AllocError, Global};
 use std::marker::Model;
@@ -317,7 +315,7 @@ impl<R: Records + Drop> Stage<R> {
         Ok(Items::new(self.alloc))
     }
 
-    #[tactic(auto, using(crate::proofs::SeatAnswers::ask_few))]
+    #[tactic(auto, using(seats_core::proofs::SeatAnswers::ask_few))]
     fn ask(&mut self, number: u64, ask: &Ask) -> Result<Items<Line>, Fault>
         ensures ok { IfOk result (λ lines. world_ask self.old.world number ask.now ≡ Ok (self.new.world, lines)) }
         ensures stored { OnOk result (IsStored [] self.old self.new) }
@@ -447,7 +445,7 @@ impl<R: Records + Drop> Stage<R> {
         }
     }
 
-    #[tactic(auto, using(crate::proofs::SeatAnswers::give_few))]
+    #[tactic(auto, using(seats_core::proofs::SeatAnswers::give_few))]
     fn give(&mut self, number: u64) -> Result<Items<Line>, Fault>
         ensures ok { IfOk result (λ lines. world_give self.old.world number ≡ Ok (self.new.world, lines)) }
         ensures stored { OnOk result (IsStored [] self.old self.new) }

@@ -22,8 +22,8 @@ pub use Rattle.client_core.specs.State as Clients
 pub use Rattle.client_core.specs.Asks
 pub use Rattle.client_core.specs.Beats
 pub use Rattle.client_core.specs.Gives
-pub use Rattle.stage_core.specs.Messages
-pub use Rattle.stage_core.specs.Seats
+pub use Rattle.seats_core.specs.Messages
+pub use Rattle.seats_core.specs.Seats
 pub use Rattle.stage_core.specs.World
 pub use Rattle.stage_core.specs.Made
 pub use Rattle.world_laws.specs.Slices

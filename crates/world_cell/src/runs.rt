@@ -16,7 +16,7 @@ use crate::worlds::World;
 use node_core::{Fault, Line};
 use plain::Items;
 use rows_cell::Records;
-use stage_core::Step;
+use seats_core::Step;
 use std::alloc::{AllocError, Global};
 
 impl<R: Records + Drop> World<R> {

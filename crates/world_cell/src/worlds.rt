@@ -9,8 +9,9 @@ ghost use Rattle.world_laws.specs.Locks.{HasLegalLocks, CountsHolds};
 use node_core::{Fault, Line};
 use plain::Items;
 use rows_cell::Records;
+use seats_core::{Message, Step};
 use settings_core::Settings;
-use stage_core::{Message, Stage, Step, Turn};
+use stage_core::{Stage, Turn};
 use std::alloc::Global;
 use std::marker::Model;
 

@@ -13,9 +13,9 @@ use Rattle.cell_core.specs.Names.{name_asked}
 use Rattle.cell_core.specs.Cases.{IsAnswered}
 use Rattle.turn_core.specs.declared.effects.Effect.{Effect}
 use Rattle.turn_core.specs.Effect.{effect}
-use Rattle.stage_core.specs.declared.mail.Message.{Message}
-use Rattle.stage_core.specs.declared.mail.Message.TheVariants.{ToClient}
-use Rattle.stage_core.specs.Messages.{call_of}
+use Rattle.seats_core.specs.declared.mail.Message.{Message}
+use Rattle.seats_core.specs.declared.mail.Message.TheVariants.{ToClient}
+use Rattle.seats_core.specs.Messages.{call_of}
 use Rattle.world_laws.specs.Consistent.{OpensAs, IsAnswer}
 use Rattle.world_laws.proofs.MessagesGrow.{call_stays}
 use Rattle.world_laws.proofs.GrantsSent.{none_granted, now_granted, later_granted}

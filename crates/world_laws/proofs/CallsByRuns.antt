@@ -53,10 +53,10 @@ use Rattle.sweep_laws.specs.SweepCase.{IsTurn, SweepCase, swept_by, rest, ended,
 use Rattle.cell_core.specs.Cases.TakeCase.{StartQueued, Answered, Granted, Waits}
 use Rattle.sweep_laws.specs.SweepCase.SweepCase.{Quiet, Recovers, Expires, Reopens, Tidies, Spared, Tidied, AnswersBeat, TurnedAway, StartedAgain, Started as StartedFirst, OfEnded, Ended, Applied, Deleted, Locked, Awaited, Left}
 use Rattle.sweep_laws.specs.Kept.{IsKept, task_fits, waiting_fits}
-use Rattle.stage_core.specs.declared.steps.Step.{Step}
-use Rattle.stage_core.specs.declared.steps.Step.TheVariants.{Take, Sweep, CutSweep}
-use Rattle.stage_core.specs.declared.steps.Commit.TheVariants.{Kept}
-use Rattle.stage_core.specs.Messages.{call_of}
+use Rattle.seats_core.specs.declared.steps.Step.{Step}
+use Rattle.seats_core.specs.declared.steps.Step.TheVariants.{Take, Sweep, CutSweep}
+use Rattle.seats_core.specs.declared.steps.Commit.TheVariants.{Kept}
+use Rattle.seats_core.specs.Messages.{call_of}
 use Rattle.stage_core.specs.World.{WorldState, WorldView, is_of_commit, Agrees}
 use Rattle.world_laws.specs.Consistent.{IsConsistent}
 use Rattle.world_laws.specs.Runs.{Run, change_of, IsTaken, HasWaited, IsApplied, IsOfCall, IsOfIdle}

@@ -56,16 +56,16 @@ use Rattle.sweep_laws.specs.Kept.{IsKept}
 use Rattle.sweep_laws.specs.Up.{up_edits}
 use Rattle.client_parts.specs.declared.sessions.Session.TheVariants as sessions
 use Rattle.client_core.specs.State.{ClientState}
-use Rattle.stage_core.specs.declared.steps.Step.{Step}
-use Rattle.stage_core.specs.declared.steps.Step.TheVariants as steps
-use Rattle.stage_core.specs.declared.steps.Ticks.{Ticks as ClockSteps}
+use Rattle.seats_core.specs.declared.steps.Step.{Step}
+use Rattle.seats_core.specs.declared.steps.Step.TheVariants as steps
+use Rattle.seats_core.specs.declared.steps.Ticks.{Ticks as ClockSteps}
 use Rattle.stage_core.specs.declared.stages.Turn.{Turn}
-use Rattle.stage_core.specs.declared.mail.Message.{Message}
-use Rattle.stage_core.specs.declared.mail.Message.TheVariants.{ToMaster, ToClient}
-use Rattle.stage_core.specs.declared.seats.Seat.{Seat}
-use Rattle.stage_core.specs.Seats.{Clients, new_seat, seated, each_seat, at_up}
-use Rattle.stage_core.specs.Messages.{request_at, out_at, call_of}
-use Rattle.stage_core.specs.World.{WorldState, WorldView, IsUndoubted, seat_of, new_world, world_step, world_sweep, without_quiet, step_edits, IsStored, IsLeft, clock_then, stays_fair, are_fair, moved, ticked, without_master, Agrees}
+use Rattle.seats_core.specs.declared.mail.Message.{Message}
+use Rattle.seats_core.specs.declared.mail.Message.TheVariants.{ToMaster, ToClient}
+use Rattle.seats_core.specs.declared.seats.Seat.{Seat}
+use Rattle.seats_core.specs.Seats.{Clients, new_seat, seated, each_seat, at_up, clock_then}
+use Rattle.seats_core.specs.Messages.{request_at, out_at, call_of}
+use Rattle.stage_core.specs.World.{WorldState, WorldView, IsUndoubted, seat_of, new_world, world_step, world_sweep, without_quiet, step_edits, IsStored, IsLeft, stays_fair, are_fair, moved, ticked, without_master, Agrees}
 use Rattle.world_laws.specs.Slices.{slice, standing_in}
 use Rattle.world_laws.specs.Contents.{TellsTrue}
 use Rattle.world_laws.specs.Consistent.{IsSeated, Holds, HasSent, IsAnswer, FitsMessages, Fits, IsNoted, IsInTurn, IsFairSince, AreFair, IsConsistent}

@@ -22,7 +22,7 @@ use Rattle.cell_state.specs.Lookups.{kept_of, reply_of}
 use Rattle.deed_core.specs.Deeds.{with_kept_put}
 use Rattle.deed_core.specs.Replies.{sent, reply_to, replies_to, turn_replies}
 use Rattle.deed_core.specs.Lapses.{lapses_replies}
-use Rattle.stage_core.specs.declared.mail.Message.TheVariants.{ToClient}
+use Rattle.seats_core.specs.declared.mail.Message.TheVariants.{ToClient}
 use Rattle.world_laws.specs.Slices.{GrantsSoFar, seen_of, put_offer, grant_of}
 use Rattle.world_laws.proofs.GrantsSent.{unstamped, granted_by}
 use Rattle.world_laws.proofs.Slices.{lease_stays, seen_stays}

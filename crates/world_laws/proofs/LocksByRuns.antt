@@ -14,8 +14,8 @@ use Rattle.cell_state.specs.State.{MasterState}
 use Rattle.cell_state.specs.Lookups.{noted}
 use Rattle.sweep_laws.specs.Kept.{IsKept}
 use Rattle.sweep_laws.proofs.KeptBySweeps.{case_kept}
-use Rattle.stage_core.specs.declared.steps.Step.{Step}
-use Rattle.stage_core.specs.declared.steps.Step.TheVariants as steps
+use Rattle.seats_core.specs.declared.steps.Step.{Step}
+use Rattle.seats_core.specs.declared.steps.Step.TheVariants as steps
 use Rattle.stage_core.specs.World.{WorldState, WorldView, IsUndoubted, Agrees}
 use Rattle.world_laws.specs.Consistent.{IsConsistent}
 use Rattle.world_laws.specs.Runs.{Run}

@@ -65,9 +65,9 @@ use Rattle.turn_core.specs.Outcomes.{left_put}
 use Rattle.deed_core.specs.Lapses.{lapses_of, lapses_puts, lapses_replies}
 use Rattle.sweep_laws.specs.SweepCase.{IsTurn, SweepCase, swept_by, rest, ended, mapped, told, expired, gone_change, gone_replies}
 use Rattle.sweep_laws.specs.SweepCase.SweepCase.{Quiet, Recovers, Expires, Reopens, Tidies, Spared, Tidied, AnswersBeat, TurnedAway, StartedAgain, Started as StartedFirst, OfEnded, Ended, Applied, Deleted, Locked, Awaited, Left}
-use Rattle.stage_core.specs.declared.mail.Message.{Message}
-use Rattle.stage_core.specs.declared.mail.Message.TheVariants.{ToClient}
-use Rattle.stage_core.specs.Messages.{call_of}
+use Rattle.seats_core.specs.declared.mail.Message.{Message}
+use Rattle.seats_core.specs.declared.mail.Message.TheVariants.{ToClient}
+use Rattle.seats_core.specs.Messages.{call_of}
 use Rattle.world_laws.specs.Consistent.{put_waiting, put_task, waiting, IsWaiting, IsLastInTurn, IsInTurn, IsOfMessage, IsTaskOfMessage, AreOfMessages, WasSent, IsReplyTo, awaits_lock, OpensAs, IsAnswer, FitsMessages}
 use Rattle.world_laws.proofs.MessagesGrow.{call_stays}
 use Rattle.world_laws.proofs.LateReplies.{IsLate, AreLate, replies_late, turn_late, lapses_late}

@@ -54,12 +54,12 @@ use Rattle.sweep_laws.specs.SweepCase.{IsTurn, SweepCase, swept_by, rest, ended,
 use Rattle.sweep_laws.proofs.SweepCases.{first_tellings}
 use Rattle.cell_core.specs.Cases.TakeCase.{StartRefused, OldBeat, BeatRefused, BeatParked, OldEpoch, NoSession, Repeated, OlderCall, Outstanding, Recovering, Answered, Granted, Waits}
 use Rattle.sweep_laws.specs.SweepCase.SweepCase.{Quiet, Recovers, Expires, Reopens, Tidies, Spared, Tidied, AnswersBeat, TurnedAway, StartedAgain, Started as StartedFirst, OfEnded, Ended, Applied, Deleted, Locked, Awaited, Left}
-use Rattle.stage_core.specs.declared.steps.Step.{Step}
+use Rattle.seats_core.specs.declared.steps.Step.{Step}
 use Rattle.client_core.specs.State.{ClientState}
-use Rattle.stage_core.specs.declared.seats.Seat.{Seat}
-use Rattle.stage_core.specs.declared.mail.Message.{Message}
-use Rattle.stage_core.specs.declared.mail.Message.TheVariants.{ToMaster, ToClient}
-use Rattle.stage_core.specs.Messages.{call_of}
+use Rattle.seats_core.specs.declared.seats.Seat.{Seat}
+use Rattle.seats_core.specs.declared.mail.Message.{Message}
+use Rattle.seats_core.specs.declared.mail.Message.TheVariants.{ToMaster, ToClient}
+use Rattle.seats_core.specs.Messages.{call_of}
 use Rattle.stage_core.specs.World.{WorldState, WorldView, seat_of}
 use Rattle.world_laws.specs.Consistent.{FitsMessages, IsConsistent}
 use Rattle.world_laws.specs.Runs.{Run, applied, put_number, IsAbove, RisesFrom, Rises}

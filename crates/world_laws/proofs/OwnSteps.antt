@@ -45,12 +45,12 @@ use Rattle.client_core.specs.Cases.BeatCase.{BeatTooLate, OutOfBeats, Starts, Be
 use Rattle.client_core.specs.Cases.GiveCase.{GivenTooLate, OfAnother, Started, StartedUnfit, StartedDropped, LeaseTaken, LeaseStays, AliveUnfit, AliveDropped, OutOfNumbers, Replied, Installed, ReplyDropped, NotAwaited, Learns, Lost, TurnedAway, RefusalDropped}
 use Rattle.client_core.proofs.Noting.{unstarted_before, note_number, note_clock, note_epoch, note_session}
 use Rattle.client_core.proofs.Leases.{SessionStays, note_keeps, behind_live}
-use Rattle.stage_core.specs.declared.steps.Step.{Step}
-use Rattle.stage_core.specs.declared.mail.Message.{Message}
-use Rattle.stage_core.specs.declared.mail.Message.TheVariants.{ToMaster}
-use Rattle.stage_core.specs.declared.seats.Seat.{Seat}
-use Rattle.stage_core.specs.Seats.{seated}
-use Rattle.stage_core.specs.Messages.{out_at}
+use Rattle.seats_core.specs.declared.steps.Step.{Step}
+use Rattle.seats_core.specs.declared.mail.Message.{Message}
+use Rattle.seats_core.specs.declared.mail.Message.TheVariants.{ToMaster}
+use Rattle.seats_core.specs.declared.seats.Seat.{Seat}
+use Rattle.seats_core.specs.Seats.{seated}
+use Rattle.seats_core.specs.Messages.{out_at}
 use Rattle.stage_core.specs.World.{WorldState, Outcome, seat_of, with_client, with_refusal, asked, beaten, gave}
 use Rattle.world_laws.proofs.SilentLines.{IsSilent, IsQuiet, append_quiet, quiet_silent}
 use Rattle.world_laws.proofs.WorldCases.{IsAsk, IsBeat, IsGive}

@@ -36,10 +36,10 @@ use Rattle.turn_core.specs.Outcomes.{left_put}
 use Rattle.deed_core.specs.Replies.{turn_replies, puts_of, replies_to}
 use Rattle.deed_core.specs.Lapses.{lapses_of, lapses_puts, lapses_replies}
 use Rattle.sweep_laws.specs.SweepCase.SweepCase.{Quiet, Recovers, Expires, Reopens, Tidies, Spared, Tidied, OfEnded, Ended, Applied, Deleted, Locked, Awaited, Left}
-use Rattle.stage_core.specs.declared.mail.Message.{Message}
-use Rattle.stage_core.specs.declared.mail.Message.TheVariants.{ToMaster, ToClient}
-use Rattle.stage_core.specs.declared.steps.Step.{Step}
-use Rattle.stage_core.specs.Messages.{out_at, call_of}
+use Rattle.seats_core.specs.declared.mail.Message.{Message}
+use Rattle.seats_core.specs.declared.mail.Message.TheVariants.{ToMaster, ToClient}
+use Rattle.seats_core.specs.declared.steps.Step.{Step}
+use Rattle.seats_core.specs.Messages.{out_at, call_of}
 use Rattle.stage_core.specs.World.{WorldState}
 use Rattle.world_laws.specs.Consistent.{OpensAs, IsAnswer, FitsMessages, IsConsistent}
 use Rattle.world_laws.proofs.MessagesGrow.{out_more, out_among, one_no_out}

@@ -36,7 +36,7 @@ use Rattle.turn_core.specs.Outcomes.{leave_lines}
 use Rattle.deed_core.specs.Lapses.{lapses_lines, lapses_of}
 use Rattle.sweep_laws.specs.SweepCase.{SweepCase, swept_by}
 use Rattle.sweep_laws.specs.SweepCase.SweepCase.{Expires, Reopens, Tidies, Ended, Applied, Left}
-use Rattle.stage_core.specs.declared.steps.Step.{Step}
+use Rattle.seats_core.specs.declared.steps.Step.{Step}
 use Rattle.stage_core.specs.World.{WorldState, WorldView, is_of_commit}
 use Rattle.world_laws.specs.Consistent.{IsConsistent}
 use Rattle.world_laws.specs.Runs.{Run, Told, is_held_as, with_status, told_more, told_ended, rights_by, rights_at, told_of, rights_in, is_held_told, is_acknowledged_told, is_expired_told, totals_by, AreRecordedOnce}

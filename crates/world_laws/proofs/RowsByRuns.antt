@@ -23,7 +23,7 @@ use Rattle.turn_core.specs.Outcomes.{leave_lines, left_put}
 use Rattle.deed_core.specs.Lapses.{lapses_lines, lapses_of, lapses_puts}
 use Rattle.sweep_laws.specs.SweepCase.{SweepCase, swept_by, swept_edits}
 use Rattle.sweep_laws.specs.SweepCase.SweepCase.{Expires, Reopens, Tidied, Applied, Deleted, Locked, Awaited, Left}
-use Rattle.stage_core.specs.declared.steps.Step.{Step}
+use Rattle.seats_core.specs.declared.steps.Step.{Step}
 use Rattle.stage_core.specs.World.{WorldState, WorldView}
 use Rattle.world_laws.specs.Consistent.{IsConsistent}
 use Rattle.world_laws.specs.Runs.{Run, map_by, map_at, epoch_by, epoch_at}

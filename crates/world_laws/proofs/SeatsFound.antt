@@ -11,10 +11,10 @@ use Rattle.plain.proofs.Keys.{same_key}
 use Rattle.plain.proofs.OneKey.{lookup_set, lookup_set_apart}
 use Rattle.client_core.specs.State.{ClientState}
 use Rattle.cell_state.specs.State.{MasterState}
-use Rattle.stage_core.specs.declared.seats.Seat.{Seat}
-use Rattle.stage_core.specs.declared.steps.Ticks.{Ticks as ClockSteps}
-use Rattle.stage_core.specs.Seats.{Clients, seated, each_seat, is_least, is_fair, moved_beside}
-use Rattle.stage_core.specs.World.{WorldState, clock_then, moved}
+use Rattle.seats_core.specs.declared.seats.Seat.{Seat}
+use Rattle.seats_core.specs.declared.steps.Ticks.{Ticks as ClockSteps}
+use Rattle.seats_core.specs.Seats.{Clients, seated, each_seat, is_least, is_fair, moved_beside, clock_then}
+use Rattle.stage_core.specs.World.{WorldState, moved}
 use Rattle.world_laws.specs.Consistent.{IsFairSince}
 use Rattle.world_laws.proofs.OneSession.{at_each}
 

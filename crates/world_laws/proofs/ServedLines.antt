@@ -52,8 +52,8 @@ use Rattle.client_core.specs.Cases.{noted_moment, AskCase, asked_in, BeatCase, b
 use Rattle.client_core.specs.Cases.AskCase.{AskedTooLate, Unsafe, Refused, ReadServed, AbsenceServed, Shared, OutOfHandles, Released, OutOfCalls, Sent, Poisoned}
 use Rattle.client_core.specs.Cases.BeatCase.{BeatTooLate, OutOfBeats, Starts, Beats as BeatSent, Quiet}
 use Rattle.client_core.specs.Cases.GiveCase.{GivenTooLate, OfAnother, Started, StartedUnfit, StartedDropped, LeaseTaken, LeaseStays, AliveUnfit, AliveDropped, OutOfNumbers, Replied, Installed, ReplyDropped, NotAwaited, Learns, Lost, TurnedAway, RefusalDropped}
-use Rattle.stage_core.specs.declared.steps.Step.{Step}
-use Rattle.stage_core.specs.declared.seats.Seat.{Seat}
+use Rattle.seats_core.specs.declared.steps.Step.{Step}
+use Rattle.seats_core.specs.declared.seats.Seat.{Seat}
 use Rattle.stage_core.specs.World.{WorldState, WorldView, IsUndoubted, is_of_commit, seat_of, with_client, with_refusal, asked, beaten, gave, world_step}
 use Rattle.world_laws.specs.Slices.{slice, client_of}
 use Rattle.world_laws.specs.Consistent.{IsConsistent}

@@ -34,8 +34,8 @@ use Rattle.client_core.proofs.GiveCases.{taught_if}
 use Rattle.client_core.proofs.OneEntry.{StaysOrGoes, EntryDoes, none_stays, asked_stays, beaten_stays, given_entry}
 use Rattle.client_core.proofs.OneEntry.EntryDoes.{EntryStays, EntryInstalled}
 use Rattle.client_core.specs.Lessons.{may_install, taught}
-use Rattle.stage_core.specs.declared.seats.Seat.{Seat}
-use Rattle.stage_core.specs.Messages.{out_at}
+use Rattle.seats_core.specs.declared.seats.Seat.{Seat}
+use Rattle.seats_core.specs.Messages.{out_at}
 use Rattle.stage_core.specs.World.{WorldState, seat_of, with_client, sends, asked, beaten, gave}
 use Rattle.world_laws.specs.Consistent.{IsSeated, Holds, IsConsistent}
 use Rattle.world_laws.specs.Slices.{Shown, slice, beat_of, beats_of, name_number, offers_of, grants_of, client_of}

@@ -11,9 +11,9 @@ use Rattle.messages_cell.specs.declared.outs.Out.TheVariants as outs
 use Rattle.cell_state.specs.State.{MasterState}
 use Rattle.cell_state.specs.Lookups.{noted}
 use Rattle.sweep_laws.specs.SweepCase.{SweepCase, swept_by, swept_edits}
-use Rattle.stage_core.specs.declared.mail.Message.TheVariants.{ToClient}
-use Rattle.stage_core.specs.declared.seats.Seat.{Seat}
-use Rattle.stage_core.specs.Seats.{at_up}
+use Rattle.seats_core.specs.declared.mail.Message.TheVariants.{ToClient}
+use Rattle.seats_core.specs.declared.seats.Seat.{Seat}
+use Rattle.seats_core.specs.Seats.{at_up}
 use Rattle.stage_core.specs.World.{WorldState, seat_of, without_master}
 use Rattle.world_laws.specs.Slices.{Shown, slice, beats_of, offer_of, put_offer, offers_of, grants_of, client_of}
 use Rattle.world_laws.proofs.GrantsSent.{grants_stay}

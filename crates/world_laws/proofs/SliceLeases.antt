@@ -12,7 +12,7 @@ use Rattle.messages_cell.specs.declared.outs.Reply.{Reply}
 use Rattle.session_core.specs.declared.records.Session.{Session}
 use Rattle.cell_state.specs.State.{MasterState}
 use Rattle.cell_state.specs.Lookups.{session_of}
-use Rattle.stage_core.specs.declared.seats.Seat.{Seat}
+use Rattle.seats_core.specs.declared.seats.Seat.{Seat}
 use Rattle.stage_core.specs.World.{WorldState, seat_of}
 use Rattle.world_laws.specs.Slices.{slice, standing_so, standing_of, seen_of, client_of, master_of}
 use Rattle.world_laws.specs.Consistent.{IsConsistent}

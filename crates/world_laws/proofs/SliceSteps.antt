@@ -11,9 +11,9 @@ use Rattle.cell_state.specs.State.{MasterState}
 use Rattle.cell_state.specs.Lookups.{noted, is_spent}
 use Rattle.cell_core.specs.Cases.{TakeCase}
 use Rattle.sweep_laws.specs.SweepCase.{SweepCase}
-use Rattle.stage_core.specs.declared.seats.Seat.{Seat}
-use Rattle.stage_core.specs.declared.steps.Ticks.{Ticks}
-use Rattle.stage_core.specs.Messages.{request_at, out_at}
+use Rattle.seats_core.specs.declared.seats.Seat.{Seat}
+use Rattle.seats_core.specs.declared.steps.Ticks.{Ticks}
+use Rattle.seats_core.specs.Messages.{request_at, out_at}
 use Rattle.stage_core.specs.World.{WorldState, seat_of, asked, beaten, gave, ticked, are_fair, without_master, Agrees}
 use Rattle.world_laws.specs.Slices.{slice}
 use Rattle.world_laws.specs.Consistent.{IsConsistent, Fits, IsNoted}

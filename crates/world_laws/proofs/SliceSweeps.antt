@@ -68,7 +68,7 @@ use Rattle.sweep_laws.specs.Kept.{IsKept, names_touched_by}
 use Rattle.sweep_laws.proofs.SweepCases.{first_tellings}
 use Rattle.sweep_laws.proofs.Touching.{change_is_named}
 use Rattle.plan_core.proofs.Unacknowledged.{IsAskedFor, each_is_asked, asked_is_named}
-use Rattle.stage_core.specs.declared.mail.Message.TheVariants.{ToClient}
+use Rattle.seats_core.specs.declared.mail.Message.TheVariants.{ToClient}
 use Rattle.stage_core.specs.World.{WorldState}
 use Rattle.world_laws.specs.Slices.{Shown, slice, standing_so, standing_of, standing_in, parked_list, seen_of, heard_from, right_of, put_start, start_of, starts_of, beats_of, name_number, put_offer, offers_of, grants_of}
 use Rattle.world_laws.proofs.RelockedRows.{IsBeside, HasRow, let_go, relocked_rows}

@@ -21,10 +21,10 @@ use Rattle.cell_state.specs.State.{MasterState}
 use Rattle.cell_state.specs.State as of_state
 use Rattle.cell_state.specs.Lookups.{session_of}
 use Rattle.sweep_laws.specs.Up.{up_edits}
-use Rattle.stage_core.specs.declared.seats.Seat.{Seat}
-use Rattle.stage_core.specs.declared.steps.Ticks.{Ticks}
-use Rattle.stage_core.specs.Seats.{new_seat, each_seat, at_up, is_least, is_fair}
-use Rattle.stage_core.specs.World.{WorldState, seat_of, own_step, clock_then, stays_fair, moved, ticked, are_fair, without_master}
+use Rattle.seats_core.specs.declared.seats.Seat.{Seat}
+use Rattle.seats_core.specs.declared.steps.Ticks.{Ticks}
+use Rattle.seats_core.specs.Seats.{new_seat, each_seat, at_up, is_least, is_fair, own_step, clock_then}
+use Rattle.stage_core.specs.World.{WorldState, seat_of, stays_fair, moved, ticked, are_fair, without_master}
 use Rattle.world_laws.specs.Slices.{Shown, slice, standing_so, standing_of, standing_in, seen_of, heard_from, beats_of, offers_of, grants_of, clocks_of, client_of, master_of}
 use Rattle.world_laws.proofs.SliceRights.{no_right}
 use Rattle.world_laws.proofs.Slices.{LeadsTo, reached_stays, unseen, by_test, is_same, is_other, two_same, lookup_rows, lookup_each, all_found, seen_up, seated_as}

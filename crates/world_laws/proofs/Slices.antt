@@ -34,10 +34,10 @@ use Rattle.cell_parts.specs.StoredSessions.{row_of, session_rows}
 use Rattle.cell_state.specs.Lookups.{session_of, noted}
 use Rattle.client_parts.specs.Invalidations.{last_number}
 use Rattle.sweep_laws.specs.Kept.{AreByBeats, AreIssued, AreOwned, AreTouching, IsKept}
-use Rattle.stage_core.specs.declared.mail.Message.{Message}
-use Rattle.stage_core.specs.declared.mail.Message.TheVariants.{ToMaster, ToClient}
-use Rattle.stage_core.specs.declared.seats.Seat.{Seat}
-use Rattle.stage_core.specs.Messages.{message_at, as_request, as_out, request_at, out_at}
+use Rattle.seats_core.specs.declared.mail.Message.{Message}
+use Rattle.seats_core.specs.declared.mail.Message.TheVariants.{ToMaster, ToClient}
+use Rattle.seats_core.specs.declared.seats.Seat.{Seat}
+use Rattle.seats_core.specs.Messages.{message_at, as_request, as_out, request_at, out_at}
 use Rattle.stage_core.specs.World.{WorldState, seat_of}
 use Rattle.world_laws.specs.Slices.{Seen, SeenRight, Shown, Grants, GrantsSoFar, Clocks, slice, standing_of, standing_in, seen_of, heard_from, right_of, start_of, starts_of, beat_of, put_beat, beats_of, name_number, offer_of, put_offer, offers_of, put_grant, grants_of, clocks_of, client_of, master_of}
 use Rattle.world_laws.proofs.GrantsSent.{granted_by, looked_at}

@@ -30,11 +30,11 @@ use Rattle.plan_core.specs.Plans.{first_action, plan_of}
 use Rattle.sweep_laws.specs.SweepCase.{swept_by, swept_edits}
 use Rattle.sweep_laws.proofs.KeptBySweeps.{case_kept}
 use Rattle.sweep_laws.proofs.SweepCases.{first_tellings}
-use Rattle.stage_core.specs.declared.mail.Message.{Message}
-use Rattle.stage_core.specs.declared.mail.Message.TheVariants.{ToMaster, ToClient}
-use Rattle.stage_core.specs.declared.steps.Step.{Step}
-use Rattle.stage_core.specs.declared.steps.Step.TheVariants as steps
-use Rattle.stage_core.specs.Messages.{out_at}
+use Rattle.seats_core.specs.declared.mail.Message.{Message}
+use Rattle.seats_core.specs.declared.mail.Message.TheVariants.{ToMaster, ToClient}
+use Rattle.seats_core.specs.declared.steps.Step.{Step}
+use Rattle.seats_core.specs.declared.steps.Step.TheVariants as steps
+use Rattle.seats_core.specs.Messages.{out_at}
 use Rattle.stage_core.specs.World.{WorldState, Agrees}
 use Rattle.world_laws.specs.Contents.{Stands, IsTrue, AreTrue, TellsTrue}
 use Rattle.world_laws.proofs.Carried.{IfReply, IfKept, IfQueue, OfSession, OfSessions, OfOut, OfOuts, Shows, out_holds, tellings_hold, taken_over_hold, taken_hold, taken_outs_hold, swept_hold, swept_outs_hold}

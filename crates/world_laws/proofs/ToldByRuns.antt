@@ -26,9 +26,9 @@ use Rattle.cell_parts.specs.declared.notices.Telling.{Telling}
 use Rattle.cell_state.specs.State.{MasterState}
 use Rattle.cell_state.specs.Lookups.{session_of, kept_of, noted}
 use Rattle.sweep_laws.proofs.SweepCases.{first_tellings}
-use Rattle.stage_core.specs.declared.seats.Seat.{Seat}
-use Rattle.stage_core.specs.declared.steps.Step.{Step}
-use Rattle.stage_core.specs.Messages.{out_at, call_of}
+use Rattle.seats_core.specs.declared.seats.Seat.{Seat}
+use Rattle.seats_core.specs.declared.steps.Step.{Step}
+use Rattle.seats_core.specs.Messages.{out_at, call_of}
 use Rattle.stage_core.specs.World.{WorldState, WorldView, seat_of, Agrees}
 use Rattle.world_laws.specs.Contents.{IsNoOlder, Stands, IsTrue}
 use Rattle.world_laws.specs.Consistent.{Fits, FitsMessages, IsConsistent}

@@ -40,15 +40,15 @@ use Rattle.client_core.specs.Gives.{give_step}
 use Rattle.client_core.specs.Cases.{AskCase, asked_in, BeatCase, beaten_in, GiveCase, given_in}
 use Rattle.client_core.proofs.AskCases.{ask_case, beat_case}
 use Rattle.client_core.proofs.GiveCases.{give_case}
-use Rattle.stage_core.specs.declared.steps.Step.{Step}
-use Rattle.stage_core.specs.declared.steps.Step.TheVariants as steps
-use Rattle.stage_core.specs.declared.steps.Ticks.{Ticks as ClockSteps}
-use Rattle.stage_core.specs.declared.steps.Commit.{Commit}
-use Rattle.stage_core.specs.declared.steps.Commit.TheVariants.{Kept, Lost}
-use Rattle.stage_core.specs.declared.mail.Message.TheVariants.{ToClient}
-use Rattle.stage_core.specs.declared.seats.Seat.{Seat}
-use Rattle.stage_core.specs.Seats.{new_seat, each_seat, at_up}
-use Rattle.stage_core.specs.Messages.{request_at, out_at}
+use Rattle.seats_core.specs.declared.steps.Step.{Step}
+use Rattle.seats_core.specs.declared.steps.Step.TheVariants as steps
+use Rattle.seats_core.specs.declared.steps.Ticks.{Ticks as ClockSteps}
+use Rattle.seats_core.specs.declared.steps.Commit.{Commit}
+use Rattle.seats_core.specs.declared.steps.Commit.TheVariants.{Kept, Lost}
+use Rattle.seats_core.specs.declared.mail.Message.TheVariants.{ToClient}
+use Rattle.seats_core.specs.declared.seats.Seat.{Seat}
+use Rattle.seats_core.specs.Seats.{new_seat, each_seat, at_up}
+use Rattle.seats_core.specs.Messages.{request_at, out_at}
 use Rattle.stage_core.specs.World.{Agrees, WorldState, Outcome, world_step, world_up, came_up, seat_of, asked, beaten, took, world_take, world_give, gave, given_to, swept, world_sweep, without_quiet, without_master, world_down, is_of_commit, cut_sweep, world_cut_sweep, cut_up, world_cut_up, moves_nobody, are_joined, are_fair, goes_past_end, ticked}
 
 -- ---- the rows

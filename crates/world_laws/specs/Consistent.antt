@@ -43,10 +43,10 @@ use Rattle.cell_parts.specs.declared.pending.Work.TheVariants as works
 use Rattle.cell_state.specs.State.{MasterState}
 use Rattle.cell_core.specs.Names.{name_asked}
 use Rattle.cell_state.specs.Lookups.{session_of, kept_of}
-use Rattle.stage_core.specs.declared.mail.Message.{Message}
-use Rattle.stage_core.specs.declared.seats.Seat.{Seat}
-use Rattle.stage_core.specs.Messages.{request_at, out_at, call_of}
-use Rattle.stage_core.specs.Seats.{is_fair}
+use Rattle.seats_core.specs.declared.mail.Message.{Message}
+use Rattle.seats_core.specs.declared.seats.Seat.{Seat}
+use Rattle.seats_core.specs.Messages.{request_at, out_at, call_of}
+use Rattle.seats_core.specs.Seats.{is_fair}
 use Rattle.stage_core.specs.World.{WorldState, seat_of, Agrees}
 use Rattle.world_laws.specs.Slices.{Shown, grant_of, grants_of, slice}
 use Rattle.world_laws.specs.Contents.{TellsTrue}

@@ -12,8 +12,8 @@ pub use Rattle.turn_core.specs.Effect
 pub use Rattle.sweep_laws.specs.SweepCase
 pub use Rattle.sweep_laws.specs.Kept
 pub use Rattle.client_core.specs.State as Clients
-pub use Rattle.stage_core.specs.Messages
-pub use Rattle.stage_core.specs.Seats
+pub use Rattle.seats_core.specs.Messages
+pub use Rattle.seats_core.specs.Seats
 pub use Rattle.stage_core.specs.World
 pub use Rattle.stage_core.specs.Made
 pub mod Slices

@@ -24,10 +24,10 @@ use Rattle.cell_parts.specs.declared.pending.Work.TheVariants as works
 use Rattle.cell_state.specs.State.{MasterState}
 use Rattle.cell_core.specs.Ephemerals.{is_idle_node}
 use Rattle.turn_core.specs.Effect.{effect}
-use Rattle.stage_core.specs.declared.steps.Step.{Step}
-use Rattle.stage_core.specs.declared.steps.Step.TheVariants.{Take, Sweep, CutSweep}
-use Rattle.stage_core.specs.declared.steps.Commit.TheVariants.{Kept}
-use Rattle.stage_core.specs.Messages.{request_at, call_of}
+use Rattle.seats_core.specs.declared.steps.Step.{Step}
+use Rattle.seats_core.specs.declared.steps.Step.TheVariants.{Take, Sweep, CutSweep}
+use Rattle.seats_core.specs.declared.steps.Commit.TheVariants.{Kept}
+use Rattle.seats_core.specs.Messages.{request_at, call_of}
 use Rattle.lease_core.specs.Lease.{IsUnexpired}
 use Rattle.coherence.specs.Joint.{IsJoint}
 use Rattle.rows_cell.specs.Sound.{is_live_in}
@@ -35,7 +35,7 @@ use Rattle.messages_cell.specs.declared.outs.Reply.{Reply}
 use Rattle.session_core.specs.declared.records.Session.{Session}
 use Rattle.cell_state.specs.Lookups.{session_of}
 use Rattle.client_core.specs.State.{lease_of}
-use Rattle.stage_core.specs.declared.seats.Seat.{Seat}
+use Rattle.seats_core.specs.declared.seats.Seat.{Seat}
 use Rattle.stage_core.specs.World.{WorldState, WorldView, IsUndoubted, seat_of}
 use Rattle.stage_core.specs.Made.{IsMade, Does, AnyStep}
 use Rattle.world_laws.specs.Slices.{slice}

@@ -36,10 +36,10 @@ use Rattle.cell_core.specs.Names.{name_asked, shown_by}
 use Rattle.client_parts.specs.Invalidations.{last_number}
 use Rattle.cache_core.specs.Caches.{entry_of}
 use Rattle.client_core.specs.State.{lease_of}
-use Rattle.stage_core.specs.Messages.{call_of}
-use Rattle.stage_core.specs.declared.mail.Message.{Message}
-use Rattle.stage_core.specs.declared.mail.Message.TheVariants as messages
-use Rattle.stage_core.specs.declared.seats.Seat.{Seat}
+use Rattle.seats_core.specs.Messages.{call_of}
+use Rattle.seats_core.specs.declared.mail.Message.{Message}
+use Rattle.seats_core.specs.declared.mail.Message.TheVariants as messages
+use Rattle.seats_core.specs.declared.seats.Seat.{Seat}
 use Rattle.stage_core.specs.World.{WorldState, seat_of}
 
 -- ---- the rows

@@ -2,7 +2,7 @@ use denote.Param.{param}
 use Rattle.std.proofs.Common.{◌≡◌, None, true, subst, ap, ◌∙◌, rules}
 use Rattle.std.specs.Prelude.{is_some}
 use Rattle.sweep_laws.specs.Kept.{CellState}
-use Rattle.stage_core.specs.declared.steps.Commit.TheVariants.{Kept}
+use Rattle.seats_core.specs.declared.steps.Commit.TheVariants.{Kept}
 use Rattle.stage_core.specs.World.{WorldView, store_in}
 use Rattle.stage_core.specs.contracts.stages.Stage.{the_view}
 use Rattle.stage_core.proofs.RefusedUp.{of_records, is_up_then}

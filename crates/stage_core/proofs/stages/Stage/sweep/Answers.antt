@@ -3,7 +3,7 @@ use Rattle.std.proofs.Common.{[], Option, Some, List, subst, sym}
 use Rattle.std.specs.Option.{option_map_or}
 use Rattle.sweep_laws.specs.Kept.{CellState}
 use Rattle.sweep_laws.specs.Sweep.{sweep_step, sweep_edits}
-use Rattle.stage_core.specs.declared.mail.Message.{Message}
+use Rattle.seats_core.specs.declared.mail.Message.{Message}
 use Rattle.stage_core.specs.World.{WorldView, IsLeft}
 use Rattle.stage_core.specs.contracts.stages.Stage.{the_view}
 use Rattle.stage_core.proofs.LeftSweeps.{sweep_left, whenever, world_of}

@@ -10,8 +10,8 @@ use Rattle.std.proofs.Math.Seq.{drop-cons}
 use Rattle.std.proofs.lemmas.List.{drop_all}
 use Rattle.std.proofs.lemmas.Bool.Decides.{nat_tests}
 use Rattle.plain.proofs.Keys.{at_itself, apart}
-use Rattle.stage_core.specs.declared.seats.Seat.{Seat}
-use Rattle.stage_core.specs.Seats.{Clients, each_seat}
+use Rattle.seats_core.specs.declared.seats.Seat.{Seat}
+use Rattle.seats_core.specs.Seats.{Clients, each_seat}
 
 -- ---- each seat
 

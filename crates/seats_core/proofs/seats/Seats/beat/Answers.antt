@@ -3,8 +3,8 @@ use Rattle.std.specs.Map.{lookup, set_value}
 use Rattle.std.specs.BTreeMap.{is_at}
 use Rattle.std.specs.Ordering.{nat_cmp}
 use Rattle.client_core.specs.Beats.{beat_step}
-use Rattle.stage_core.proofs.SeatAnswers.{seat_answers, beat_leaves}
-use Rattle.stage_core.proofs.seats.Seats.beat.Goals as goal
+use Rattle.seats_core.proofs.SeatAnswers.{seat_answers, beat_leaves}
+use Rattle.seats_core.proofs.seats.Seats.beat.Goals as goal
 
 pub returns-clause-some : goal.returns-clause-some
 returns-clause-some c =

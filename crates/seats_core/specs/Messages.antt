@@ -6,8 +6,8 @@ use Rattle.messages_cell.specs.declared.requests.Request.{Request}
 use Rattle.messages_cell.specs.declared.requests.Request.TheVariants as requests
 use Rattle.messages_cell.specs.declared.requests.CallMessage.{CallMessage}
 use Rattle.messages_cell.specs.declared.outs.Out.{Out}
-use Rattle.stage_core.specs.declared.mail.Message.{Message}
-use Rattle.stage_core.specs.declared.mail.Message.TheVariants as messages
+use Rattle.seats_core.specs.declared.mail.Message.{Message}
+use Rattle.seats_core.specs.declared.mail.Message.TheVariants as messages
 
 -- the message of a number; they are numbered from 1
 abbrev pub message_at : List Message → ℕ → Option Message

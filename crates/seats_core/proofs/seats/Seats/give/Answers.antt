@@ -3,8 +3,8 @@ use Rattle.std.specs.Map.{lookup, set_value}
 use Rattle.std.specs.BTreeMap.{is_at}
 use Rattle.std.specs.Ordering.{nat_cmp}
 use Rattle.client_core.specs.Gives.{give_step}
-use Rattle.stage_core.proofs.SeatAnswers.{seat_answers, give_leaves}
-use Rattle.stage_core.proofs.seats.Seats.give.Goals as goal
+use Rattle.seats_core.proofs.SeatAnswers.{seat_answers, give_leaves}
+use Rattle.seats_core.proofs.seats.Seats.give.Goals as goal
 
 pub returns-clause-some : goal.returns-clause-some
 returns-clause-some c =

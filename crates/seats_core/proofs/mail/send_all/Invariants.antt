@@ -1,8 +1,8 @@
 use Rattle.std.proofs.Common.{◌≡◌, ◌≤◌, ◌+◌, ◌++◌, map, length}
 use Rattle.std.specs.Vec.{vec_len, vec_capacity}
 use Rattle.std.specs.Vec.Iter.{into_iter_items}
-use Rattle.stage_core.specs.declared.mail.Message.TheVariants.{ToClient}
-use Rattle.stage_core.proofs.mail.send_all.Given as goal
+use Rattle.seats_core.specs.declared.mail.Message.TheVariants.{ToClient}
+use Rattle.seats_core.proofs.mail.send_all.Given as goal
 
 -- what was added, with what is left, is all; and there is room for what is left
 abbrev pub invariant-loop-out : goal.invariant-loop-out

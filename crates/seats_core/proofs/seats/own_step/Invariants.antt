@@ -2,7 +2,7 @@ use Rattle.std.proofs.Common.{◌≡◌, drop}
 use Rattle.std.specs.Map.{lookup}
 use Rattle.std.specs.BTreeMap.{is_at}
 use Rattle.std.specs.Ordering.{nat_cmp}
-use Rattle.stage_core.proofs.seats.own_step.Given as goal
+use Rattle.seats_core.proofs.seats.own_step.Given as goal
 
 -- what is left finds the same step
 abbrev pub invariant-loop-entry : goal.invariant-loop-entry

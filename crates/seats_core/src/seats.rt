@@ -7,10 +7,9 @@ ghost use Rattle.std.specs.Ordering.{nat_cmp};
 ghost use Rattle.client_core.specs.Asks.{ask_step};
 ghost use Rattle.client_core.specs.Beats.{beat_step};
 ghost use Rattle.client_core.specs.Gives.{give_step};
-ghost use Rattle.stage_core.specs.declared.seats.Seat.{Seat as SeatState};
+ghost use Rattle.seats_core.specs.declared.seats.Seat.{Seat as SeatState};
 ghost use Rattle.lease_core.specs.Lease.{moment_limit};
-ghost use Rattle.stage_core.specs.Seats.{new_seat, each_seat, at_up, is_least, is_fair, moved_beside, moved_alone, Answers};
-ghost use Rattle.stage_core.specs.World.{own_step, clock_then};
+ghost use Rattle.seats_core.specs.Seats.{new_seat, each_seat, at_up, is_least, is_fair, moved_beside, moved_alone, Answers, own_step, clock_then};
 
 use crate::steps::Ticks;
 use client_core::{Ask, Asked, Beaten, Client, Given};
@@ -121,13 +120,13 @@ fn own_step(ticks: &Ticks, number: u64) -> u64
 
 /// The clients of a world, by their numbers.
 #[derive(Drop)]
-pub(crate) struct Seats {
+pub struct Seats {
     alloc: Global,
     clients: BTreeMap<u64, Seat>,
 }
 
 impl Model for Seats {
-    ghost use Rattle.stage_core.specs.Seats.{Clients};
+    ghost use Rattle.seats_core.specs.Seats.{Clients};
 
     ghost Value = { Clients };
 
@@ -135,7 +134,8 @@ impl Model for Seats {
 }
 
 impl Seats {
-    pub(crate) fn new(alloc: Global) -> Seats
+    /// No client yet. Takes no memory.
+    pub fn new(alloc: Global) -> Seats
         ensures { result ≡ [] }
     {
         Seats {
@@ -144,14 +144,15 @@ impl Seats {
         }
     }
 
-    pub(crate) fn is_taken(&self, number: ClientNumber) -> bool
+    /// Whether a client joined under the number.
+    pub fn is_taken(&self, number: ClientNumber) -> bool
         ensures { result ≡ is_some (lookup (is_at (nat_cmp number)) self.now) }
     {
         self.clients.contains_key(&number.get())
     }
 
-    // A new client under a number, where the master's clock stands there.
-    pub(crate) fn join(
+    /// A new client under a number, where the master's clock stands there.
+    pub fn join(
         &mut self,
         number: ClientNumber,
         principal: &Principal,
@@ -172,8 +173,8 @@ impl Seats {
         Ok(())
     }
 
-    // None where nobody has joined under the number.
-    pub(crate) fn ask(&mut self, number: u64, ask: &Ask) -> Option<Result<Asked, Fault>>
+    /// It is asked for a call. None where nobody has joined under the number.
+    pub fn ask(&mut self, number: u64, ask: &Ask) -> Option<Result<Asked, Fault>>
         ensures none { IsNone result → lookup (is_at (nat_cmp number)) self.old ≡ None }
         ensures stay { IsNone result → self.new ≡ self.old }
         ensures some { IfSome result (λ r. (seat : SeatState) × (lookup (is_at (nat_cmp number)) self.old ≡ Some seat) × Answers self.old self.new number seat r (ask_step seat.client seat.clock ask.now)) }
@@ -184,7 +185,8 @@ impl Seats {
         Some(seat.client.ask(seat.clock, ask))
     }
 
-    pub(crate) fn beat(&mut self, number: u64) -> Option<Result<Beaten, Fault>>
+    /// What keeps its session. None where nobody has joined under the number.
+    pub fn beat(&mut self, number: u64) -> Option<Result<Beaten, Fault>>
         ensures none { IsNone result → lookup (is_at (nat_cmp number)) self.old ≡ None }
         ensures stay { IsNone result → self.new ≡ self.old }
         ensures some { IfSome result (λ r. (seat : SeatState) × (lookup (is_at (nat_cmp number)) self.old ≡ Some seat) × Answers self.old self.new number seat r (beat_step seat.client seat.clock)) }
@@ -195,7 +197,8 @@ impl Seats {
         Some(seat.client.beat(seat.clock))
     }
 
-    pub(crate) fn give(&mut self, number: ClientNumber, out: &Out) -> Option<Result<Given, Fault>>
+    /// A message comes to it. None where nobody has joined under the number.
+    pub fn give(&mut self, number: ClientNumber, out: &Out) -> Option<Result<Given, Fault>>
         ensures none { IsNone result → lookup (is_at (nat_cmp number)) self.old ≡ None }
         ensures stay { IsNone result → self.new ≡ self.old }
         ensures some { IfSome result (λ r. (seat : SeatState) × (lookup (is_at (nat_cmp number)) self.old ≡ Some seat) × Answers self.old self.new number seat r (give_step seat.client seat.clock out.now)) }
@@ -206,8 +209,8 @@ impl Seats {
         Some(seat.client.give(seat.clock, out))
     }
 
-    // A master comes up.
-    pub(crate) fn come_up(&mut self, now: u64)
+    /// A master comes up.
+    pub fn come_up(&mut self, now: u64)
         ensures { self.new ≡ each_seat (λ number. at_up now) self.old }
     {
         self.clients.retain(|_, seat| {
@@ -216,15 +219,15 @@ impl Seats {
         });
     }
 
-    // Whether each step of its own is of a client that has joined.
-    pub(crate) fn are_joined(&self, own: &[(u64, u64)]) -> bool
+    /// Whether each step of its own is of a client that has joined.
+    pub fn are_joined(&self, own: &[(u64, u64)]) -> bool
         ensures { result ≡ list_all (λ entry. is_some (lookup (is_at (nat_cmp entry.0)) self.now)) own.now }
     {
         own.iter().all(|entry| self.clients.contains_key(&entry.0))
     }
 
-    // Whether the clocks are fair then; the master's is told as it stands.
-    pub(crate) fn stay_fair(&self, ticks: &Ticks, now: u64) -> bool
+    /// Whether the clocks are fair then; the master's is told as it stands.
+    pub fn stay_fair(&self, ticks: &Ticks, now: u64) -> bool
         ensures { result ≡ list_all (λ entry. is_fair (now + ticks.now.master) (clock_then ticks.now entry.0 entry.1) entry.1) self.now }
     {
         self.clients
@@ -232,7 +235,8 @@ impl Seats {
             .all(|(number, seat)| seat.stays_fair(ticks, *number, now))
     }
 
-    pub(crate) fn any_goes_past_end(&self, ticks: &Ticks) -> bool
+    /// Whether a clock goes past the end of moments.
+    pub fn any_goes_past_end(&self, ticks: &Ticks) -> bool
         ensures { result ≡ list_any (λ entry. nat_le moment_limit (clock_then ticks.now entry.0 entry.1)) self.now }
     {
         self.clients
@@ -240,8 +244,8 @@ impl Seats {
             .any(|(number, seat)| seat.goes_past_end(ticks, *number))
     }
 
-    // The clocks move beside a master's, which is there then.
-    pub(crate) fn move_beside(&mut self, ticks: &Ticks, now: u64)
+    /// The clocks move beside a master's, which is there then.
+    pub fn move_beside(&mut self, ticks: &Ticks, now: u64)
         ensures { list_any (λ entry. nat_le moment_limit (clock_then ticks.now entry.0 entry.1)) self.old ≡ false
             → self.new ≡ each_seat (λ number seat. moved_beside now (clock_then ticks.now number seat) seat) self.old }
     {
@@ -251,8 +255,8 @@ impl Seats {
         });
     }
 
-    // The clocks move while no master is up.
-    pub(crate) fn move_alone(&mut self, ticks: &Ticks)
+    /// The clocks move while no master is up.
+    pub fn move_alone(&mut self, ticks: &Ticks)
         ensures { list_any (λ entry. nat_le moment_limit (clock_then ticks.now entry.0 entry.1)) self.old ≡ false
             → self.new ≡ each_seat (λ number seat. moved_alone (clock_then ticks.now number seat) seat) self.old }
     {

@@ -1,12 +1,14 @@
 -- The clients of a world.
 use Rattle.std.specs.Prelude.{◌≡◌, ℕ, ◌+◌, ◌*◌, nat_le, Bool, map, List, Result, Ok, Err, if◌then◌else◌}
-use Rattle.std.specs.Map.{set_value}
+use Rattle.std.specs.Option.{option_map_or}
+use Rattle.std.specs.Map.{lookup, set_value}
 use Rattle.std.specs.BTreeMap.{is_at}
 use Rattle.std.specs.Ordering.{nat_cmp}
 use Rattle.node_core.specs.declared.refusals.Fault.{Fault}
 use Rattle.node_core.specs.declared.refusals.Fault.TheVariants as faults
 use Rattle.client_core.specs.State.{ClientState, new_client}
-use Rattle.stage_core.specs.declared.seats.Seat.{Seat}
+use Rattle.seats_core.specs.declared.seats.Seat.{Seat}
+use Rattle.seats_core.specs.declared.steps.Ticks.{Ticks}
 
 -- clients by their numbers
 abbrev pub Clients : Type 0
@@ -34,6 +36,14 @@ is_least now clock seat = nat_le (16 * now + 17 * seat.least_clock) (16 * seat.l
 -- (Burrows 2006, section 2.8; Gray and Cheriton 1989, section 5). It is enough to compare with the point of the least lead
 abbrev pub is_fair : ℕ → ℕ → Seat → Bool
 is_fair now clock seat = nat_le (16 * now + 17 * seat.least_clock) (16 * seat.least_now + 17 * clock + 17)
+
+-- by how much a client's clock moves: its own step where it has one, else that of all
+abbrev pub own_step : Ticks → ℕ → ℕ
+own_step ticks number = option_map_or (λ step. step) (lookup (is_at (nat_cmp number)) ticks.own) ticks.clients
+
+-- where a client's clock is then
+abbrev pub clock_then : Ticks → ℕ → Seat → ℕ
+clock_then ticks number seat = seat.clock + own_step ticks number
 
 -- the client's clock moves, beside a master whose clock is there then
 abbrev pub moved_beside : ℕ → ℕ → Seat → Seat

@@ -28,8 +28,8 @@ use Rattle.client_core.specs.Cases.BeatCase.{BeatTooLate, OutOfBeats}
 use Rattle.client_core.specs.Cases.GiveCase.{GivenTooLate, StartedUnfit, AliveUnfit, OutOfNumbers}
 use Rattle.client_core.proofs.AskCases.{ask_case, beat_case}
 use Rattle.client_core.proofs.GiveCases.{give_case}
-use Rattle.stage_core.specs.declared.seats.Seat.{Seat}
-use Rattle.stage_core.specs.Seats.{Clients, seated, Answers}
+use Rattle.seats_core.specs.declared.seats.Seat.{Seat}
+use Rattle.seats_core.specs.Seats.{Clients, seated, Answers}
 
 pair_first : {A B : Type 0} (p : A × B) (a : A) (b : B) → p ≡ (a, b) → p.0 ≡ a
 pair_first p a b h = ap (λ q. q.0) h
