@@ -11,15 +11,11 @@ mod containers;
 #[cfg(test)]
 mod handles;
 #[cfg(test)]
-mod leases;
-#[cfg(test)]
 mod lines;
 #[cfg(test)]
 mod messages;
 #[cfg(test)]
 mod names;
-#[cfg(test)]
-mod rows;
 
 /// A text many times over, for words and names at their limits.
 pub fn run_of(alloc: Global, text: &str, count: usize) -> Result<String, AllocError>

@@ -33,10 +33,10 @@ use Rattle.client_parts.specs.declared.targets.Target.{Target}
 use Rattle.client_parts.specs.declared.targets.Target.TheVariants as targets
 use Rattle.client_parts.specs.declared.targets.Outstanding.{Outstanding}
 use Rattle.client_core.specs.State.{ClientState, standing_then, session_behind, session_in, session_then, note_in, note_lines_in, note_lines}
-use Rattle.client_core.specs.Handles.{handle_of}
+use Rattle.client_parts.specs.Handles.{handle_of, usable_handle}
 use Rattle.client_core.specs.Serves.{serve_read, share, entry_served}
 use Rattle.client_parts.specs.Opens.{is_plain, only_reads, kept_handle}
-use Rattle.client_core.specs.Asks.{fault_then, usable_handle, send_plan, served_or, close_plan, poison_plan, node_plan, sequencer_plan, plan_of, asked_for, message_of, with_call, with_shared, ask_by, ask_in, ask_at, ask_step}
+use Rattle.client_core.specs.Asks.{fault_then, send_plan, served_or, close_plan, poison_plan, node_plan, sequencer_plan, plan_of, asked_for, message_of, with_call, with_shared, ask_by, ask_in, ask_at, ask_step}
 use Rattle.client_parts.specs.Calls.{call_on}
 use Rattle.client_core.specs.Beats.{start_message, beat_message, with_beat, beaten, sends, beat_by, beat_at, beat_step}
 use Rattle.client_core.specs.Cases.{noted_moment, IsSafe, IsUsable, IsShared, AskCase, asked_in, BeatCase, beaten_in}

@@ -23,8 +23,11 @@ use Rattle.client_parts.specs.declared.targets.Target.{Target}
 use Rattle.client_parts.specs.declared.targets.Target.TheVariants as targets
 use Rattle.client_parts.specs.declared.targets.Outstanding.{Outstanding}
 use Rattle.client_core.specs.State.{ClientState, standing_then, session_then, note_in, note, note_live}
-use Rattle.client_core.specs.Lessons.{Lesson, is_safe, is_fresh, may_install, taught, lesson}
-use Rattle.client_core.specs.Gives.{is_live, is_unstarted, is_span, told, passed_over, rejected, offered, begun, with_processed, takes_offer, bettered, with_lease, safe_lines, kept_alive, is_numbered, target_for, awaited, answer_of, has_number, ended_plainly, ended, finish_step, reply_for, lost, lose_step, later_epoch, unknown_lines, learned, learn_step, taken, taken_own, give_at, give_step}
+use Rattle.client_parts.specs.Opens.{Lesson}
+use Rattle.client_core.specs.Lessons.{is_safe, is_fresh, may_install, taught, lesson}
+use Rattle.client_parts.specs.Targets.{unknown_lines}
+use Rattle.client_parts.specs.Handles.{has_number}
+use Rattle.client_core.specs.Gives.{is_live, is_unstarted, is_span, told, passed_over, rejected, offered, begun, with_processed, takes_offer, bettered, with_lease, safe_lines, kept_alive, is_numbered, target_for, awaited, answer_of, ended_plainly, ended, finish_step, reply_for, lost, lose_step, later_epoch, learned, learn_step, taken, taken_own, give_at, give_step}
 use Rattle.client_parts.specs.Invalidations.{is_in_order}
 use Rattle.client_parts.specs.Events.{are_events_in_order, event_lines}
 use Rattle.client_parts.specs.Sessions.{session_without, session_after}
@@ -155,7 +158,7 @@ fresh_stamp : (processed : ℕ) (stamp : Option ℕ) → is_fresh processed stam
 fresh_stamp processed None h = cc
 fresh_stamp processed (Some number) h = (number, refl, up_to processed number h)
 
-installed_case : (s : ClientState) (now : ℕ) (out : Out) (message : Reply) (call : Outstanding) (t : Lesson) → IsHeard s now out → out ≡ outs.Reply message → IsAwaited s now message call → has_number s message.result ≡ true → lesson s (noted_moment s now) message call.target ≡ Some t → IsGiven s now out (ended s (noted_moment s now) call.target message.result (Some t), Ok (told s (noted_moment s now) (lines.Done s.number message.number (answer_of s message.result) ∷ []) None))
+installed_case : (s : ClientState) (now : ℕ) (out : Out) (message : Reply) (call : Outstanding) (t : Lesson) → IsHeard s now out → out ≡ outs.Reply message → IsAwaited s now message call → has_number s.opened message.result ≡ true → lesson s (noted_moment s now) message call.target ≡ Some t → IsGiven s now out (ended s (noted_moment s now) call.target message.result (Some t), Ok (told s (noted_moment s now) (lines.Done s.number message.number (answer_of s message.result) ∷ []) None))
 installed_case s now out message call t heard is for room h =
     let m = noted_moment s now in
     let e = taught_if (may_install s m message.stamp) (taught s call.target message.result) t h in
@@ -165,20 +168,20 @@ installed_case s now out message call t heard is for room h =
     let k = fresh_stamp s.processed message.stamp g.1 in
     (Installed message call t k.0 heard is for (record { teaches = h; safe = record { early = heard.early; live = r.live; safe = r.safe; leased = r.leased }; enabled = f.0; stamped = k.1; fresh = k.2 }), refl)
 
-lesson_case : (s : ClientState) (now : ℕ) (out : Out) (message : Reply) (call : Outstanding) (o : Option Lesson) → IsHeard s now out → out ≡ outs.Reply message → IsAwaited s now message call → call.target ≢ targets.Dropped → has_number s message.result ≡ true → lesson s (noted_moment s now) message call.target ≡ o → IsGiven s now out (ended s (noted_moment s now) call.target message.result o, Ok (told s (noted_moment s now) (lines.Done s.number message.number (answer_of s message.result) ∷ []) None))
+lesson_case : (s : ClientState) (now : ℕ) (out : Out) (message : Reply) (call : Outstanding) (o : Option Lesson) → IsHeard s now out → out ≡ outs.Reply message → IsAwaited s now message call → call.target ≢ targets.Dropped → has_number s.opened message.result ≡ true → lesson s (noted_moment s now) message call.target ≡ o → IsGiven s now out (ended s (noted_moment s now) call.target message.result o, Ok (told s (noted_moment s now) (lines.Done s.number message.number (answer_of s message.result) ∷ []) None))
 lesson_case s now out message call None heard is for kept room h = (
   Replied message call heard is for room kept h,
   in_session s now (λ n. (ended_plainly n call.target message.result, Ok (told s (noted_moment s now) (lines.Done s.number message.number (answer_of s message.result) ∷ []) None))) for.live.live,
 )
 lesson_case s now out message call (Some t) heard is for kept room h = installed_case s now out message call t heard is for room h
 
-room_case : (s : ClientState) (now : ℕ) (out : Out) (message : Reply) (call : Outstanding) (b : Bool) → IsHeard s now out → out ≡ outs.Reply message → IsAwaited s now message call → call.target ≢ targets.Dropped → has_number s message.result ≡ b → IsGiven s now out (cond b (ended s (noted_moment s now) call.target message.result (lesson s (noted_moment s now) message call.target), Ok (told s (noted_moment s now) (lines.Done s.number message.number (answer_of s message.result) ∷ []) None)) (s, Err faults.Exhausted))
+room_case : (s : ClientState) (now : ℕ) (out : Out) (message : Reply) (call : Outstanding) (b : Bool) → IsHeard s now out → out ≡ outs.Reply message → IsAwaited s now message call → call.target ≢ targets.Dropped → has_number s.opened message.result ≡ b → IsGiven s now out (cond b (ended s (noted_moment s now) call.target message.result (lesson s (noted_moment s now) message call.target), Ok (told s (noted_moment s now) (lines.Done s.number message.number (answer_of s message.result) ∷ []) None)) (s, Err faults.Exhausted))
 room_case s now out message call true heard is for kept h = lesson_case s now out message call (lesson s (noted_moment s now) message call.target) heard is for kept h refl
 room_case s now out message call false heard is for kept h = (OutOfNumbers message call heard is for h, refl)
 
 finish_case : (s : ClientState) (now : ℕ) (out : Out) (message : Reply) (call : Outstanding) (target : Target) → IsHeard s now out → out ≡ outs.Reply message → IsAwaited s now message call → call.target ≡ target → target ≢ targets.Dropped → IsGiven s now out (finish_step s (noted_moment s now) message target)
 finish_case s now out message call target heard is for at kept =
-    subst (λ t. IsGiven s now out (finish_step s (noted_moment s now) message t)) at (room_case s now out message call (has_number s message.result) heard is for (λ e. kept (sym at ∙ e)) refl)
+    subst (λ t. IsGiven s now out (finish_step s (noted_moment s now) message t)) at (room_case s now out message call (has_number s.opened message.result) heard is for (λ e. kept (sym at ∙ e)) refl)
 
 -- ---- its tests, one behind the other
 

@@ -31,10 +31,11 @@ use Rattle.client_parts.specs.declared.steps.Given.{Given}
 use Rattle.client_parts.specs.declared.targets.Target.{Target}
 use Rattle.client_parts.specs.declared.targets.Outstanding.{Outstanding}
 use Rattle.client_core.specs.State.{ClientState, standing_then, session_then, note, note_live, note_lines_in, note_lines}
-use Rattle.client_parts.specs.Opens.{read_answer}
+use Rattle.client_parts.specs.Opens.{read_answer, Lesson}
 use Rattle.client_parts.specs.Events.{event_lines}
-use Rattle.client_core.specs.Lessons.{Lesson, may_install, taught}
-use Rattle.client_core.specs.Gives.{is_live, passed_over, target_for, awaited, answer_of, ended_plainly, unknown_lines}
+use Rattle.client_core.specs.Lessons.{may_install, taught}
+use Rattle.client_parts.specs.Targets.{unknown_lines}
+use Rattle.client_core.specs.Gives.{is_live, passed_over, target_for, awaited, answer_of, ended_plainly}
 use Rattle.client_core.specs.Laws.{HandleNumbersRise, SharedNumbersRise, HandleNumbersStay, RepeatedReplyIsDropped, RefusedCallChangesNothing}
 use Rattle.client_core.specs.Cases.{noted_moment, IsSafe, IsAwaited, AskCase, asked_in, BeatCase, beaten_in, GiveCase, given_in}
 use Rattle.client_core.specs.Cases.AskCase.{AskedTooLate, Unsafe, Refused, ReadServed, AbsenceServed, Shared, OutOfHandles, Released, OutOfCalls, Sent, Poisoned}

@@ -18,7 +18,8 @@ use Rattle.client_parts.specs.declared.targets.Outstanding.{Outstanding}
 use Rattle.client_core.specs.State.{ClientState, note_in, note, note_live}
 use Rattle.client_core.specs.Asks.{ask_step}
 use Rattle.client_core.specs.Beats.{beat_step}
-use Rattle.client_core.specs.Gives.{under, offered, give_step}
+use Rattle.client_parts.specs.Leased.{under}
+use Rattle.client_core.specs.Gives.{offered, give_step}
 use Rattle.client_parts.specs.Invalidations.{all_flushed}
 use Rattle.client_core.specs.Cases.{noted_moment, IsAwaited, IsLearned, AskCase, asked_in, BeatCase, beaten_in, GiveCase, given_in}
 use Rattle.client_core.specs.Cases.AskCase.{AskedTooLate, Unsafe, Refused, ReadServed, AbsenceServed, Shared, OutOfHandles, Released, OutOfCalls, Sent, Poisoned}

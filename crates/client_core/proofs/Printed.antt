@@ -11,7 +11,7 @@ use Rattle.client_parts.specs.declared.targets.Target.{Target}
 use Rattle.client_parts.specs.declared.targets.Target.TheVariants as targets
 use Rattle.client_parts.specs.declared.targets.Outstanding.{Outstanding}
 use Rattle.client_parts.specs.Events.{event_lines}
-use Rattle.client_core.specs.Gives.{unknown_line, unknown_lines}
+use Rattle.client_parts.specs.Targets.{unknown_line, unknown_lines}
 use Rattle.client_core.proofs.Noting.{either}
 
 -- every line is one of an event

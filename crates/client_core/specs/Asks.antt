@@ -27,21 +27,15 @@ use Rattle.client_parts.specs.Calls.{call_on}
 use Rattle.client_parts.specs.Sessions.{session_fault}
 use Rattle.client_core.specs.declared.plans.Plan.{Plan}
 use Rattle.client_core.specs.declared.plans.Plan.TheVariants as plans
-use Rattle.client_core.specs.State.{ClientState, moment, at_moment, standing_then, note, note_lines}
-use Rattle.client_core.specs.Handles.{handle_of}
+use Rattle.client_parts.specs.Moments.{moment}
+use Rattle.client_core.specs.State.{ClientState, at_moment, standing_then, note, note_lines}
+use Rattle.client_parts.specs.Handles.{handle_of, usable_handle}
 use Rattle.client_core.specs.Poisons.{with_poisoned, poison_lines}
 use Rattle.client_core.specs.Serves.{read_served, open_served}
 
 -- at a moment
 abbrev pub fault_then : ClientState → ℕ → Option Fault
 fault_then s moment = session_fault s.session (standing_then s moment)
-
--- ---- handles
-
--- an open handle that is not poisoned
-abbrev pub usable_handle : Option ClientHandle → Result ClientHandle Fault
-usable_handle None = Err faults.BadHandle
-usable_handle (Some handle) = if handle.poisoned then Err faults.Poisoned else Ok handle
 
 -- ---- what is done, or the first reason why it may not be
 

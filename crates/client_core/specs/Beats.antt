@@ -9,7 +9,8 @@ use Rattle.messages_cell.specs.declared.requests.Request.TheVariants as requests
 use Rattle.client_parts.specs.declared.sessions.Session.{Session}
 use Rattle.client_parts.specs.declared.sessions.Session.TheVariants as sessions
 use Rattle.client_parts.specs.declared.steps.Beaten.{Beaten}
-use Rattle.client_core.specs.State.{ClientState, moment, session_then, note, note_lines}
+use Rattle.client_parts.specs.Moments.{moment}
+use Rattle.client_core.specs.State.{ClientState, session_then, note, note_lines}
 
 abbrev pub start_message : ClientState → Request
 start_message s = requests.Start (record { client = s.number; number = s.beats + 1; principal = s.principal })

@@ -34,13 +34,14 @@ use Rattle.client_parts.specs.declared.targets.Target.{Target}
 use Rattle.client_parts.specs.declared.targets.Target.TheVariants as targets
 use Rattle.client_parts.specs.declared.targets.Outstanding.{Outstanding}
 use Rattle.client_core.specs.State.{ClientState, at_moment, session_then, note, note_live, note_lines}
-use Rattle.client_core.specs.Handles.{handle_of}
-use Rattle.client_parts.specs.Opens.{read_answer, is_plain, only_reads, kept_handle}
+use Rattle.client_parts.specs.Handles.{handle_of, has_number}
+use Rattle.client_parts.specs.Opens.{read_answer, is_plain, only_reads, kept_handle, Lesson}
 use Rattle.client_core.specs.Asks.{fault_then, plan_of, asked_for, message_of, with_call, with_shared, without_handle}
 use Rattle.client_core.specs.Poisons.{with_poisoned, poison_lines}
 use Rattle.client_core.specs.Beats.{start_message, beat_message, with_beat, beaten}
-use Rattle.client_core.specs.Lessons.{Lesson, lesson}
-use Rattle.client_core.specs.Gives.{is_numbered, later_epoch, unknown_lines, learned, told, passed_over, rejected, offered, begun, with_processed, bettered, safe_lines, awaited, answer_of, has_number, ended_plainly, with_lesson, lost}
+use Rattle.client_core.specs.Lessons.{lesson}
+use Rattle.client_parts.specs.Targets.{unknown_lines}
+use Rattle.client_core.specs.Gives.{is_numbered, later_epoch, learned, told, passed_over, rejected, offered, begun, with_processed, bettered, safe_lines, awaited, answer_of, ended_plainly, with_lesson, lost}
 use Rattle.client_parts.specs.Invalidations.{is_in_order}
 use Rattle.client_parts.specs.Events.{are_events_in_order, event_lines}
 use Rattle.client_parts.specs.Sessions.{session_after}
@@ -221,9 +222,9 @@ pub data GiveCase (s : ClientState) (now : ℕ) (out : Out) : Type 0 where
   AliveUnfit : (message : AliveMessage) → IsHeard s now out → out ≡ outs.Alive message → IsAlive s now message → (moment_limit ≤ message.span) ⊎ (is_numbered s message ≡ false) → GiveCase s now out
   AliveDropped : (message : AliveMessage) → IsHeard s now out → out ≡ outs.Alive message → (session_then s (noted_moment s now) ≡ sessions.Live → message.epoch ≢ s.epoch) → GiveCase s now out
   -- A REPLY
-  OutOfNumbers : (message : Reply) (call : Outstanding) → IsHeard s now out → out ≡ outs.Reply message → IsAwaited s now message call → has_number s message.result ≡ false → GiveCase s now out
+  OutOfNumbers : (message : Reply) (call : Outstanding) → IsHeard s now out → out ≡ outs.Reply message → IsAwaited s now message call → has_number s.opened message.result ≡ false → GiveCase s now out
   -- the cache stays
-  Replied : (message : Reply) (call : Outstanding) → IsHeard s now out → out ≡ outs.Reply message → IsAwaited s now message call → has_number s message.result ≡ true → call.target ≢ targets.Dropped → lesson s (noted_moment s now) message call.target ≡ None → GiveCase s now out
+  Replied : (message : Reply) (call : Outstanding) → IsHeard s now out → out ≡ outs.Reply message → IsAwaited s now message call → has_number s.opened message.result ≡ true → call.target ≢ targets.Dropped → lesson s (noted_moment s now) message call.target ≡ None → GiveCase s now out
   -- an entry is installed
   Installed : (message : Reply) (call : Outstanding) (taught : Lesson) (stamp : ℕ) → IsHeard s now out → out ≡ outs.Reply message → IsAwaited s now message call → IsLearned s now message call taught stamp → GiveCase s now out
   ReplyDropped : (message : Reply) (call : Outstanding) → IsHeard s now out → out ≡ outs.Reply message → IsAwaited s now message call → call.target ≡ targets.Dropped → GiveCase s now out

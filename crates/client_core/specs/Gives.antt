@@ -1,13 +1,11 @@
 -- A client is given a message of a master.
 use Rattle.std.specs.Prelude.{ℕ, ◌+◌, ◌==◌, ◌&&◌, nat_lt, max, Bool, true, false, List, [], ◌∷◌, ◌++◌, Option, Some, None, Result, Ok, Err, if◌then◌else◌}
-use Rattle.std.specs.Map.{remove_entry, set_value}
-use Rattle.std.specs.BTreeMap.{is_at, insert_entry}
+use Rattle.std.specs.Map.{remove_entry}
+use Rattle.std.specs.BTreeMap.{is_at}
 use Rattle.std.specs.Ordering.{nat_cmp}
 use Rattle.lease_core.specs.Lease.{LeaseTerms, moment_limit, is_unexpired}
-use Rattle.cache_core.specs.Caches.{CacheState, installed, takes_lease}
-use Rattle.cache_core.specs.Kept.{with_kept}
+use Rattle.cache_core.specs.Caches.{installed, takes_lease}
 use Rattle.cache_core.specs.Standings.{reprieved}
-use Rattle.cache_core.specs.declared.kept.Kept.{Kept}
 use Rattle.cache_core.specs.declared.standings.Standing.{Standing}
 use Rattle.cache_core.specs.declared.standings.Standing.TheVariants as standings
 use Rattle.node_core.specs.Limits.{number_end}
@@ -38,11 +36,13 @@ use Rattle.client_parts.specs.declared.targets.Outstanding.{Outstanding}
 use Rattle.client_parts.specs.Sessions.{session_after}
 use Rattle.client_parts.specs.Invalidations.{is_in_order, last_number, all_flushed}
 use Rattle.client_parts.specs.Events.{are_events_in_order, last_event, event_lines}
-use Rattle.client_parts.specs.Targets.{sequencer_by}
-use Rattle.client_core.specs.State.{ClientState, moment, session_then, note, note_lines}
-use Rattle.client_core.specs.Handles.{handle_of}
-use Rattle.client_parts.specs.Opens.{is_shareable, kept_handle}
-use Rattle.client_core.specs.Lessons.{Lesson, opening_of, lesson}
+use Rattle.client_parts.specs.Targets.{opening_of, sequencer_of, unknown_lines}
+use Rattle.client_parts.specs.Moments.{moment}
+use Rattle.client_core.specs.State.{ClientState, session_then, note, note_lines}
+use Rattle.client_parts.specs.Handles.{handle_of, has_number, put_under, handles_behind, kept_behind}
+use Rattle.client_parts.specs.Opens.{Lesson}
+use Rattle.client_parts.specs.Leased.{under}
+use Rattle.client_core.specs.Lessons.{lesson}
 
 abbrev pub is_unstarted : Session → Bool
 is_unstarted sessions.Unstarted = true
@@ -79,13 +79,6 @@ is_span span = nat_lt span moment_limit
 -- the lease counts from the sending of the newest Start or Beat, which is the one that is answered
 abbrev pub offered : ClientState → ℕ → LeaseTerms
 offered s span = record { sent = s.sent; span = span }
-
--- a cache under a lease serves where that runs, and holds nothing where it has ended
-abbrev pub under : CacheState → LeaseTerms → ℕ → CacheState
-under cache lease moment =
-    if is_unexpired lease.sent lease.span moment
-    then record cache { lease = Some lease; enabled = true }
-    else record cache { entries = []; lease = Some lease; enabled = false }
 
 -- ---- Started
 
@@ -176,31 +169,10 @@ abbrev pub closed : List (ℕ × ClientHandle) → Target → List (ℕ × Clien
 closed handles (targets.Closing number) = remove_entry (is_at (nat_cmp number)) handles
 closed handles _ = handles
 
--- the sequencer under which the outstanding call was sent
-abbrev pub sequencer_of : Option Outstanding → Option (List ℕ)
-sequencer_of None = None
-sequencer_of (Some call) = sequencer_by call.request
-
--- the calls on this handle are under the sequencer from here on, if it is still open
-abbrev pub put_under : List (ℕ × ClientHandle) → ℕ → Option (List ℕ) → Option ClientHandle → List (ℕ × ClientHandle)
-put_under handles number sequencer None = handles
-put_under handles number sequencer (Some handle) = set_value (is_at (nat_cmp number)) handles (record handle { sequencer = sequencer })
-
 -- the handles behind a SetSequencer that was done
 abbrev pub sequenced : List (ℕ × ClientHandle) → Target → Option (List ℕ) → List (ℕ × ClientHandle)
 sequenced handles (targets.Sequencing number) sequencer = put_under handles number sequencer (handle_of handles number)
 sequenced handles _ sequencer = handles
-
--- the handles behind the outstanding call, if it was an Open
-abbrev pub handles_behind : List (ℕ × ClientHandle) → ℕ → NewHandle → Option Open → List (ℕ × ClientHandle)
-handles_behind handles number handle None = handles
-handles_behind handles number handle (Some opening) = insert_entry nat_cmp handles number (kept_handle handle opening (is_shareable handle opening))
-
--- a handle that may be shared is kept
-abbrev pub kept_behind : List (Kept NewHandle) → NewHandle → Option Open → List (Kept NewHandle)
-kept_behind kept handle None = kept
-kept_behind kept handle (Some opening) =
-    if is_shareable handle opening then with_kept kept (record { name = opening.name; instance = handle.instance; handle = handle }) else kept
 
 -- an Open has ended, and gave a handle
 abbrev pub with_opened : ClientState → NewHandle → Option Open → ClientState
@@ -228,15 +200,10 @@ abbrev pub ended : ClientState → ℕ → Target → CallResult → Option Less
 ended s moment target result None = ended_plainly (note s moment) target result
 ended s moment target result (Some taught) = with_lesson s moment taught
 
--- a handle wants a number
-abbrev pub has_number : ClientState → CallResult → Bool
-has_number s (results.Opened handle) = nat_lt (s.opened + 1) number_end
-has_number s _ = true
-
 -- behind the last handle number nothing changes
 abbrev pub finish_step : ClientState → ℕ → Reply → Target → ClientState × Result Given Fault
 finish_step s moment message target =
-    if has_number s message.result
+    if has_number s.opened message.result
     then (ended s moment target message.result (lesson s moment message target), Ok (told s moment (lines.Done s.number message.number (answer_of s message.result) ∷ []) None))
     else (s, Err faults.Exhausted)
 
@@ -263,15 +230,6 @@ lose_step s moment (Some session) = (lost (note s moment) session, Ok (told s mo
 abbrev pub later_epoch : ClientState → ℕ → Fault → Option ℕ
 later_epoch s moment (faults.OldEpoch present) = if is_live (session_then s moment) && nat_lt s.epoch present then Some present else None
 later_epoch s moment _ = None
-
--- nobody knows what became of the outstanding call; one whose reply is dropped was told of before
-abbrev pub unknown_line : ℕ → Outstanding → Target → List Line
-unknown_line client call targets.Dropped = []
-unknown_line client call target = lines.Done client (request_number call.request) (answers.Refused faults.Unknown) ∷ []
-
-abbrev pub unknown_lines : ℕ → Option Outstanding → List Line
-unknown_lines client None = []
-unknown_lines client (Some call) = unknown_line client call call.target
 
 -- it takes the epoch, with an empty cache and both its counts at 0
 abbrev pub learned : ClientState → ℕ → ClientState

@@ -1,26 +1,20 @@
 -- What a reply teaches a client of a name.
-use Rattle.std.specs.Prelude.{ℕ, ◌&&◌, nat_le, Bool, true, false, List, Option, Some, None, if◌then◌else◌}
+use Rattle.std.specs.Prelude.{ℕ, ◌&&◌, nat_le, Bool, true, false, Option, Some, None, if◌then◌else◌}
 use Rattle.cache_core.specs.declared.standings.Standing.{Standing}
 use Rattle.cache_core.specs.declared.standings.Standing.TheVariants as standings
 use Rattle.node_core.specs.declared.refusals.Fault.{Fault}
 use Rattle.node_core.specs.declared.refusals.Fault.TheVariants as faults
 use Rattle.node_core.specs.declared.views.View.{View}
-use Rattle.messages_cell.specs.declared.calls.Open.{Open}
 use Rattle.messages_cell.specs.declared.outs.CallResult.{CallResult}
 use Rattle.messages_cell.specs.declared.outs.CallResult.TheVariants as results
 use Rattle.messages_cell.specs.declared.outs.Reply.{Reply}
 use Rattle.client_parts.specs.declared.handles.ClientHandle.{ClientHandle}
-use Rattle.client_parts.specs.declared.targets.Outstanding.{Outstanding}
 use Rattle.client_parts.specs.declared.targets.Target.{Target}
 use Rattle.client_parts.specs.declared.targets.Target.TheVariants as targets
-use Rattle.client_parts.specs.Targets.{opening_by}
+use Rattle.client_parts.specs.Targets.{opening_of}
 use Rattle.client_core.specs.State.{ClientState, standing_then}
-use Rattle.client_core.specs.Handles.{handle_of}
-use Rattle.client_parts.specs.Opens.{is_plain}
-
--- a name, and its view or its absence
-abbrev pub Lesson : Type 0
-Lesson = List ℕ × Option View
+use Rattle.client_parts.specs.Handles.{handle_of}
+use Rattle.client_parts.specs.Opens.{Lesson, absent}
 
 -- ---- whether the cache takes it
 
@@ -40,10 +34,6 @@ may_install s moment stamp = s.cache.enabled && (is_safe (standing_then s moment
 
 -- ---- what it is
 
-abbrev pub opening_of : Option Outstanding → Option Open
-opening_of None = None
-opening_of (Some call) = opening_by call.request
-
 -- a view of the node of the handle's name
 abbrev pub viewed : Option ClientHandle → View → Option Lesson
 viewed None view = None
@@ -55,10 +45,6 @@ view_taught s view (targets.Handle number) = viewed (handle_of s.handles number)
 view_taught s view _ = None
 
 -- a plain Open found no node
-abbrev pub absent : Option Open → Option Lesson
-absent None = None
-absent (Some opening) = if is_plain opening then Some (opening.name, None) else None
-
 abbrev pub absence_taught : ClientState → Fault → Option Lesson
 absence_taught s faults.NotFound = absent (opening_of s.outstanding)
 absence_taught s _ = None

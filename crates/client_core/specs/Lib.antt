@@ -2,6 +2,9 @@ pub use Rattle.client_parts.specs.Calls
 pub use Rattle.client_parts.specs.Opens
 pub use Rattle.client_parts.specs.Sessions
 pub use Rattle.client_parts.specs.Targets
+pub use Rattle.client_parts.specs.Handles
+pub use Rattle.client_parts.specs.Moments
+pub use Rattle.client_parts.specs.Leased
 pub use Rattle.client_parts.specs.Invalidations
 pub use Rattle.client_parts.specs.Events
 pub use Rattle.cache_core.specs.Caches
@@ -11,7 +14,6 @@ pub use Rattle.messages_cell.specs.Messages
 pub use Rattle.tags_cell.specs.Modes
 pub use Rattle.tags_cell.specs.Numbers
 pub mod State
-pub mod Handles
 pub mod Poisons
 pub mod Serves
 pub mod Asks

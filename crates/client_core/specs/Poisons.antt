@@ -9,21 +9,15 @@ use Rattle.node_core.specs.declared.lines.Line.{Line}
 use Rattle.node_core.specs.declared.lines.Line.TheVariants as lines
 use Rattle.messages_cell.specs.Messages.{request_number}
 use Rattle.client_parts.specs.declared.handles.ClientHandle.{ClientHandle}
-use Rattle.client_parts.specs.declared.targets.Target.TheVariants as targets
 use Rattle.client_parts.specs.declared.targets.Outstanding.{Outstanding}
-use Rattle.client_parts.specs.Targets.{is_on}
+use Rattle.client_parts.specs.Targets.{is_on, dropped}
 use Rattle.client_core.specs.State.{ClientState}
 
--- the outstanding call, if it is on the handle, is refused ..
+-- the outstanding call, if it is on the handle, is refused (and its reply will be dropped)
 abbrev pub refused_lines : ClientState → ℕ → Option Outstanding → List Line
 refused_lines s number None = []
 refused_lines s number (Some call) =
     if is_on number call.target then lines.Done s.number (request_number call.request) (answers.Refused faults.Poisoned) ∷ [] else []
-
--- .. and its reply will be dropped
-abbrev pub dropped : ℕ → Option Outstanding → Option Outstanding
-dropped number None = None
-dropped number (Some call) = Some (if is_on number call.target then record call { target = targets.Dropped } else call)
 
 -- a Poison is answered as call 0
 abbrev pub poison_lines : ClientState → ℕ → List Line

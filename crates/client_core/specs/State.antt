@@ -1,7 +1,7 @@
 -- What a client is, and when it is.
-use Rattle.std.specs.Prelude.{◌≡◌, ◌≢◌, ℕ, ◌<◌, nat_lt, max, List, [], Option, Some, None, Result, Ok, Err, if◌then◌else◌}
+use Rattle.std.specs.Prelude.{◌≡◌, ◌≢◌, ℕ, ◌<◌, List, [], Option, Some, None, Result, Ok, Err}
 use Rattle.std.specs.Option.{option_to_list}
-use Rattle.lease_core.specs.Lease.{LeaseTerms, IsMoment, moment_limit}
+use Rattle.lease_core.specs.Lease.{LeaseTerms, IsMoment}
 use Rattle.cache_core.specs.Caches.{CacheState, new_cache, is_leased, noted}
 use Rattle.cache_core.specs.Standings.{standing_at, turn_line}
 use Rattle.cache_core.specs.declared.kept.Kept.{Kept}
@@ -65,10 +65,6 @@ pub record IsWithin (clock sent beats calls opened : ℕ) : Type 0 where
   pub last_beat : beats < number_end
   pub last_call : calls < number_end
   pub last_handle : opened < number_end
-
--- the moment that is noted: an earlier one counts as the last one, and moments have an end
-abbrev pub moment : ℕ → ℕ → Result ℕ Fault
-moment clock now = if nat_lt now moment_limit then Ok (max clock now) else Err faults.Exhausted
 
 -- the client at a moment
 abbrev pub at_moment : ClientState → ℕ → ClientState

@@ -1,5 +1,5 @@
 //! A client is asked for a call.
-ghost use Rattle.std.specs.Prelude.{◌≡◌, ◌+◌, ◌^◌, ◌<◌, Some, None, Ok, Err, [], ◌∷◌, OnOk, OnErr, IfOk};
+ghost use Rattle.std.specs.Prelude.{◌≡◌, ◌+◌, ◌^◌, ◌<◌, Some, None, Ok, Err, OnOk, OnErr};
 ghost use Rattle.std.specs.Option.{option_copied, option_map};
 ghost use Rattle.lease_core.specs.Lease.{IsMoment};
 ghost use Rattle.client_core.specs.State.{Does};
@@ -8,7 +8,9 @@ ghost use Rattle.client_core.specs.declared.plans.Plan.TheVariants as plans;
 
 use crate::client::Client;
 use crate::plans::Plan;
-use client_parts::{Ask, Asked, ClientHandle, Outcome, Outstanding, Target, one_line};
+use client_parts::{
+    Ask, Asked, ClientHandle, Outcome, Outstanding, Target, moment_by, one_line, opened_lines,
+};
 use messages_cell::{Call, CallMessage, Request};
 use node_core::{Answer, Fault, Line, NUMBER_LIMIT};
 use plain::{Bytes, Items};
@@ -41,7 +43,7 @@ impl Client {
     pub fn ask(&mut self, now: u64, asked: &Ask) -> Result<Asked, Fault>
         ensures { Does self.old self.new result (ask_step self.old now asked.now) }
     {
-        let moment = self.moment(now)?;
+        let moment = moment_by(self.clock, now)?;
         let Some(fault) = self.fault_then(moment) else {
             return self.ask_safe(moment, asked);
         };
@@ -168,7 +170,7 @@ impl Client {
             return Err(Fault::Exhausted);
         }
         let opened = self.opened + 1;
-        match self.opened_lines(line, opened) {
+        match opened_lines(self.alloc, self.number.get(), line, opened) {
             Ok(lines) => {
                 drop(self.handles.put(opened, handle)?);
                 self.clock = moment;
@@ -183,15 +185,6 @@ impl Client {
                 Err(Fault::NoMemory)
             }
         }
-    }
-
-    // This line, and the one that tells that an Open ended, as call 0.
-    fn opened_lines(&self, line: Line, opened: u64) -> Result<Items<Line>, AllocError>
-        ensures { IfOk result (λ lines. lines ≡ line ∷ Line.Done self.now.number 0 (Answer.Opened opened) ∷ []) }
-    {
-        let mut lines = one_line(self.alloc, line)?;
-        lines.push(Line::Done(self.number.get(), 0, Answer::Opened(opened)))?;
-        Ok(lines)
     }
 
     // Closes a handle that is shared, which stays open at the master.

@@ -7,7 +7,7 @@ ghost use Rattle.client_core.specs.Beats.{beat_step, sends, start_message, beat_
 ghost use Rattle.client_core.specs.Gives.{give_step, taken_own, told};
 
 use cache_core::{Cache, KeptHandles, Standing};
-use client_parts::{Beaten, ClientHandle, Given, Outstanding, Session};
+use client_parts::{Beaten, ClientHandle, Given, Outstanding, Session, moment_by};
 use messages_cell::{Beat, NewHandle, Out, Request, Start};
 use names_cell::Principal;
 use node_core::Fault;
@@ -123,7 +123,7 @@ impl Client {
     pub fn beat(&mut self, now: u64) -> Result<Beaten, Fault>
         ensures { Does self.old self.new result (beat_step self.old now) }
     {
-        let moment = self.moment(now)?;
+        let moment = moment_by(self.clock, now)?;
         match self.session_then(moment) {
             Session::Unstarted => self.start(moment),
             Session::Live => self.prolong(moment),
@@ -176,7 +176,7 @@ impl Client {
     pub fn give(&mut self, now: u64, out: &Out) -> Result<Given, Fault>
         ensures { Does self.old self.new result (give_step self.old now out.now) }
     {
-        let moment = self.moment(now)?;
+        let moment = moment_by(self.clock, now)?;
         self.take(moment, out)
     }
 

@@ -1,11 +1,11 @@
 //! What a reply teaches a client of a name (Burrows 2006, section 2.7).
 ghost use Rattle.std.specs.Prelude.{◌≡◌, Some, IfOk};
-ghost use Rattle.client_core.specs.Handles.{handle_of};
-ghost use Rattle.client_core.specs.Lessons.{is_fresh, may_install, viewed, view_taught, absent, absence_taught, taught, lesson, opening_of};
+ghost use Rattle.client_parts.specs.Handles.{handle_of};
+ghost use Rattle.client_core.specs.Lessons.{is_fresh, may_install, viewed, view_taught, absence_taught, taught, lesson};
 
 use crate::client::Client;
 use cache_core::Standing;
-use client_parts::{Target, is_plain};
+use client_parts::{Target, absence_taught, standing_by};
 use messages_cell::{CallResult, Reply};
 use names_cell::Name;
 use node_core::{Fault, View};
@@ -26,7 +26,7 @@ impl Client {
         }
         match &reply.result {
             CallResult::Viewed(view) => self.view_taught(view, target),
-            CallResult::Refused(Fault::NotFound) => self.absence_taught(),
+            CallResult::Refused(Fault::NotFound) => absence_taught(&self.outstanding),
             _ => Ok(None),
         }
     }
@@ -36,7 +36,9 @@ impl Client {
     fn may_install(&self, moment: u64, stamp: Option<u64>) -> bool
         ensures { result ≡ may_install self.now moment stamp }
     {
-        if !self.cache.is_enabled() || self.standing_then(moment) != Standing::Safe {
+        if !self.cache.is_enabled()
+            || standing_by(self.standing, &self.cache, moment) != Standing::Safe
+        {
             return false;
         }
         match stamp {
@@ -61,18 +63,5 @@ impl Client {
         };
         let name = handle.name.clone()?;
         Ok(Some((name, Some(view.clone()?))))
-    }
-
-    // That a plain Open found no node.
-    fn absence_taught(&self) -> Result<Option<(Name, Option<View>)>, AllocError>
-        ensures { IfOk result (λ taught. taught ≡ absent (opening_of self.now.outstanding)) }
-    {
-        let Some(call) = &self.outstanding else {
-            return Ok(None);
-        };
-        match call.opening() {
-            Some(opening) if is_plain(opening) => Ok(Some((opening.name.clone()?, None))),
-            Some(_) | None => Ok(None),
-        }
     }
 }

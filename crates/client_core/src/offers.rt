@@ -2,23 +2,19 @@
 //! answered, in milliseconds by its own clock, and not from when the answer came. So where the clocks are fair its count
 //! ends no later than the master's promise, however long the answer was on its way (Gray and Cheriton 1989, section 2;
 //! Burrows 2006, section 2.8).
-ghost use Rattle.std.specs.Prelude.{◌≡◌, ◌&&◌, ◌++◌, Some, None, IfOk, if◌then◌else◌};
+ghost use Rattle.std.specs.Prelude.{◌≡◌, ◌&&◌, Some, None, if◌then◌else◌};
 ghost use Rattle.lease_core.specs.Lease.{IsMoment, is_unexpired};
-ghost use Rattle.client_parts.specs.Events.{event_lines};
-ghost use Rattle.client_core.specs.State.{note_lines, Does};
-ghost use Rattle.client_core.specs.Gives.{is_span, offered, under, started_step, is_numbered, alive_step, kept_alive, with_processed, with_lease, takes_offer, is_jeopardy};
+ghost use Rattle.client_core.specs.State.{Does};
+ghost use Rattle.client_core.specs.Gives.{is_span, offered, started_step, is_numbered, alive_step, kept_alive, with_processed, with_lease, takes_offer, is_jeopardy};
 
 use crate::client::Client;
 use cache_core::{CacheOp, Standing};
 use client_parts::{
-    Given, Session, are_events_in_order, flush_all, is_in_order, last_event, last_number,
-    with_events,
+    Given, Session, flush_all, is_numbered, last_event, last_number, put_under, with_events,
 };
 use lease_core::Lease;
 use messages_cell::{Alive, Started};
 use node_core::{Fault, Line};
-use plain::Items;
-use std::alloc::AllocError;
 
 impl Client {
     // Takes the session that the newest Start asked for, and the lease on it.
@@ -36,7 +32,7 @@ impl Client {
         self.clock = moment;
         self.session = Session::Live;
         self.epoch = started.epoch;
-        self.put_under(lease, moment);
+        put_under(&mut self.cache, lease, moment);
         Ok(Given {
             lines,
             refused: None,
@@ -55,31 +51,10 @@ impl Client {
         let Some(lease) = self.offered(alive.span) else {
             return Ok(self.pass_over(moment, Some(Fault::ProtocolFault))?);
         };
-        if !self.is_numbered(alive) {
+        if !is_numbered(self.processed, self.heard, alive) {
             return Ok(self.pass_over(moment, Some(Fault::ProtocolFault))?);
         }
         self.keep_alive(moment, alive, lease)
-    }
-
-    // Whether the numbers of its invalidations and of its events are such as a master sends.
-    fn is_numbered(&self, alive: &Alive) -> bool
-        ensures { result ≡ is_numbered self.now alive.now }
-    {
-        is_in_order(self.processed, alive.invalidations.as_slice())
-            && are_events_in_order(self.heard, alive.events.as_slice())
-    }
-
-    // What the noting of the time prints, and the events.
-    fn alive_lines(&self, moment: u64, alive: &Alive) -> Result<Items<Line>, AllocError>
-        ensures { IfOk result (λ lines. lines ≡ note_lines self.now moment ++ event_lines self.now.number self.now.heard alive.now.events) }
-    {
-        let lines = self.note_lines(moment)?;
-        with_events(
-            lines,
-            self.number.get(),
-            self.heard,
-            alive.events.as_slice(),
-        )
     }
 
     // The lines that there may be are made before anything changes.
@@ -88,7 +63,12 @@ impl Client {
         requires lease { lease ≡ offered self.old alive.now.span }
         ensures { Does self.old self.new result (kept_alive self.old moment alive.now) }
     {
-        let mut lines = self.alive_lines(moment, alive)?;
+        let mut lines = with_events(
+            self.note_lines(moment)?,
+            self.number.get(),
+            self.heard,
+            alive.events.as_slice(),
+        )?;
         lines.push(Line::Safe(self.number.get()))?;
         self.note(moment);
         self.process(alive);
@@ -120,23 +100,13 @@ impl Client {
         if alive.number.get() != self.beats || !self.cache.take_lease(lease) {
             return false;
         }
-        self.put_under(lease, moment);
+        put_under(&mut self.cache, lease, moment);
         if !lease.unexpired(moment) {
             return false;
         }
         let former = self.standing;
         self.standing = former.reprieved();
         matches!(former, Standing::Jeopardy(_))
-    }
-
-    // From here on the cache stands under this lease: it serves where the lease runs, and is emptied where it has ended.
-    fn put_under(&mut self, lease: Lease, moment: u64)
-        ensures { self.new ≡ record self.old { cache = under self.old.cache lease moment } }
-    {
-        self.cache.set_lease(Some(lease));
-        if self.cache.note(moment) {
-            self.cache.enable();
-        }
     }
 
     // The lease that the newest Start or Beat is answered with; None where the span is none.

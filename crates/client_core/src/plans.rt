@@ -2,11 +2,11 @@
 ghost use Rattle.std.specs.Prelude.{◌≡◌, Some, IfOk};
 ghost use Rattle.std.specs.Option.{option_copied};
 ghost use Rattle.plain.specs.Results.{Gives};
-ghost use Rattle.client_core.specs.Handles.{handle_of};
-ghost use Rattle.client_core.specs.Asks.{plan_of, send_plan, open_plan, close_plan, node_plan, sequencer_plan, usable_handle};
+ghost use Rattle.client_parts.specs.Handles.{handle_of, usable_handle};
+ghost use Rattle.client_core.specs.Asks.{plan_of, send_plan, open_plan, close_plan, node_plan, sequencer_plan};
 
 use crate::client::Client;
-use client_parts::{Ask, ClientHandle, NodeCall, Target};
+use client_parts::{Ask, ClientHandle, NodeCall, Target, usable_handle};
 use messages_cell::{Call, Open};
 use node_core::{Answer, Fault, Line};
 use plain::Bytes;
@@ -34,7 +34,10 @@ impl Client {
         match asked {
             Ask::Open(opening) => self.open_plan(moment, opening),
             Ask::Close(number) => self.close_plan(*number),
-            Ask::Poison(number) => Ok(Plan::Poison(*number, self.usable_handle(*number)?)),
+            Ask::Poison(number) => Ok(Plan::Poison(
+                *number,
+                usable_handle(&self.handles, *number)?,
+            )),
             Ask::Node(number, call) => self.node_plan(moment, *number, call),
             Ask::SetSequencer(number, sequencer) => self.sequencer_plan(*number, sequencer),
             Ask::CheckSequencer(bytes) => {
@@ -83,7 +86,7 @@ impl Client {
     fn node_plan(&self, moment: u64, number: u64, call: &NodeCall) -> Result<Plan, Fault>
         ensures { Gives Fault.NoMemory result (node_plan self.now moment number call.now (usable_handle (handle_of self.now.handles number))) }
     {
-        let handle = self.usable_handle(number)?;
+        let handle = usable_handle(&self.handles, number)?;
         if let Some(plan) = self.read_served(moment, &handle, call)? {
             return Ok(plan);
         }
@@ -94,22 +97,9 @@ impl Client {
     fn sequencer_plan(&self, number: u64, sequencer: &Bytes) -> Result<Plan, Fault>
         ensures { Gives Fault.NoMemory result (sequencer_plan self.now number sequencer.now (usable_handle (handle_of self.now.handles number))) }
     {
-        let handle = self.usable_handle(number)?;
+        let handle = usable_handle(&self.handles, number)?;
         let sequencer = sequencer.clone()?;
         let call = Call::SetSequencer(handle.bytes);
         self.send_plan(call, Some(sequencer), Target::Sequencing(number))
-    }
-
-    // An open handle that isn't poisoned.
-    fn usable_handle(&self, number: u64) -> Result<ClientHandle, Fault>
-        ensures { Gives Fault.NoMemory result (usable_handle (handle_of self.now.handles number)) }
-    {
-        let Some(handle) = self.handles.get(&number) else {
-            return Err(Fault::BadHandle);
-        };
-        if handle.poisoned {
-            return Err(Fault::Poisoned);
-        }
-        Ok(handle.clone()?)
     }
 }

@@ -5,10 +5,10 @@ ghost use Rattle.client_core.specs.State.{Does};
 ghost use Rattle.client_parts.specs.declared.asks.Ask.TheVariants as asks;
 ghost use Rattle.client_core.specs.declared.plans.Plan.TheVariants as plans;
 ghost use Rattle.client_core.specs.Asks.{ask_step, carried_out};
-ghost use Rattle.client_core.specs.Poisons.{poison_lines, poisoned, dropped};
+ghost use Rattle.client_core.specs.Poisons.{poison_lines, poisoned};
 
 use crate::client::Client;
-use client_parts::{Ask, Asked, ClientHandle, Outcome, Target};
+use client_parts::{Ask, Asked, ClientHandle, Outcome, drop_reply};
 use node_core::{Answer, Fault, Line};
 use plain::Items;
 use std::alloc::AllocError;
@@ -34,7 +34,7 @@ impl Client {
         let lines = self.poison_lines(number)?;
         self.clock = moment;
         self.mark_poisoned(number, handle);
-        self.drop_reply(number);
+        drop_reply(&mut self.outstanding, number);
         Ok(Asked {
             lines,
             outcome: Outcome::Answered,
@@ -64,16 +64,5 @@ impl Client {
         let mut handle = handle;
         handle.poisoned = true;
         let _ = self.handles.replace(&number, handle);
-    }
-
-    // The reply that is still to come to a call on the handle will be dropped.
-    fn drop_reply(&mut self, number: u64)
-        ensures { self.new ≡ record self.old { outstanding = dropped number self.old.outstanding } }
-    {
-        if let Some(call) = &mut self.outstanding {
-            if call.target.is_on(number) {
-                call.target = Target::Dropped;
-            }
-        }
     }
 }

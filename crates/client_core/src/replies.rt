@@ -1,24 +1,21 @@
 //! A client is given the reply to its outstanding call.
 ghost use Rattle.std.specs.Prelude.{◌≡◌, ◌++◌, ◌∷◌, [], true, OnOk, OnErr, IfOk, Ok};
-ghost use Rattle.std.specs.BTreeMap.{insert_entry};
-ghost use Rattle.std.specs.Ordering.{nat_cmp};
-ghost use Rattle.cache_core.specs.Kept.{with_kept};
 ghost use Rattle.lease_core.specs.Lease.{IsMoment};
 ghost use Rattle.client_core.specs.State.{note, note_lines, Does};
-ghost use Rattle.client_core.specs.Lessons.{opening_of, lesson};
+ghost use Rattle.client_core.specs.Lessons.{lesson};
 ghost use Rattle.messages_cell.specs.declared.outs.CallResult.TheVariants as results;
 ghost use Rattle.client_parts.specs.declared.targets.Target.TheVariants as targets;
-ghost use Rattle.client_core.specs.Handles.{handle_of};
-ghost use Rattle.client_core.specs.Gives.{awaited, answer_of, has_number, handles_behind, kept_behind, sequencer_of, put_under, ended_plainly, ended, finish_step, reply_for, reply_step};
+ghost use Rattle.client_parts.specs.Handles.{has_number};
+ghost use Rattle.client_core.specs.Gives.{awaited, answer_of, ended_plainly, ended, finish_step, reply_for, reply_step};
 
 use crate::client::Client;
-use cache_core::Kept;
-use client_parts::{ClientHandle, Given, Session, Target, is_shareable, pushed, share_of};
-use messages_cell::{CallResult, NewHandle, Open, Reply};
-use node_core::{Answer, Fault, Line, NUMBER_LIMIT};
-use plain::{Bytes, Items};
+use client_parts::{
+    Given, Session, Target, has_number, keep_handle, pushed, put_sequencer, sent_sequencer,
+};
+use messages_cell::{CallResult, Reply};
+use node_core::{Answer, Fault, Line};
+use plain::Items;
 use std::alloc::AllocError;
-use std::mem;
 
 impl Client {
     pub(crate) fn take_reply(&mut self, moment: u64, reply: &Reply) -> Result<Given, Fault>
@@ -55,7 +52,7 @@ impl Client {
         requires { IsMoment moment }
         ensures { Does self.old self.new result (finish_step self.old moment reply.now target) }
     {
-        if !self.has_number(&reply.result) {
+        if !has_number(self.opened, &reply.result) {
             return Err(Fault::Exhausted);
         }
         let lines = self.reply_lines(moment, reply)?;
@@ -66,19 +63,9 @@ impl Client {
         })
     }
 
-    // Whether there is a number for what it gives.
-    fn has_number(&self, outcome: &CallResult) -> bool
-        ensures { result ≡ has_number self.now outcome.now }
-    {
-        match outcome {
-            CallResult::Opened(_) => self.opened < NUMBER_LIMIT,
-            _ => true,
-        }
-    }
-
     // What the noting of the time prints, and how the call ended.
     fn reply_lines(&self, moment: u64, reply: &Reply) -> Result<Items<Line>, AllocError>
-        requires { has_number self.now reply.now.result ≡ true }
+        requires { has_number self.now.opened reply.now.result ≡ true }
         ensures { IfOk result (λ lines. lines ≡ note_lines self.now moment ++ Line.Done self.now.number reply.now.number (answer_of self.now reply.now.result) ∷ []) }
     {
         let answer = self.answer_of(&reply.result)?;
@@ -107,7 +94,7 @@ impl Client {
 
     // How a call ended, as it is told.
     fn answer_of(&self, outcome: &CallResult) -> Result<Answer, AllocError>
-        requires { has_number self.now outcome.now ≡ true }
+        requires { has_number self.now.opened outcome.now ≡ true }
         ensures { IfOk result (λ answer. answer ≡ answer_of self.now outcome.now) }
     {
         Ok(match outcome {
@@ -125,7 +112,7 @@ impl Client {
     // Ends the outstanding call, and holds what the reply teaches of a name, where the cache takes it.
     fn end_call(&mut self, moment: u64, reply: &Reply, target: Target) -> Result<(), AllocError>
         requires moment { IsMoment moment }
-        requires number { has_number self.old reply.now.result ≡ true }
+        requires number { has_number self.old.opened reply.now.result ≡ true }
         ensures ok { OnOk result (self.new ≡ ended self.old moment target reply.now.result (lesson self.old moment reply.now target)) }
         ensures err { OnErr result (self.new ≡ self.old) }
     {
@@ -146,7 +133,7 @@ impl Client {
         outcome: &CallResult,
     ) -> Result<(), AllocError>
         requires moment { IsMoment moment }
-        requires number { has_number self.old outcome.now ≡ true }
+        requires number { has_number self.old.opened outcome.now ≡ true }
         ensures ok { OnOk result (self.new ≡ ended_plainly (note self.old moment) target outcome.now) }
         ensures err { OnErr result (self.new ≡ self.old) }
     {
@@ -154,7 +141,13 @@ impl Client {
             return self.end_sequencing(moment, number);
         }
         if let CallResult::Opened(handle) = outcome {
-            self.keep_handle(self.opened + 1, handle)?;
+            keep_handle(
+                &self.outstanding,
+                &mut self.handles,
+                &mut self.kept,
+                self.opened + 1,
+                handle,
+            )?;
         }
         self.note(moment);
         match (outcome, target) {
@@ -172,84 +165,11 @@ impl Client {
         ensures ok { OnOk result (self.new ≡ ended_plainly (note self.old moment) (targets.Sequencing number) results.Done) }
         ensures err { OnErr result (self.new ≡ self.old) }
     {
-        let sequencer = self.sent_sequencer()?;
+        let sequencer = sent_sequencer(&self.outstanding)?;
         self.note(moment);
-        self.put_sequencer(number, sequencer);
+        put_sequencer(&mut self.handles, number, sequencer);
         self.end();
         Ok(())
-    }
-
-    // The sequencer under which the outstanding call was sent.
-    fn sent_sequencer(&self) -> Result<Option<Bytes>, AllocError>
-        ensures { IfOk result (λ sequencer. sequencer ≡ sequencer_of self.now.outstanding) }
-    {
-        let Some(call) = &self.outstanding else {
-            return Ok(None);
-        };
-        match call.sequencer() {
-            Some(sequencer) => Ok(Some(sequencer.clone()?)),
-            None => Ok(None),
-        }
-    }
-
-    // The calls on the handle of this number are under this sequencer from here on, if it is still open.
-    fn put_sequencer(&mut self, number: u64, sequencer: Option<Bytes>)
-        ensures { self.new ≡ record self.old { handles = put_under self.old.handles number sequencer (handle_of self.old.handles number) } }
-    {
-        match self.handles.get_mut(&number) {
-            Some(handle) => drop(mem::replace(&mut handle.sequencer, sequencer)),
-            None => drop(sequencer),
-        }
-    }
-
-    // Keeps the new handle under a number, and where it may be shared beside, if the outstanding call is an Open.
-    fn keep_handle(&mut self, number: u64, handle: &NewHandle) -> Result<(), AllocError>
-        ensures ok { OnOk result (self.new ≡ record self.old { handles = handles_behind self.old.handles number handle.now (opening_of self.old.outstanding); kept = kept_behind self.old.kept handle.now (opening_of self.old.outstanding) }) }
-        ensures err { OnErr result (self.new ≡ self.old) }
-    {
-        let Some(call) = &self.outstanding else {
-            return Ok(());
-        };
-        let Some(opening) = call.opening() else {
-            return Ok(());
-        };
-        let shared = is_shareable(handle, opening);
-        let kept = ClientHandle::of(handle, opening, shared)?;
-        if !shared {
-            drop(self.handles.put(number, kept)?);
-            return Ok(());
-        }
-        let share = share_of(handle, opening)?;
-        self.put_shared(number, kept, share)
-    }
-
-    // Puts the handle under its number, and keeps it to be shared. Where memory runs out both stay as they were.
-    fn put_shared(
-        &mut self,
-        number: u64,
-        handle: ClientHandle,
-        share: Kept<NewHandle>,
-    ) -> Result<(), AllocError>
-        ensures ok { OnOk result (self.new ≡ record self.old { handles = insert_entry nat_cmp self.old.handles number handle; kept = with_kept self.old.kept share }) }
-        ensures err { OnErr result (self.new ≡ self.old) }
-    {
-        let former = match self.handles.put(number, handle) {
-            Ok(former) => former,
-            Err(_) => {
-                drop(share);
-                return Err(AllocError);
-            }
-        };
-        match self.kept.keep(share) {
-            Ok(()) => {
-                drop(former);
-                Ok(())
-            }
-            Err(_) => {
-                self.handles.restore(&number, former);
-                Err(AllocError)
-            }
-        }
     }
 
     // No call is outstanding from here on.

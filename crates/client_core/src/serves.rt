@@ -6,9 +6,8 @@ ghost use Rattle.client_core.specs.Serves.{read_served, open_served, entry_serve
 
 use crate::client::Client;
 use crate::plans::Plan;
-use client_parts::{ClientHandle, NodeCall, is_plain, only_reads};
+use client_parts::{ClientHandle, NodeCall, is_plain, only_reads, served_line};
 use messages_cell::Open;
-use names_cell::Name;
 use node_core::{Answer, Fault, Line, Right, View};
 use std::alloc::AllocError;
 
@@ -37,7 +36,7 @@ impl Client {
     fn serve_read(&self, handle: &ClientHandle, entry: &Option<View>) -> Result<Plan, AllocError>
         ensures { IfOk result (λ plan. plan ≡ serve_read self.now handle.now entry.now) }
     {
-        let line = self.served_line(&handle.name, entry)?;
+        let line = served_line(self.number.get(), &handle.name, entry)?;
         Ok(Plan::Serve(line, handle.read_answer(entry)?))
     }
 
@@ -63,7 +62,7 @@ impl Client {
     {
         match entry {
             None => {
-                let line = self.served_line(&opening.name, entry)?;
+                let line = served_line(self.number.get(), &opening.name, entry)?;
                 Ok(Some(Plan::Serve(line, Answer::Refused(Fault::NotFound))))
             }
             Some(view) => self.handle_shared(opening, view, entry),
@@ -85,22 +84,10 @@ impl Client {
         }
         match self.kept.kept_for(&opening.name, view.instance) {
             Some(handle) => {
-                let line = self.served_line(&opening.name, entry)?;
+                let line = served_line(self.number.get(), &opening.name, entry)?;
                 Ok(Some(Plan::Share(line, ClientHandle::of(handle, opening, true)?)))
             }
             None => Ok(None),
         }
-    }
-
-    // The line that tells what is cached under a name.
-    fn served_line(&self, name: &Name, entry: &Option<View>) -> Result<Line, AllocError>
-        ensures { IfOk result (λ line. line ≡ lines.Served self.now.number name.now entry.now) }
-    {
-        let name = name.clone()?;
-        let entry = match entry {
-            Some(view) => Some(view.clone()?),
-            None => None,
-        };
-        Ok(Line::Served(self.number.get(), name, entry))
     }
 }

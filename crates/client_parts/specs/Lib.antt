@@ -8,6 +8,9 @@ pub mod Sessions
 pub mod Calls
 pub mod Opens
 pub mod Targets
+pub mod Handles
+pub mod Moments
+pub mod Leased
 pub mod InOrder
 pub mod Invalidations
 pub mod Events

@@ -1,5 +1,5 @@
 -- Opens, and what a client keeps of the handles that they give.
-use Rattle.std.specs.Prelude.{◌==◌, ◌&&◌, Bool, true, false, not, is_none, Option, Some, None, if◌then◌else◌}
+use Rattle.std.specs.Prelude.{ℕ, ◌==◌, ◌&&◌, Bool, true, false, not, is_none, List, Option, Some, None, if◌then◌else◌}
 use Rattle.node_core.specs.declared.kinds.Life.{Life}
 use Rattle.node_core.specs.declared.kinds.Life.TheVariants as lives
 use Rattle.node_core.specs.declared.refusals.Fault.TheVariants as faults
@@ -49,3 +49,14 @@ kept_handle handle opening shared = record {
 abbrev pub read_answer : ClientHandle → Option View → Answer
 read_answer handle None = answers.Refused faults.StaleInstance
 read_answer handle (Some view) = if view.instance == handle.instance then answers.Viewed view else answers.Refused faults.StaleInstance
+
+-- ---- what a reply teaches of a name
+
+-- a name, and its view or its absence
+abbrev pub Lesson : Type 0
+Lesson = List ℕ × Option View
+
+-- a plain Open found no node
+abbrev pub absent : Option Open → Option Lesson
+absent None = None
+absent (Some opening) = if is_plain opening then Some (opening.name, None) else None

@@ -1,7 +1,11 @@
-//! Lists of lines.
+//! Lines, and lists of them.
 ghost use Rattle.std.specs.Prelude.{◌≡◌, ◌++◌, ◌∷◌, [], IfOk};
+ghost use Rattle.std.specs.Option.{option_to_list};
+ghost use Rattle.cache_core.specs.Standings.{turn_line};
 
-use node_core::Line;
+use cache_core::Standing;
+use names_cell::Name;
+use node_core::{Answer, Line, View};
 use plain::Items;
 use std::alloc::{AllocError, Global};
 
@@ -19,4 +23,46 @@ pub fn pushed(lines: Items<Line>, line: Line) -> Result<Items<Line>, AllocError>
     let mut lines = lines;
     lines.push(line)?;
     Ok(lines)
+}
+
+/// The line that is printed where a client that stood so before stands like this from here on, if there is one.
+pub fn turn_lines(
+    alloc: Global,
+    client: u64,
+    former: Standing,
+    standing: Standing,
+) -> Result<Items<Line>, AllocError>
+    ensures { IfOk result (λ lines. lines ≡ option_to_list (turn_line client former standing)) }
+{
+    let mut lines = Items::new(alloc);
+    if let Some(line) = standing.turn_line(client, former) {
+        lines.push(line)?;
+    }
+    Ok(lines)
+}
+
+/// This line, and the one that tells that an Open ended, as call 0.
+pub fn opened_lines(
+    alloc: Global,
+    client: u64,
+    line: Line,
+    opened: u64,
+) -> Result<Items<Line>, AllocError>
+    ensures { IfOk result (λ lines. lines ≡ line ∷ Line.Done client 0 (Answer.Opened opened) ∷ []) }
+{
+    let mut lines = one_line(alloc, line)?;
+    lines.push(Line::Done(client, 0, Answer::Opened(opened)))?;
+    Ok(lines)
+}
+
+/// The line that tells what is cached under a name.
+pub fn served_line(client: u64, name: &Name, entry: &Option<View>) -> Result<Line, AllocError>
+    ensures { IfOk result (λ line. line ≡ Line.Served client name.now entry.now) }
+{
+    let name = name.clone()?;
+    let entry = match entry {
+        Some(view) => Some(view.clone()?),
+        None => None,
+    };
+    Ok(Line::Served(client, name, entry))
 }

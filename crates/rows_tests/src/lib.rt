@@ -1,4 +1,4 @@
-//! Tests of stores in SQL and of settings, as tables.
+//! Tests of rows, of stores in SQL and of settings, as tables.
 #![tactic(auto)]
 
 #[cfg(test)]
@@ -7,6 +7,8 @@ mod changes;
 mod files;
 #[cfg(test)]
 mod fuses;
+#[cfg(test)]
+mod rows;
 #[cfg(test)]
 mod settings;
 #[cfg(test)]

@@ -13,9 +13,9 @@ use Rattle.stage_core.specs.declared.stages.Turn.{Turn}
 use Rattle.seats_core.specs.declared.steps.Step.{Step}
 use Rattle.stage_core.specs.World.{WorldView}
 use Rattle.world_laws.proofs.PartsOfRuns.{take_more}
-use Rattle.script_cell.specs.declared.steps.Parsed.{Parsed}
-use Rattle.script_cell.specs.declared.steps.Parsed.TheVariants as parsed
-use Rattle.script_cell.specs.Readings.{IsParsed}
+use Rattle.step_words.specs.declared.steps.Parsed.{Parsed}
+use Rattle.step_words.specs.declared.steps.Parsed.TheVariants as parsed
+use Rattle.step_words.specs.Readings.{IsParsed}
 use Rattle.script_cell.specs.Settling.{Played, played, PlaysMade, PlaysRefused, turn_step, is_waiting, is_idle, Turns, TakesTurn, SettlesBy, Settles}
 use Rattle.script_cell.specs.Texts.{Reading, Advances}
 use Rattle.script_cell.specs.Scripts.{lines_text, told, DoesParsed, DoesLine, DoesLines, IsOfPart, IsOfScript, Wrote}

@@ -9,7 +9,6 @@ ghost use Rattle.script_cell.specs.Texts.{Advances};
 
 use crate::deliveries::Deliveries;
 use crate::lines::{LINE_COUNT_LIMIT, ScriptLines};
-use crate::steps::{Parsed, read_line};
 use crate::stops::Stop;
 use node_core::{Fault, Line};
 use plain::Items;
@@ -18,6 +17,7 @@ use settings_core::Settings;
 use stage_core::Turn;
 use std::alloc::Global;
 use std::io::{self, Read, Write};
+use step_words::{Parsed, read_line};
 use world_cell::World;
 
 /// Runs a script on a new world over the records: reads its steps, one a line, and writes the lines that they print.

@@ -1,5 +1,5 @@
 //! Scripts of sessions, their leases, and clocks.
-use crate::scripts::{Before, is_read, prints};
+use crate::scripts::{Before, prints};
 use std::test::Fail;
 
 type Row = (&'static str, Before, &'static str, &'static str);
@@ -148,37 +148,6 @@ const ENDS: &[Row] = &[
     ),
 ];
 
-// Lines that stand for a tick, and such that do not.
-const TICKS: &[(&str, &str)] = &[
-    ("tick 0 0", "step"),
-    ("tick 18446744073709551615 18446744073709551615", "step"),
-    ("tick 1 1 1:1", "step"),
-    ("tick 1 2 3:4 5:6 3:7", "step"),
-    ("tick 1 1 0:0", "step"),
-    ("tick 1 1 18446744073709551615:18446744073709551615", "step"),
-    ("tick", "bad"),
-    ("tick 1", "bad"),
-    ("tick 1 1 1", "bad"),
-    ("tick 1 1 1:", "bad"),
-    ("tick 1 1 :1", "bad"),
-    ("tick 1 1 :", "bad"),
-    ("tick 1 1 1:1:1", "bad"),
-    ("tick 1 1 01:1", "bad"),
-    ("tick 1 1 1:01", "bad"),
-    ("tick 1 1 1:+1", "bad"),
-    ("tick 1 1 1: 1", "bad"),
-    ("tick 1 1 1 :1", "bad"),
-    ("tick 1 1 ann:1", "bad"),
-    ("tick 1 18446744073709551616", "bad"),
-    ("tick 1 1 1:18446744073709551616", "bad"),
-    ("tick -1 1", "bad"),
-    ("tick 1:1 1", "bad"),
-    ("tick 1 1:1", "bad"),
-    ("tick 1 1  1:1", "bad"),
-    ("tick 1 1 1:1 ", "bad"),
-    ("ticks 1 1", "bad"),
-];
-
 #[test]
 fn clocks(rt: HostRuntime) -> Result<(), Fail> {
     for row in CLOCKS {
@@ -199,14 +168,6 @@ fn beats(rt: HostRuntime) -> Result<(), Fail> {
 fn ends_of_sessions(rt: HostRuntime) -> Result<(), Fail> {
     for row in ENDS {
         prints(&rt, rt.alloc(), row)?;
-    }
-    Ok(())
-}
-
-#[test]
-fn ticks_are_read(rt: HostRuntime) -> Result<(), Fail> {
-    for (line, kind) in TICKS {
-        assert!(rt; is_read(rt.alloc(), line, kind)?, "at {line:?}");
     }
     Ok(())
 }

@@ -1,4 +1,4 @@
-//! Tests of whole scripts, and of masters and clients by themselves.
+//! Tests of whole scripts.
 #![tactic(auto)]
 
 #[cfg(test)]
@@ -13,10 +13,6 @@ mod fail_overs;
 mod leases;
 #[cfg(test)]
 mod locks;
-#[cfg(test)]
-mod masters;
-#[cfg(test)]
-mod parts;
 #[cfg(test)]
 mod rights;
 #[cfg(test)]

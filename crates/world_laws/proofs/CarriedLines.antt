@@ -47,11 +47,11 @@ use Rattle.client_parts.specs.declared.sessions.Session.TheVariants as sessions
 use Rattle.client_parts.specs.declared.targets.Outstanding.{Outstanding}
 use Rattle.client_parts.specs.declared.targets.Target.{Target}
 use Rattle.client_parts.specs.declared.targets.Target.TheVariants as targets
-use Rattle.client_parts.specs.Targets.{is_on}
+use Rattle.client_parts.specs.Targets.{is_on, unknown_line, unknown_lines}
 use Rattle.client_parts.specs.Events.{event_lines}
 use Rattle.client_core.specs.State.{ClientState, standing_then, note_live, note_lines_in, note_lines}
 use Rattle.client_core.specs.Poisons.{refused_lines}
-use Rattle.client_core.specs.Gives.{with_processed, takes_offer, is_jeopardy, safe_lines, unknown_line, unknown_lines, answer_of}
+use Rattle.client_core.specs.Gives.{with_processed, takes_offer, is_jeopardy, safe_lines, answer_of}
 use Rattle.client_core.specs.Cases.{noted_moment, AskCase, asked_in, BeatCase, beaten_in, GiveCase, given_in}
 use Rattle.client_core.specs.Cases.AskCase.{AskedTooLate, Unsafe, Refused, ReadServed, AbsenceServed, Shared, OutOfHandles, Released, OutOfCalls, Sent, Poisoned}
 use Rattle.client_core.specs.Cases.BeatCase.{BeatTooLate, OutOfBeats, Starts, Beats as BeatSent, Quiet}

@@ -31,7 +31,7 @@ use Rattle.cache_core.specs.declared.kept.Kept as shared
 use Rattle.cache_core.proofs.Sharing.{served_is_kept}
 use Rattle.client_parts.specs.Calls.{call_on}
 use Rattle.client_parts.specs.Opens.{is_plain, only_reads, is_shareable, kept_handle}
-use Rattle.client_parts.specs.Targets.{is_on, opening_in, opening_by}
+use Rattle.client_parts.specs.Targets.{is_on, opening_in, opening_by, dropped, opening_of, sequencer_of}
 use Rattle.client_parts.specs.declared.asks.Ask.{Ask}
 use Rattle.client_parts.specs.declared.asks.Ask.TheVariants as asks
 use Rattle.client_parts.specs.declared.asks.NodeCall.{NodeCall}
@@ -45,12 +45,11 @@ use Rattle.client_parts.specs.declared.targets.Target.TheVariants as targets
 use Rattle.client_core.specs.declared.plans.Plan.{Plan}
 use Rattle.client_core.specs.declared.plans.Plan.TheVariants as plans
 use Rattle.client_core.specs.State.{ClientState, new_client, note_in, note_live}
-use Rattle.client_core.specs.Handles.{handle_of}
+use Rattle.client_parts.specs.Handles.{handle_of, usable_handle, put_under, handles_behind, kept_behind}
 use Rattle.client_core.specs.Serves.{serve_read, read_served, share, entry_served, open_served}
-use Rattle.client_core.specs.Asks.{usable_handle, send_plan, served_or, open_plan, close_plan, poison_plan, node_plan, sequencer_plan, plan_of, message_of, with_call, with_shared, without_handle}
-use Rattle.client_core.specs.Poisons.{dropped, poisoned, with_poisoned}
-use Rattle.client_core.specs.Lessons.{opening_of}
-use Rattle.client_core.specs.Gives.{closed, sequencer_of, put_under, sequenced, handles_behind, kept_behind, ended_plainly}
+use Rattle.client_core.specs.Asks.{send_plan, served_or, open_plan, close_plan, poison_plan, node_plan, sequencer_plan, plan_of, message_of, with_call, with_shared, without_handle}
+use Rattle.client_core.specs.Poisons.{poisoned, with_poisoned}
+use Rattle.client_core.specs.Gives.{closed, sequenced, ended_plainly}
 use Rattle.client_core.specs.Cases.{AskCase, asked_in, BeatCase, beaten_in, GiveCase, given_in}
 use Rattle.client_core.proofs.Leases.{LeaseDoes, asked_keeps, beaten_keeps_session, given_lease, unstarted_stays}
 use Rattle.client_core.proofs.Leases.LeaseDoes.{LeaseKept, LeaseLeft, LeaseCarried, LeaseBegun, LeaseBettered, LeasePassed}

@@ -9,7 +9,7 @@ use Rattle.messages_cell.specs.declared.beats.Invalidation.{Invalidation}
 use Rattle.cache_core.specs.Caches.{Entries, CacheState, AreCacheEntries, entry_of, flushed, is_leased, noted}
 use Rattle.client_parts.specs.Invalidations.{all_flushed}
 use Rattle.client_core.specs.State.{lease_of}
-use Rattle.client_core.specs.Gives.{under}
+use Rattle.client_parts.specs.Leased.{under}
 use Rattle.client_core.proofs.OneEntry.{StaysOrGoes, fits_if, invalidated_goes, noted_stays, all_stay_or_go}
 use Rattle.world_laws.specs.Slices.{Shown, name_number}
 

@@ -19,8 +19,8 @@ use Rattle.messages_cell.specs.declared.outs.CallResult.{CallResult}
 use Rattle.messages_cell.specs.declared.outs.CallResult.TheVariants as results
 use Rattle.cell_core.specs.Names.{name_asked, shown_by}
 use Rattle.client_parts.specs.Calls.{call_on}
-use Rattle.client_parts.specs.Opens.{is_plain}
-use Rattle.client_parts.specs.Targets.{opening_in, opening_by}
+use Rattle.client_parts.specs.Opens.{is_plain, Lesson, absent}
+use Rattle.client_parts.specs.Targets.{opening_in, opening_by, opening_of}
 use Rattle.client_parts.specs.declared.asks.NodeCall.{NodeCall}
 use Rattle.client_parts.specs.declared.asks.NodeCall.TheVariants as node_calls
 use Rattle.client_parts.specs.declared.handles.ClientHandle.{ClientHandle}
@@ -28,8 +28,8 @@ use Rattle.client_parts.specs.declared.targets.Outstanding.{Outstanding}
 use Rattle.client_parts.specs.declared.targets.Target.{Target}
 use Rattle.client_parts.specs.declared.targets.Target.TheVariants as targets
 use Rattle.client_core.specs.State.{ClientState}
-use Rattle.client_core.specs.Handles.{handle_of}
-use Rattle.client_core.specs.Lessons.{Lesson, opening_of, viewed, view_taught, absent, absence_taught, taught}
+use Rattle.client_parts.specs.Handles.{handle_of}
+use Rattle.client_core.specs.Lessons.{viewed, view_taught, absence_taught, taught}
 use Rattle.seats_core.specs.declared.mail.Message.{Message}
 use Rattle.seats_core.specs.Messages.{call_of}
 use Rattle.world_laws.specs.Slices.{Shown, asks_for, stamped_grant, grants_of}

@@ -32,13 +32,13 @@ use Rattle.client_parts.specs.declared.targets.Target.{Target}
 use Rattle.client_parts.specs.declared.targets.Target.TheVariants as targets
 use Rattle.client_parts.specs.declared.targets.Outstanding.{Outstanding}
 use Rattle.client_parts.specs.Opens.{kept_handle}
-use Rattle.client_parts.specs.Targets.{is_on}
+use Rattle.client_parts.specs.Targets.{is_on, unknown_line, unknown_lines}
 use Rattle.client_parts.specs.Events.{event_lines}
 use Rattle.client_core.specs.State.{ClientState, at_moment, standing_then, session_behind, note_in, note, note_live, note_lines_in, note_lines}
 use Rattle.client_core.specs.Asks.{with_call, with_shared, without_handle}
 use Rattle.client_core.specs.Poisons.{refused_lines, poison_lines, with_poisoned}
 use Rattle.client_core.specs.Beats.{start_message, beat_message, with_beat}
-use Rattle.client_core.specs.Gives.{offered, begun, with_processed, bettered, takes_offer, is_jeopardy, safe_lines, answer_of, ended_plainly, with_lesson, unknown_line, unknown_lines, learned, lost}
+use Rattle.client_core.specs.Gives.{offered, begun, with_processed, bettered, takes_offer, is_jeopardy, safe_lines, answer_of, ended_plainly, with_lesson, learned, lost}
 use Rattle.client_core.specs.Cases.{noted_moment, IsLive, AskCase, asked_in, BeatCase, beaten_in, GiveCase, given_in}
 use Rattle.client_core.specs.Cases.AskCase.{AskedTooLate, Unsafe, Refused, ReadServed, AbsenceServed, Shared, OutOfHandles, Released, OutOfCalls, Sent, Poisoned}
 use Rattle.client_core.specs.Cases.BeatCase.{BeatTooLate, OutOfBeats, Starts, Beats, Quiet}

@@ -31,7 +31,7 @@ use Rattle.client_parts.specs.declared.sessions.Session.TheVariants as sessions
 use Rattle.client_parts.specs.declared.targets.Outstanding.{Outstanding}
 use Rattle.client_parts.specs.declared.targets.Target.TheVariants as targets
 use Rattle.client_parts.specs.Calls.{call_on}
-use Rattle.client_core.specs.Handles.{handle_of}
+use Rattle.client_parts.specs.Handles.{handle_of}
 use Rattle.client_core.specs.State.{ClientState}
 use Rattle.gate_core.specs.declared.pending.Waiting.{Waiting}
 use Rattle.lock_core.specs.Turns.{is_of_client, any_waits}
