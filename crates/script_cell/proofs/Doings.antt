@@ -9,10 +9,10 @@ use Rattle.node_core.specs.declared.refusals.Fault.TheVariants.{MasterDown}
 use Rattle.node_core.specs.declared.lines.Line.{Line}
 use Rattle.node_core.specs.declared.lines.Line.TheVariants as lines
 use Rattle.node_core.specs.Texts.{line_text}
-use Rattle.world_cell.specs.declared.worlds.Turn.{Turn}
-use Rattle.world_cell.specs.declared.steps.Step.{Step}
-use Rattle.world_cell.specs.World.{WorldView}
-use Rattle.world_cell.proofs.PartsOfRuns.{take_more}
+use Rattle.stage_core.specs.declared.stages.Turn.{Turn}
+use Rattle.seats_core.specs.declared.steps.Step.{Step}
+use Rattle.stage_core.specs.World.{WorldView}
+use Rattle.world_laws.proofs.PartsOfRuns.{take_more}
 use Rattle.step_words.specs.declared.steps.Parsed.{Parsed}
 use Rattle.step_words.specs.declared.steps.Parsed.TheVariants as parsed
 use Rattle.step_words.specs.Readings.{IsParsed}

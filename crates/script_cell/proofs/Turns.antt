@@ -9,14 +9,14 @@ use Rattle.node_core.specs.declared.refusals.Fault.{Fault}
 use Rattle.node_core.specs.declared.refusals.Fault.TheVariants as faults
 use Rattle.node_core.specs.declared.lines.Line.{Line}
 use Rattle.node_core.specs.declared.lines.Line.TheVariants as lines
-use Rattle.world_cell.specs.declared.mail.Message.{Message}
-use Rattle.world_cell.specs.declared.steps.Step.{Step}
-use Rattle.world_cell.specs.declared.steps.Step.TheVariants as steps
-use Rattle.world_cell.specs.declared.worlds.Turn.{Turn}
-use Rattle.world_cell.specs.World.{WorldState, WorldView, world_step, world_sweep, without_quiet, step_edits, IsStored, IsLeft, MayRefuseStep}
-use Rattle.world_cell.specs.Runs.{IsMade, WasMade, WasRefused}
-use Rattle.world_cell.proofs.WereSent.{take_sent, give_sent}
-use Rattle.world_cell.proofs.WorldCases.{step_sweeps}
+use Rattle.seats_core.specs.declared.mail.Message.{Message}
+use Rattle.seats_core.specs.declared.steps.Step.{Step}
+use Rattle.seats_core.specs.declared.steps.Step.TheVariants as steps
+use Rattle.stage_core.specs.declared.stages.Turn.{Turn}
+use Rattle.stage_core.specs.World.{WorldState, WorldView, world_step, world_sweep, without_quiet, step_edits, IsStored, IsLeft, MayRefuseStep}
+use Rattle.stage_core.specs.Made.{IsMade, WasMade, WasRefused}
+use Rattle.world_laws.proofs.WereSent.{take_sent, give_sent}
+use Rattle.world_laws.proofs.WorldCases.{step_sweeps}
 use Rattle.script_cell.specs.Settling.{Played, played, step_of, first_waiting, AreDelivered, IsFirst, marked, place_of, marked_at, PlaysMade, PlaysRefused, turn_step, is_waiting, is_quiet, is_idle}
 
 -- ---- marks

@@ -6,13 +6,13 @@ use Rattle.node_core.specs.declared.refusals.Fault.{Fault}
 use Rattle.node_core.specs.declared.refusals.Fault.TheVariants.{MasterDown}
 use Rattle.node_core.specs.declared.lines.Line.{Line}
 use Rattle.node_core.specs.declared.lines.Line.TheVariants as lines
-use Rattle.world_cell.specs.declared.steps.Step.{Step}
-use Rattle.world_cell.specs.declared.steps.Step.TheVariants as steps
-use Rattle.world_cell.specs.declared.worlds.Turn.{Turn}
-use Rattle.world_cell.specs.declared.mail.Message.{Message}
-use Rattle.world_cell.specs.declared.mail.Message.TheVariants as messages
-use Rattle.world_cell.specs.World.{WorldState, WorldView, world_sweep}
-use Rattle.world_cell.specs.Runs.{WasMade, WasRefused}
+use Rattle.seats_core.specs.declared.steps.Step.{Step}
+use Rattle.seats_core.specs.declared.steps.Step.TheVariants as steps
+use Rattle.stage_core.specs.declared.stages.Turn.{Turn}
+use Rattle.seats_core.specs.declared.mail.Message.{Message}
+use Rattle.seats_core.specs.declared.mail.Message.TheVariants as messages
+use Rattle.stage_core.specs.World.{WorldState, WorldView, world_sweep}
+use Rattle.stage_core.specs.Made.{WasMade, WasRefused}
 
 -- ---- what was delivered
 

@@ -1,7 +1,7 @@
 //! Runs a script.
 ghost use Rattle.std.specs.Prelude.{◌≡◌, ◌≤◌, ◌∷◌, [], Some, length, true, OnOk, IfOk, IfErr};
 ghost use Rattle.std.specs.Io.KnownBytes.{Appends, Keeps};
-ghost use Rattle.world_cell.specs.World.{opened};
+ghost use Rattle.stage_core.specs.World.{opened};
 ghost use Rattle.script_cell.specs.Scripts.{Wrote, IsOfScript, DoesLine, DoesParsed, lines_text, told};
 ghost use Rattle.script_cell.specs.Settling.{played, Settles, TakesTurn, PlaysMade, PlaysRefused, turn_step, is_waiting, is_idle};
 ghost use Rattle.script_cell.specs.Stops.{IsStatus};
@@ -14,10 +14,11 @@ use node_core::{Fault, Line};
 use plain::Items;
 use rows_cell::Records;
 use settings_core::Settings;
+use stage_core::Turn;
 use std::alloc::Global;
 use std::io::{self, Read, Write};
 use step_words::{Parsed, read_line};
-use world_cell::{Turn, World};
+use world_cell::World;
 
 /// Runs a script on a new world over the records: reads its steps, one a line, and writes the lines that they print.
 /// Answers the exit status: 0; 1 at a line that is no step, where the steps before it stand, and where a line can't be

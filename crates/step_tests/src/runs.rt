@@ -2,11 +2,12 @@
 use node_core::Line;
 use plain::Items;
 use rows_cell::ListRecords;
+use seats_core::Step;
 use settings_core::Settings;
 use std::alloc::Global;
 use std::test::Fail;
 use step_words::{Parsed, read_step};
-use world_cell::{Step, World};
+use world_cell::World;
 
 // A first path, with each `settle` written out.
 const FIRST_PATH_STEPS: &str =

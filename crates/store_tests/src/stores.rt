@@ -3,13 +3,14 @@ use names_cell::Component;
 use node_core::Line;
 use rows_file::{inspect_file, verdict};
 use rows_sql::SqlRecords;
+use seats_core::Step;
 use settings_core::Settings;
 use sqlite::{Connection, FileStore, Files, Options};
 use sqlite_disk::{Disk, Memory};
 use std::alloc::Global;
 use std::test::Fail;
 use step_words::{Parsed, read_step};
-use world_cell::{Step, World};
+use world_cell::World;
 
 type Store = FileStore<Memory>;
 

@@ -3,19 +3,20 @@ ghost use Rattle.std.specs.Prelude.{◌≡◌, ◌≤◌, ◌++◌, ◌∷◌, [
 ghost use Rattle.rows_cell.specs.Rows.{map_of};
 ghost use Rattle.node_core.specs.declared.lines.Line.{Line as PrintedLine};
 ghost use Rattle.node_core.specs.declared.views.Mod.{Mod};
-ghost use Rattle.world_cell.specs.Consistent.{IsConsistent};
+ghost use Rattle.world_laws.specs.Consistent.{IsConsistent};
 ghost use Rattle.rows_cell.specs.Sound.{is_live_in};
-ghost use Rattle.world_cell.specs.World.{IsUndoubted};
-ghost use Rattle.world_cell.specs.Runs.{WasRefused, AnyStep, AnyRun, map_at, after_lines, epoch_at, live_at, LeasesKeepSessions, AreJoint, KeepsClocksFair, AreRecordedOnce, applied, Rises, IsOfCall, IsOfIdle};
-ghost use Rattle.world_cell.specs.Served.{ServesPresentByThen};
-ghost use Rattle.world_cell.specs.Locks.{HasLegalLocks, NoGenerationTwice};
-ghost use Rattle.world_cell.specs.Told.{ShowsNoOlder};
+ghost use Rattle.stage_core.specs.World.{IsUndoubted};
+ghost use Rattle.world_laws.specs.Runs.{AnyRun, map_at, after_lines, epoch_at, live_at, LeasesKeepSessions, AreJoint, KeepsClocksFair, AreRecordedOnce, applied, Rises, IsOfCall, IsOfIdle};
+ghost use Rattle.stage_core.specs.Made.{WasRefused, AnyStep};
+ghost use Rattle.world_laws.specs.Served.{ServesPresentByThen};
+ghost use Rattle.world_laws.specs.Locks.{HasLegalLocks, NoGenerationTwice};
+ghost use Rattle.world_laws.specs.Told.{ShowsNoOlder};
 
-use crate::steps::Step;
 use crate::worlds::World;
 use node_core::{Fault, Line};
 use plain::Items;
 use rows_cell::Records;
+use seats_core::Step;
 use std::alloc::{AllocError, Global};
 
 impl<R: Records + Drop> World<R> {

@@ -1,27 +1,19 @@
 //! A world.
 ghost use Rattle.std.specs.Prelude.{◌≡◌, ◌∷◌, [], Ok, IfOk, IfErr, OnOk, OnErr, is_some};
 ghost use Rattle.rows_cell.specs.Rows.{map_of};
-ghost use Rattle.world_cell.specs.World.{opened, store_in, world_sweep, step_edits, IsUndoubted, IsStored, IsLeft, MayRefuseStep};
-ghost use Rattle.world_cell.specs.Runs.{WasMade, WasRefused};
-ghost use Rattle.world_cell.specs.Served.{ServesPresent};
-ghost use Rattle.world_cell.specs.Locks.{HasLegalLocks, CountsHolds};
+ghost use Rattle.stage_core.specs.World.{opened, store_in, world_sweep, step_edits, IsUndoubted, IsStored, IsLeft, MayRefuseStep};
+ghost use Rattle.stage_core.specs.Made.{WasMade, WasRefused};
+ghost use Rattle.world_laws.specs.Served.{ServesPresent};
+ghost use Rattle.world_laws.specs.Locks.{HasLegalLocks, CountsHolds};
 
-use crate::mail::Message;
-use crate::stages::Stage;
-use crate::steps::Step;
 use node_core::{Fault, Line};
 use plain::Items;
 use rows_cell::Records;
+use seats_core::{Message, Step};
 use settings_core::Settings;
+use stage_core::{Stage, Turn};
 use std::alloc::Global;
 use std::marker::Model;
-
-/// What a sweep prints, and whether it found nothing to do.
-#[derive(Debug, Drop)]
-pub struct Turn {
-    pub lines: Items<Line>,
-    pub quiet: bool,
-}
 
 /// A cell with all that happens around it: records, at most one master, clients, and every message that was sent. To a
 /// contract, plain lists of these. Where nothing that was read from the records is in doubt, they fit one another always
@@ -32,8 +24,8 @@ pub struct World<R: Records> {
 }
 
 impl<R: Records> Model for World<R> {
-    ghost use Rattle.world_cell.specs.World.{WorldView, IsUndoubted};
-    ghost use Rattle.world_cell.specs.Consistent.{IsConsistent};
+    ghost use Rattle.stage_core.specs.World.{WorldView, IsUndoubted};
+    ghost use Rattle.world_laws.specs.Consistent.{IsConsistent};
 
     ghost Value = { WorldView };
 

@@ -1,0 +1,82 @@
+-- The lines of locks: they tell of no change of the map, of no master, of no session and of no right, nor of anything served, and a sweep that is cut keeps them.
+use Rattle.std.proofs.Common.{◌≡◌, ℕ, Bool, true, false, cond, List, [], ◌∷◌, ◌++◌, map, refl, ap, ◌∙◌}
+use Rattle.std.specs.Prelude.{filter, not}
+use Rattle.node_core.specs.declared.lines.Line.{Line}
+use Rattle.node_core.specs.declared.lines.Line.TheVariants as lines
+use Rattle.lock_core.specs.declared.claims.Claim.{Claim}
+use Rattle.lock_core.specs.declared.turns.Lapse.{Lapse}
+use Rattle.lock_core.specs.declared.turns.Turn.{Turn}
+use Rattle.lock_core.specs.Turns.{is_nobody}
+use Rattle.turn_core.specs.declared.effects.Leave.{Leave}
+use Rattle.deed_core.specs.Replies.{locked_line, locked_lines, line_if}
+use Rattle.turn_core.specs.Outcomes.{leave_lines}
+use Rattle.deed_core.specs.Lapses.{lapse_lines, lapses_lines}
+use Rattle.stage_core.specs.World.{is_of_commit}
+use Rattle.world_laws.proofs.SilentLines.{IsQuiet, append_quiet, AreOthers, both_others}
+
+-- what is seen of them
+pub record AreOfLocks (printed : List Line) : Type 0 where
+  pub quiet : IsQuiet printed
+  pub others : AreOthers printed
+  pub kept : filter is_of_commit printed ≡ printed
+
+filter_both : (keep : Line → Bool) (xs ys : List Line) → filter keep (xs ++ ys) ≡ filter keep xs ++ filter keep ys
+filter_both keep [] ys = refl
+filter_both keep (x ∷ xs) ys = elim (keep x) as (λ b. cond b (x ∷ filter keep (xs ++ ys)) (filter keep (xs ++ ys)) ≡ cond b (x ∷ filter keep xs) (filter keep xs) ++ filter keep ys) [
+  | true ↦ ap (λ rest. x ∷ rest) (filter_both keep xs ys)
+  | false ↦ filter_both keep xs ys
+]
+
+both_same : (a b c d : List Line) → a ≡ c → b ≡ d → a ++ b ≡ c ++ d
+both_same a b c d h k = cc
+
+both_of_locks : (xs ys : List Line) → AreOfLocks xs → AreOfLocks ys → AreOfLocks (xs ++ ys)
+both_of_locks xs ys h k = record {
+  quiet = append_quiet xs ys h.quiet k.quiet;
+  others = both_others xs ys h.others k.others;
+  kept = filter_both is_of_commit xs ys ∙ both_same (filter is_of_commit xs) (filter is_of_commit ys) xs ys h.kept k.kept;
+}
+
+none_of_locks : AreOfLocks []
+none_of_locks = record { quiet = tt; others = tt; kept = refl }
+
+got_of_locks : (instance generation : ℕ) (claims : List Claim) → AreOfLocks (map (locked_line instance generation) claims)
+got_of_locks instance generation [] = none_of_locks
+got_of_locks instance generation (claim ∷ claims) =
+    let others = got_of_locks instance generation claims in
+    record { quiet = (tt, tt, others.quiet); others = (tt, others.others); kept = ap (λ rest. locked_line instance generation claim ∷ rest) others.kept }
+
+pub locked_of_locks : (instance : ℕ) (turn : Turn) → AreOfLocks (locked_lines instance turn)
+locked_of_locks instance turn = got_of_locks instance turn.lock.generation turn.granted
+
+-- a line of a lock where this holds
+if_of_locks : (b : Bool) (line : Line) → AreOfLocks (line ∷ []) → AreOfLocks (line_if b line)
+if_of_locks true line h = h
+if_of_locks false line h = none_of_locks
+
+pub left_of_locks : (client : ℕ) (leave : Leave) → AreOfLocks (leave_lines client leave)
+left_of_locks client leave =
+    both_of_locks (line_if leave.held (lines.Freed client leave.instance)) (locked_lines leave.instance leave.turn)
+    (if_of_locks leave.held (lines.Freed client leave.instance) (record { quiet = (tt, tt, tt); others = (tt, tt); kept = refl })) (locked_of_locks leave.instance leave.turn)
+
+pub reopened_of_locks : (instance : ℕ) (turn : Turn) → AreOfLocks (lines.Reopened instance ∷ locked_lines instance turn)
+reopened_of_locks instance turn = both_of_locks (lines.Reopened instance ∷ []) (locked_lines instance turn) (record { quiet = (tt, tt, tt); others = (tt, tt); kept = refl }) (locked_of_locks instance turn)
+
+lapse_of_locks : (client : ℕ) (lapse : Lapse) → AreOfLocks (lapse_lines client lapse)
+lapse_of_locks client lapse =
+    let ends = line_if (not (is_nobody lapse.ended)) (lines.Lapsed client lapse.instance) in
+    let opens = line_if lapse.reopens (lines.Reopened lapse.instance) in
+    both_of_locks (ends ++ opens) (locked_lines lapse.instance lapse.turn)
+    (both_of_locks ends opens (if_of_locks (not (is_nobody lapse.ended)) (lines.Lapsed client lapse.instance) (record { quiet = (tt, tt, tt); others = (tt, tt); kept = refl }))
+    (if_of_locks lapse.reopens (lines.Reopened lapse.instance) (record { quiet = (tt, tt, tt); others = (tt, tt); kept = refl })))
+    (locked_of_locks lapse.instance lapse.turn)
+
+pub lapses_of_locks : (client : ℕ) (lapses : List Lapse) → AreOfLocks (lapses_lines client lapses)
+lapses_of_locks client [] = none_of_locks
+lapses_of_locks client (lapse ∷ lapses) = both_of_locks (lapse_lines client lapse) (lapses_lines client lapses) (lapse_of_locks client lapse) (lapses_of_locks client lapses)
+
+-- those of an expiry, behind the lines of rights
+pub expiry_kept : (client : ℕ) (numbers : List ℕ) (lapses : List Lapse) → filter is_of_commit (map lines.Expired numbers ++ lapses_lines client lapses ++ lines.Ended client ∷ []) ≡ map lines.Expired numbers ++ lapses_lines client lapses ++ lines.Ended client ∷ []
+expiry_kept client [] lapses =
+    filter_both is_of_commit (lapses_lines client lapses) (lines.Ended client ∷ []) ∙ ap (λ told. told ++ lines.Ended client ∷ []) (lapses_of_locks client lapses).kept
+expiry_kept client (number ∷ numbers) lapses = ap (λ told. lines.Expired number ∷ told) (expiry_kept client numbers lapses)

@@ -1,0 +1,54 @@
+-- From a consistent world each step leads to where the slice of each client and name is reached.
+use Rattle.std.proofs.Common.{◌≡◌, ℕ, true, false, List, Ok, Some, None, subst}
+use Rattle.coherence.specs.Slice.{Reached}
+use Rattle.node_core.specs.declared.lines.Line.{Line}
+use Rattle.messages_cell.specs.declared.requests.Request.{Request}
+use Rattle.messages_cell.specs.declared.outs.Out.{Out}
+use Rattle.messages_cell.specs.Messages.{out_client}
+use Rattle.client_parts.specs.declared.asks.Ask.{Ask}
+use Rattle.client_core.specs.Cases.{AskCase, asked_in, BeatCase, beaten_in, GiveCase, given_in}
+use Rattle.cell_state.specs.State.{MasterState}
+use Rattle.cell_state.specs.Lookups.{noted, is_spent}
+use Rattle.cell_core.specs.Cases.{TakeCase}
+use Rattle.sweep_laws.specs.SweepCase.{SweepCase}
+use Rattle.seats_core.specs.declared.seats.Seat.{Seat}
+use Rattle.seats_core.specs.declared.steps.Ticks.{Ticks}
+use Rattle.seats_core.specs.Messages.{request_at, out_at}
+use Rattle.stage_core.specs.World.{WorldState, seat_of, asked, beaten, gave, ticked, are_fair, without_master, Agrees}
+use Rattle.world_laws.specs.Slices.{slice}
+use Rattle.world_laws.specs.Consistent.{IsConsistent, Fits, IsNoted}
+use Rattle.world_laws.proofs.SliceTicks.{behind_up, behind_join, reached_stays_at_ticks, reached_stays_at_up, reached_stays_at_down, reached_stays_at_join}
+use Rattle.world_laws.proofs.SliceClients.{reached_stays_at_ask, reached_stays_at_beat, reached_stays_at_give}
+use Rattle.world_laws.proofs.SliceTakes.{behind_take, reached_stays_at_take}
+use Rattle.world_laws.proofs.SliceSweeps.{behind_sweep, reached_stays_at_sweep}
+
+module _ (w : WorldState) (fits : IsConsistent w) (c : ℕ) (x : List ℕ) where
+  pub reached_behind_ticks : (ticks : Ticks) → are_fair w.master w ticks ≡ true → Reached (slice c x (ticked w ticks))
+  reached_behind_ticks ticks fair = reached_stays_at_ticks c x w ticks fair (fits.reached c x)
+
+  pub reached_behind_up : (now : ℕ) → w.master ≡ None → Reached (slice c x (behind_up w now))
+  reached_behind_up now down = reached_stays_at_up c x w now down fits.lease (fits.reached c x)
+
+  pub reached_behind_join : (number : ℕ) (principal : List ℕ) → seat_of w number ≡ None → Reached (slice c x (behind_join w number principal))
+  reached_behind_join number principal free = reached_stays_at_join x w number principal c free (fits.reached c x)
+
+  pub reached_behind_ask : (new : WorldState) (number : ℕ) (seat : Seat) (printed : List Line) (ask : Ask) (case : AskCase seat.client seat.clock ask) → seat_of w number ≡ Some seat → asked w number seat (asked_in seat.client seat.clock ask case) ≡ Ok (new, printed) → Reached (slice c x new)
+  reached_behind_ask new number seat printed ask case found made = reached_stays_at_ask c x w new fits seat printed number ask case found made
+
+  pub reached_behind_beat : (new : WorldState) (number : ℕ) (seat : Seat) (printed : List Line) (case : BeatCase seat.client seat.clock) → seat_of w number ≡ Some seat → beaten w number seat (beaten_in seat.client seat.clock case) ≡ Ok (new, printed) → Reached (slice c x new)
+  reached_behind_beat new number seat printed case found made = reached_stays_at_beat c x w new fits seat printed number case found made
+
+  pub reached_behind_give : (new : WorldState) (seat : Seat) (at : ℕ) (out : Out) (printed : List Line) (case : GiveCase seat.client seat.clock out) → out_at w.messages at ≡ Some out → seat_of w (out_client out) ≡ Some seat → gave w (out_client out) seat (given_in seat.client seat.clock out case) ≡ Ok (new, printed) → Reached (slice c x new)
+  reached_behind_give new seat at out printed case sent found made = reached_stays_at_give c x w new fits seat printed at out case sent found made
+
+  pub reached_behind_take : (s : MasterState) (at : ℕ) (request : Request) (case : TakeCase (noted s w.clock) request) → w.master ≡ Some s → request_at w.messages at ≡ Some request → is_spent s ≡ false → Reached (slice c x (behind_take w s request case))
+  reached_behind_take s at request case up sent room =
+      reached_stays_at_take c x w s at request case up (subst (IsNoted w.clock) up fits.noted) (subst (Agrees w) up fits.master)
+      (record { fits = subst (Fits w) up fits.fits; named = fits.named; room = room })
+      sent (fits.reached c x)
+
+  pub reached_behind_sweep : (s : MasterState) (case : SweepCase (noted s w.clock)) → w.master ≡ Some s → Reached (slice c x (behind_sweep w s case))
+  reached_behind_sweep s case up = reached_stays_at_sweep c x w s case up (subst (IsNoted w.clock) up fits.noted) (subst (Agrees w) up fits.master) (fits.reached c x)
+
+  pub reached_behind_down : (s : MasterState) → w.master ≡ Some s → Reached (slice c x (without_master w))
+  reached_behind_down s up = reached_stays_at_down c x w s up (fits.reached c x)
