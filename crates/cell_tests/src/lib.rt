@@ -1,4 +1,4 @@
-//! Tests of the lower crates: the ends of the ranges, texts, and each public call once on its happy path.
+//! Tests of the lowest crates: texts, the map, and each public call once on its happy path.
 #![tactic(auto)]
 
 ghost use Rattle.std.specs.Prelude.{◌≡◌, IfOk, string_bytes};
@@ -9,11 +9,7 @@ use std::alloc::{AllocError, Global};
 #[cfg(test)]
 mod containers;
 #[cfg(test)]
-mod handles;
-#[cfg(test)]
 mod lines;
-#[cfg(test)]
-mod messages;
 #[cfg(test)]
 mod names;
 

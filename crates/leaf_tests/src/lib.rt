@@ -1,8 +1,12 @@
-//! Tests of rights, the gate, locks and sequencers, each by itself, as tables of steps.
+//! Tests of the bytes and ranges of messages, and of rights, the gate and locks, each by itself, as tables.
 #![tactic(auto)]
 
 #[cfg(test)]
+mod handles;
+#[cfg(test)]
 mod locks;
+#[cfg(test)]
+mod messages;
 #[cfg(test)]
 mod rights;
 #[cfg(test)]

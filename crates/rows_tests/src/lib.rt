@@ -1,4 +1,4 @@
-//! Tests of rows, of stores in SQL and of settings, as tables.
+//! Tests of stores in SQL, as tables.
 #![tactic(auto)]
 
 #[cfg(test)]
@@ -7,9 +7,5 @@ mod changes;
 mod files;
 #[cfg(test)]
 mod fuses;
-#[cfg(test)]
-mod rows;
-#[cfg(test)]
-mod settings;
 #[cfg(test)]
 mod stores;
