@@ -2,10 +2,6 @@
 #![tactic(auto)]
 
 #[cfg(test)]
-mod changes;
-#[cfg(test)]
 mod files;
-#[cfg(test)]
-mod fuses;
 #[cfg(test)]
 mod stores;
