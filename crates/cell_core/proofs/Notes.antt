@@ -6,7 +6,7 @@ use Rattle.cell_parts.specs.declared.handles.HandleState.{HandleState}
 use Rattle.cell_parts.specs.declared.handles.Note.{Note}
 use Rattle.cell_parts.specs.Keys.{handle_order}
 use Rattle.cell_state.specs.State.{MasterState}
-use Rattle.deed_core.specs.Deeds.{with_note}
+use Rattle.cell_update.specs.Updates.{with_note}
 
 -- with one more of its handles' states it is the master with the note
 pub noted : (before s : MasterState) (handles : List (HandleKey × HandleState)) (note : Option Note) (known : Note) → before ≡ s → note ≡ Some known → handles ≡ insert_entry handle_order before.handles known.key known.state → record before { handles = handles } ≡ with_note s note

@@ -21,7 +21,7 @@ use Rattle.cell_parts.specs.declared.pending.Work.TheVariants as works
 use Rattle.cell_state.specs.State.{MasterState}
 use Rattle.cell_state.specs.Lookups.{session_of, kept_of, is_live, is_full, may_start, turned_away, refusal, nothing, is_spent, noted}
 use Rattle.cell_core.specs.Step.{queued, replied, is_cachable, granting, telling, waits, admission_for, admit_step, new_call_by, new_call, kept_step, call_step, start_step, beat_by, beat_step, take_at, take_step, is_past_end}
-use Rattle.deed_core.specs.Deeds.{with_note}
+use Rattle.cell_update.specs.Updates.{with_note}
 use Rattle.cell_core.specs.Cases.{IsHeard, IsNew, TakeCase, taken_by}
 use Rattle.cell_core.specs.Cases.TakeCase.{StartRefused, StartRecovering, StartFull, StartQueued, OldBeat, BeatRefused, BeatParked, OldEpoch, NoSession, Repeated, OlderCall, Outstanding, Recovering, Answered, Granted, Waits}
 

@@ -14,7 +14,7 @@ use Rattle.session_core.specs.Session.{beat_fault}
 use Rattle.cell_state.specs.State.{MasterState}
 use Rattle.cell_state.specs.Lookups.{session_of, kept_of, is_live, is_full, may_start, nothing, turned_away, refusal, repeated}
 use Rattle.cell_core.specs.Step.{queued, parked, acked, replied, is_cachable, granting, waits, admission_for}
-use Rattle.deed_core.specs.Deeds.{with_note}
+use Rattle.cell_update.specs.Updates.{with_note}
 use Rattle.node_core.specs.declared.refusals.Fault.TheVariants as faults
 use Rattle.messages_cell.specs.declared.requests.Request.TheVariants as requests
 use Rattle.messages_cell.specs.declared.outs.CallResult.TheVariants as results

@@ -15,7 +15,7 @@ pub use Rattle.cell_state.specs.Lookups
 pub use Rattle.cell_parts.specs.Locks
 pub use Rattle.cell_parts.specs.Calls
 pub use Rattle.cell_state.specs.Notices
-pub use Rattle.deed_core.specs.Deeds
+pub use Rattle.cell_update.specs.Updates
 pub mod Step
 pub mod Names
 pub mod Cases

@@ -29,7 +29,7 @@ use Rattle.cell_state.specs.Lookups.{session_of, kept_of, is_live, may_start, is
 use Rattle.cell_parts.specs.Calls.{create_fault, bytes_of}
 use Rattle.cell_parts.specs.Answered.{answered_by}
 use Rattle.cell_parts.specs.Notes.{open_note}
-use Rattle.deed_core.specs.Deeds.{with_note}
+use Rattle.cell_update.specs.Updates.{with_note}
 use Rattle.node_core.specs.declared.refusals.Fault.TheVariants as faults
 use Rattle.node_core.specs.declared.lines.Line.TheVariants as lines
 use Rattle.gate_core.specs.Gate as of_gate

@@ -4,12 +4,12 @@ ghost use Rattle.lease_core.specs.Lease.{IsMoment, least_lease, longest_lease};
 ghost use Rattle.cell_state.specs.State.{master_of};
 ghost use Rattle.cell_state.specs.Lookups.{noted};
 ghost use Rattle.cell_state.specs.Notices.{with_tellings};
-ghost use Rattle.deed_core.specs.Deeds.{BeginsNew, grown, undone, rest_of, with_rest};
+ghost use Rattle.cell_update.specs.Updates.{BeginsNew, grown, undone, rest_of, with_rest};
 
 use crate::stored::{locks_of, sessions_of};
 use cell_parts::{Handles, Nodes, Telling};
 use cell_state::Master;
-use deed_core::{Deed, Former, Grown, Rest, finish, grow, settle, undo};
+use cell_update::{Former, Grown, Rest, Update, finish, grow, settle, undo};
 use gate_core::Gate;
 use plain::Items;
 use rights_core::Rights;
@@ -17,7 +17,7 @@ use rows_cell::Rows;
 use std::alloc::{AllocError, Global};
 use std::marker::Model;
 
-/// A master in memory, which changes by messages, deeds and moments alone. All that is known of it is looked up in
+/// A master in memory, which changes by messages, updates and moments alone. All that is known of it is looked up in
 /// `Master`, lent to be read. It commits nothing by itself.
 #[derive(Drop)]
 pub struct Cell {
@@ -112,32 +112,32 @@ impl Cell {
         self.master.tell(tellings);
     }
 
-    /// Begins a deed: all of it that may want memory. Where memory is refused nothing has changed.
-    pub fn grow(&mut self, deed: Deed) -> Result<Grown, AllocError>
-        requires { BeginsNew self.old deed.session }
-        ensures ok { OnOk result (self.new ≡ grown self.old deed) }
+    /// Begins a update: all of it that may want memory. Where memory is refused nothing has changed.
+    pub fn grow(&mut self, update: Update) -> Result<Grown, AllocError>
+        requires { BeginsNew self.old update.session }
+        ensures ok { OnOk result (self.new ≡ grown self.old update) }
         ensures back { IfOk result (λ begun. undone self.new begun.former ≡ self.old) }
-        ensures rest { IfOk result (λ begun. begun.rest ≡ rest_of deed) }
+        ensures rest { IfOk result (λ begun. begun.rest ≡ rest_of update) }
         ensures err { OnErr result (self.new ≡ self.old) }
     {
-        grow(&mut self.master, deed)
+        grow(&mut self.master, update)
     }
 
-    /// Takes a deed back that was begun and not finished. Takes no memory.
+    /// Takes a update back that was begun and not finished. Takes no memory.
     pub fn undo(&mut self, former: Former)
         ensures { self.new ≡ undone self.old former }
     {
         undo(&mut self.master, former);
     }
 
-    /// What was kept for taking a deed back is forgotten. To be called behind the commit. Takes no memory.
+    /// What was kept for taking a update back is forgotten. To be called behind the commit. Takes no memory.
     pub fn settle(&mut self, former: Former)
         ensures { self.new ≡ self.old }
     {
         settle(&mut self.master, former);
     }
 
-    /// Finishes a deed that was begun. Takes no memory.
+    /// Finishes a update that was begun. Takes no memory.
     pub fn finish(&mut self, rest: Rest)
         ensures { self.new ≡ with_rest self.old rest }
     {

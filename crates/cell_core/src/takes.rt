@@ -1,7 +1,7 @@
 //! What a master does with a message.
 ghost use Rattle.std.specs.Prelude.{◌≡◌, ◌≢◌, true, false, Some, None, Ok, Err, IfOk, IfErr, OnOk, OnErr};
 ghost use Rattle.cell_core.specs.Step.{take_step, take_at, start_step, beat_step, call_step, kept_step, new_call, admit_step, telling, granting, is_cachable, waits, recorded, queued, replied, task_of};
-ghost use Rattle.deed_core.specs.Deeds.{with_note};
+ghost use Rattle.cell_update.specs.Updates.{with_note};
 ghost use Rattle.cell_state.specs.Lookups.{kept_of, is_full, is_spent};
 ghost use Rattle.session_core.specs.Session.{kept_answer};
 ghost use Rattle.gate_core.specs.Gate.{push_answer};
@@ -11,7 +11,7 @@ use crate::admissions::{Admission, admission_for};
 use crate::cells::Cell;
 use cell_parts::{Asked, Note, Taken, Task, Work, answered_by};
 use cell_state::Master;
-use deed_core::settle_note;
+use cell_update::settle_note;
 use gate_core::Pending;
 use lease_core::MOMENT_LIMIT;
 use messages_cell::{Beat, CallMessage, CallResult, Request, Start};

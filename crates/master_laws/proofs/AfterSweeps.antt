@@ -5,15 +5,15 @@ use Rattle.node_core.specs.declared.views.Mod.{Mod}
 use Rattle.node_core.specs.declared.views.Mod.TheVariants.{Put, Gone}
 use Rattle.gate_core.specs.Gate.{GateState, without}
 use Rattle.cell_parts.specs.Keys.{handle_order}
-use Rattle.deed_core.specs.Deeds.{with_begun, with_put, with_node, grown, session_rest, map_rest, with_session_rest, with_kept, without_gone, with_map, without_lock, recovered, left, done}
+use Rattle.cell_update.specs.Updates.{with_begun, with_put, with_node, grown, session_rest, map_rest, with_session_rest, with_kept, without_gone, with_map, without_lock, recovered, left, done}
 use Rattle.cell_state.specs.State.{MasterState}
-use Rattle.deed_core.specs.Deeds.{with_note}
+use Rattle.cell_update.specs.Updates.{with_note}
 use Rattle.cell_state.specs.Lookups.{noted}
-use Rattle.deed_core.specs.declared.deeds.Change.{Change}
-use Rattle.deed_core.specs.declared.deeds.Deed.{Deed}
-use Rattle.deed_core.specs.declared.deeds.MapRest.{MapRest}
-use Rattle.deed_core.specs.declared.deeds.SessionDeed.{SessionDeed}
-use Rattle.deed_core.specs.declared.deeds.SessionDeed.TheVariants.{Begins, Prolongs, Ends, Answers}
+use Rattle.cell_update.specs.declared.updates.Change.{Change}
+use Rattle.cell_update.specs.declared.updates.Update.{Update}
+use Rattle.cell_update.specs.declared.updates.MapRest.{MapRest}
+use Rattle.cell_update.specs.declared.updates.SessionUpdate.{SessionUpdate}
+use Rattle.cell_update.specs.declared.updates.SessionUpdate.TheVariants.{Begins, Prolongs, Ends, Answers}
 use Rattle.cell_parts.specs.declared.handles.Note.{Note}
 use Rattle.cell_parts.specs.declared.pending.Task.{Task}
 
@@ -28,7 +28,7 @@ itself s = record { handles = refl; gate = refl }
 then : (a b c : MasterState) → IsSame a b → IsSame b c → IsSame a c
 then a b c h k = record { handles = h.handles ∙ k.handles; gate = h.gate ∙ k.gate }
 
-begun : (s : MasterState) (o : Option SessionDeed) → IsSame (with_begun s o) s
+begun : (s : MasterState) (o : Option SessionUpdate) → IsSame (with_begun s o) s
 begun s None = itself s
 begun s (Some (Begins client principal)) = record { handles = refl; gate = refl }
 begun s (Some (Prolongs client)) = itself s
@@ -43,7 +43,7 @@ node : (s : MasterState) (o : Option Change) → IsSame (with_node s o) s
 node s None = itself s
 node s (Some change) = put s change.change
 
-session_done : (s : MasterState) (o : Option SessionDeed) → IsSame (with_session_rest s o) s
+session_done : (s : MasterState) (o : Option SessionUpdate) → IsSame (with_session_rest s o) s
 session_done s None = itself s
 session_done s (Some (Begins client principal)) = itself s
 session_done s (Some (Prolongs client)) = record { handles = refl; gate = refl }
@@ -66,7 +66,7 @@ over : (s : MasterState) (b : Bool) → IsSame (recovered s b) s
 over s false = itself s
 over s true = record { handles = refl; gate = refl }
 
--- ---- a deed
+-- ---- a update
 
 left_handles : (s : MasterState) (o : Option ℕ) → (left s o).handles ≡ s.handles
 left_handles s None = refl
@@ -84,42 +84,42 @@ note_gate : (s : MasterState) (o : Option Note) → (with_note s o).gate ≡ s.g
 note_gate s None = refl
 note_gate s (Some note) = refl
 
-module _ (s : MasterState) (deed : Deed) where
+module _ (s : MasterState) (update : Update) where
   abbrev begun_master : MasterState
-  begun_master = with_begun s deed.session
+  begun_master = with_begun s update.session
 
   abbrev noted_master : MasterState
-  noted_master = with_note begun_master deed.note
+  noted_master = with_note begun_master update.note
 
   abbrev grown_master : MasterState
-  grown_master = grown s deed
+  grown_master = grown s update
 
   abbrev session_master : MasterState
-  session_master = with_session_rest grown_master (session_rest deed.session)
+  session_master = with_session_rest grown_master (session_rest update.session)
 
   abbrev kept_master : MasterState
-  kept_master = with_kept session_master deed.kept
+  kept_master = with_kept session_master update.kept
 
   abbrev mapped_master : MasterState
-  mapped_master = with_map kept_master (map_rest deed.change)
+  mapped_master = with_map kept_master (map_rest update.change)
 
   abbrev unlocked_master : MasterState
-  unlocked_master = without_lock mapped_master deed.ends_lock
+  unlocked_master = without_lock mapped_master update.ends_lock
 
   abbrev over_master : MasterState
-  over_master = recovered unlocked_master deed.recovers
+  over_master = recovered unlocked_master update.recovers
 
   behind_note : IsSame over_master noted_master
   behind_note =
-      let a = over unlocked_master deed.recovers in
-      let b = unlocked mapped_master deed.ends_lock in
-      let c = mapped kept_master (map_rest deed.change) in
-      let d = session_done grown_master (session_rest deed.session) in
-      let e = node noted_master deed.change in
+      let a = over unlocked_master update.recovers in
+      let b = unlocked mapped_master update.ends_lock in
+      let c = mapped kept_master (map_rest update.change) in
+      let d = session_done grown_master (session_rest update.session) in
+      let e = node noted_master update.change in
       record { handles = a.handles ∙ b.handles ∙ c.handles ∙ d.handles ∙ e.handles; gate = a.gate ∙ b.gate ∙ c.gate ∙ d.gate ∙ e.gate }
 
-  pub done_handles : (done s deed).handles ≡ (with_note s deed.note).handles
-  done_handles = left_handles over_master deed.leaves ∙ behind_note.handles ∙ note_handles begun_master s deed.note (begun s deed.session).handles
+  pub done_handles : (done s update).handles ≡ (with_note s update.note).handles
+  done_handles = left_handles over_master update.leaves ∙ behind_note.handles ∙ note_handles begun_master s update.note (begun s update.session).handles
 
-  pub done_gate : (done s deed).gate ≡ (left s deed.leaves).gate
-  done_gate = left_gate over_master s deed.leaves (behind_note.gate ∙ note_gate begun_master deed.note ∙ (begun s deed.session).gate)
+  pub done_gate : (done s update).gate ≡ (left s update.leaves).gate
+  done_gate = left_gate over_master s update.leaves (behind_note.gate ∙ note_gate begun_master update.note ∙ (begun s update.session).gate)

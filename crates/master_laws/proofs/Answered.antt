@@ -9,7 +9,7 @@ use Rattle.messages_cell.specs.declared.requests.CallMessage.{CallMessage}
 use Rattle.cell_parts.specs.declared.pending.Taken.{Taken}
 use Rattle.cell_state.specs.State.{MasterState}
 use Rattle.cell_state.specs.Lookups.{reply_of, stamped_reply}
-use Rattle.deed_core.specs.Deeds.{with_note}
+use Rattle.cell_update.specs.Updates.{with_note}
 use Rattle.cell_core.specs.Step.{admission_for}
 use Rattle.master_laws.specs.Steps.{IsAnsweredBy}
 use Rattle.master_laws.proofs.NewCalls.{NewCase, new_by, IsNewCase}

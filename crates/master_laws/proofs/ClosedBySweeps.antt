@@ -20,20 +20,20 @@ use Rattle.cell_parts.specs.declared.handles.HandleKey.{HandleKey}
 use Rattle.cell_parts.specs.declared.pending.Task.{Task}
 use Rattle.cell_parts.specs.declared.pending.Task.TheVariants as tasks
 use Rattle.cell_parts.specs.declared.pending.Work.TheVariants as works
-use Rattle.deed_core.specs.Deeds.{left, done}
+use Rattle.cell_update.specs.Updates.{left, done}
 use Rattle.cell_parts.specs.Keys.{handle_order}
-use Rattle.deed_core.specs.declared.deeds.SessionDeed.TheVariants.{Begins, Prolongs, Answers}
+use Rattle.cell_update.specs.declared.updates.SessionUpdate.TheVariants.{Begins, Prolongs, Answers}
 use Rattle.cell_core.specs.Ephemerals.{is_still_idle}
 use Rattle.cell_state.specs.State.{MasterState, task_at}
 use Rattle.cell_state.specs.Lookups.{session_of, is_live, may_start, turned_away, noted}
-use Rattle.deed_core.specs.Deeds.{with_note}
-use Rattle.turn_core.specs.Effect.{effect, gone_by_itself}
-use Rattle.plan_core.specs.Plans.{first_action, no_plan, session_plan, started_out, alive_out, plan_session, plan_start, plan_of, plan_task, plan_work, plan_call, plan_asked, plan_effect, leaving, expiry_plan}
-use Rattle.deed_core.specs.Lapses.{lapses_of}
+use Rattle.cell_update.specs.Updates.{with_note}
+use Rattle.cell_apply.specs.Effect.{effect, gone_by_itself}
+use Rattle.sweep_plan.specs.Plans.{first_action, no_plan, session_plan, started_out, alive_out, plan_session, plan_start, plan_of, plan_task, plan_work, plan_call, plan_asked, plan_effect, leaving, expiry_plan}
+use Rattle.cell_update.specs.Lapses.{lapses_of}
 use Rattle.sweep_laws.specs.Sweep.{acted, swept}
-use Rattle.plan_core.specs.declared.plans.Plan.{Plan}
-use Rattle.plan_core.specs.declared.actions.Action.{Action}
-use Rattle.plan_core.specs.declared.actions.Action.TheVariants as actions
+use Rattle.sweep_plan.specs.declared.plans.Plan.{Plan}
+use Rattle.sweep_plan.specs.declared.actions.Action.{Action}
+use Rattle.sweep_plan.specs.declared.actions.Action.TheVariants as actions
 use Rattle.master_laws.specs.Closed.{IsClosed, IsClosedForGood, task_opens, work_opens, waits_to_open, ClosedForGoodBySweeps}
 use Rattle.master_laws.proofs.AfterSweeps.{done_handles, done_gate}
 use Rattle.sweep_laws.proofs.SweepCases.{does_first}
@@ -75,50 +75,50 @@ module _ (key : HandleKey) where
 
 module _ (s : MasterState) (key : HandleKey) (closed : IsClosed s key) where
   -- what a call notes
-  by_call : (client number : ℕ) (call : Call) (sequencer : Option (List ℕ)) → work_opens key client number (works.Calls call sequencer) ≡ false → IsClosed (with_note s (plan_call s client number call sequencer).deed.note) key
+  by_call : (client number : ℕ) (call : Call) (sequencer : Option (List ℕ)) → work_opens key client number (works.Calls call sequencer) ≡ false → IsClosed (with_note s (plan_call s client number call sequencer).update.note) key
   by_call client number call sequencer other =
-      elim (is_live s client) as (λ b. IsClosed (with_note s (cond b (plan_asked s client number call (effect s client number call sequencer)) no_plan).deed.note) key) [
+      elim (is_live s client) as (λ b. IsClosed (with_note s (cond b (plan_asked s client number call (effect s client number call sequencer)) no_plan).update.note) key) [
         | true ↦ stays_closed s client number call key (effect s client number call sequencer).note closed other (tame s client number call sequencer).notes
         | false ↦ closed
       ]
 
-  by_start : (client number : ℕ) (principal : List ℕ) (received : ℕ) → IsClosed (with_note s (plan_start s client number principal received).deed.note) key
+  by_start : (client number : ℕ) (principal : List ℕ) (received : ℕ) → IsClosed (with_note s (plan_start s client number principal received).update.note) key
   by_start client number principal received =
-      elim (may_start s client principal) as (λ b. IsClosed (with_note s (cond b (plan_session s client number principal received) (record no_plan { taken = turned_away s client number faults.NoSession })).deed.note) key) [
-        | true ↦ elim (is_live s client) as (λ b. IsClosed (with_note s (cond b (session_plan (Prolongs client) [] (started_out s client number received ∷ [])) (session_plan (Begins client principal) (lines.Started client ∷ []) (started_out s client number received ∷ []))).deed.note) key) [ true ↦ closed | false ↦ closed ]
+      elim (may_start s client principal) as (λ b. IsClosed (with_note s (cond b (plan_session s client number principal received) (record no_plan { taken = turned_away s client number faults.NoSession })).update.note) key) [
+        | true ↦ elim (is_live s client) as (λ b. IsClosed (with_note s (cond b (session_plan (Prolongs client) [] (started_out s client number received ∷ [])) (session_plan (Begins client principal) (lines.Started client ∷ []) (started_out s client number received ∷ []))).update.note) key) [ true ↦ closed | false ↦ closed ]
         | false ↦ closed
       ]
 
-  by_task : (task : Task) → task_opens key task ≡ false → IsClosed (with_note s (plan_task s task).deed.note) key
+  by_task : (task : Task) → task_opens key task ≡ false → IsClosed (with_note s (plan_task s task).update.note) key
   by_task (tasks.Asked asked) other =
-      (elim asked.work as (λ work. work_opens key asked.client asked.number work ≡ false → IsClosed (with_note s (plan_work s asked.client asked.number work).deed.note) key) [
+      (elim asked.work as (λ work. work_opens key asked.client asked.number work ≡ false → IsClosed (with_note s (plan_work s asked.client asked.number work).update.note) key) [
         | works.Starts principal received ↦ (λ h. by_start asked.client asked.number principal received)
         | works.Calls call sequencer ↦ (λ h. by_call asked.client asked.number call sequencer h)
       ]) other
   by_task (tasks.Tidies idle) other =
-      elim (is_still_idle s idle) as (λ b. IsClosed (with_note s (cond b (plan_effect s 0 0 (gone_by_itself s idle)) no_plan).deed.note) key) [ true ↦ closed | false ↦ closed ]
+      elim (is_still_idle s idle) as (λ b. IsClosed (with_note s (cond b (plan_effect s 0 0 (gone_by_itself s idle)) no_plan).update.note) key) [ true ↦ closed | false ↦ closed ]
 
   module _ (unasked : waits_to_open key s ≡ false) where
-    by_number : (number : ℕ) → IsClosed (with_note s (plan_of s (actions.Apply number)).deed.note) key
+    by_number : (number : ℕ) → IsClosed (with_note s (plan_of s (actions.Apply number)).update.note) key
     by_number number =
-        (elim (task_at number s.gate.waiting) as (λ o. task_at number s.gate.waiting ≡ o → IsClosed (with_note s (option_map_or (λ (task : Task). leaving number (plan_task s task)) o no_plan).deed.note) key) [
+        (elim (task_at number s.gate.waiting) as (λ o. task_at number s.gate.waiting ≡ o → IsClosed (with_note s (option_map_or (λ (task : Task). leaving number (plan_task s task)) o no_plan).update.note) key) [
           | None ↦ (λ is. closed)
           | Some task ↦ (λ is. by_task task (found_unasked key number s.gate.waiting task unasked is))
         ]) refl
 
-    by_expiry : (client : ℕ) → IsClosed (with_note s (plan_of s (actions.Expire client)).deed.note) key
+    by_expiry : (client : ℕ) → IsClosed (with_note s (plan_of s (actions.Expire client)).update.note) key
     by_expiry client =
-        elim (session_of s client) as (λ o. IsClosed (with_note s (option_map_or (λ (session : Session Reply). expiry_plan s client session.principal (lapses_of s client)) o no_plan).deed.note) key) [ None ↦ closed | Some session ↦ closed ]
+        elim (session_of s client) as (λ o. IsClosed (with_note s (option_map_or (λ (session : Session Reply). expiry_plan s client session.principal (lapses_of s client)) o no_plan).update.note) key) [ None ↦ closed | Some session ↦ closed ]
 
-    by_beat : (client : ℕ) → IsClosed (with_note s (plan_of s (actions.Answer client)).deed.note) key
+    by_beat : (client : ℕ) → IsClosed (with_note s (plan_of s (actions.Answer client)).update.note) key
     by_beat client =
-        elim (offer_of s.sessions client s.clock) as (λ o. IsClosed (with_note s (option_map_or (λ (offer : Offer). session_plan (Answers client) [] (alive_out s client offer ∷ [])) o no_plan).deed.note) key) [ None ↦ closed | Some offer ↦ closed ]
+        elim (offer_of s.sessions client s.clock) as (λ o. IsClosed (with_note s (option_map_or (λ (offer : Offer). session_plan (Answers client) [] (alive_out s client offer ∷ [])) o no_plan).update.note) key) [ None ↦ closed | Some offer ↦ closed ]
 
-    -- as the handles stand behind a deed
-    by_plan : (plan : Plan) → IsClosed (with_note s plan.deed.note) key → IsClosedForGood (done s plan.deed) key
+    -- as the handles stand behind a update
+    by_plan : (plan : Plan) → IsClosed (with_note s plan.update.note) key → IsClosedForGood (done s plan.update) key
     by_plan plan h = record {
-      closed = ap (λ entries. lookup (is_at (handle_order key)) entries) (done_handles s plan.deed) ∙ h;
-      unasked = ap (λ gate. list_any (Opens key) gate.waiting) (done_gate s plan.deed) ∙ leaves_unasked key s plan.deed.leaves unasked;
+      closed = ap (λ entries. lookup (is_at (handle_order key)) entries) (done_handles s plan.update) ∙ h;
+      unasked = ap (λ gate. list_any (Opens key) gate.waiting) (done_gate s plan.update) ∙ leaves_unasked key s plan.update.leaves unasked;
     }
 
     by_action : (action : Action) → IsClosedForGood (acted s action).0 key

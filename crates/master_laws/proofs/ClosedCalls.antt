@@ -15,7 +15,7 @@ use Rattle.cell_state.specs.State.{MasterState}
 use Rattle.cell_state.specs.Lookups.{handle_state_of, is_usable, own_handle, shown_handle, noted}
 use Rattle.cell_parts.specs.Keys.{key_of}
 use Rattle.cell_core.specs.Step.{answering, handle_admission, admission_of, admission_for, replied}
-use Rattle.deed_core.specs.Deeds.{with_note}
+use Rattle.cell_update.specs.Updates.{with_note}
 use Rattle.master_laws.specs.Closed.{IsClosed, shown_bytes, ClosedHandleIsRefused}
 use Rattle.master_laws.proofs.NewCalls.{NewCase, new_by, IsNewCase, new_case}
 use Rattle.master_laws.proofs.NewCalls.NewCase.{Recovers, Answers, Grants, Queues}

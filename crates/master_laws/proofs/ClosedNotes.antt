@@ -10,7 +10,7 @@ use Rattle.cell_parts.specs.declared.handles.HandleState.TheVariants as states
 use Rattle.cell_parts.specs.declared.handles.Note.{Note}
 use Rattle.cell_state.specs.State.{MasterState}
 use Rattle.cell_state.specs.Lookups.{handle_state_of}
-use Rattle.deed_core.specs.Deeds.{with_note}
+use Rattle.cell_update.specs.Updates.{with_note}
 use Rattle.cell_parts.proofs.Found.{same_key}
 use Rattle.cell_parts.proofs.PlacedHandles.{exact_handle, same_handle}
 use Rattle.master_laws.specs.Closed.{IsClosed, opens_as}

@@ -21,17 +21,17 @@ use Rattle.cell_state.specs.State.{MasterState}
 use Rattle.cell_parts.specs.Keys.{key_of}
 use Rattle.cell_state.specs.Lookups.{noted, reply_of}
 use Rattle.cell_parts.proofs.PlacedHandles.{exact_handle, same_handle}
-use Rattle.plan_core.specs.declared.plans.Plan.{Plan}
+use Rattle.sweep_plan.specs.declared.plans.Plan.{Plan}
 use Rattle.sweep_laws.specs.declared.swept.Swept.{Swept}
-use Rattle.turn_core.specs.Effect.{close_at, handle_effect, effect}
-use Rattle.deed_core.specs.Replies.{sent}
-use Rattle.turn_core.specs.Outcomes.{locking_replies}
+use Rattle.cell_apply.specs.Effect.{close_at, handle_effect, effect}
+use Rattle.cell_update.specs.Replies.{sent}
+use Rattle.cell_apply.specs.Outcomes.{locking_replies}
 use Rattle.sweep_laws.specs.Sweep.{sweep_step}
-use Rattle.master_laws.specs.Steps.{HasTurn}
+use Rattle.master_laws.specs.Steps.{IsBeingApplied}
 use Rattle.master_laws.specs.Closed.{CloseCloses}
 use Rattle.master_laws.proofs.AfterSweeps.{done_handles}
 use Rattle.sweep_laws.proofs.SweepCases.{does_first}
-use Rattle.master_laws.proofs.Turns.{plan_for, done_as, done_so}
+use Rattle.master_laws.proofs.Applications.{plan_for, done_as, done_so}
 
 -- what is noted of a handle is what is known of it
 pub known_note : (s : MasterState) (key : HandleKey) (state : HandleState) → lookup (is_at (handle_order key)) (insert_entry handle_order s.handles key state) ≡ Some state
@@ -48,7 +48,7 @@ has_first x rest = Contains-append_left (x ∷ []) rest x (Contains-push [] x)
 abbrev pub close_plan : MasterState → ℕ → Asked → List ℕ → Handle → Plan
 close_plan s number asked bytes handle = plan_for s number asked (calls.Close bytes) (close_at s handle)
 
-pub closed_so : (s new : MasterState) (now number : ℕ) (told : Swept) (asked : Asked) (bytes : List ℕ) (sequencer : Option (List ℕ)) (handle : Handle) → sweep_step s now ≡ Ok (new, told) → HasTurn (noted s now) number asked (calls.Close bytes) sequencer → read_handle s.secret bytes ≡ Some handle → (new, told) ≡ done_as (noted s now) (close_plan (noted s now) number asked bytes handle)
+pub closed_so : (s new : MasterState) (now number : ℕ) (told : Swept) (asked : Asked) (bytes : List ℕ) (sequencer : Option (List ℕ)) (handle : Handle) → sweep_step s now ≡ Ok (new, told) → IsBeingApplied (noted s now) number asked (calls.Close bytes) sequencer → read_handle s.secret bytes ≡ Some handle → (new, told) ≡ done_as (noted s now) (close_plan (noted s now) number asked bytes handle)
 closed_so s new now number told asked bytes sequencer handle h turn reads =
     let there : MasterState = noted s now in
     sym (does_first s now (new, told) h)
@@ -61,7 +61,7 @@ close_closes s new now number told asked bytes sequencer handle h turn reads =
     let is = closed_so s new now number told asked bytes sequencer handle h turn reads in
     let own : Reply = reply_of s asked.client asked.number results.Closed in (
       ap (λ p. lookup (is_at (handle_order (key_of handle))) p.0.handles) is
-          ∙ ap (λ entries. lookup (is_at (handle_order (key_of handle))) entries) (done_handles there (close_plan there number asked bytes handle).deed)
+          ∙ ap (λ entries. lookup (is_at (handle_order (key_of handle))) entries) (done_handles there (close_plan there number asked bytes handle).update)
           ∙ known_note there (key_of handle) states.Closed,
       subst (λ p. Contains p.1.outs (outs.Reply own)) (sym is) (has_first (outs.Reply own) (sent (locking_replies there (close_at there handle).locking))),
     )

@@ -119,6 +119,6 @@ close_closes_for_good cell rows s new now number told asked bytes sequencer hand
       closed = (close_closes s new now number told asked bytes sequencer handle h turn reads).0;
       unasked =
           ap (λ p. waits_to_open (key_of handle) p.0) is
-          ∙ ap (λ gate. list_any (λ (w : Waiting Task). task_opens (key_of handle) w.change.body) gate.waiting) (done_gate there (close_plan there number asked bytes handle).deed)
+          ∙ ap (λ gate. list_any (λ (w : Waiting Task). task_opens (key_of handle) w.change.body) gate.waiting) (done_gate there (close_plan there number asked bytes handle).update)
           ∙ unasked;
     }

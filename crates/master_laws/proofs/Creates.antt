@@ -26,8 +26,8 @@ use Rattle.messages_cell.specs.declared.outs.NewHandle.{NewHandle}
 use Rattle.cell_state.specs.State.{MasterState}
 use Rattle.cell_state.specs.Lookups.{may, missing_right, is_of_cell, sequencer_fault, new_handle, open_present, plain_open}
 use Rattle.cell_parts.specs.Calls.{is_too_long, create_fault}
-use Rattle.turn_core.specs.declared.effects.Effect.{Effect}
-use Rattle.turn_core.specs.Effect.{answered, refused, content_of, is_last, opened_effect, new_view, acls_of, create_made, create_numbered, create_permitted, create_in, create_under, create_new, create_over, create_effect, create_tested, create_under_sequencer, create_here, open_effect, effect}
+use Rattle.cell_apply.specs.declared.effects.Effect.{Effect}
+use Rattle.cell_apply.specs.Effect.{answered, refused, content_of, is_last, opened_effect, new_view, acls_of, create_made, create_numbered, create_permitted, create_in, create_under, create_new, create_over, create_effect, create_tested, create_under_sequencer, create_here, open_effect, effect}
 use Rattle.master_laws.specs.Opens.{AreCarried}
 use Rattle.master_laws.specs.Makes.{IsWithinLimits, MayMake, MayFind, MayMakeOrFind, MakesOnlyWherePermitted, MakesWherePermitted}
 use Rattle.master_laws.proofs.PlainOpens.{within, not_beyond, permitted_by, none_missing, opened_where, opened}

@@ -22,7 +22,7 @@ use Rattle.cell_state.specs.State.{MasterState}
 use Rattle.cell_state.specs.Lookups.{noted, missing_right, numbered_handle, open_present, plain_open, opened_answer, opened_note}
 use Rattle.cell_parts.specs.Keys.{key_of}
 use Rattle.cell_parts.specs.Notes.{open_note}
-use Rattle.deed_core.specs.Deeds.{with_note}
+use Rattle.cell_update.specs.Updates.{with_note}
 use Rattle.cell_parts.specs.Calls.{is_too_long}
 use Rattle.cell_core.specs.Step.{admission_for}
 use Rattle.master_laws.specs.Opens.{handle_for, GivenHandleIsOpen}

@@ -15,8 +15,8 @@ mod OpenedKeys
 mod PlainOpens
 mod RefusedAdmissions
 mod RefusedCalls
-mod RefusedTurns
+mod RefusedApplications
 mod TakenNotes
 mod TameEffects
 mod TurnedAway
-mod Turns
+mod Applications

@@ -21,7 +21,7 @@ use Rattle.cell_state.specs.State.{MasterState}
 use Rattle.cell_parts.specs.Answered.{answered_by}
 use Rattle.cell_core.specs.Step.{recorded, replied, granting, with_right, admission_for}
 use Rattle.cell_state.specs.Lookups.{granted_lines, stamped_reply, reply_of, sends, noted}
-use Rattle.deed_core.specs.Deeds.{with_note}
+use Rattle.cell_update.specs.Updates.{with_note}
 use Rattle.master_laws.specs.Refused.{first_shown, with_refusal, RefusesCall, RefusedCallChangesNothing, RefusalGrantsAbsenceAlone}
 use Rattle.master_laws.proofs.Answered.{only_one, none_in}
 use Rattle.master_laws.proofs.NewCalls.{NewCase, new_by, new_case}

@@ -35,9 +35,9 @@ use Rattle.cell_state.specs.Lookups.{may, missing_right, is_of_cell, sequencer_f
 use Rattle.cell_parts.specs.Calls.{create_fault, bytes_of}
 use Rattle.cell_parts.specs.Keys.{key_of}
 use Rattle.cell_parts.specs.Notes.{open_note}
-use Rattle.turn_core.specs.declared.effects.Effect.{Effect}
-use Rattle.turn_core.specs.declared.effects.Locking.{Locking}
-use Rattle.turn_core.specs.Effect.{answered, refused, changes_to, is_last, opened_effect, new_view, acls_of, create_made, create_numbered, create_permitted, create_in, create_under, create_new, create_over, create_effect, create_tested, create_under_sequencer, open_effect, acquire_by, try_by, release_by, close_under, generation_fits, with_content, with_acls, put_at, deleted, delete_at, change_at, change_on, effect_on, handle_effect, effect}
+use Rattle.cell_apply.specs.declared.effects.Effect.{Effect}
+use Rattle.cell_apply.specs.declared.effects.Locking.{Locking}
+use Rattle.cell_apply.specs.Effect.{answered, refused, changes_to, is_last, opened_effect, new_view, acls_of, create_made, create_numbered, create_permitted, create_in, create_under, create_new, create_over, create_effect, create_tested, create_under_sequencer, open_effect, acquire_by, try_by, release_by, close_under, generation_fits, with_content, with_acls, put_at, deleted, delete_at, change_at, change_on, effect_on, handle_effect, effect}
 use Rattle.master_laws.proofs.OpenedKeys.{IsOfCall, new_key, present_key, plain_key}
 use Rattle.master_laws.proofs.ClosedNotes.{AreFair, closes, is_by_open, none_fair, one_fair}
 
@@ -116,14 +116,14 @@ module _ (s : MasterState) (client number : ℕ) (call : Call) where
   of_node handle (calls.Release bytes) view = of_released handle (released (lock_under s handle) (owner_of handle))
   of_node handle _ view = of_fault faults.BadHandle
 
-  of_turn : (handle : Handle) (on : Call) (o : Option CallResult) → Tame (option_map_or (λ answer. answered answer) o (change_on s handle on))
-  of_turn handle on o =
+  of_application : (handle : Handle) (on : Call) (o : Option CallResult) → Tame (option_map_or (λ answer. answered answer) o (change_on s handle on))
+  of_application handle on o =
       by_option o (λ answer. answered answer) (change_on s handle on) of_answer
       (by_option (node_of_handle s handle) (λ view. change_at s handle on view) (refused faults.StaleInstance) (of_node handle on) (of_fault faults.StaleInstance))
 
   of_call : (handle : Handle) (on : Call) (sequencer : Option (List ℕ)) → Tame (effect_on s handle on sequencer)
   of_call handle (calls.Close bytes) sequencer = of_closed handle (close_under s handle (node_of_handle s handle))
-  of_call handle on sequencer = of_turn handle on (answer_on s handle on sequencer)
+  of_call handle on sequencer = of_application handle on (answer_on s handle on sequencer)
 
   of_handle : (on : Call) (sequencer : Option (List ℕ)) (o : Option Handle) → Tame (handle_effect s on sequencer o)
   of_handle on sequencer None = of_fault faults.BadHandle

@@ -30,7 +30,7 @@ use Rattle.cell_core.specs.Step.{replied, take_step}
 use Rattle.sweep_laws.specs.declared.swept.Swept.{Swept}
 use Rattle.sweep_laws.specs.Kept.{IsKept}
 use Rattle.sweep_laws.specs.Sweep.{sweep_step}
-use Rattle.master_laws.specs.Steps.{TakesCall, HasTurn}
+use Rattle.master_laws.specs.Steps.{TakesCall, IsBeingApplied}
 
 -- the handle with this key was closed in the master's epoch
 abbrev pub IsClosed : MasterState → HandleKey → Type 0
@@ -40,7 +40,7 @@ IsClosed s key = handle_state_of s key ≡ Some states.Closed
 abbrev pub CloseCloses : Type 0
 CloseCloses =
     (s new : MasterState) (now number : ℕ) (told : Swept) (asked : Asked) (bytes : List ℕ) (sequencer : Option (List ℕ)) (handle : Handle) → sweep_step s now ≡ Ok (new, told)
-    → HasTurn (noted s now) number asked (calls.Close bytes) sequencer
+    → IsBeingApplied (noted s now) number asked (calls.Close bytes) sequencer
     → read_handle s.secret bytes ≡ Some handle
     → IsClosed new (key_of handle) × Contains told.outs (outs.Reply (reply_of s asked.client asked.number results.Closed))
 
@@ -141,6 +141,6 @@ abbrev pub CloseClosesForGood : Type 0
 CloseClosesForGood =
     (cell : List ℕ) (rows : Rows) (s new : MasterState) (now number : ℕ) (told : Swept) (asked : Asked) (bytes : List ℕ) (sequencer : Option (List ℕ)) (handle : Handle) → IsKept cell rows s
     → sweep_step s now ≡ Ok (new, told)
-    → HasTurn (noted s now) number asked (calls.Close bytes) sequencer
+    → IsBeingApplied (noted s now) number asked (calls.Close bytes) sequencer
     → read_handle s.secret bytes ≡ Some handle
     → IsClosedForGood new (key_of handle)

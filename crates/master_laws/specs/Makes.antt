@@ -16,7 +16,7 @@ use Rattle.messages_cell.specs.declared.outs.CallResult.TheVariants as results
 use Rattle.messages_cell.specs.declared.outs.NewHandle.{NewHandle}
 use Rattle.cell_state.specs.State.{MasterState}
 use Rattle.cell_state.specs.Lookups.{may, is_of_cell}
-use Rattle.turn_core.specs.Effect.{new_view, acls_of, content_of, effect}
+use Rattle.cell_apply.specs.Effect.{new_view, acls_of, content_of, effect}
 use Rattle.sweep_laws.specs.Kept.{IsKept}
 use Rattle.master_laws.specs.Opens.{ArePermitted, MayOpen, AreCarried}
 

@@ -23,11 +23,11 @@ use Rattle.cell_state.specs.State.{MasterState}
 use Rattle.cell_state.specs.Lookups.{session_of, kept_of, sends, reply_of, shown_handle, noted}
 use Rattle.cell_parts.specs.Answered.{answered_by}
 use Rattle.cell_core.specs.Step.{recorded, with_right, shown_note, take_step}
-use Rattle.deed_core.specs.Deeds.{with_note}
+use Rattle.cell_update.specs.Updates.{with_note}
 use Rattle.sweep_laws.specs.declared.swept.Swept.{Swept}
-use Rattle.turn_core.specs.Effect.{effect}
+use Rattle.cell_apply.specs.Effect.{effect}
 use Rattle.sweep_laws.specs.Sweep.{sweep_edits, sweep_step}
-use Rattle.master_laws.specs.Steps.{HasTurn}
+use Rattle.master_laws.specs.Steps.{IsBeingApplied}
 use Rattle.master_laws.specs.Closed.{shown_bytes}
 
 -- ---- by a message
@@ -93,8 +93,8 @@ pub record IsRefusedAlone (s : MasterState) (now number : ℕ) (new : MasterStat
   pub lease : new.sessions.lease ≡ s.sessions.lease
 
 -- a call that is refused when its turn comes changes nothing but that its reply is kept, and it has left the gate; who holds a lock that it asked for in vain may be told of that by an event
-abbrev pub RefusedTurnChangesNothing : Type 0
-RefusedTurnChangesNothing =
-    (s new : MasterState) (now number : ℕ) (told : Swept) (asked : Asked) (call : Call) (sequencer : Option (List ℕ)) (fault : Fault) → sweep_step s now ≡ Ok (new, told) → HasTurn (noted s now) number asked call sequencer
+abbrev pub RefusedApplicationChangesNothing : Type 0
+RefusedApplicationChangesNothing =
+    (s new : MasterState) (now number : ℕ) (told : Swept) (asked : Asked) (call : Call) (sequencer : Option (List ℕ)) (fault : Fault) → sweep_step s now ≡ Ok (new, told) → IsBeingApplied (noted s now) number asked call sequencer
     → (effect (noted s now) asked.client asked.number call sequencer).answer ≡ Some (results.Refused fault)
     → IsRefusedAlone s now number new told (reply_of s asked.client asked.number (results.Refused fault))

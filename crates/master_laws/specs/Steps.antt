@@ -14,8 +14,8 @@ use Rattle.cell_state.specs.State.{MasterState, task_at}
 use Rattle.cell_state.specs.Lookups.{is_live, noted}
 use Rattle.cell_core.specs.Step.{take_step}
 use Rattle.cell_core.specs.Cases.{IsNew}
-use Rattle.plan_core.specs.declared.actions.Action.TheVariants as actions
-use Rattle.plan_core.specs.Plans.{first_action}
+use Rattle.sweep_plan.specs.declared.actions.Action.TheVariants as actions
+use Rattle.sweep_plan.specs.Plans.{first_action}
 
 -- at a moment a master takes a call that is new, of a live session of its epoch, and isn't in recovery
 pub record TakesCall (s : MasterState) (now : ℕ) (message : CallMessage) (new : MasterState) (taken : Taken) : Type 0 where
@@ -32,7 +32,7 @@ pub record IsAnsweredBy (taken : Taken) (message : CallMessage) (result : CallRe
   pub is_result : reply.result ≡ result
 
 -- the change of this number has its turn, and is a call of a live session
-pub record HasTurn (s : MasterState) (number : ℕ) (asked : Asked) (call : Call) (sequencer : Option (List ℕ)) : Type 0 where
+pub record IsBeingApplied (s : MasterState) (number : ℕ) (asked : Asked) (call : Call) (sequencer : Option (List ℕ)) : Type 0 where
   pub is_first : first_action s ≡ actions.Apply number
   pub waits : task_at number s.gate.waiting ≡ Some (tasks.Asked asked)
   pub work : asked.work ≡ works.Calls call sequencer

@@ -15,6 +15,6 @@ pub use opens::{
     makes_where_permitted, opens_where_permitted,
 };
 pub use refusals::{
-    refusal_grants_absence_alone, refused_call_changes_nothing, refused_turn_changes_nothing,
-    turned_away_changes_nothing,
+    refusal_grants_absence_alone, refused_application_changes_nothing,
+    refused_call_changes_nothing, turned_away_changes_nothing,
 };

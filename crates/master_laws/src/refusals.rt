@@ -1,5 +1,5 @@
 //! What a refused call changes.
-ghost use Rattle.master_laws.specs.Refused.{TurnedAwayChangesNothing, RefusedCallChangesNothing, RefusalGrantsAbsenceAlone, RefusedTurnChangesNothing};
+ghost use Rattle.master_laws.specs.Refused.{TurnedAwayChangesNothing, RefusedCallChangesNothing, RefusalGrantsAbsenceAlone, RefusedApplicationChangesNothing};
 
 /// A message that is turned away leaves the master as it was, but for the moment.
 pub fn turned_away_changes_nothing()
@@ -20,6 +20,6 @@ pub fn refusal_grants_absence_alone()
 
 /// A call that is refused when its turn comes commits and prints nothing, and changes nothing but that its reply is kept
 /// and it has left the gate; who holds the lock that it asked for in vain may be told of that by an event.
-pub fn refused_turn_changes_nothing()
-    ensures { RefusedTurnChangesNothing }
+pub fn refused_application_changes_nothing()
+    ensures { RefusedApplicationChangesNothing }
 {}

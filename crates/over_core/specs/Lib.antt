@@ -6,8 +6,8 @@ pub use Rattle.rows_cell.specs.Sound
 pub use Rattle.rows_cell.specs.Stores
 pub use Rattle.cell_state.specs.State
 pub use Rattle.cell_core.specs.Step
-pub use Rattle.deed_core.specs.Deeds
-pub use Rattle.plan_core.specs.Plans
+pub use Rattle.cell_update.specs.Updates
+pub use Rattle.sweep_plan.specs.Plans
 pub use Rattle.sweep_laws.specs.Kept
 pub use Rattle.sweep_laws.specs.Sweep
 pub use Rattle.sweep_laws.specs.Up

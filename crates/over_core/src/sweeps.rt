@@ -5,23 +5,23 @@ ghost use Rattle.rows_cell.specs.Rows.{changed_rows};
 ghost use Rattle.rows_cell.specs.Sound.{sound};
 ghost use Rattle.rows_cell.specs.Stores.{Commits, IsCommitted, IsRefused};
 ghost use Rattle.gate_core.specs.Gate.{push_answer};
-ghost use Rattle.deed_core.specs.Deeds.{BeginsNew, edits_of, done};
+ghost use Rattle.cell_update.specs.Updates.{BeginsNew, edits_of, done};
 ghost use Rattle.cell_core.specs.Ephemerals.{is_ok, tidied};
-ghost use Rattle.plan_core.specs.Plans.{tellings_of, first_action, plan_of};
+ghost use Rattle.sweep_plan.specs.Plans.{tellings_of, first_action, plan_of};
 ghost use Rattle.sweep_laws.specs.Sweep.{is_quiet, done_and_told, swept, action_edits, is_over, sweep_edits, sweep_step};
 
 use cell_core::Cell;
 use cell_parts::{Idle, Taken, Telling};
 use cell_state::Master;
-use deed_core::{Deed, Grown, edits_of};
+use cell_update::{Grown, Update, edits_of};
 use lease_core::MOMENT_LIMIT;
 use messages_cell::Out;
 use node_core::{Fault, Line};
 use plain::Items;
-use plan_core::{Action, Plan, first_action, plan_of, tellings_of};
 use rows_cell::{Edit, Records};
 use std::alloc::AllocError;
 use sweep_laws::Swept;
+use sweep_plan::{Action, Plan, first_action, plan_of, tellings_of};
 
 // What is planned for an action, and what the clients of open handles are told of it.
 struct Prepared {
@@ -208,15 +208,15 @@ fn carry_out<R: Records>(
     plan: Plan,
     quiet: bool,
 ) -> Result<Swept, Fault>
-    requires sound { sound (R.store records.old).cell (changed_rows (R.store records.old).rows (edits_of cell.old plan.deed)) ≡ true }
-    requires begins { BeginsNew cell.old plan.deed.session }
+    requires sound { sound (R.store records.old).cell (changed_rows (R.store records.old).rows (edits_of cell.old plan.update)) ≡ true }
+    requires begins { BeginsNew cell.old plan.update.session }
     ensures ok { IfOk result (λ swept. swept ≡ record { lines = plan.taken.lines; outs = plan.taken.outs; quiet = quiet }) }
-    ensures done { OnOk result (cell.new ≡ done cell.old plan.deed) }
-    ensures store { Commits (edits_of cell.old plan.deed) (R.store records.old) (R.store records.new) result }
+    ensures done { OnOk result (cell.new ≡ done cell.old plan.update) }
+    ensures store { Commits (edits_of cell.old plan.update) (R.store records.old) (R.store records.new) result }
     ensures err { OnErr result (cell.new ≡ cell.old) }
 {
-    let Plan { deed, taken, .. } = plan;
-    match commit_edits(cell, records, deed) {
+    let Plan { update, taken, .. } = plan;
+    match commit_edits(cell, records, update) {
         Ok(()) => Ok(Swept::of(taken, quiet)),
         Err(fault) => {
             drop(taken);
@@ -225,41 +225,41 @@ fn carry_out<R: Records>(
     }
 }
 
-// The deed is done, with its edits committed.
-fn commit_edits<R: Records>(cell: &mut Cell, records: &mut R, deed: Deed) -> Result<(), Fault>
-    requires sound { sound (R.store records.old).cell (changed_rows (R.store records.old).rows (edits_of cell.old deed)) ≡ true }
-    requires begins { BeginsNew cell.old deed.session }
-    ensures ok { OnOk result (cell.new ≡ done cell.old deed) }
-    ensures store { Commits (edits_of cell.old deed) (R.store records.old) (R.store records.new) result }
+// The update is done, with its edits committed.
+fn commit_edits<R: Records>(cell: &mut Cell, records: &mut R, update: Update) -> Result<(), Fault>
+    requires sound { sound (R.store records.old).cell (changed_rows (R.store records.old).rows (edits_of cell.old update)) ≡ true }
+    requires begins { BeginsNew cell.old update.session }
+    ensures ok { OnOk result (cell.new ≡ done cell.old update) }
+    ensures store { Commits (edits_of cell.old update) (R.store records.old) (R.store records.new) result }
     ensures err { OnErr result (cell.new ≡ cell.old) }
 {
-    match edits_of(cell.master(), &deed) {
+    match edits_of(cell.master(), &update) {
         Ok(edits) => {
-            let done = commit_deed(cell, records, deed, &edits);
+            let done = commit_update(cell, records, update, &edits);
             drop(edits);
             done
         }
         Err(error) => {
-            drop(deed);
+            drop(update);
             Err(error.into())
         }
     }
 }
 
-// The deed is begun, committed, and finished; where the commit is refused it is taken back.
-fn commit_deed<R: Records>(
+// The update is begun, committed, and finished; where the commit is refused it is taken back.
+fn commit_update<R: Records>(
     cell: &mut Cell,
     records: &mut R,
-    deed: Deed,
+    update: Update,
     edits: &Items<Edit>,
 ) -> Result<(), Fault>
     requires sound { sound (R.store records.old).cell (changed_rows (R.store records.old).rows edits.now) ≡ true }
-    requires begins { BeginsNew cell.old deed.session }
-    ensures ok { OnOk result (cell.new ≡ done cell.old deed) }
+    requires begins { BeginsNew cell.old update.session }
+    ensures ok { OnOk result (cell.new ≡ done cell.old update) }
     ensures store { Commits edits.now (R.store records.old) (R.store records.new) result }
     ensures err { OnErr result (cell.new ≡ cell.old) }
 {
-    let Grown { former, rest } = cell.grow(deed)?;
+    let Grown { former, rest } = cell.grow(update)?;
     match records.commit(edits) {
         Ok(()) => {
             cell.settle(former);

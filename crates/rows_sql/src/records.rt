@@ -11,9 +11,9 @@ ghost use Rattle.rows_sql.specs.Adopting.{Adopts, ComesBack, IsOther};
 
 use crate::adoption::{reopen, take_over};
 use crate::steps::{goes_on, is_committed, load_sound};
+use ghost_log::GhostLog;
 use names_cell::Component;
 use node_core::NUMBER_LIMIT;
-use past::Past;
 use plain::Items;
 use rows_cell::{Edit, Records, Rows, StoreFault};
 use settings_core::Settings;
@@ -38,7 +38,7 @@ pub struct SqlRecords<S: Alter> {
     cell: Component,
     refusals: u64,
     is_shut: bool,
-    past: Past<Note, Items<Edit>>,
+    past: GhostLog<Note, Items<Edit>>,
 }
 
 impl<S: Alter> Model for SqlRecords<S> {
@@ -76,10 +76,10 @@ impl<S: Alter + Drop> Drop for SqlRecords<S> {
 }
 
 fn noted(
-    past: &Past<Note, Items<Edit>>,
+    past: &GhostLog<Note, Items<Edit>>,
     note: &Note,
     change: &Items<Edit>,
-) -> Past<Note, Items<Edit>>
+) -> GhostLog<Note, Items<Edit>>
     ensures { stood result.items ≡ noted note.now change.now (stood past.now.items) }
 {
     past.and(note, change)
@@ -180,7 +180,7 @@ impl<S: Alter + Drop> SqlRecords<S> {
             Ok(rows) => {
                 let none = Items::new(alloc);
                 let note = Note::Adopted(rows);
-                let past = noted(&Past::new(), &note, &none);
+                let past = noted(&GhostLog::new(), &note, &none);
                 Ok(SqlRecords {
                     alloc,
                     conn,

@@ -9,9 +9,9 @@ use Rattle.node_core.specs.declared.refusals.Fault.TheVariants.{MasterDown}
 use Rattle.node_core.specs.declared.lines.Line.{Line}
 use Rattle.node_core.specs.declared.lines.Line.TheVariants as lines
 use Rattle.node_core.specs.Texts.{line_text}
-use Rattle.stage_core.specs.declared.stages.Turn.{Turn}
-use Rattle.seats_core.specs.declared.steps.Step.{Step}
-use Rattle.stage_core.specs.World.{WorldView}
+use Rattle.world_core.specs.declared.parts.SweepResult.{SweepResult}
+use Rattle.world_clients.specs.declared.steps.Step.{Step}
+use Rattle.world_core.specs.World.{WorldView}
 use Rattle.world_laws.proofs.PartsOfRuns.{take_more}
 use Rattle.step_words.specs.declared.steps.Parsed.{Parsed}
 use Rattle.step_words.specs.declared.steps.Parsed.TheVariants as parsed
@@ -84,12 +84,12 @@ turn_by false waits quiet old new printed made idle is e q =
     inl (record { made = made; ends = ap (λ b. b && not (is_waiting new)) (sym idle ∙ q) ∙ ap not (sym is ∙ sym e) })
 
 -- a sweep that found nothing to do
-pub turn_quiet : (more waits : Bool) (old new : Played) (turn : Turn) (texts : List Line) (a b : Option (List ℕ)) → texts ≡ turn.lines → PlaysMade old (turn_step old) new turn.lines → turn.quiet ≡ is_idle old → waits ≡ is_waiting new → more ≡ waits → turn.quiet ≡ true → Appends a b (lines_text texts) → Wrote (λ printed. TakesTurn more old printed new) a b
+pub turn_quiet : (more waits : Bool) (old new : Played) (turn : SweepResult) (texts : List Line) (a b : Option (List ℕ)) → texts ≡ turn.lines → PlaysMade old (turn_step old) new turn.lines → turn.quiet ≡ is_idle old → waits ≡ is_waiting new → more ≡ waits → turn.quiet ≡ true → Appends a b (lines_text texts) → Wrote (λ printed. TakesTurn more old printed new) a b
 turn_quiet more waits old new turn texts a b same made idle is e quiet h =
     (turn.lines, turn_by more waits turn.quiet old new turn.lines made idle is e quiet, subst (λ xs. Appends a b (lines_text xs)) same h)
 
 -- any other turn
-pub turn_loud : (more : Bool) (old new : Played) (turn : Turn) (texts : List Line) (a b : Option (List ℕ)) → texts ≡ turn.lines → PlaysMade old (turn_step old) new turn.lines → turn.quiet ≡ is_idle old → more ≡ not turn.quiet → turn.quiet ≡ false → Appends a b (lines_text texts) → Wrote (λ printed. TakesTurn more old printed new) a b
+pub turn_loud : (more : Bool) (old new : Played) (turn : SweepResult) (texts : List Line) (a b : Option (List ℕ)) → texts ≡ turn.lines → PlaysMade old (turn_step old) new turn.lines → turn.quiet ≡ is_idle old → more ≡ not turn.quiet → turn.quiet ≡ false → Appends a b (lines_text texts) → Wrote (λ printed. TakesTurn more old printed new) a b
 turn_loud more old new turn texts a b same made idle e loud h =
     (turn.lines, subst (λ more. TakesTurn more old turn.lines new) (sym (e ∙ ap not loud)) (record { made = made; ends = ap (λ b. b && not (is_waiting new)) (sym idle ∙ loud) }), subst (λ xs. Appends a b (lines_text xs)) same h)
 

@@ -9,12 +9,12 @@ use Rattle.node_core.specs.declared.refusals.Fault.{Fault}
 use Rattle.node_core.specs.declared.refusals.Fault.TheVariants as faults
 use Rattle.node_core.specs.declared.lines.Line.{Line}
 use Rattle.node_core.specs.declared.lines.Line.TheVariants as lines
-use Rattle.seats_core.specs.declared.mail.Message.{Message}
-use Rattle.seats_core.specs.declared.steps.Step.{Step}
-use Rattle.seats_core.specs.declared.steps.Step.TheVariants as steps
-use Rattle.stage_core.specs.declared.stages.Turn.{Turn}
-use Rattle.stage_core.specs.World.{WorldState, WorldView, world_step, world_sweep, without_quiet, step_edits, IsStored, IsLeft, MayRefuseStep}
-use Rattle.stage_core.specs.Made.{IsMade, WasMade, WasRefused}
+use Rattle.world_clients.specs.declared.mail.Message.{Message}
+use Rattle.world_clients.specs.declared.steps.Step.{Step}
+use Rattle.world_clients.specs.declared.steps.Step.TheVariants as steps
+use Rattle.world_core.specs.declared.parts.SweepResult.{SweepResult}
+use Rattle.world_core.specs.World.{WorldState, WorldView, world_step, world_sweep, without_quiet, step_edits, IsStored, IsLeft, MayRefuseStep}
+use Rattle.world_core.specs.Made.{IsMade, WasMade, WasRefused}
 use Rattle.world_laws.proofs.WereSent.{take_sent, give_sent}
 use Rattle.world_laws.proofs.WorldCases.{step_sweeps}
 use Rattle.script_cell.specs.Settling.{Played, played, step_of, first_waiting, AreDelivered, IsFirst, marked, place_of, marked_at, PlaysMade, PlaysRefused, turn_step, is_waiting, is_quiet, is_idle}
@@ -139,12 +139,12 @@ turn_at s step some = ap (λ o. unwrap_or o steps.Sweep) some
 turn_sweeps : (s : Played) → first_waiting s.view.world.messages s.delivered 1 ≡ None → turn_step s ≡ steps.Sweep
 turn_sweeps s none = ap (λ o. unwrap_or o steps.Sweep) none
 
-pub swept_made : (old new : WorldView) (marks : List Bool) (r : Result Turn Fault) → first_waiting old.world.messages marks 1 ≡ None → IfOk r (λ turn. world_sweep old.world old.world.master ≡ Ok (new.world, turn)) → OnOk r (IsStored (step_edits old.world steps.Sweep) old new) → IfOk r (λ turn. PlaysMade (played old marks) (turn_step (played old marks)) (played new marks) turn.lines)
+pub swept_made : (old new : WorldView) (marks : List Bool) (r : Result SweepResult Fault) → first_waiting old.world.messages marks 1 ≡ None → IfOk r (λ turn. world_sweep old.world old.world.master ≡ Ok (new.world, turn)) → OnOk r (IsStored (step_edits old.world steps.Sweep) old new) → IfOk r (λ turn. PlaysMade (played old marks) (turn_step (played old marks)) (played new marks) turn.lines)
 swept_made old new marks (Ok turn) none made stored =
     rw (turn_sweeps (played old marks) none) (record { made = (old, refl, record { is_step = step_sweeps old.world ∙ ap without_quiet made; stored = stored }); delivered = refl })
 swept_made old new marks (Err fault) none made stored = tt
 
-pub swept_quiet : (w : WorldView) (new : WorldState) (marks : List Bool) (r : Result Turn Fault) → first_waiting w.world.messages marks 1 ≡ None → IfOk r (λ turn. world_sweep w.world w.world.master ≡ Ok (new, turn)) → IfOk r (λ turn. turn.quiet ≡ is_idle (played w marks))
+pub swept_quiet : (w : WorldView) (new : WorldState) (marks : List Bool) (r : Result SweepResult Fault) → first_waiting w.world.messages marks 1 ≡ None → IfOk r (λ turn. world_sweep w.world w.world.master ≡ Ok (new, turn)) → IfOk r (λ turn. turn.quiet ≡ is_idle (played w marks))
 swept_quiet w new marks (Ok turn) none made = sym (ap (λ f. not (is_some f) && is_quiet (world_sweep w.world w.world.master)) none ∙ ap is_quiet made)
 swept_quiet w new marks (Err fault) none made = tt
 
@@ -152,7 +152,7 @@ swept_why : (old new : WorldView) (fault : Fault) → MayRefuseStep (world_sweep
 swept_why old new fault (inl told) = inl (step_sweeps old.world ∙ ap without_quiet told.0, told.1)
 swept_why old new fault (inr outside) = inr outside
 
-pub swept_refused : (old new : WorldView) (marks : List Bool) (r : Result Turn Fault) → first_waiting old.world.messages marks 1 ≡ None → IfErr r (λ e. MayRefuseStep (world_sweep old.world old.world.master) steps.Sweep e old new) → OnErr r (IsLeft (step_edits old.world steps.Sweep) old new) → IfErr r (λ e. PlaysRefused (played old marks) (turn_step (played old marks)) (played new marks) (lines.Refused e ∷ []))
+pub swept_refused : (old new : WorldView) (marks : List Bool) (r : Result SweepResult Fault) → first_waiting old.world.messages marks 1 ≡ None → IfErr r (λ e. MayRefuseStep (world_sweep old.world old.world.master) steps.Sweep e old new) → OnErr r (IsLeft (step_edits old.world steps.Sweep) old new) → IfErr r (λ e. PlaysRefused (played old marks) (turn_step (played old marks)) (played new marks) (lines.Refused e ∷ []))
 swept_refused old new marks (Ok turn) none why left = tt
 swept_refused old new marks (Err fault) none why left =
     rw (turn_sweeps (played old marks) none) (record { refused = (old, refl, record { fault = fault; why = swept_why old new fault why; left = left; line = refl }); same = refl })
@@ -165,7 +165,7 @@ pub turn_busy : (s : Played) (step : Step) → first_waiting s.view.world.messag
 turn_busy s step some = sym (ap (λ f. not (is_some f) && is_quiet (world_sweep s.view.world s.view.world.master)) some)
 
 -- the exit of a `?`
-pub turn_refused : (old new : Played) (step : Step) (r : Result Turn Fault) (fault : Fault) → IsErr r × IsErrAnd r (λ y. y ≡ fault) → first_waiting old.view.world.messages old.delivered 1 ≡ Some step → PlaysRefused old step new (lines.Refused fault ∷ []) → IfErr r (λ e. PlaysRefused old (turn_step old) new (lines.Refused e ∷ []))
+pub turn_refused : (old new : Played) (step : Step) (r : Result SweepResult Fault) (fault : Fault) → IsErr r × IsErrAnd r (λ y. y ≡ fault) → first_waiting old.view.world.messages old.delivered 1 ≡ Some step → PlaysRefused old step new (lines.Refused fault ∷ []) → IfErr r (λ e. PlaysRefused old (turn_step old) new (lines.Refused e ∷ []))
 turn_refused old new step (Ok turn) fault exit some refused = tt
 turn_refused old new step (Err e) fault exit some refused =
     subst (λ x. PlaysRefused old (turn_step old) new (lines.Refused x ∷ [])) (sym exit.1) (rw (turn_at old step some) refused)

@@ -6,7 +6,7 @@ use Rattle.node_core.specs.declared.refusals.Fault.{Fault}
 use Rattle.node_core.specs.declared.lines.Line.{Line}
 use Rattle.node_core.specs.declared.lines.Line.TheVariants as lines
 use Rattle.node_core.specs.Texts.{line_text}
-use Rattle.stage_core.specs.World.{WorldView}
+use Rattle.world_core.specs.World.{WorldView}
 use Rattle.step_words.specs.declared.steps.Parsed.{Parsed}
 use Rattle.step_words.specs.declared.steps.Parsed.TheVariants as parsed
 use Rattle.step_words.specs.Readings.{IsParsed}

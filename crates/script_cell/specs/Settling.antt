@@ -6,13 +6,13 @@ use Rattle.node_core.specs.declared.refusals.Fault.{Fault}
 use Rattle.node_core.specs.declared.refusals.Fault.TheVariants.{MasterDown}
 use Rattle.node_core.specs.declared.lines.Line.{Line}
 use Rattle.node_core.specs.declared.lines.Line.TheVariants as lines
-use Rattle.seats_core.specs.declared.steps.Step.{Step}
-use Rattle.seats_core.specs.declared.steps.Step.TheVariants as steps
-use Rattle.stage_core.specs.declared.stages.Turn.{Turn}
-use Rattle.seats_core.specs.declared.mail.Message.{Message}
-use Rattle.seats_core.specs.declared.mail.Message.TheVariants as messages
-use Rattle.stage_core.specs.World.{WorldState, WorldView, world_sweep}
-use Rattle.stage_core.specs.Made.{WasMade, WasRefused}
+use Rattle.world_clients.specs.declared.steps.Step.{Step}
+use Rattle.world_clients.specs.declared.steps.Step.TheVariants as steps
+use Rattle.world_core.specs.declared.parts.SweepResult.{SweepResult}
+use Rattle.world_clients.specs.declared.mail.Message.{Message}
+use Rattle.world_clients.specs.declared.mail.Message.TheVariants as messages
+use Rattle.world_core.specs.World.{WorldState, WorldView, world_sweep}
+use Rattle.world_core.specs.Made.{WasMade, WasRefused}
 
 -- ---- what was delivered
 
@@ -84,7 +84,7 @@ turn_step s = unwrap_or (first_waiting s.view.world.messages s.delivered 1) step
 abbrev pub is_waiting : Played → Bool
 is_waiting s = is_some (first_waiting s.view.world.messages s.delivered 1)
 
-abbrev pub is_quiet : Result (WorldState × Turn) Fault → Bool
+abbrev pub is_quiet : Result (WorldState × SweepResult) Fault → Bool
 is_quiet (Ok p) = p.1.quiet
 is_quiet (Err fault) = false
 

@@ -8,10 +8,10 @@ ghost use Rattle.script_cell.specs.Settling.{played, first_waiting, step_of, pla
 use node_core::{Fault, Line};
 use plain::Items;
 use rows_cell::Records;
-use seats_core::{Message, Step};
 use std::alloc::{AllocError, Global};
 use std::marker::Model;
 use world_cell::World;
+use world_clients::{Message, Step};
 
 /// Which messages of a world came to their receivers once at least. To a contract, a mark for each message in turn; one
 /// without a mark came to nobody.

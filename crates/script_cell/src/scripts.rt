@@ -1,7 +1,7 @@
 //! Runs a script.
 ghost use Rattle.std.specs.Prelude.{◌≡◌, ◌≤◌, ◌∷◌, [], Some, length, true, OnOk, IfOk, IfErr};
 ghost use Rattle.std.specs.Io.KnownBytes.{Appends, Keeps};
-ghost use Rattle.stage_core.specs.World.{opened};
+ghost use Rattle.world_core.specs.World.{opened};
 ghost use Rattle.script_cell.specs.Scripts.{Wrote, IsOfScript, DoesLine, DoesParsed, lines_text, told};
 ghost use Rattle.script_cell.specs.Settling.{played, Settles, TakesTurn, PlaysMade, PlaysRefused, turn_step, is_waiting, is_idle};
 ghost use Rattle.script_cell.specs.Stops.{IsStatus};
@@ -14,11 +14,11 @@ use node_core::{Fault, Line};
 use plain::Items;
 use rows_cell::Records;
 use settings_core::Settings;
-use stage_core::Turn;
 use std::alloc::Global;
 use std::io::{self, Read, Write};
 use step_words::{Parsed, read_line};
 use world_cell::World;
+use world_core::SweepResult;
 
 /// Runs a script on a new world over the records: reads its steps, one a line, and writes the lines that they print.
 /// Answers the exit status: 0; 1 at a line that is no step, where the steps before it stand, and where a line can't be
@@ -186,7 +186,7 @@ fn settle_on<R: Records + Drop, W: Write>(
 fn settle_turn<R: Records + Drop>(
     world: &mut World<R>,
     delivered: &mut Deliveries,
-) -> Result<Turn, Fault>
+) -> Result<SweepResult, Fault>
     ensures made { IfOk result (λ turn. PlaysMade (played world.old delivered.old) (turn_step (played world.old delivered.old)) (played world.new delivered.new) turn.lines) }
     ensures quiet { IfOk result (λ turn. turn.quiet ≡ is_idle (played world.old delivered.old)) }
     ensures refused { IfErr result (λ e. PlaysRefused (played world.old delivered.old) (turn_step (played world.old delivered.old)) (played world.new delivered.new) (Line.Refused e ∷ [])) }
@@ -195,7 +195,7 @@ fn settle_turn<R: Records + Drop>(
         return world.sweep();
     };
     let lines = delivered.play(world, &step)?;
-    Ok(Turn {
+    Ok(SweepResult {
         lines,
         quiet: false,
     })

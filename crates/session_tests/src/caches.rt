@@ -213,7 +213,7 @@ fn a_copy_follows(rt: HostRuntime) -> Result<(), Fail> {
 
 /// A step on the handles that are kept for one name, and what it answers.
 #[derive(Clone, Copy)]
-enum Deed {
+enum Update {
     /// A handle on this instance is kept.
     Keep(u64, u64),
     /// For each instance from 0 to 4,095 a handle of that number is kept.
@@ -265,15 +265,15 @@ fn carry_out(
     rt: &impl Abort,
     handles: &mut KeptHandles<u64>,
     alloc: Global,
-    deed: Deed,
+    update: Update,
 ) -> Result<(), Fail> {
-    match deed {
-        Deed::Keep(instance, handle) => return keep(handles, alloc, instance, handle),
-        Deed::Fill => return keep_many(handles, alloc),
-        Deed::Serves(instance, answer) => serves(rt, handles, &name(alloc, 1)?, instance, answer),
-        Deed::Forget(instance) => handles.forget(&name(alloc, 1)?, instance),
-        Deed::Clear => handles.clear(),
-        Deed::Len(count) => counts(rt, handles, count),
+    match update {
+        Update::Keep(instance, handle) => return keep(handles, alloc, instance, handle),
+        Update::Fill => return keep_many(handles, alloc),
+        Update::Serves(instance, answer) => serves(rt, handles, &name(alloc, 1)?, instance, answer),
+        Update::Forget(instance) => handles.forget(&name(alloc, 1)?, instance),
+        Update::Clear => handles.clear(),
+        Update::Len(count) => counts(rt, handles, count),
     }
     Ok(())
 }
@@ -285,24 +285,24 @@ fn carry_out_all(
 ) -> Result<(), Fail> {
     let all = [
         // The older of two on one instance serves.
-        Deed::Keep(4, 10),
-        Deed::Keep(4, 11),
-        Deed::Keep(5, 12),
-        Deed::Serves(4, Some(10)),
-        Deed::Serves(5, Some(12)),
-        Deed::Serves(6, None),
-        Deed::Forget(4),
-        Deed::Serves(4, Some(11)),
-        Deed::Clear,
-        Deed::Serves(4, None),
+        Update::Keep(4, 10),
+        Update::Keep(4, 11),
+        Update::Keep(5, 12),
+        Update::Serves(4, Some(10)),
+        Update::Serves(5, Some(12)),
+        Update::Serves(6, None),
+        Update::Forget(4),
+        Update::Serves(4, Some(11)),
+        Update::Clear,
+        Update::Serves(4, None),
         // Above 4,096 the oldest is forgotten.
-        Deed::Fill,
-        Deed::Serves(0, Some(0)),
-        Deed::Keep(5_000, 7),
-        Deed::Len(4_096),
-        Deed::Serves(0, None),
-        Deed::Serves(1, Some(1)),
-        Deed::Serves(5_000, Some(7)),
+        Update::Fill,
+        Update::Serves(0, Some(0)),
+        Update::Keep(5_000, 7),
+        Update::Len(4_096),
+        Update::Serves(0, None),
+        Update::Serves(1, Some(1)),
+        Update::Serves(5_000, Some(7)),
     ];
     for one in all {
         carry_out(rt, handles, alloc, one)?;

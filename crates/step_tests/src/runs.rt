@@ -2,7 +2,7 @@
 use node_core::Line;
 use plain::Items;
 use rows_cell::ListRecords;
-use seats_core::Step;
+use world_clients::Step;
 use settings_core::Settings;
 use std::alloc::Global;
 use std::test::Fail;

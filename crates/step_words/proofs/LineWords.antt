@@ -3,7 +3,7 @@ use Rattle.std.proofs.Common.{◌≡◌, ◌∷◌, [], suc, List, ℕ, Bool, tr
 use Rattle.std.specs.Prelude.{◌==◌, ◌||◌}
 use Rattle.std.specs.List.{list_any, slice_split}
 use Rattle.std.proofs.lemmas.Bool.{eqb-true}
-use Rattle.seats_core.specs.declared.steps.Step.{Step}
+use Rattle.world_clients.specs.declared.steps.Step.{Step}
 use Rattle.step_words.specs.declared.steps.Flaw.{Flaw}
 use Rattle.step_words.specs.declared.steps.Flaw.TheVariants.{Bad, Refused, NoMemory}
 use Rattle.step_words.specs.Steps.{WritesStep, WritesWords, WritesLine, texts, is_blank, is_space, step_fault}

@@ -5,9 +5,9 @@ use Rattle.std.proofs.lemmas.List.{map-append, take_more}
 use Rattle.std.proofs.lemmas.Str.Pattern.{IsSplitOnceResult, split_after}
 use Rattle.std.proofs.lemmas.Str.Parse.{not_in_digits}
 use Rattle.std.proofs.lemmas.Fmt.{digits_decimal}
-use Rattle.seats_core.specs.declared.steps.Step.{Step}
-use Rattle.seats_core.specs.declared.steps.Step.TheVariants as steps
-use Rattle.seats_core.specs.declared.steps.Ticks.{Ticks}
+use Rattle.world_clients.specs.declared.steps.Step.{Step}
+use Rattle.world_clients.specs.declared.steps.Step.TheVariants as steps
+use Rattle.world_clients.specs.declared.steps.Ticks.{Ticks}
 use Rattle.step_words.specs.Steps.{WritesStep, WritesTicks, WritesOwn, AreOwn, IsOwn, IsNumber, own_word, texts}
 use Rattle.step_words.proofs.Decimals.{own}
 use Rattle.step_words.proofs.Lifts.{none}

@@ -24,8 +24,8 @@ use Rattle.client_parts.specs.declared.asks.Ask.{Ask}
 use Rattle.client_parts.specs.declared.asks.Ask.TheVariants as calls
 use Rattle.client_parts.specs.declared.asks.NodeCall.{NodeCall}
 use Rattle.client_parts.specs.declared.asks.NodeCall.TheVariants as nodes
-use Rattle.seats_core.specs.declared.steps.Step.{Step}
-use Rattle.seats_core.specs.declared.steps.Step.TheVariants as steps
+use Rattle.world_clients.specs.declared.steps.Step.{Step}
+use Rattle.world_clients.specs.declared.steps.Step.TheVariants as steps
 use Rattle.step_words.specs.declared.steps.Flaw.{Flaw}
 use Rattle.step_words.specs.declared.steps.Flaw.TheVariants.{Bad, Refused, NoMemory}
 use Rattle.tags_cell.specs.Modes.{Rights}

@@ -4,7 +4,7 @@ use Rattle.names_cell.specs.declared.faults.NameFault.{NameFault}
 use Rattle.names_cell.specs.declared.faults.NameFault.TheVariants as names
 use Rattle.node_core.specs.declared.refusals.Fault.{Fault}
 use Rattle.node_core.specs.declared.refusals.Fault.TheVariants.{BadName, BadPrincipal, BadAcl}
-use Rattle.seats_core.specs.declared.steps.Step.{Step}
+use Rattle.world_clients.specs.declared.steps.Step.{Step}
 use Rattle.step_words.specs.declared.steps.Parsed.{Parsed}
 use Rattle.step_words.specs.declared.steps.Parsed.TheVariants as lines
 use Rattle.step_words.specs.declared.steps.Flaw.{Flaw}

@@ -23,11 +23,11 @@ use Rattle.client_parts.specs.declared.asks.Ask.{Ask}
 use Rattle.client_parts.specs.declared.asks.Ask.TheVariants as calls
 use Rattle.client_parts.specs.declared.asks.NodeCall.{NodeCall}
 use Rattle.client_parts.specs.declared.asks.NodeCall.TheVariants as nodes
-use Rattle.seats_core.specs.declared.steps.Step.{Step}
-use Rattle.seats_core.specs.declared.steps.Step.TheVariants as steps
-use Rattle.seats_core.specs.declared.steps.Ticks.{Ticks}
-use Rattle.seats_core.specs.declared.steps.Commit.{Commit}
-use Rattle.seats_core.specs.declared.steps.Commit.TheVariants.{Kept, Lost}
+use Rattle.world_clients.specs.declared.steps.Step.{Step}
+use Rattle.world_clients.specs.declared.steps.Step.TheVariants as steps
+use Rattle.world_clients.specs.declared.steps.Ticks.{Ticks}
+use Rattle.world_clients.specs.declared.steps.Commit.{Commit}
+use Rattle.world_clients.specs.declared.steps.Commit.TheVariants.{Kept, Lost}
 use Rattle.step_words.specs.Words.{letters_of, HasRight, event_letters, IsWritten, IsContent}
 
 -- a number that a word may write

@@ -11,10 +11,10 @@ use messages_cell::{AclNames, Create, Disposition, NewNode, Open};
 use names_cell::{Component, Name, NameFault, Principal};
 use node_core::{Fault, Life, LockMode};
 use plain::{Bytes, Items};
-use seats_core::{Commit, Step, Ticks};
 use std::alloc::{AllocError, Global};
 use std::str;
 use tags_cell::{ClientNumber, Events};
+use world_clients::{Commit, Step, Ticks};
 
 /// What a line of a script asks for.
 #[derive(Debug, Drop)]

@@ -3,7 +3,7 @@ use names_cell::Component;
 use node_core::Line;
 use rows_file::{inspect_file, verdict};
 use rows_sql::SqlRecords;
-use seats_core::Step;
+use world_clients::Step;
 use settings_core::Settings;
 use sqlite::{Connection, FileStore, Files, Options};
 use sqlite_disk::{Disk, Memory};

@@ -42,17 +42,17 @@ use Rattle.tags_cell.specs.Numbers.{is_client_number}
 use Rattle.lock_core.specs.Locks.{lock_at}
 use Rattle.cell_parts.specs.declared.pending.Idle.{Idle}
 use Rattle.cell_parts.specs.declared.pending.Work.TheVariants as works
-use Rattle.turn_core.specs.declared.effects.Effect.{Effect}
+use Rattle.cell_apply.specs.declared.effects.Effect.{Effect}
 use Rattle.cell_state.specs.State.{MasterState}
 use Rattle.cell_state.specs.Lookups.{is_live, may, missing_right, is_of_cell, node_of_handle, new_handle, sequencer_fault, answer_on_node, answer_under, has_open, has_to_stay}
 use Rattle.cell_parts.specs.Calls.{content_fault, node_fault, delay_fault, create_fault, write_fault, needing}
 use Rattle.cell_parts.specs.EphemeralNames.{is_ephemeral}
 use Rattle.cell_core.specs.Ephemerals.{is_idle_node, is_still_idle}
-use Rattle.turn_core.specs.Effect.{answered, refused, changes_to, is_last, new_view, acls_of, create_made, create_numbered, create_permitted, create_in, create_under, create_new, create_over, create_effect, create_under_sequencer, open_effect, generation_fits, with_content, with_acls, put_at, deleted, delete_at, change_at, close_under, effect_on, handle_effect, effect}
+use Rattle.cell_apply.specs.Effect.{answered, refused, changes_to, is_last, new_view, acls_of, create_made, create_numbered, create_permitted, create_in, create_under, create_new, create_over, create_effect, create_under_sequencer, open_effect, generation_fits, with_content, with_acls, put_at, deleted, delete_at, change_at, close_under, effect_on, handle_effect, effect}
 use Rattle.sweep_laws.specs.Kept.{IsKept, IsOwnCall}
 use Rattle.sweep_laws.proofs.LockEffects.{IsOwnHandle, own_handle_read, acquire_fits, try_fits, release_fits, close_fits}
 use Rattle.sweep_laws.specs.SweepCase.{gone_change}
-use Rattle.sweep_laws.proofs.LockingFits.{GoesFit, TurnFits, EffectFits}
+use Rattle.sweep_laws.proofs.LockingFits.{GoesFit, ApplicationFits, EffectFits}
 
 -- ---- the node that stands at a name
 
@@ -370,7 +370,7 @@ module _ (cell : List ℕ) (rows : Rows) (s : MasterState) (k : IsKept cell rows
       view_fits handle call view f shown (found ∙ ap (λ v. Some v) t.0) t.1
 
   -- a handle that is closed leaves the lock of its node, where that is there
-  close_here : (handle : Handle) (o p : Option View) → IsOwnHandle client handle → get_node s.nodes handle.name ≡ p → option_map_or (λ (view : View). cond (view.instance == handle.instance) (Some view) None) p None ≡ o → TurnFits rows s client None (close_under s handle o)
+  close_here : (handle : Handle) (o p : Option View) → IsOwnHandle client handle → get_node s.nodes handle.name ≡ p → option_map_or (λ (view : View). cond (view.instance == handle.instance) (Some view) None) p None ≡ o → ApplicationFits rows s client None (close_under s handle o)
   close_here handle None p shown found is = tt
   close_here handle (Some view) None shown found is = cc
   close_here handle (Some view) (Some there) shown found is =

@@ -47,18 +47,18 @@ use Rattle.cell_parts.specs.StoredSessions.{row_of}
 use Rattle.cell_state.specs.Lookups.{session_of, noted}
 use Rattle.cell_core.specs.Step.{queued}
 use Rattle.cell_core.specs.Ephemerals.{spared_for, is_ok, may_tidy, next_idle, tidied}
-use Rattle.turn_core.specs.declared.effects.Effect.{Effect}
+use Rattle.cell_apply.specs.declared.effects.Effect.{Effect}
 use Rattle.sweep_laws.specs.declared.swept.Swept.{Swept}
-use Rattle.turn_core.specs.Effect.{effect}
+use Rattle.cell_apply.specs.Effect.{effect}
 use Rattle.sweep_laws.specs.Kept.{IsKept, AreLocksKept, IsOwnCall, is_call}
 use Rattle.sweep_laws.specs.Sweep.{action_edits, is_over, sweep_edits, sweep_step}
-use Rattle.plan_core.specs.Plans.{first_action}
-use Rattle.sweep_laws.specs.SweepCase.{IsTurn, SweepCase, rest, swept_by, swept_edits}
+use Rattle.sweep_plan.specs.Plans.{first_action}
+use Rattle.sweep_laws.specs.SweepCase.{IsNextApplied, SweepCase, rest, swept_by, swept_edits}
 use Rattle.sweep_laws.specs.SweepCase.SweepCase.{Quiet, Recovers, Expires, AnswersBeat, TurnedAway, StartedAgain, Started, Reopens, Tidies, Spared, Tidied, OfEnded, Ended, Applied, Deleted, Locked, Awaited, Left}
 use Rattle.sweep_laws.proofs.FitsByEffects.{effect_fits}
 use Rattle.sweep_laws.proofs.EachSession.{new_each, new_without}
 use Rattle.sweep_laws.proofs.KeptByTakes.{IsByBeats, IsIssued, HasNoRight, stays, same_call_kept, queued_kept, asked_kept, clock_kept}
-use Rattle.sweep_laws.proofs.KeptByTurns.{turn_client, turn_own, rest_kept, tidied_turn, ended_turn, applied_turn, deleted_turn, locked_turn, awaited_turn, left_turn}
+use Rattle.sweep_laws.proofs.KeptByApplications.{application_client, application_own, rest_kept, tidied_application, ended_application, applied_application, deleted_application, locked_application, awaited_application, left_by_application}
 use Rattle.sweep_laws.proofs.LockingFits.{EffectFits}
 use Rattle.sweep_laws.proofs.LocksKept.{locks_stay}
 use Rattle.sweep_laws.proofs.LocksSwept.{reopened_kept, expired_kept}
@@ -163,11 +163,11 @@ module _ (cell : List ℕ) (rows : Rows) where
   -- ---- every arm
 
   -- what a call that waited does fits
-  turn_fits : (s : MasterState) → IsKept cell rows s → (front back : List (Waiting Task)) (asked : Asked) (call : Call) (sequencer : Option (List ℕ)) (effected : Effect) → IsTurn s front (tasks.Asked asked) back → asked.work ≡ works.Calls call sequencer → is_live s.sessions asked.client ≡ true → effect s asked.client asked.number call sequencer ≡ effected → EffectFits rows s asked.client effected
-  turn_fits s k front back asked call sequencer effected turn work live made =
+  application_fits : (s : MasterState) → IsKept cell rows s → (front back : List (Waiting Task)) (asked : Asked) (call : Call) (sequencer : Option (List ℕ)) (effected : Effect) → IsNextApplied s front (tasks.Asked asked) back → asked.work ≡ works.Calls call sequencer → is_live s.sessions asked.client ≡ true → effect s asked.client asked.number call sequencer ≡ effected → EffectFits rows s asked.client effected
+  application_fits s k front back asked call sequencer effected turn work live made =
       let P : Effect → Type 0 = EffectFits rows s asked.client in
       let Q : Work → Type 0 = IsOwnCall s.secret asked.client in
-      subst P made (effect_fits cell rows s k asked.client asked.number call sequencer live (turn_client cell rows s k front back asked turn) (subst Q work (turn_own cell rows s k front back asked turn)))
+      subst P made (effect_fits cell rows s k asked.client asked.number call sequencer live (application_client cell rows s k front back asked turn) (subst Q work (application_own cell rows s k front back asked turn)))
 
   pub case_kept : (s : MasterState) (c : SweepCase s) → IsKept cell rows s → IsKept cell (changed_rows rows (swept_edits s c)) (swept_by s c).0
   case_kept s (Quiet none) k = k
@@ -198,23 +198,23 @@ module _ (cell : List ℕ) (rows : Rows) where
   case_kept s (StartedAgain front back asked principal received session turn work found live) k =
       same_call_kept cell rows (rest s front back) asked.client (prolonged (s.clock + s.sessions.lease)) (λ before. refl) (λ before. refl) (λ before there is. is) (λ before. refl) (λ before. refl) (rest_kept cell rows s k front back (tasks.Asked asked) turn)
   case_kept s (Started front back asked principal received turn work none) k =
-      begun_kept (rest s front back) asked.client principal (s.clock + s.sessions.lease) none (stored_number asked.client (turn_client cell rows s k front back asked turn)) (rest_kept cell rows s k front back (tasks.Asked asked) turn)
+      begun_kept (rest s front back) asked.client principal (s.clock + s.sessions.lease) none (stored_number asked.client (application_client cell rows s k front back asked turn)) (rest_kept cell rows s k front back (tasks.Asked asked) turn)
   case_kept s (Reopens instance due) k = reopened_kept cell rows s k instance due.lowest_due
   case_kept s (Tidies idle due) k = tidies_kept s idle due.first_idle k
   case_kept s (Spared front back idle turn held) k = rest_kept cell rows s k front back (tasks.Tidies idle) turn
-  case_kept s (Tidied front back idle turn still) k = tidied_turn cell rows s k front back idle turn still
+  case_kept s (Tidied front back idle turn still) k = tidied_application cell rows s k front back idle turn still
   case_kept s (OfEnded front back asked call sequencer turn work gone) k = rest_kept cell rows s k front back (tasks.Asked asked) turn
-  case_kept s (Ended front back asked call sequencer noted answer turn work live made) k = ended_turn cell rows s k front back asked turn noted answer (ap is_call work)
+  case_kept s (Ended front back asked call sequencer noted answer turn work live made) k = ended_application cell rows s k front back asked turn noted answer (ap is_call work)
   case_kept s (Applied front back asked call sequencer noted change answer turn work live made) k =
-      applied_turn cell rows s k front back asked turn noted change answer (ap is_call work) (turn_fits s k front back asked call sequencer _ turn work live made)
+      applied_application cell rows s k front back asked turn noted change answer (ap is_call work) (application_fits s k front back asked call sequencer _ turn work live made)
   case_kept s (Deleted front back asked call sequencer change instance waiters answer turn work live made) k =
-      deleted_turn cell rows s k front back asked turn change instance waiters answer (ap is_call work) (turn_fits s k front back asked call sequencer _ turn work live made)
+      deleted_application cell rows s k front back asked turn change instance waiters answer (ap is_call work) (application_fits s k front back asked call sequencer _ turn work live made)
   case_kept s (Locked front back asked call sequencer put claim answer turn work live made) k =
-      locked_turn cell rows s k front back asked turn put answer (ap is_call work) (turn_fits s k front back asked call sequencer _ turn work live made)
+      locked_application cell rows s k front back asked turn put answer (ap is_call work) (application_fits s k front back asked call sequencer _ turn work live made)
   case_kept s (Awaited front back asked call sequencer put turn work live made) k =
-      awaited_turn cell rows s k front back asked turn put (ap is_call work) (turn_fits s k front back asked call sequencer _ turn work live made)
+      awaited_application cell rows s k front back asked turn put (ap is_call work) (application_fits s k front back asked call sequencer _ turn work live made)
   case_kept s (Left front back asked call sequencer noted leave answer turn work live made) k =
-      left_turn cell rows s k front back asked turn noted leave answer (ap is_call work) (turn_fits s k front back asked call sequencer _ turn work live made)
+      left_by_application cell rows s k front back asked turn noted leave answer (ap is_call work) (application_fits s k front back asked call sequencer _ turn work live made)
 
 -- ---- what clients are told
 

@@ -15,7 +15,7 @@ pub mod LockEffects
 pub mod LocksRebuilt
 pub mod KeptBySweeps
 pub mod KeptByTakes
-pub mod KeptByTurns
+pub mod KeptByApplications
 pub mod KeptByUps
 pub mod OrderlyChanges
 pub mod OwnCalls

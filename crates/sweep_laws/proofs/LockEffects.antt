@@ -29,11 +29,11 @@ use Rattle.lock_core.proofs.Generations.{try_succeeds}
 use Rattle.cell_parts.specs.Claims.{owner_of, claim_of}
 use Rattle.cell_state.specs.State.{MasterState}
 use Rattle.cell_state.specs.Lookups.{is_live, lock_under, holds_lock}
-use Rattle.turn_core.specs.Effect.{lock_put, leaving_by, acquire_by, acquire_at, try_by, try_at, release_by, release_at, close_by}
+use Rattle.cell_apply.specs.Effect.{lock_put, leaving_by, acquire_by, acquire_at, try_by, try_at, release_by, release_at, close_by}
 use Rattle.sweep_laws.specs.Kept.{IsKept, claim_fits, waiter_fits, claim_count, waits_count}
 use Rattle.sweep_laws.proofs.LockClaims.{IsFit, held_fit, waited_fit, without_fit, settled_fit, held_higher, settled_higher, turn_waiters, settled_waiters}
 use Rattle.sweep_laws.proofs.LockPuts.{IsPut, fit_of}
-use Rattle.sweep_laws.proofs.LockingFits.{TurnFits, EffectFits}
+use Rattle.sweep_laws.proofs.LockingFits.{ApplicationFits, EffectFits}
 
 -- ---- a handle that was read
 
@@ -162,7 +162,7 @@ module _ (cell : List ℕ) (rows : Rows) (s : MasterState) (k : IsKept cell rows
 
     -- ---- who leaves it
 
-    left_fits : (held : Bool) → TurnFits rows s client None (leaving_by handle held (settled (without (is_owner (owner_of handle)) (lock_under s handle))))
+    left_fits : (held : Bool) → ApplicationFits rows s client None (leaving_by handle held (settled (without (is_owner (owner_of handle)) (lock_under s handle))))
     left_fits held =
         let lock : LockState = lock_under s handle in
         let leaves : Owner → Bool = is_owner (owner_of handle) in
@@ -181,9 +181,9 @@ module _ (cell : List ℕ) (rows : Rows) (s : MasterState) (k : IsKept cell rows
     pub release_fits : EffectFits rows s client (release_at s handle)
     release_fits = released_fits (is_some (hold_of (lock_under s handle) (owner_of handle)))
 
-    closed_fits : (b : Bool) → TurnFits rows s client None (close_by s handle (cond b (Some (settled (without (is_owner (owner_of handle)) (lock_under s handle)))) None))
+    closed_fits : (b : Bool) → ApplicationFits rows s client None (close_by s handle (cond b (Some (settled (without (is_owner (owner_of handle)) (lock_under s handle)))) None))
     closed_fits true = left_fits (holds_lock s handle)
     closed_fits false = tt
 
-    pub close_fits : TurnFits rows s client None (close_by s handle (closed_by (lock_under s handle) (owner_of handle)))
+    pub close_fits : ApplicationFits rows s client None (close_by s handle (closed_by (lock_under s handle) (owner_of handle)))
     close_fits = closed_fits (is_some (hold_of (lock_under s handle) (owner_of handle)) || any_waits (is_owner (owner_of handle)) (lock_under s handle))

@@ -35,10 +35,10 @@ use Rattle.lock_core.specs.declared.claims.Owner.{Owner}
 use Rattle.lock_core.specs.declared.claims.Hold.{Hold}
 use Rattle.lock_core.specs.State.{LockState, IsLegal, lock_of, nobody_holds}
 use Rattle.lock_core.specs.Locks.{LockTable, lock_at, with_lock}
-use Rattle.deed_core.specs.declared.deeds.LockPut.{LockPut}
+use Rattle.cell_update.specs.declared.updates.LockPut.{LockPut}
 use Rattle.cell_parts.specs.Locks.{lock_rows}
 use Rattle.cell_parts.specs.StoredSessions.{row_of, session_rows}
-use Rattle.deed_core.specs.Deeds.{with_lock_put, new_generation, lock_change}
+use Rattle.cell_update.specs.Updates.{with_lock_put, new_generation, lock_change}
 use Rattle.sweep_laws.specs.Kept.{AreGenerations, AreLockRows, IsLockKept, is_idle, is_there, claim_fits, waiter_fits}
 use Rattle.sweep_laws.proofs.LockClaims.{IsFit}
 use Rattle.sweep_laws.proofs.LockRowsKept.{HolderFits, rows_in_order, rows_legal, none_holds}

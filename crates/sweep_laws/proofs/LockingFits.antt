@@ -10,15 +10,15 @@ use Rattle.rows_cell.proofs.SoundChanges.{PutFits}
 use Rattle.rows_cell.proofs.SoundRemovals.{GoneFits}
 use Rattle.lock_core.specs.declared.claims.Claim.{Claim}
 use Rattle.lock_core.specs.Locks.{lock_at}
-use Rattle.deed_core.specs.declared.deeds.Change.{Change}
-use Rattle.deed_core.specs.declared.deeds.LockPut.{LockPut}
+use Rattle.cell_update.specs.declared.updates.Change.{Change}
+use Rattle.cell_update.specs.declared.updates.LockPut.{LockPut}
 use Rattle.cell_state.specs.State.{MasterState}
-use Rattle.turn_core.specs.declared.effects.Effect.{Effect}
-use Rattle.turn_core.specs.declared.effects.Leave.{Leave}
-use Rattle.turn_core.specs.declared.effects.Locking.{Locking}
-use Rattle.turn_core.specs.declared.effects.Locking.TheVariants.{Nothing, Takes, Waits, Leaves, Goes}
+use Rattle.cell_apply.specs.declared.effects.Effect.{Effect}
+use Rattle.cell_apply.specs.declared.effects.Leave.{Leave}
+use Rattle.cell_apply.specs.declared.effects.Locking.{Locking}
+use Rattle.cell_apply.specs.declared.effects.Locking.TheVariants.{Nothing, Takes, Waits, Leaves, Goes}
 use Rattle.sweep_laws.specs.Kept.{claim_count, waits_count}
-use Rattle.turn_core.specs.Outcomes.{left_put}
+use Rattle.cell_apply.specs.Outcomes.{left_put}
 use Rattle.sweep_laws.proofs.LockClaims.{turn_waiters}
 use Rattle.sweep_laws.proofs.LockPuts.{IsPut}
 
@@ -57,14 +57,14 @@ pub record LeavesFit (rows : Rows) (s : MasterState) (leave : Leave) : Type 0 wh
   pub waited : (q : ℕ) → sum_by (claim_count q) (turn_waiters leave.turn) ≤ waits_count q (lock_at s.locks leave.instance)
 
 -- what becomes of the map and of a lock
-abbrev pub TurnFits : Rows → MasterState → ℕ → Option Change → Locking → Type 0
-TurnFits rows s client None Nothing = Unit {0}
-TurnFits rows s client (Some change) Nothing = PutsFit rows change
-TurnFits rows s client None (Takes put claim) = TakesFit rows s put
-TurnFits rows s client None (Waits put) = WaitsFit rows s client put
-TurnFits rows s client None (Leaves leave) = LeavesFit rows s leave
-TurnFits rows s client (Some change) (Goes instance waiters) = GoesFit rows s change instance waiters
-TurnFits rows s client _ _ = ⊥
+abbrev pub ApplicationFits : Rows → MasterState → ℕ → Option Change → Locking → Type 0
+ApplicationFits rows s client None Nothing = Unit {0}
+ApplicationFits rows s client (Some change) Nothing = PutsFit rows change
+ApplicationFits rows s client None (Takes put claim) = TakesFit rows s put
+ApplicationFits rows s client None (Waits put) = WaitsFit rows s client put
+ApplicationFits rows s client None (Leaves leave) = LeavesFit rows s leave
+ApplicationFits rows s client (Some change) (Goes instance waiters) = GoesFit rows s change instance waiters
+ApplicationFits rows s client _ _ = ⊥
 
 abbrev pub EffectFits : Rows → MasterState → ℕ → Effect → Type 0
-EffectFits rows s client effected = TurnFits rows s client effected.change effected.locking
+EffectFits rows s client effected = ApplicationFits rows s client effected.change effected.locking

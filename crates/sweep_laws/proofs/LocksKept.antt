@@ -24,10 +24,10 @@ use Rattle.lock_core.specs.declared.claims.Hold.{Hold}
 use Rattle.lock_core.specs.declared.claims.Claim.{Claim}
 use Rattle.lock_core.specs.State.{LockState}
 use Rattle.lock_core.specs.Locks.{LockTable, lock_at}
-use Rattle.deed_core.specs.declared.deeds.LockPut.{LockPut}
+use Rattle.cell_update.specs.declared.updates.LockPut.{LockPut}
 use Rattle.cell_state.specs.State.{MasterState}
 use Rattle.cell_parts.specs.StoredSessions.{session_rows}
-use Rattle.deed_core.specs.Deeds.{with_locks, lock_change, lock_changes}
+use Rattle.cell_update.specs.Updates.{with_locks, lock_change, lock_changes}
 use Rattle.sweep_laws.specs.Kept.{AreGenerations, AreLockRows, AreLocksKept, IsLockKept, is_idle, is_there, claim_fits, waiter_fits}
 use Rattle.sweep_laws.proofs.LockClaims.{IsFit, refit}
 use Rattle.sweep_laws.proofs.LockPuts.{IsPut, instances_of, fit_of, kept_of_fit, puts_fit, rows_put, generations_put, locks_put, locks_put_in_order, each_put}

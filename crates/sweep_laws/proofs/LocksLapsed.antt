@@ -36,13 +36,13 @@ use Rattle.lock_core.specs.declared.turns.Lapse.{Lapse}
 use Rattle.lock_core.specs.State.{LockState, Holders, lock_of, mode_of}
 use Rattle.lock_core.specs.Turns.{is_nobody, without, settled, closed_for, greatest_delay, is_abandoned, is_of_client, claims_of, lapsed, concerns, any_holds, any_waits}
 use Rattle.lock_core.specs.Locks.{LockTable, lock_at, with_lock}
-use Rattle.deed_core.specs.declared.deeds.LockPut.{LockPut}
+use Rattle.cell_update.specs.declared.updates.LockPut.{LockPut}
 use Rattle.cell_parts.specs.Locks.{stored_mode, holder_rows, closing_rows, lock_rows}
 use Rattle.cell_state.specs.State.{MasterState}
-use Rattle.deed_core.specs.Deeds.{with_lock_put, lock_change}
+use Rattle.cell_update.specs.Updates.{with_lock_put, lock_change}
 use Rattle.sweep_laws.specs.Kept.{IsKept, AreLockRows, IsLockKept, is_idle, claim_fits, waiter_fits, claim_count, waits_count}
-use Rattle.deed_core.specs.Replies.{puts_of}
-use Rattle.deed_core.specs.Lapses.{lapses_puts}
+use Rattle.cell_update.specs.Replies.{puts_of}
+use Rattle.cell_update.specs.Lapses.{lapses_puts}
 use Rattle.sweep_laws.proofs.LockClaims.{IsFit, turn_waiters, settled_waiters, without_fit, lapse_fit, greatest_fits, lapse_higher}
 use Rattle.sweep_laws.proofs.LockPuts.{IsPut, at_number, lock_at_put, instances_of, fit_of, kept_of_fit}
 use Rattle.sweep_laws.proofs.NamedLocks.{IsNamed, named_put, puts_are, named_is_put, not_idle}

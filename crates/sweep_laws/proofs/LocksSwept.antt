@@ -41,15 +41,15 @@ use Rattle.lock_core.specs.declared.turns.Turn.{Turn}
 use Rattle.lock_core.specs.State.{LockState, nobody_holds}
 use Rattle.lock_core.specs.Turns.{is_nobody, is_of_client, reopened, concerns, time_left}
 use Rattle.lock_core.specs.Locks.{LockTable, lock_at, with_lock, is_due, due}
-use Rattle.deed_core.specs.declared.deeds.LockPut.{LockPut}
+use Rattle.cell_update.specs.declared.updates.LockPut.{LockPut}
 use Rattle.cell_parts.specs.declared.pending.Task.{Task}
 use Rattle.cell_state.specs.State.{MasterState}
 use Rattle.cell_parts.specs.StoredSessions.{row_of, session_rows}
 use Rattle.cell_state.specs.Lookups.{session_of}
-use Rattle.deed_core.specs.Deeds.{with_locks, lock_changes}
+use Rattle.cell_update.specs.Updates.{with_locks, lock_changes}
 use Rattle.sweep_laws.specs.Kept.{IsKept, AreLocksKept, IsLockKept, HaveOneCall, is_idle, is_there, claim_fits, waiter_fits, call_count, waits_count, outstanding, unanswered, is_unanswered}
-use Rattle.deed_core.specs.Replies.{puts_of, turn_replies}
-use Rattle.deed_core.specs.Lapses.{lapses_of, lapses_puts, lapses_replies}
+use Rattle.cell_update.specs.Replies.{puts_of, turn_replies}
+use Rattle.cell_update.specs.Lapses.{lapses_of, lapses_puts, lapses_replies}
 use Rattle.sweep_laws.specs.SweepCase.{told, expired, relocking}
 use Rattle.sweep_laws.proofs.EachSession.{step_each, step_without}
 use Rattle.sweep_laws.proofs.KeptByTakes.{IsByBeats, IsIssued, HasNoRight, ended_kept}

@@ -18,10 +18,10 @@ use Rattle.rows_cell.specs.Rows.{stored_node, map_of}
 use Rattle.rows_cell.proofs.RowViews.{views_get, keys_of_views}
 use Rattle.lock_core.specs.State.{LockState, lock_of}
 use Rattle.lock_core.specs.Locks.{LockTable, lock_at}
-use Rattle.deed_core.specs.declared.deeds.LockPut.{LockPut}
+use Rattle.cell_update.specs.declared.updates.LockPut.{LockPut}
 use Rattle.cell_state.specs.State.{MasterState}
 use Rattle.sweep_laws.specs.Kept.{IsKept, is_idle, is_there, claim_fits, waiter_fits}
-use Rattle.deed_core.specs.Replies.{name_of, puts_of}
+use Rattle.cell_update.specs.Replies.{name_of, puts_of}
 use Rattle.sweep_laws.proofs.LockClaims.{IsFit}
 use Rattle.sweep_laws.proofs.LockPuts.{IsPut}
 

@@ -20,8 +20,8 @@ use Rattle.cell_state.specs.Lookups.{kept_of, reply_of}
 use Rattle.cell_core.specs.Step.{recorded}
 use Rattle.cell_parts.specs.Answered.{answered_by}
 use Rattle.sweep_laws.specs.Kept.{IsKept, claim_count, outstanding}
-use Rattle.deed_core.specs.Replies.{reply_to, replies_to, turn_replies}
-use Rattle.deed_core.specs.Lapses.{lapses_replies}
+use Rattle.cell_update.specs.Replies.{reply_to, replies_to, turn_replies}
+use Rattle.cell_update.specs.Lapses.{lapses_replies}
 use Rattle.sweep_laws.specs.SweepCase.{told}
 use Rattle.sweep_laws.proofs.KeptByTakes.{recorded_kept}
 use Rattle.sweep_laws.proofs.OneCall.{one_if}

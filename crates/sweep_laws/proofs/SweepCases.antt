@@ -29,8 +29,8 @@ use Rattle.session_core.proofs.Lowest.{lowest_is}
 use Rattle.lock_core.specs.declared.claims.Claim.{Claim}
 use Rattle.lock_core.specs.Turns.{reopened}
 use Rattle.lock_core.specs.Locks.{lock_at, due}
-use Rattle.deed_core.specs.declared.deeds.LockPut.{LockPut}
-use Rattle.deed_core.specs.declared.deeds.SessionDeed.TheVariants.{Answers}
+use Rattle.cell_update.specs.declared.updates.LockPut.{LockPut}
+use Rattle.cell_update.specs.declared.updates.SessionUpdate.TheVariants.{Answers}
 use Rattle.cell_parts.specs.declared.handles.Note.{Note}
 use Rattle.cell_parts.specs.declared.pending.Asked.{Asked}
 use Rattle.cell_parts.specs.declared.pending.Idle.{Idle}
@@ -40,25 +40,25 @@ use Rattle.cell_parts.specs.declared.pending.Work.{Work}
 use Rattle.cell_parts.specs.declared.pending.Work.TheVariants as works
 use Rattle.cell_state.specs.State.{MasterState, next_change, task_at}
 use Rattle.cell_state.specs.Lookups.{session_of, is_live, may_start, turned_away, noted}
-use Rattle.deed_core.specs.Deeds.{edits_of}
+use Rattle.cell_update.specs.Updates.{edits_of}
 use Rattle.cell_core.specs.Ephemerals.{next_idle, is_still_idle}
 use Rattle.cell_parts.specs.declared.notices.Telling.{Telling}
-use Rattle.turn_core.specs.Effect.{effect, gone_by_itself}
-use Rattle.plan_core.specs.Plans.{tellings_of, no_deed, no_plan, session_plan, alive_out, leaving, plan_session, plan_start, plan_effect, plan_asked, plan_call, plan_of, plan_work, plan_task, expiry_plan, answer_or_quiet, tidy_or_later, reopen_or_later, apply_or_later, first_action}
+use Rattle.cell_apply.specs.Effect.{effect, gone_by_itself}
+use Rattle.sweep_plan.specs.Plans.{tellings_of, no_update, no_plan, session_plan, alive_out, leaving, plan_session, plan_start, plan_effect, plan_asked, plan_call, plan_of, plan_work, plan_task, expiry_plan, answer_or_quiet, tidy_or_later, reopen_or_later, apply_or_later, first_action}
 use Rattle.sweep_laws.specs.Sweep.{swept_by_plan, acted, telling, swept, action_edits, is_over, sweep_edits, sweep_step}
-use Rattle.turn_core.specs.declared.effects.Effect.{Effect}
-use Rattle.turn_core.specs.declared.effects.Leave.{Leave}
-use Rattle.plan_core.specs.declared.actions.Action.{Action}
-use Rattle.plan_core.specs.declared.actions.Action.TheVariants as actions
-use Rattle.plan_core.specs.declared.plans.Plan.{Plan}
+use Rattle.cell_apply.specs.declared.effects.Effect.{Effect}
+use Rattle.cell_apply.specs.declared.effects.Leave.{Leave}
+use Rattle.sweep_plan.specs.declared.actions.Action.{Action}
+use Rattle.sweep_plan.specs.declared.actions.Action.TheVariants as actions
+use Rattle.sweep_plan.specs.declared.plans.Plan.{Plan}
 use Rattle.sweep_laws.specs.declared.swept.Swept.{Swept}
-use Rattle.turn_core.specs.Outcomes.{left_put}
-use Rattle.deed_core.specs.Replies.{puts_of}
-use Rattle.deed_core.specs.Lapses.{lapses_of}
-use Rattle.sweep_laws.specs.SweepCase.{IsTurn, IsDueToEnd, IsDue, SweepCase, swept_by, relocking, swept_edits}
+use Rattle.cell_apply.specs.Outcomes.{left_put}
+use Rattle.cell_update.specs.Replies.{puts_of}
+use Rattle.cell_update.specs.Lapses.{lapses_of}
+use Rattle.sweep_laws.specs.SweepCase.{IsNextApplied, IsDueToEnd, IsDue, SweepCase, swept_by, relocking, swept_edits}
 use Rattle.sweep_laws.specs.SweepCase.SweepCase.{Quiet, Recovers, Expires, AnswersBeat, TurnedAway, StartedAgain, Started, Reopens, Tidies, Spared, Tidied, OfEnded, Ended, Applied, Deleted, Locked, Awaited, Left}
-use Rattle.turn_core.proofs.EffectShapes.{Shape, effect_by, shape_of}
-use Rattle.turn_core.proofs.EffectShapes.Shape.{Ends, Applies, Deletes, Locks, Awaits, Leaves}
+use Rattle.cell_apply.proofs.EffectShapes.{Shape, effect_by, shape_of}
+use Rattle.cell_apply.proofs.EffectShapes.Shape.{Ends, Applies, Deletes, Locks, Awaits, Leaves}
 
 -- one of the cases is what is done, and committed
 abbrev pub IsSwept : (s : MasterState) → MasterState × Swept → List Edit → Type 0
@@ -70,7 +70,7 @@ HasSessionsInOrder s = IsStrictlySortedBy nat_cmp (keys_of s.sessions.sessions)
 
 -- what a plan does for the change that has its turn
 abbrev IsPlan : (s : MasterState) → ℕ → Plan → Type 0
-IsPlan s number plan = IsSwept s (swept_by_plan s (leaving number plan) false) (edits_of s (leaving number plan).deed)
+IsPlan s number plan = IsSwept s (swept_by_plan s (leaving number plan) false) (edits_of s (leaving number plan).update)
 
 either : (s : MasterState) (number : ℕ) (b : Bool) (x y : Plan) → (b ≡ true → IsPlan s number x) → (b ≡ false → IsPlan s number y) → IsPlan s number (cond b x y)
 either s number true x y h k = h refl
@@ -129,9 +129,9 @@ numbered low high (v ∷ vs) w back r =
     (rw e t.0, rw e (ap (λ ws. v ∷ ws) t.1))
 
 module _ (s : MasterState) (front : List (Waiting Task)) (w : Waiting Task) (back : List (Waiting Task)) (stands : s.gate.waiting ≡ front ++ w ∷ back) (free : is_free s.rights w ≡ true) (orderly : IsOrderly s.gate) where
-  turn_of : (task : Task) → w.change.body ≡ task → IsTurn s front task back
+  turn_of : (task : Task) → w.change.body ≡ task → IsNextApplied s front task back
   turn_of task body =
-      let P : Task → Type 0 = λ t. IsTurn s front t back in subst P body (record { number = w.number; touched = w.change.touched; waited = stands; free = free })
+      let P : Task → Type 0 = λ t. IsNextApplied s front t back in subst P body (record { number = w.number; touched = w.change.touched; waited = stands; free = free })
 
   rising : AreRising 0 (front ++ w ∷ back) s.gate.pushed
   rising = let P : List (Waiting Task) → Type 0 = λ ws. AreRising 0 ws s.gate.pushed in subst P stands orderly.rising
@@ -149,7 +149,7 @@ module _ (s : MasterState) (front : List (Waiting Task)) (w : Waiting Task) (bac
   tidied_case idle body still = (Tidied front back idle (turn_of (tasks.Tidies idle) body) still, rw left_behind refl, refl)
 
 module _ (s : MasterState) (front : List (Waiting Task)) (w : Waiting Task) (back : List (Waiting Task)) (stands : s.gate.waiting ≡ front ++ w ∷ back) (free : is_free s.rights w ≡ true) (orderly : IsOrderly s.gate) (asked : Asked) (body : w.change.body ≡ tasks.Asked asked) where
-  turn : IsTurn s front (tasks.Asked asked) back
+  turn : IsNextApplied s front (tasks.Asked asked) back
   turn = turn_of s front w back stands free orderly (tasks.Asked asked) body
 
   behind : without w.number s.gate.waiting ≡ front ++ back
@@ -169,7 +169,7 @@ module _ (s : MasterState) (front : List (Waiting Task)) (w : Waiting Task) (bac
   start_case principal received work =
       let client = asked.client in
       let number = asked.number in
-      let away : Plan = record { deed = no_deed; taken = turned_away s client number faults.NoSession; contested = None } in
+      let away : Plan = record { update = no_update; taken = turned_away s client number faults.NoSession; contested = None } in
       either s w.number (may_start s client principal) (plan_session s client number principal received) away
       (λ may. (elim (is_live s client) as (λ b. is_live s client ≡ b → IsPlan s w.number (plan_session s client number principal received)) [ true ↦ again_case principal received work | false ↦ fresh_case principal received work may ]) refl)
       (λ may. (TurnedAway front back asked principal received turn work may, rw behind refl, refl))
@@ -239,7 +239,7 @@ module _ (s : MasterState) (front : List (Waiting Task)) (w : Waiting Task) (bac
   apply_case =
       let P : Option Task → Type 0 = λ o.
       let plan = option_map_or (λ (task : Task). leaving w.number (plan_task s task)) o no_plan in
-      IsSwept s (swept_by_plan s plan false) (edits_of s plan.deed) in
+      IsSwept s (swept_by_plan s plan false) (edits_of s plan.update) in
       subst P (sym (found s front w back stands free orderly)) (task_case w.change.body refl)
 
 -- ---- what becomes of one session
@@ -280,7 +280,7 @@ module _ (s : MasterState) (order : HasSessionsInOrder s) (orderly : IsOrderly s
       let due : IsDueToEnd s client t.0 = record { lowest_expired = is; found = t.1; live = u.0; over = over_at t.0.timeout s.clock u.1 } in (
         Expires client t.0 due,
         ap (λ (o : Option (Session Reply)). swept_by_plan s (expiry_of s client o) false) t.1,
-        ap (λ (o : Option (Session Reply)). edits_of s (expiry_of s client o).deed) t.1 ∙ append-nil (swept_edits s (Expires client t.0 due)),
+        ap (λ (o : Option (Session Reply)). edits_of s (expiry_of s client o).update) t.1 ∙ append-nil (swept_edits s (Expires client t.0 due)),
       )
 
   answer_case : (client : ℕ) → lowest s.sessions (is_client_due s.sessions.lease s.clock) ≡ Some client → IsDone s (actions.Answer client)
@@ -293,7 +293,7 @@ module _ (s : MasterState) (order : HasSessionsInOrder s) (orderly : IsOrderly s
       ∙ ap (λ (o : Option Parked). option_map (offer_to s.sessions.lease s.clock) o) u.1 in (
         AnswersBeat client t.0 u.0 due,
         ap (λ (o : Option Offer). swept_by_plan s (answer_of s client o) false) offered,
-        ap (λ (o : Option Offer). edits_of s (answer_of s client o).deed) offered,
+        ap (λ (o : Option Offer). edits_of s (answer_of s client o).update) offered,
       )
 
   reopen_case : (instance : ℕ) → due s.locks s.clock ≡ Some instance → IsDone s (actions.Reopen instance)

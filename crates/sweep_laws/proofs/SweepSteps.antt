@@ -11,10 +11,10 @@ use Rattle.cell_core.specs.Ephemerals.{tidied}
 use Rattle.cell_state.specs.State.{MasterState}
 use Rattle.cell_state.specs.Lookups.{noted}
 use Rattle.cell_state.specs.Notices.{telling_by}
-use Rattle.plan_core.specs.declared.actions.Action.{Action}
-use Rattle.plan_core.specs.declared.actions.Action.TheVariants.{Tidy}
+use Rattle.sweep_plan.specs.declared.actions.Action.{Action}
+use Rattle.sweep_plan.specs.declared.actions.Action.TheVariants.{Tidy}
 use Rattle.sweep_laws.specs.declared.swept.Swept.{Swept}
-use Rattle.plan_core.specs.Plans.{tellings_of, first_action, no_plan}
+use Rattle.sweep_plan.specs.Plans.{tellings_of, first_action, no_plan}
 use Rattle.sweep_laws.specs.Sweep.{telling, swept, is_over, sweep_step}
 
 -- of nothing nobody is told

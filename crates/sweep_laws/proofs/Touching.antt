@@ -27,15 +27,15 @@ use Rattle.lock_core.specs.declared.turns.Acquired.{Acquired}
 use Rattle.lock_core.specs.declared.turns.Acquired.TheVariants as asked
 use Rattle.lock_core.specs.State.{LockState}
 use Rattle.lock_core.specs.Turns.{tried, acquired, released}
-use Rattle.deed_core.specs.declared.deeds.Change.{Change}
+use Rattle.cell_update.specs.declared.updates.Change.{Change}
 use Rattle.cell_parts.specs.Claims.{owner_of, claim_of}
 use Rattle.cell_state.specs.State.{MasterState}
 use Rattle.cell_state.specs.Lookups.{may, missing_right, is_of_cell, sequencer_fault, lock_under, node_of_handle, new_handle, answer_on}
 use Rattle.cell_parts.specs.Calls.{create_fault, bytes_of}
 use Rattle.cell_core.specs.Step.{touched_by}
 use Rattle.cell_core.specs.Names.{name_changed}
-use Rattle.turn_core.specs.declared.effects.Effect.{Effect}
-use Rattle.turn_core.specs.Effect.{answered, refused, changes_to, is_last, new_view, acls_of, create_made, create_numbered, create_permitted, create_in, create_under, create_new, create_over, create_effect, create_tested, create_under_sequencer, open_effect, acquire_by, try_by, release_by, generation_fits, with_content, with_acls, put_at, deleted, delete_at, change_at, change_on, effect_on, handle_effect, effect}
+use Rattle.cell_apply.specs.declared.effects.Effect.{Effect}
+use Rattle.cell_apply.specs.Effect.{answered, refused, changes_to, is_last, new_view, acls_of, create_made, create_numbered, create_permitted, create_in, create_under, create_new, create_over, create_effect, create_tested, create_under_sequencer, open_effect, acquire_by, try_by, release_by, generation_fits, with_content, with_acls, put_at, deleted, delete_at, change_at, change_on, effect_on, handle_effect, effect}
 
 -- a change, if there is one, is of this name
 abbrev IsOn : Option (List ℕ) → Option Change → Type 0

@@ -3,18 +3,18 @@ use Rattle.std.specs.Prelude.{List, ℕ, Bool, true, false, ◌||◌, [], Result
 use Rattle.cell_parts.specs.declared.notices.Telling.{Telling}
 use Rattle.cell_state.specs.Notices.{with_tellings}
 use Rattle.cell_state.specs.State.{MasterState}
-use Rattle.plan_core.specs.declared.plans.Plan.{Plan}
+use Rattle.sweep_plan.specs.declared.plans.Plan.{Plan}
 use Rattle.node_core.specs.declared.refusals.Fault.{Fault}
 use Rattle.rows_cell.specs.declared.tables.Edit.{Edit}
 use Rattle.session_core.specs.Sessions.{has_spent_events}
 use Rattle.cell_state.specs.Lookups.{noted}
 use Rattle.cell_core.specs.Step.{is_past_end}
-use Rattle.deed_core.specs.Deeds.{done, edits_of}
+use Rattle.cell_update.specs.Updates.{done, edits_of}
 use Rattle.cell_core.specs.Ephemerals.{tidied}
-use Rattle.plan_core.specs.declared.actions.Action.{Action}
-use Rattle.plan_core.specs.declared.actions.Action.TheVariants.{Tidy, Quiet}
+use Rattle.sweep_plan.specs.declared.actions.Action.{Action}
+use Rattle.sweep_plan.specs.declared.actions.Action.TheVariants.{Tidy, Quiet}
 use Rattle.sweep_laws.specs.declared.swept.Swept.{Swept}
-use Rattle.plan_core.specs.Plans.{tellings_of, first_action, plan_of}
+use Rattle.sweep_plan.specs.Plans.{tellings_of, first_action, plan_of}
 use Rattle.node_core.specs.declared.refusals.Fault.TheVariants as faults
 
 -- ---- the step
@@ -25,7 +25,7 @@ is_quiet _ = false
 
 -- what is planned stands
 abbrev pub swept_by_plan : MasterState → Plan → Bool → MasterState × Swept
-swept_by_plan s plan quiet = (done s plan.deed, record { lines = plan.taken.lines; outs = plan.taken.outs; quiet = quiet })
+swept_by_plan s plan quiet = (done s plan.update, record { lines = plan.taken.lines; outs = plan.taken.outs; quiet = quiet })
 
 -- what is queued commits nothing yet
 abbrev pub acted : MasterState → Action → MasterState × Swept
@@ -44,7 +44,7 @@ done_and_told s plan quiet = telling (tellings_of s plan) (swept_by_plan s plan 
 
 -- what an action commits
 abbrev pub action_edits : MasterState → Action → List Edit
-action_edits s action = edits_of s (plan_of s action).deed
+action_edits s action = edits_of s (plan_of s action).update
 
 -- a moment past the end of moments, or a session whose count of events is at its end
 abbrev pub is_over : MasterState → ℕ → Bool

@@ -12,7 +12,7 @@ use Rattle.messages_cell.specs.declared.outs.CallResult.{CallResult}
 use Rattle.messages_cell.specs.declared.outs.Reply.{Reply}
 use Rattle.gate_core.specs.declared.pending.Waiting.{Waiting}
 use Rattle.gate_core.specs.Gate.{is_free}
-use Rattle.deed_core.specs.declared.deeds.Change.{Change}
+use Rattle.cell_update.specs.declared.updates.Change.{Change}
 use Rattle.cell_parts.specs.declared.handles.Note.{Note}
 use Rattle.cell_parts.specs.declared.pending.Asked.{Asked}
 use Rattle.cell_parts.specs.declared.pending.Idle.{Idle}
@@ -20,8 +20,8 @@ use Rattle.cell_parts.specs.declared.pending.Task.{Task}
 use Rattle.lock_core.specs.declared.claims.Claim.{Claim}
 use Rattle.lock_core.specs.Turns.{reopened}
 use Rattle.lock_core.specs.Locks.{lock_at, due}
-use Rattle.deed_core.specs.declared.deeds.LockPut.{LockPut}
-use Rattle.turn_core.specs.declared.effects.Leave.{Leave}
+use Rattle.cell_update.specs.declared.updates.LockPut.{LockPut}
+use Rattle.cell_apply.specs.declared.effects.Leave.{Leave}
 use Rattle.cell_state.specs.State.{MasterState}
 use Rattle.cell_core.specs.Ephemerals.{next_idle, tidied, is_still_idle}
 use Rattle.session_core.specs.declared.records.Parked.{Parked}
@@ -31,13 +31,13 @@ use Rattle.session_core.specs.Sessions.{with_session, with_new, all_heard, lowes
 use Rattle.cell_state.specs.Lookups.{session_of, may_start, is_live, turned_away, reply_of}
 use Rattle.cell_parts.specs.Answered.{answered_by}
 use Rattle.cell_core.specs.Step.{recorded}
-use Rattle.deed_core.specs.Deeds.{with_note, edit_of, with_kept, with_locks, without_lock, lock_changes}
-use Rattle.turn_core.specs.Effect.{effect}
+use Rattle.cell_update.specs.Updates.{with_note, edit_of, with_kept, with_locks, without_lock, lock_changes}
+use Rattle.cell_apply.specs.Effect.{effect}
 use Rattle.sweep_laws.specs.declared.swept.Swept.{Swept}
-use Rattle.plan_core.specs.Plans.{first_action, started_out, alive_out}
-use Rattle.deed_core.specs.Lapses.{expiry_lines, lapses_of, lapses_puts, lapses_replies}
-use Rattle.deed_core.specs.Replies.{kept_puts, sent, turn_replies, locked_line, locked_lines, puts_of, replies_to}
-use Rattle.turn_core.specs.Outcomes.{leave_lines, left_put}
+use Rattle.sweep_plan.specs.Plans.{first_action, started_out, alive_out}
+use Rattle.cell_update.specs.Lapses.{expiry_lines, lapses_of, lapses_puts, lapses_replies}
+use Rattle.cell_update.specs.Replies.{kept_puts, sent, turn_replies, locked_line, locked_lines, puts_of, replies_to}
+use Rattle.cell_apply.specs.Outcomes.{leave_lines, left_put}
 use Rattle.node_core.specs.declared.refusals.Fault.TheVariants as faults
 use Rattle.node_core.specs.declared.lines.Line.TheVariants as lines
 use Rattle.messages_cell.specs.declared.outs.Out.TheVariants as outs
@@ -46,12 +46,12 @@ use Rattle.rights_core.specs.Rights as of_rights
 use Rattle.cell_parts.specs.declared.pending.Task.TheVariants as tasks
 use Rattle.cell_parts.specs.declared.pending.Work.TheVariants as works
 use Rattle.messages_cell.specs.declared.outs.CallResult.TheVariants as results
-use Rattle.turn_core.specs.declared.effects.Locking.TheVariants as lockings
+use Rattle.cell_apply.specs.declared.effects.Locking.TheVariants as lockings
 use Rattle.session_core.specs.Session as of_session
-use Rattle.plan_core.specs.declared.actions.Action.TheVariants as actions
+use Rattle.sweep_plan.specs.declared.actions.Action.TheVariants as actions
 
 -- a change has its turn: it waited between these, and no right holds it up
-pub record IsTurn (s : MasterState) (front : List (Waiting Task)) (task : Task) (back : List (Waiting Task)) : Type 0 where
+pub record IsNextApplied (s : MasterState) (front : List (Waiting Task)) (task : Task) (back : List (Waiting Task)) : Type 0 where
   pub number : ℕ
   pub touched : List (List ℕ)
   pub waited : s.gate.waiting ≡ front ++ record { number = number; change = record { touched = touched; body = task } } ∷ back
@@ -86,23 +86,23 @@ pub data SweepCase (s : MasterState) : Type 0 where
   Expires : (client : ℕ) (session : Session Reply) → IsDueToEnd s client session → SweepCase s
   AnswersBeat : (client : ℕ) (session : Session Reply) (beat : Parked) → IsDue s client session beat → SweepCase s
   -- A START'S TURN
-  TurnedAway : (front back : List (Waiting Task)) (asked : Asked) (principal : List ℕ) (received : ℕ) → IsTurn s front (tasks.Asked asked) back → asked.work ≡ works.Starts principal received → may_start s asked.client principal ≡ false → SweepCase s
-  StartedAgain : (front back : List (Waiting Task)) (asked : Asked) (principal : List ℕ) (received : ℕ) (session : Session Reply) → IsTurn s front (tasks.Asked asked) back → asked.work ≡ works.Starts principal received → session_of s asked.client ≡ Some session → session.live ≡ true → SweepCase s
-  Started : (front back : List (Waiting Task)) (asked : Asked) (principal : List ℕ) (received : ℕ) → IsTurn s front (tasks.Asked asked) back → asked.work ≡ works.Starts principal received → session_of s asked.client ≡ None → SweepCase s
+  TurnedAway : (front back : List (Waiting Task)) (asked : Asked) (principal : List ℕ) (received : ℕ) → IsNextApplied s front (tasks.Asked asked) back → asked.work ≡ works.Starts principal received → may_start s asked.client principal ≡ false → SweepCase s
+  StartedAgain : (front back : List (Waiting Task)) (asked : Asked) (principal : List ℕ) (received : ℕ) (session : Session Reply) → IsNextApplied s front (tasks.Asked asked) back → asked.work ≡ works.Starts principal received → session_of s asked.client ≡ Some session → session.live ≡ true → SweepCase s
+  Started : (front back : List (Waiting Task)) (asked : Asked) (principal : List ℕ) (received : ℕ) → IsNextApplied s front (tasks.Asked asked) back → asked.work ≡ works.Starts principal received → session_of s asked.client ≡ None → SweepCase s
   -- A LOCK
   Reopens : (instance : ℕ) → IsToReopen s instance → SweepCase s
   -- AN EPHEMERAL NODE
   Tidies : (idle : Idle) → IsToGo s idle → SweepCase s
-  Spared : (front back : List (Waiting Task)) (idle : Idle) → IsTurn s front (tasks.Tidies idle) back → is_still_idle s idle ≡ false → SweepCase s
-  Tidied : (front back : List (Waiting Task)) (idle : Idle) → IsTurn s front (tasks.Tidies idle) back → is_still_idle s idle ≡ true → SweepCase s
+  Spared : (front back : List (Waiting Task)) (idle : Idle) → IsNextApplied s front (tasks.Tidies idle) back → is_still_idle s idle ≡ false → SweepCase s
+  Tidied : (front back : List (Waiting Task)) (idle : Idle) → IsNextApplied s front (tasks.Tidies idle) back → is_still_idle s idle ≡ true → SweepCase s
   -- A CALL'S TURN
-  OfEnded : (front back : List (Waiting Task)) (asked : Asked) (call : Call) (sequencer : Option (List ℕ)) → IsTurn s front (tasks.Asked asked) back → asked.work ≡ works.Calls call sequencer → is_live s asked.client ≡ false → SweepCase s
-  Ended : (front back : List (Waiting Task)) (asked : Asked) (call : Call) (sequencer : Option (List ℕ)) (note : Option Note) (answer : CallResult) → IsTurn s front (tasks.Asked asked) back → asked.work ≡ works.Calls call sequencer → is_live s asked.client ≡ true → effect s asked.client asked.number call sequencer ≡ record { note = note; change = None; locking = lockings.Nothing; answer = Some answer } → SweepCase s
-  Applied : (front back : List (Waiting Task)) (asked : Asked) (call : Call) (sequencer : Option (List ℕ)) (note : Option Note) (change : Change) (answer : CallResult) → IsTurn s front (tasks.Asked asked) back → asked.work ≡ works.Calls call sequencer → is_live s asked.client ≡ true → effect s asked.client asked.number call sequencer ≡ record { note = note; change = Some change; locking = lockings.Nothing; answer = Some answer } → SweepCase s
-  Deleted : (front back : List (Waiting Task)) (asked : Asked) (call : Call) (sequencer : Option (List ℕ)) (change : Change) (instance : ℕ) (waiters : List Claim) (answer : CallResult) → IsTurn s front (tasks.Asked asked) back → asked.work ≡ works.Calls call sequencer → is_live s asked.client ≡ true → effect s asked.client asked.number call sequencer ≡ record { note = None; change = Some change; locking = lockings.Goes instance waiters; answer = Some answer } → SweepCase s
-  Locked : (front back : List (Waiting Task)) (asked : Asked) (call : Call) (sequencer : Option (List ℕ)) (put : LockPut) (claim : Claim) (answer : CallResult) → IsTurn s front (tasks.Asked asked) back → asked.work ≡ works.Calls call sequencer → is_live s asked.client ≡ true → effect s asked.client asked.number call sequencer ≡ record { note = None; change = None; locking = lockings.Takes put claim; answer = Some answer } → SweepCase s
-  Awaited : (front back : List (Waiting Task)) (asked : Asked) (call : Call) (sequencer : Option (List ℕ)) (put : LockPut) → IsTurn s front (tasks.Asked asked) back → asked.work ≡ works.Calls call sequencer → is_live s asked.client ≡ true → effect s asked.client asked.number call sequencer ≡ record { note = None; change = None; locking = lockings.Waits put; answer = None } → SweepCase s
-  Left : (front back : List (Waiting Task)) (asked : Asked) (call : Call) (sequencer : Option (List ℕ)) (note : Option Note) (leave : Leave) (answer : CallResult) → IsTurn s front (tasks.Asked asked) back → asked.work ≡ works.Calls call sequencer → is_live s asked.client ≡ true → effect s asked.client asked.number call sequencer ≡ record { note = note; change = None; locking = lockings.Leaves leave; answer = Some answer } → SweepCase s
+  OfEnded : (front back : List (Waiting Task)) (asked : Asked) (call : Call) (sequencer : Option (List ℕ)) → IsNextApplied s front (tasks.Asked asked) back → asked.work ≡ works.Calls call sequencer → is_live s asked.client ≡ false → SweepCase s
+  Ended : (front back : List (Waiting Task)) (asked : Asked) (call : Call) (sequencer : Option (List ℕ)) (note : Option Note) (answer : CallResult) → IsNextApplied s front (tasks.Asked asked) back → asked.work ≡ works.Calls call sequencer → is_live s asked.client ≡ true → effect s asked.client asked.number call sequencer ≡ record { note = note; change = None; locking = lockings.Nothing; answer = Some answer } → SweepCase s
+  Applied : (front back : List (Waiting Task)) (asked : Asked) (call : Call) (sequencer : Option (List ℕ)) (note : Option Note) (change : Change) (answer : CallResult) → IsNextApplied s front (tasks.Asked asked) back → asked.work ≡ works.Calls call sequencer → is_live s asked.client ≡ true → effect s asked.client asked.number call sequencer ≡ record { note = note; change = Some change; locking = lockings.Nothing; answer = Some answer } → SweepCase s
+  Deleted : (front back : List (Waiting Task)) (asked : Asked) (call : Call) (sequencer : Option (List ℕ)) (change : Change) (instance : ℕ) (waiters : List Claim) (answer : CallResult) → IsNextApplied s front (tasks.Asked asked) back → asked.work ≡ works.Calls call sequencer → is_live s asked.client ≡ true → effect s asked.client asked.number call sequencer ≡ record { note = None; change = Some change; locking = lockings.Goes instance waiters; answer = Some answer } → SweepCase s
+  Locked : (front back : List (Waiting Task)) (asked : Asked) (call : Call) (sequencer : Option (List ℕ)) (put : LockPut) (claim : Claim) (answer : CallResult) → IsNextApplied s front (tasks.Asked asked) back → asked.work ≡ works.Calls call sequencer → is_live s asked.client ≡ true → effect s asked.client asked.number call sequencer ≡ record { note = None; change = None; locking = lockings.Takes put claim; answer = Some answer } → SweepCase s
+  Awaited : (front back : List (Waiting Task)) (asked : Asked) (call : Call) (sequencer : Option (List ℕ)) (put : LockPut) → IsNextApplied s front (tasks.Asked asked) back → asked.work ≡ works.Calls call sequencer → is_live s asked.client ≡ true → effect s asked.client asked.number call sequencer ≡ record { note = None; change = None; locking = lockings.Waits put; answer = None } → SweepCase s
+  Left : (front back : List (Waiting Task)) (asked : Asked) (call : Call) (sequencer : Option (List ℕ)) (note : Option Note) (leave : Leave) (answer : CallResult) → IsNextApplied s front (tasks.Asked asked) back → asked.work ≡ works.Calls call sequencer → is_live s asked.client ≡ true → effect s asked.client asked.number call sequencer ≡ record { note = note; change = None; locking = lockings.Leaves leave; answer = Some answer } → SweepCase s
 
 -- a change has left the gate; the others keep their order
 abbrev pub rest : MasterState → List (Waiting Task) → List (Waiting Task) → MasterState

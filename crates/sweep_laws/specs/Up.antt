@@ -8,7 +8,7 @@ use Rattle.rows_cell.specs.Rows.{changed_rows}
 use Rattle.rows_cell.specs.Sound.{sound}
 use Rattle.cell_state.specs.State.{MasterState, master_of}
 use Rattle.cell_core.specs.Step.{is_past_end}
-use Rattle.turn_core.specs.Effect.{is_last}
+use Rattle.cell_apply.specs.Effect.{is_last}
 use Rattle.rows_cell.specs.Stores.{Store, IsRead, IsUnread, IsCommitted, IsRefused}
 use Rattle.node_core.specs.declared.refusals.Fault.TheVariants as faults
 

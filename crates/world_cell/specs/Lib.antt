@@ -10,10 +10,10 @@ pub use Rattle.rights_core.specs.Laws as RightsLaws
 pub use Rattle.cell_state.specs.State
 pub use Rattle.cell_state.specs.Lookups
 pub use Rattle.cell_core.specs.Step
-pub use Rattle.turn_core.specs.Effect
+pub use Rattle.cell_apply.specs.Effect
 pub use Rattle.rows_cell.specs.Stores
 pub use Rattle.cell_core.specs.Cases
-pub use Rattle.plan_core.specs.Plans
+pub use Rattle.sweep_plan.specs.Plans
 pub use Rattle.sweep_laws.specs.Sweep
 pub use Rattle.sweep_laws.specs.SweepCase
 pub use Rattle.sweep_laws.specs.Kept
@@ -22,10 +22,10 @@ pub use Rattle.client_core.specs.State as Clients
 pub use Rattle.client_core.specs.Asks
 pub use Rattle.client_core.specs.Beats
 pub use Rattle.client_core.specs.Gives
-pub use Rattle.seats_core.specs.Messages
-pub use Rattle.seats_core.specs.Seats
-pub use Rattle.stage_core.specs.World
-pub use Rattle.stage_core.specs.Made
+pub use Rattle.world_clients.specs.Messages
+pub use Rattle.world_clients.specs.Members
+pub use Rattle.world_core.specs.World
+pub use Rattle.world_core.specs.Made
 pub use Rattle.world_laws.specs.Slices
 pub use Rattle.world_laws.specs.Contents
 pub use Rattle.world_laws.specs.Consistent

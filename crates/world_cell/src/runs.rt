@@ -5,9 +5,9 @@ ghost use Rattle.node_core.specs.declared.lines.Line.{Line as PrintedLine};
 ghost use Rattle.node_core.specs.declared.views.Mod.{Mod};
 ghost use Rattle.world_laws.specs.Consistent.{IsConsistent};
 ghost use Rattle.rows_cell.specs.Sound.{is_live_in};
-ghost use Rattle.stage_core.specs.World.{IsUndoubted};
+ghost use Rattle.world_core.specs.World.{IsUndoubted};
 ghost use Rattle.world_laws.specs.Runs.{AnyRun, map_at, after_lines, epoch_at, live_at, LeasesKeepSessions, AreJoint, KeepsClocksFair, AreRecordedOnce, applied, Rises, IsOfCall, IsOfIdle};
-ghost use Rattle.stage_core.specs.Made.{WasRefused, AnyStep};
+ghost use Rattle.world_core.specs.Made.{WasRefused, AnyStep};
 ghost use Rattle.world_laws.specs.Served.{ServesPresentByThen};
 ghost use Rattle.world_laws.specs.Locks.{HasLegalLocks, NoGenerationTwice};
 ghost use Rattle.world_laws.specs.Told.{ShowsNoOlder};
@@ -16,8 +16,8 @@ use crate::worlds::World;
 use node_core::{Fault, Line};
 use plain::Items;
 use rows_cell::Records;
-use seats_core::Step;
 use std::alloc::{AllocError, Global};
+use world_clients::Step;
 
 impl<R: Records + Drop> World<R> {
     /// Steps, one behind the other; a refused step is the one line that says so. Where memory ends, the steps made so
@@ -93,7 +93,7 @@ impl<R: Records + Drop> World<R> {
     fn consistent(&self)
         ensures { IsUndoubted self.now → IsConsistent self.now.world }
     {
-        let _stage = &self.stage;
+        let _parts = &self.parts;
     }
 }
 

@@ -1,37 +1,37 @@
 //! A world.
 ghost use Rattle.std.specs.Prelude.{◌≡◌, ◌∷◌, [], Ok, IfOk, IfErr, OnOk, OnErr, is_some};
 ghost use Rattle.rows_cell.specs.Rows.{map_of};
-ghost use Rattle.stage_core.specs.World.{opened, store_in, world_sweep, step_edits, IsUndoubted, IsStored, IsLeft, MayRefuseStep};
-ghost use Rattle.stage_core.specs.Made.{WasMade, WasRefused};
+ghost use Rattle.world_core.specs.World.{opened, store_in, world_sweep, step_edits, IsUndoubted, IsStored, IsLeft, MayRefuseStep};
+ghost use Rattle.world_core.specs.Made.{WasMade, WasRefused};
 ghost use Rattle.world_laws.specs.Served.{ServesPresent};
 ghost use Rattle.world_laws.specs.Locks.{HasLegalLocks, CountsHolds};
 
 use node_core::{Fault, Line};
 use plain::Items;
 use rows_cell::Records;
-use seats_core::{Message, Step};
 use settings_core::Settings;
-use stage_core::{Stage, Turn};
 use std::alloc::Global;
 use std::marker::Model;
+use world_clients::{Message, Step};
+use world_core::{SweepResult, WorldParts};
 
 /// A cell with all that happens around it: records, at most one master, clients, and every message that was sent. To a
 /// contract, plain lists of these. Where nothing that was read from the records is in doubt, they fit one another always
 /// (`IsConsistent`).
 #[derive(Drop)]
 pub struct World<R: Records> {
-    pub(crate) stage: Stage<R>,
+    pub(crate) parts: WorldParts<R>,
 }
 
 impl<R: Records> Model for World<R> {
-    ghost use Rattle.stage_core.specs.World.{WorldView, IsUndoubted};
+    ghost use Rattle.world_core.specs.World.{WorldView, IsUndoubted};
     ghost use Rattle.world_laws.specs.Consistent.{IsConsistent};
 
     ghost Value = { WorldView };
 
-    ghost view = { λ w. w.stage };
+    ghost view = { λ w. w.parts };
 
-    ghost invariant = { λ w. IsUndoubted w.stage → IsConsistent w.stage.world };
+    ghost invariant = { λ w. IsUndoubted w.parts → IsConsistent w.parts.world };
 }
 
 impl<R: Records + Drop> World<R> {
@@ -40,7 +40,7 @@ impl<R: Records + Drop> World<R> {
         ensures { result ≡ opened (R.store records) settings.now.lease }
     {
         World {
-            stage: Stage::new(alloc, records, settings),
+            parts: WorldParts::new(alloc, records, settings),
         }
     }
 
@@ -61,20 +61,20 @@ impl<R: Records + Drop> World<R> {
         // A lock's generation is one more if it came from free to held, and else the same.
         ensures generations { IsUndoubted self.new → CountsHolds self.old.world.rows self.new.world.rows }
     {
-        let told = self.stage.step(step);
-        self.stage.kept();
+        let told = self.parts.step(step);
+        self.parts.kept();
         told
     }
 
     /// The step by which the master sweeps, with word of whether it found nothing to do.
-    pub fn sweep(&mut self) -> Result<Turn, Fault>
+    pub fn sweep(&mut self) -> Result<SweepResult, Fault>
         ensures ok { IfOk result (λ turn. world_sweep self.old.world self.old.world.master ≡ Ok (self.new.world, turn)) }
         ensures stored { OnOk result (IsStored (step_edits self.old.world Step.Sweep) self.old self.new) }
         ensures fault { IfErr result (λ e. MayRefuseStep (world_sweep self.old.world self.old.world.master) Step.Sweep e self.old self.new) }
         ensures left { OnErr result (IsLeft (step_edits self.old.world Step.Sweep) self.old self.new) }
     {
-        let turn = self.stage.sweep();
-        self.stage.kept();
+        let turn = self.parts.sweep();
+        self.parts.kept();
         turn
     }
 
@@ -82,25 +82,25 @@ impl<R: Records + Drop> World<R> {
     pub fn messages(&self) -> &[Message]
         ensures { result.now ≡ self.now.world.messages }
     {
-        self.stage.messages()
+        self.parts.messages()
     }
 
     /// Whether a master is up.
     pub fn is_up(&self) -> bool
         ensures { result ≡ is_some self.now.world.master }
     {
-        self.stage.is_up()
+        self.parts.is_up()
     }
 
     /// The records, with the rows that stand. A master that is up is gone.
     pub fn close(self) -> R
         ensures { R.store result ≡ store_in self }
     {
-        let World { stage } = self;
-        stage.close()
+        let World { parts } = self;
+        parts.close()
     }
 
     pub(crate) fn alloc(&self) -> Global {
-        self.stage.alloc()
+        self.parts.alloc()
     }
 }

@@ -11,11 +11,11 @@ use Rattle.cell_parts.specs.declared.handles.Note.{Note}
 use Rattle.cell_state.specs.State.{MasterState}
 use Rattle.cell_core.specs.Names.{name_asked}
 use Rattle.cell_core.specs.Cases.{IsAnswered}
-use Rattle.turn_core.specs.declared.effects.Effect.{Effect}
-use Rattle.turn_core.specs.Effect.{effect}
-use Rattle.seats_core.specs.declared.mail.Message.{Message}
-use Rattle.seats_core.specs.declared.mail.Message.TheVariants.{ToClient}
-use Rattle.seats_core.specs.Messages.{call_of}
+use Rattle.cell_apply.specs.declared.effects.Effect.{Effect}
+use Rattle.cell_apply.specs.Effect.{effect}
+use Rattle.world_clients.specs.declared.mail.Message.{Message}
+use Rattle.world_clients.specs.declared.mail.Message.TheVariants.{ToClient}
+use Rattle.world_clients.specs.Messages.{call_of}
 use Rattle.world_laws.specs.Consistent.{OpensAs, IsAnswer}
 use Rattle.world_laws.proofs.MessagesGrow.{call_stays}
 use Rattle.world_laws.proofs.GrantsSent.{none_granted, now_granted, later_granted}
@@ -66,8 +66,8 @@ answered_opens s message _ answer h = elim h.is_answer [
 ]
 
 -- and what a call comes to when its turn comes
-pub turned_opens : (s : MasterState) (client number : ℕ) (call : Call) (sequencer : Option (List ℕ)) (effected : Effect) (answer : CallResult) → effect s client number call sequencer ≡ effected → effected.answer ≡ Some answer → OpensAs call answer
-turned_opens s client number call sequencer effected answer is answered = effect_opens s client number call sequencer answer (ap (λ (e : Effect). e.answer) is ∙ answered)
+pub applied_opens : (s : MasterState) (client number : ℕ) (call : Call) (sequencer : Option (List ℕ)) (effected : Effect) (answer : CallResult) → effect s client number call sequencer ≡ effected → effected.answer ≡ Some answer → OpensAs call answer
+applied_opens s client number call sequencer effected answer is answered = effect_opens s client number call sequencer answer (ap (λ (e : Effect). e.answer) is ∙ answered)
 
 -- ---- several messages
 

@@ -31,7 +31,7 @@ use Rattle.lock_core.specs.declared.claims.Claim.{Claim}
 use Rattle.lock_core.specs.State.{LockState}
 use Rattle.lock_core.specs.Turns.{reopened, tried}
 use Rattle.lock_core.specs.Locks.{lock_at}
-use Rattle.deed_core.specs.Deeds.{with_locks, with_note}
+use Rattle.cell_update.specs.Updates.{with_locks, with_note}
 use Rattle.cell_parts.specs.Claims.{claim_of}
 use Rattle.cell_parts.specs.declared.pending.Asked.{Asked}
 use Rattle.cell_parts.specs.declared.pending.Idle.{Idle}
@@ -43,28 +43,28 @@ use Rattle.cell_state.specs.State.{MasterState}
 use Rattle.cell_core.specs.Ephemerals.{is_idle_node, is_still_idle}
 use Rattle.cell_core.specs.Step.{names_of, task_of, with_call, asking_for}
 use Rattle.cell_state.specs.Lookups.{noted, lock_under, node_of_handle, answer_on}
-use Rattle.turn_core.specs.declared.effects.Effect.{Effect}
-use Rattle.turn_core.specs.Effect.{answered, refused, try_by, try_at, change_at, change_on, handle_effect, effect}
-use Rattle.deed_core.specs.Replies.{locked_line, locked_lines}
-use Rattle.turn_core.specs.Outcomes.{leave_lines, left_put}
-use Rattle.deed_core.specs.Lapses.{lapses_lines, lapses_of}
+use Rattle.cell_apply.specs.declared.effects.Effect.{Effect}
+use Rattle.cell_apply.specs.Effect.{answered, refused, try_by, try_at, change_at, change_on, handle_effect, effect}
+use Rattle.cell_update.specs.Replies.{locked_line, locked_lines}
+use Rattle.cell_apply.specs.Outcomes.{leave_lines, left_put}
+use Rattle.cell_update.specs.Lapses.{lapses_lines, lapses_of}
 use Rattle.cell_core.specs.Cases.{TakeCase, taken_by}
-use Rattle.sweep_laws.specs.SweepCase.{IsTurn, SweepCase, swept_by, rest, ended, mapped}
+use Rattle.sweep_laws.specs.SweepCase.{IsNextApplied, SweepCase, swept_by, rest, ended, mapped}
 use Rattle.cell_core.specs.Cases.TakeCase.{StartQueued, Answered, Granted, Waits}
 use Rattle.sweep_laws.specs.SweepCase.SweepCase.{Quiet, Recovers, Expires, Reopens, Tidies, Spared, Tidied, AnswersBeat, TurnedAway, StartedAgain, Started as StartedFirst, OfEnded, Ended, Applied, Deleted, Locked, Awaited, Left}
 use Rattle.sweep_laws.specs.Kept.{IsKept, task_fits, waiting_fits}
-use Rattle.seats_core.specs.declared.steps.Step.{Step}
-use Rattle.seats_core.specs.declared.steps.Step.TheVariants.{Take, Sweep, CutSweep}
-use Rattle.seats_core.specs.declared.steps.Commit.TheVariants.{Kept}
-use Rattle.seats_core.specs.Messages.{call_of}
-use Rattle.stage_core.specs.World.{WorldState, WorldView, is_of_commit, Agrees}
+use Rattle.world_clients.specs.declared.steps.Step.{Step}
+use Rattle.world_clients.specs.declared.steps.Step.TheVariants.{Take, Sweep, CutSweep}
+use Rattle.world_clients.specs.declared.steps.Commit.TheVariants.{Kept}
+use Rattle.world_clients.specs.Messages.{call_of}
+use Rattle.world_core.specs.World.{WorldState, WorldView, is_of_commit, Agrees}
 use Rattle.world_laws.specs.Consistent.{IsConsistent}
 use Rattle.world_laws.specs.Runs.{Run, change_of, IsTaken, HasWaited, IsApplied, IsOfCall, IsOfIdle}
-use Rattle.stage_core.specs.Made.{IsMade, Does}
+use Rattle.world_core.specs.Made.{IsMade, Does}
 use Rattle.world_laws.proofs.SilentLines.{IsSilent, quiet_silent}
 use Rattle.world_laws.proofs.LockLines.{reopened_of_locks, left_of_locks, lapses_of_locks}
 use Rattle.world_laws.proofs.PartsOfRuns.{run_push}
-use Rattle.world_laws.proofs.MasterFits.{waits_as, turn_sent}
+use Rattle.world_laws.proofs.MasterFits.{waits_as, application_sent}
 use Rattle.world_laws.proofs.WorldCases.{IsTake, WorldCase, world_case}
 use Rattle.world_laws.proofs.WorldCases.WorldCase.{ComesUp, Joins, Asks, Beats, Gives, Ticks, Takes, Sweeps, GoesDown, CutsSweep, CutsUp, LosesUp}
 use Rattle.world_laws.proofs.OwnSteps.{own_silent, asks_own, beats_own, gives_own}
@@ -245,8 +245,8 @@ parted_calls g epoch [] w back h = (h.0, h.1)
 parted_calls g epoch (x ∷ front) w back h = let t = parted_calls g epoch front w back h.1 in (t.0, (h.0, t.1))
 
 -- the change that has its turn, and the others
-turn_calls : (g : Ground) (s : MasterState) (front : List (Waiting Task)) (task : Task) (back : List (Waiting Task)) → IsTurn s front task back → AreCalled g s.epoch s.gate.waiting → IsTaskCalled g s.epoch task × AreCalled g s.epoch (front ++ back)
-turn_calls g s front task back turn h = parted_calls g s.epoch front (waits_as turn.number turn.touched task) back (subst (λ ws. AreCalled g s.epoch ws) turn.waited h)
+application_calls : (g : Ground) (s : MasterState) (front : List (Waiting Task)) (task : Task) (back : List (Waiting Task)) → IsNextApplied s front task back → AreCalled g s.epoch s.gate.waiting → IsTaskCalled g s.epoch task × AreCalled g s.epoch (front ++ back)
+application_calls g s front task back turn h = parted_calls g s.epoch front (waits_as turn.number turn.touched task) back (subst (λ ws. AreCalled g s.epoch ws) turn.waited h)
 
 ended_calls : (g : Ground) (s : MasterState) (asked : Asked) (note : Option Note) (answer : CallResult) → AreCalled g s.epoch s.gate.waiting → AreCalled g (ended s asked note answer).epoch (ended s asked note answer).gate.waiting
 ended_calls g s asked None answer h = h
@@ -258,23 +258,23 @@ sweep_calls g s (Recovers recovering heard) h = h
 sweep_calls g s (Expires client session due) h = h
 sweep_calls g s (Reopens instance due) h = h
 sweep_calls g s (Tidies idle due) h = calls_push g s.epoch s.gate.waiting (waits_as (s.gate.pushed + 1) (idle.name ∷ []) (tasks.Tidies idle)) h tt
-sweep_calls g s (Spared front back idle turn held) h = (turn_calls g s front (tasks.Tidies idle) back turn h).1
-sweep_calls g s (Tidied front back idle turn still) h = (turn_calls g s front (tasks.Tidies idle) back turn h).1
+sweep_calls g s (Spared front back idle turn held) h = (application_calls g s front (tasks.Tidies idle) back turn h).1
+sweep_calls g s (Tidied front back idle turn still) h = (application_calls g s front (tasks.Tidies idle) back turn h).1
 sweep_calls g s (AnswersBeat client session beat due) h = h
-sweep_calls g s (TurnedAway front back asked principal received turn work may) h = (turn_calls g s front (tasks.Asked asked) back turn h).1
-sweep_calls g s (StartedAgain front back asked principal received session turn work found live) h = (turn_calls g s front (tasks.Asked asked) back turn h).1
-sweep_calls g s (StartedFirst front back asked principal received turn work none) h = (turn_calls g s front (tasks.Asked asked) back turn h).1
-sweep_calls g s (OfEnded front back asked call sequencer turn work gone) h = (turn_calls g s front (tasks.Asked asked) back turn h).1
-sweep_calls g s (Ended front back asked call sequencer note answer turn work live made) h = ended_calls g (rest s front back) asked note answer (turn_calls g s front (tasks.Asked asked) back turn h).1
+sweep_calls g s (TurnedAway front back asked principal received turn work may) h = (application_calls g s front (tasks.Asked asked) back turn h).1
+sweep_calls g s (StartedAgain front back asked principal received session turn work found live) h = (application_calls g s front (tasks.Asked asked) back turn h).1
+sweep_calls g s (StartedFirst front back asked principal received turn work none) h = (application_calls g s front (tasks.Asked asked) back turn h).1
+sweep_calls g s (OfEnded front back asked call sequencer turn work gone) h = (application_calls g s front (tasks.Asked asked) back turn h).1
+sweep_calls g s (Ended front back asked call sequencer note answer turn work live made) h = ended_calls g (rest s front back) asked note answer (application_calls g s front (tasks.Asked asked) back turn h).1
 sweep_calls g s (Applied front back asked call sequencer note change answer turn work live made) h =
-    ended_calls g (mapped (rest s front back) change) asked note answer (turn_calls g s front (tasks.Asked asked) back turn h).1
+    ended_calls g (mapped (rest s front back) change) asked note answer (application_calls g s front (tasks.Asked asked) back turn h).1
 sweep_calls g s (Deleted front back asked call sequencer change instance waiters answer turn work live made) h =
-    ended_calls g (mapped (rest s front back) change) asked None answer (turn_calls g s front (tasks.Asked asked) back turn h).1
+    ended_calls g (mapped (rest s front back) change) asked None answer (application_calls g s front (tasks.Asked asked) back turn h).1
 sweep_calls g s (Locked front back asked call sequencer put claim answer turn work live made) h =
-    ended_calls g (with_locks (rest s front back) (put ∷ [])) asked None answer (turn_calls g s front (tasks.Asked asked) back turn h).1
-sweep_calls g s (Awaited front back asked call sequencer put turn work live made) h = (turn_calls g s front (tasks.Asked asked) back turn h).1
+    ended_calls g (with_locks (rest s front back) (put ∷ [])) asked None answer (application_calls g s front (tasks.Asked asked) back turn h).1
+sweep_calls g s (Awaited front back asked call sequencer put turn work live made) h = (application_calls g s front (tasks.Asked asked) back turn h).1
 sweep_calls g s (Left front back asked call sequencer note leave answer turn work live made) h =
-    ended_calls g (with_locks (rest s front back) (left_put leave ∷ [])) asked note answer (turn_calls g s front (tasks.Asked asked) back turn h).1
+    ended_calls g (with_locks (rest s front back) (left_put leave ∷ [])) asked note answer (application_calls g s front (tasks.Asked asked) back turn h).1
 
 -- ---- a step
 
@@ -402,7 +402,7 @@ record IsByCall (s : MasterState) (client number : ℕ) (change : Mod) : Type 0 
   front : List (Waiting Task)
   back : List (Waiting Task)
   asked : Asked
-  turn : IsTurn s front (tasks.Asked asked) back
+  turn : IsNextApplied s front (tasks.Asked asked) back
   call : Call
   sequencer : Option (List ℕ)
   work : asked.work ≡ works.Calls call sequencer
@@ -419,11 +419,11 @@ record IsByItself (s : MasterState) (client number : ℕ) (change : Mod) : Type 
   goes : change ≡ Gone gone.name
 
 -- a change that a sweep tells of comes first
-record IsOfTurn (s : MasterState) (before : List Line) (client number : ℕ) (change : Mod) : Type 0 where
+record IsOfApplication (s : MasterState) (before : List Line) (client number : ℕ) (change : Mod) : Type 0 where
   first : before ≡ []
   does : IsByCall s client number change ⊎ IsByItself s client number change
 
-of_call : (s : MasterState) (front back : List (Waiting Task)) (asked : Asked) (call : Call) (sequencer : Option (List ℕ)) (made : Mod) (before told : List Line) (client number : ℕ) (change : Mod) → IsTurn s front (tasks.Asked asked) back → asked.work ≡ works.Calls call sequencer → change_of (effect s asked.client asked.number call sequencer) ≡ Some made → lines.Applied asked.client asked.number made ∷ [] ≡ before ++ lines.Applied client number change ∷ told → IsOfTurn s before client number change
+of_call : (s : MasterState) (front back : List (Waiting Task)) (asked : Asked) (call : Call) (sequencer : Option (List ℕ)) (made : Mod) (before told : List Line) (client number : ℕ) (change : Mod) → IsNextApplied s front (tasks.Asked asked) back → asked.work ≡ works.Calls call sequencer → change_of (effect s asked.client asked.number call sequencer) ≡ Some made → lines.Applied asked.client asked.number made ∷ [] ≡ before ++ lines.Applied client number change ∷ told → IsOfApplication s before client number change
 of_call s front back asked call sequencer made before told client number change turn work does e =
     let t = one_split (lines.Applied asked.client asked.number made) before told (lines.Applied client number change) e in
     let line : lines.Applied asked.client asked.number made ≡ lines.Applied client number change = t.1 in
@@ -446,7 +446,7 @@ of_call s front back asked call sequencer made before told client number change 
       });
     }
 
-of_itself : (s : MasterState) (idle : Idle) (before told : List Line) (client number : ℕ) (change : Mod) → is_still_idle s idle ≡ true → lines.Applied 0 0 (Gone idle.name) ∷ [] ≡ before ++ lines.Applied client number change ∷ told → IsOfTurn s before client number change
+of_itself : (s : MasterState) (idle : Idle) (before told : List Line) (client number : ℕ) (change : Mod) → is_still_idle s idle ≡ true → lines.Applied 0 0 (Gone idle.name) ∷ [] ≡ before ++ lines.Applied client number change ∷ told → IsOfApplication s before client number change
 of_itself s idle before told client number change still e =
     let t = one_split (lines.Applied 0 0 (Gone idle.name)) before told (lines.Applied client number change) e in
     let line : lines.Applied 0 0 (Gone idle.name) ≡ lines.Applied client number change = t.1 in
@@ -455,38 +455,38 @@ of_itself s idle before told client number change still e =
     let m : change ≡ Gone idle.name = cc in
     record { first = t.0; does = inr (record { gone = idle; still = still; nobody = c; unnumbered = n; goes = m }) }
 
-of_turn : (s : MasterState) (c : SweepCase s) (before told : List Line) (client number : ℕ) (change : Mod) → (swept_by s c).1.lines ≡ before ++ lines.Applied client number change ∷ told → IsOfTurn s before client number change
-of_turn s (Applied front back asked call sequencer _ made answer turn work live does) before told client number change e =
+of_application : (s : MasterState) (c : SweepCase s) (before told : List Line) (client number : ℕ) (change : Mod) → (swept_by s c).1.lines ≡ before ++ lines.Applied client number change ∷ told → IsOfApplication s before client number change
+of_application s (Applied front back asked call sequencer _ made answer turn work live does) before told client number change e =
     of_call s front back asked call sequencer made.change before told client number change turn work (ap change_of does) e
-of_turn s (Deleted front back asked call sequencer made instance waiters answer turn work live does) before told client number change e =
+of_application s (Deleted front back asked call sequencer made instance waiters answer turn work live does) before told client number change e =
     of_call s front back asked call sequencer made.change before told client number change turn work (ap change_of does) e
-of_turn s (Tidied front back idle turn still) before told client number change e = of_itself s idle before told client number change still e
-of_turn s (Recovers recovering heard) before told client number change e =
+of_application s (Tidied front back idle turn still) before told client number change e = of_itself s idle before told client number change still e
+of_application s (Recovers recovering heard) before told client number change e =
     let t = one_split lines.Recovered before told (lines.Applied client number change) e in
     let line : lines.Recovered ≡ lines.Applied client number change = t.1 in cc
-of_turn s (Expires whose session due) before told client number change e =
+of_application s (Expires whose session due) before told client number change e =
     let others = lapses_lines whose (lapses_of s whose) in
     absurd (expiry_split (numbers_ending whose endings.Expiry s.rights) others whose before told client number change (quiet_silent others (lapses_of_locks whose (lapses_of s whose)).quiet) e)
-of_turn s (StartedFirst front back asked principal received turn work none) before told client number change e =
+of_application s (StartedFirst front back asked principal received turn work none) before told client number change e =
     let t = one_split (lines.Started asked.client) before told (lines.Applied client number change) e in
     let line : lines.Started asked.client ≡ lines.Applied client number change = t.1 in cc
-of_turn s (Reopens instance due) before told client number change e =
+of_application s (Reopens instance due) before told client number change e =
     let turn = reopened (lock_at s.locks instance) in
     let printed = lines.Reopened instance ∷ locked_lines instance turn in
     absurd (silent_split printed before told client number change (quiet_silent printed (reopened_of_locks instance turn).quiet) e)
-of_turn s (Locked front back asked call sequencer put claim answer turn work live made) before told client number change e =
+of_application s (Locked front back asked call sequencer put claim answer turn work live made) before told client number change e =
     absurd (silent_split (locked_line put.instance put.lock.generation claim ∷ []) before told client number change (tt, tt) e)
-of_turn s (Left front back asked call sequencer _ leave answer turn work live made) before told client number change e =
+of_application s (Left front back asked call sequencer _ leave answer turn work live made) before told client number change e =
     let printed = leave_lines asked.client leave in
     absurd (silent_split printed before told client number change (quiet_silent printed (left_of_locks asked.client leave).quiet) e)
-of_turn s _ before told client number change e = absurd (no_split before told (lines.Applied client number change) e)
+of_application s _ before told client number change e = absurd (no_split before told (lines.Applied client number change) e)
 
 -- the same of a sweep that was cut
-of_cut : (s : MasterState) (c : SweepCase s) (before told : List Line) (client number : ℕ) (change : Mod) → cut_lines (swept_by s c).1.lines ≡ before ++ lines.Applied client number change ∷ told → IsOfTurn s before client number change
+of_cut : (s : MasterState) (c : SweepCase s) (before told : List Line) (client number : ℕ) (change : Mod) → cut_lines (swept_by s c).1.lines ≡ before ++ lines.Applied client number change ∷ told → IsOfApplication s before client number change
 of_cut s c before told client number change e =
     elim (split (filter is_of_commit (swept_by s c).1.lines) (lines.Down ∷ []) before told (lines.Applied client number change) e) [
       | inl k ↦ elim (swept_kept s c) [
-        | inl all ↦ of_turn s c before k.0 client number change (sym all ∙ k.1)
+        | inl all ↦ of_application s c before k.0 client number change (sym all ∙ k.1)
         | inr none ↦ absurd (no_split before k.0 (lines.Applied client number change) (sym none ∙ k.1))
       ]
       | inr k ↦
@@ -504,7 +504,7 @@ it_fits : (front : List (Waiting Task)) (w : Waiting Task) (back : List (Waiting
 it_fits [] w back h = (and_parts (task_fits w.change.body) (waiting_fits back) h).0
 it_fits (x ∷ front) w back h = it_fits front w back (and_parts (task_fits x.change.body) (waiting_fits (front ++ w ∷ back)) h).1
 
-asked_counts : (s : MasterState) (front back : List (Waiting Task)) (asked : Asked) → waiting_fits s.gate.waiting ≡ true → IsTurn s front (tasks.Asked asked) back → 1 ≤ asked.client
+asked_counts : (s : MasterState) (front back : List (Waiting Task)) (asked : Asked) → waiting_fits s.gate.waiting ≡ true → IsNextApplied s front (tasks.Asked asked) back → 1 ≤ asked.client
 asked_counts s front back asked fits turn =
     some_number asked.client (it_fits front (waits_as turn.number turn.touched (tasks.Asked asked)) back (subst (λ ws. waiting_fits ws ≡ true) turn.waited fits))
 
@@ -563,10 +563,10 @@ module _ (g : Ground) (step : Step) (next : WorldView) (printed told later : Lis
     sequencer = turn.sequencer;
     sent = subst (λ k. call_of g.here.world.messages client k ≡ Some (record { client = client; epoch = master.epoch; number = k; call = turn.call; sequencer = turn.sequencer })) turn.same
         (subst (λ k. call_of g.here.world.messages k turn.asked.number ≡ Some (record { client = k; epoch = master.epoch; number = turn.asked.number; call = turn.call; sequencer = turn.sequencer })) turn.own
-        (turn_sent g.here.world.messages s turn.front turn.asked turn.back turn.turn (noted_fits g.here.world h.consistent master is_up) turn.call turn.sequencer turn.work));
+        (application_sent g.here.world.messages s turn.front turn.asked turn.back turn.turn (noted_fits g.here.world h.consistent master is_up) turn.call turn.sequencer turn.work));
     taken = subst (λ k. WasTaken g master.epoch client k turn.call turn.sequencer) turn.same
         (subst (λ k. WasTaken g master.epoch k turn.asked.number turn.call turn.sequencer) turn.own
-        (subst (λ x. IsCalled g master.epoch turn.asked.client turn.asked.number x) turn.work (turn_calls g s turn.front (tasks.Asked turn.asked) turn.back turn.turn (queued_at g g.here.world.master master is_up h.queue)).0));
+        (subst (λ x. IsCalled g master.epoch turn.asked.client turn.asked.number x) turn.work (application_calls g s turn.front (tasks.Asked turn.asked) turn.back turn.turn (queued_at g g.here.world.master master is_up h.queue)).0));
     is_effect = sym (noted_change master g.here.world.clock client number turn.call turn.sequencer) ∙ turn.is_effect;
   }
 
@@ -587,7 +587,7 @@ module _ (g : Ground) (step : Step) (next : WorldView) (printed told later : Lis
   by_one client number is_line (inl turn) = inl (subst (λ n. 1 ≤ n) turn.own (asked_counts s turn.front turn.back turn.asked kept.waiting turn.turn), by_call client number is_line turn)
   by_one client number is_line (inr turn) = inr (turn.nobody, by_itself client number is_line turn)
 
-of_sweep : (g : Ground) (step : Step) (next : WorldView) (printed before told later : List Line) (client number : ℕ) (change : Mod) (steps : List Step) (rest : List Line) (new : WorldView) → Stands g → (step ≡ Sweep) ⊎ (step ≡ CutSweep Kept) → (master : MasterState) → g.here.world.master ≡ Some master → IsOfTurn (noted master g.here.world.clock) before client number change → IsMade g.here step next printed → Run next steps later new → printed ≡ before ++ lines.Applied client number change ∷ told → rest ≡ told ++ later → IsOfOne g.old (g.past ++ step ∷ steps) (g.told ++ before) client number change rest new
+of_sweep : (g : Ground) (step : Step) (next : WorldView) (printed before told later : List Line) (client number : ℕ) (change : Mod) (steps : List Step) (rest : List Line) (new : WorldView) → Stands g → (step ≡ Sweep) ⊎ (step ≡ CutSweep Kept) → (master : MasterState) → g.here.world.master ≡ Some master → IsOfApplication (noted master g.here.world.clock) before client number change → IsMade g.here step next printed → Run next steps later new → printed ≡ before ++ lines.Applied client number change ∷ told → rest ≡ told ++ later → IsOfOne g.old (g.past ++ step ∷ steps) (g.told ++ before) client number change rest new
 of_sweep g step next printed before told later client number change steps rest new h sweeps master is_up turn made run e r =
     let is_line : printed ≡ lines.Applied client number change ∷ told = e ∙ ap (λ l. l ++ lines.Applied client number change ∷ told) turn.first in
     rw (turn.first, append-nil g.told) (by_one g step next printed told later change steps rest new h sweeps master is_up made run r client number is_line turn.does)
@@ -608,7 +608,7 @@ made_here g step next printed before told later client number change steps rest 
       | Takes t ↦ absurd (silent_split printed before told client number change (rw t.tells (taken_silent (noted t.master g.here.world.clock) t.request t.case)) e)
       | Sweeps t ↦
           of_sweep g step next printed before told later client number change steps rest new h (inl t.is_step) t.master t.is_up
-          (of_turn (noted t.master g.here.world.clock) t.case before told client number change (sym t.tells ∙ e)) made run e r
+          (of_application (noted t.master g.here.world.clock) t.case before told client number change (sym t.tells ∙ e)) made run e r
       | GoesDown d ↦ absurd (silent_split printed before told client number change (rw d.tells (tt, tt)) e)
       | CutsSweep k ↦
           of_sweep g step next printed before told later client number change steps rest new h (inr k.is_step) k.sweeps.master k.sweeps.is_up

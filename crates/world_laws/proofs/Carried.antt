@@ -39,14 +39,14 @@ use Rattle.cell_state.specs.State.{MasterState}
 use Rattle.cell_parts.specs.StoredSessions.{taken_over}
 use Rattle.cell_state.specs.Lookups.{kept_of, reply_of, stamped_reply, repeated_reply}
 use Rattle.cell_parts.specs.Answered.{answered_by}
-use Rattle.deed_core.specs.Deeds.{with_note, with_kept_put}
+use Rattle.cell_update.specs.Updates.{with_note, with_kept_put}
 use Rattle.cell_core.specs.Step.{with_call, asking_for}
 use Rattle.cell_core.specs.Cases.{TakeCase, taken_by}
 use Rattle.cell_core.specs.Cases.TakeCase.{StartQueued, BeatParked, Repeated, Recovering, Answered, Granted, Waits}
-use Rattle.turn_core.specs.declared.effects.Effect.{Effect}
-use Rattle.turn_core.specs.Effect.{effect}
-use Rattle.deed_core.specs.Replies.{kept_puts, sent, replies_to, reply_to, turn_replies}
-use Rattle.deed_core.specs.Lapses.{lapses_replies, lapses_of}
+use Rattle.cell_apply.specs.declared.effects.Effect.{Effect}
+use Rattle.cell_apply.specs.Effect.{effect}
+use Rattle.cell_update.specs.Replies.{kept_puts, sent, replies_to, reply_to, turn_replies}
+use Rattle.cell_update.specs.Lapses.{lapses_replies, lapses_of}
 use Rattle.sweep_laws.specs.SweepCase.{SweepCase, swept_by, gone_replies}
 use Rattle.sweep_laws.specs.SweepCase.SweepCase.{Quiet, Recovers, Expires, Reopens, Tidies, Spared, Tidied, AnswersBeat, StartedAgain, Started, OfEnded, Ended, Applied, Deleted, Locked, Awaited, Left}
 use Rattle.world_laws.proofs.OneSession.{kept_in, each_session, each_with_new, each_issued}

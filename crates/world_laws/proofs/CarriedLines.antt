@@ -32,13 +32,13 @@ use Rattle.lock_core.specs.Turns.{is_nobody, reopened}
 use Rattle.lock_core.specs.Locks.{lock_at}
 use Rattle.cell_state.specs.State.{MasterState}
 use Rattle.cell_state.specs.Lookups.{acknowledgement, granted_lines, repeated_reply, noted}
-use Rattle.deed_core.specs.Deeds.{with_note}
+use Rattle.cell_update.specs.Updates.{with_note}
 use Rattle.cell_core.specs.Cases.{TakeCase, taken_by}
 use Rattle.cell_core.specs.Cases.TakeCase.{StartRefused, OldBeat, BeatRefused, BeatParked, OldEpoch, NoSession, Repeated, OlderCall, Outstanding as StillOutstanding, Granted}
-use Rattle.turn_core.specs.declared.effects.Leave.{Leave}
-use Rattle.deed_core.specs.Replies.{locked_line, locked_lines, line_if}
-use Rattle.turn_core.specs.Outcomes.{leave_lines}
-use Rattle.deed_core.specs.Lapses.{lapse_lines, lapses_lines, lapses_of}
+use Rattle.cell_apply.specs.declared.effects.Leave.{Leave}
+use Rattle.cell_update.specs.Replies.{locked_line, locked_lines, line_if}
+use Rattle.cell_apply.specs.Outcomes.{leave_lines}
+use Rattle.cell_update.specs.Lapses.{lapse_lines, lapses_lines, lapses_of}
 use Rattle.sweep_laws.specs.SweepCase.{SweepCase, swept_by}
 use Rattle.sweep_laws.specs.SweepCase.SweepCase.{Recovers, Expires, Reopens, Tidied, Started as StartedFirst, Applied, Deleted, Locked, Left}
 use Rattle.client_parts.specs.declared.asks.Ask.{Ask}
@@ -56,9 +56,9 @@ use Rattle.client_core.specs.Cases.{noted_moment, AskCase, asked_in, BeatCase, b
 use Rattle.client_core.specs.Cases.AskCase.{AskedTooLate, Unsafe, Refused, ReadServed, AbsenceServed, Shared, OutOfHandles, Released, OutOfCalls, Sent, Poisoned}
 use Rattle.client_core.specs.Cases.BeatCase.{BeatTooLate, OutOfBeats, Starts, Beats as BeatSent, Quiet}
 use Rattle.client_core.specs.Cases.GiveCase.{GivenTooLate, OfAnother, Started, StartedUnfit, StartedDropped, LeaseTaken, LeaseStays, AliveUnfit, AliveDropped, OutOfNumbers, Replied, Installed, ReplyDropped, NotAwaited, Learns, Lost, TurnedAway, RefusalDropped}
-use Rattle.seats_core.specs.declared.steps.Step.{Step}
-use Rattle.seats_core.specs.declared.seats.Seat.{Seat}
-use Rattle.stage_core.specs.World.{WorldState, is_of_commit, with_refusal, asked, beaten, gave}
+use Rattle.world_clients.specs.declared.steps.Step.{Step}
+use Rattle.world_clients.specs.declared.members.WorldClient.{WorldClient}
+use Rattle.world_core.specs.World.{WorldState, is_of_commit, with_refusal, asked, beaten, gave}
 use Rattle.world_laws.proofs.Carried.{OfOut}
 use Rattle.world_laws.proofs.CutLines.{cut_lines}
 use Rattle.world_laws.proofs.OwnSteps.{Comes, it_comes}
@@ -150,14 +150,14 @@ module _ (R : Reply → Type 0) (E : Event → Type 0) where
   abbrev IsTold : WorldState → List Line → Type 0
   IsTold new printed = OfLines printed
 
-  module _ (w : WorldState) (number : ℕ) (seat : Seat) where
+  module _ (w : WorldState) (number : ℕ) (member : WorldClient) where
     abbrev s : ClientState
-    s = seat.client
+    s = member.client
 
     abbrev then : ℕ
-    then = noted_moment s seat.clock
+    then = noted_moment s member.clock
 
-    ask_tells : (ask : Ask) (c : AskCase s seat.clock ask) → Comes IsTold (asked w number seat (asked_in s seat.clock ask c))
+    ask_tells : (ask : Ask) (c : AskCase s member.clock ask) → Comes IsTold (asked w number member (asked_in s member.clock ask c))
     ask_tells ask (AskedTooLate late) = tt
     ask_tells ask (Unsafe fault early is) = refusal_lines (note_lines s then) fault (noted_lines s s.session then)
     ask_tells ask (Refused fault safe is) = (tt, tt)
@@ -170,7 +170,7 @@ module _ (R : Reply → Type 0) (E : Event → Type 0) where
     ask_tells ask (Sent call sequencer target sendable room) = tt
     ask_tells ask (Poisoned handle mine safe is usable) = both_lines (refused_lines s handle s.outstanding) (lines.Done s.number 0 answers.Poisoned ∷ []) (poisons_hold s handle s.outstanding) (tt, tt)
 
-    beat_tells : (c : BeatCase s seat.clock) → Comes IsTold (beaten w number seat (beaten_in s seat.clock c))
+    beat_tells : (c : BeatCase s member.clock) → Comes IsTold (beaten w number member (beaten_in s member.clock c))
     beat_tells (BeatTooLate late) = tt
     beat_tells (OutOfBeats early last) = tt
     beat_tells (Starts early unstarted room) = tt
@@ -187,7 +187,7 @@ module _ (R : Reply → Type 0) (E : Event → Type 0) where
     replied_tells out message h is own =
         told_lines s then (lines.Done s.number message.number (answer_of s message.result) ∷ []) (done_holds s message message.result refl (own_reply out message is own) (subst (OfOut R E) is h), tt)
 
-    give_tells : (out : Out) (c : GiveCase s seat.clock out) → OfOut R E out → Comes IsTold (gave w number seat (given_in s seat.clock out c))
+    give_tells : (out : Out) (c : GiveCase s member.clock out) → OfOut R E out → Comes IsTold (gave w number member (given_in s member.clock out c))
     give_tells out (GivenTooLate late) h = tt
     give_tells out (OfAnother early other) h = nothing_told
     give_tells out (Started message heard is standing fits) h = nothing_told
@@ -284,10 +284,10 @@ module _ (R : Reply → Type 0) (E : Event → Type 0) where
   pub case_tells : (old : WorldState) (step : Step) (new : WorldState) (printed : List Line) → IsCarried R E old → WorldCase old step new printed → OfLines printed
   case_tells old step new printed h (ComesUp u) = subst OfLines (sym u.tells) (tt, tt)
   case_tells old step new printed h (Joins j) = subst OfLines (sym j.tells) tt
-  case_tells old step new printed h (Asks a) = it_comes IsTold (asked old a.number a.seat (asked_in a.seat.client a.seat.clock a.ask a.case)) new printed a.is (ask_tells old a.number a.seat a.ask a.case)
-  case_tells old step new printed h (Beats b) = it_comes IsTold (beaten old b.number b.seat (beaten_in b.seat.client b.seat.clock b.case)) new printed b.is (beat_tells old b.number b.seat b.case)
+  case_tells old step new printed h (Asks a) = it_comes IsTold (asked old a.number a.member (asked_in a.member.client a.member.clock a.ask a.case)) new printed a.is (ask_tells old a.number a.member a.ask a.case)
+  case_tells old step new printed h (Beats b) = it_comes IsTold (beaten old b.number b.member (beaten_in b.member.client b.member.clock b.case)) new printed b.is (beat_tells old b.number b.member b.case)
   case_tells old step new printed h (Gives g) =
-      it_comes IsTold (gave old (out_client g.out) g.seat (given_in g.seat.client g.seat.clock g.out g.case)) new printed g.is (give_tells old (out_client g.out) g.seat g.out g.case (h.sent g.at g.out g.was_sent))
+      it_comes IsTold (gave old (out_client g.out) g.member (given_in g.member.client g.member.clock g.out g.case)) new printed g.is (give_tells old (out_client g.out) g.member g.out g.case (h.sent g.at g.out g.was_sent))
   case_tells old step new printed h (Ticks t) = subst OfLines (sym t.tells) tt
   case_tells old step new printed h (Takes t) = subst OfLines (sym t.tells) (taken_tells (noted t.master old.clock) t.request t.case)
   case_tells old step new printed h (Sweeps t) = subst OfLines (sym t.tells) (swept_tells (noted t.master old.clock) t.case)

@@ -55,9 +55,9 @@ use Rattle.client_core.proofs.Leases.{LeaseDoes, asked_keeps, beaten_keeps_sessi
 use Rattle.client_core.proofs.Leases.LeaseDoes.{LeaseKept, LeaseLeft, LeaseCarried, LeaseBegun, LeaseBettered, LeasePassed}
 use Rattle.client_core.proofs.OneEntry.{EntryDoes, none_stays, asked_stays, beaten_stays, given_entry}
 use Rattle.client_core.proofs.OneEntry.EntryDoes.{EntryStays, EntryInstalled}
-use Rattle.seats_core.specs.declared.mail.Message.{Message}
-use Rattle.seats_core.specs.declared.mail.Message.TheVariants.{ToMaster}
-use Rattle.seats_core.specs.Messages.{call_of}
+use Rattle.world_clients.specs.declared.mail.Message.{Message}
+use Rattle.world_clients.specs.declared.mail.Message.TheVariants.{ToMaster}
+use Rattle.world_clients.specs.Messages.{call_of}
 use Rattle.world_laws.specs.Consistent.{AreHandles, IsSharedByName, HasAsked, Holds, OpensAs, IsAnswer}
 use Rattle.world_laws.proofs.MessagesGrow.{call_stays, call_new, its_call}
 use Rattle.world_laws.proofs.OneSession.{at_each}

@@ -1,13 +1,13 @@
 -- Why clocks are fair between any two points of a master's life.
 use Rattle.std.proofs.Common.{◌≡◌, ℕ, ◌+◌, ◌*◌, ◌-◌, ◌≤◌, List, [], ◌∷◌, sym, ◌∙◌, inl, inr, arith, subst}
 use Rattle.node_core.specs.declared.lines.Line.{Line}
-use Rattle.seats_core.specs.declared.steps.Step.{Step}
-use Rattle.seats_core.specs.declared.seats.Seat.{Seat}
-use Rattle.stage_core.specs.World.{WorldState, WorldView}
+use Rattle.world_clients.specs.declared.steps.Step.{Step}
+use Rattle.world_clients.specs.declared.members.WorldClient.{WorldClient}
+use Rattle.world_core.specs.World.{WorldState, WorldView}
 use Rattle.world_laws.specs.Consistent.{IsConsistent}
 use Rattle.world_laws.specs.Runs.{Run, AreFairClocks, KeepsClocksFair}
-use Rattle.stage_core.specs.Made.{Does}
-use Rattle.world_laws.proofs.SeatsFound.{le_of, some_same}
+use Rattle.world_core.specs.Made.{Does}
+use Rattle.world_laws.proofs.MembersFound.{le_of, some_same}
 use Rattle.world_laws.proofs.WorldCases.{world_case}
 use Rattle.world_laws.proofs.ConsistentSteps.{HasLater, Later, case_later, agrees_at, fair_at}
 
@@ -17,12 +17,12 @@ no_more a b = omega arith
 -- what was grows on, and the lead at the point of the least isn't more than it was
 begins : (w : WorldState) → Later w w
 begins w = record {
-  clients = λ client seat is. record {
-    next = seat;
+  clients = λ client member is. record {
+    next = member;
     there = is;
     calls = omega arith;
     clock = omega arith;
-    lead = λ same. no_more seat.least_now seat.least_clock;
+    lead = λ same. no_more member.least_now member.least_clock;
   };
   epoch = omega arith;
   clock = λ same. omega arith;
@@ -32,8 +32,8 @@ begins w = record {
 between : (a b c : ℕ) → a ≤ b → b ≤ c → c ≡ a → (b ≡ a) × (c ≡ b)
 between a b c h k e = (omega arith, omega arith)
 
-goes_on : (here mid later : WorldState) (client : ℕ) (seat : Seat) → Later here mid → Later mid later → HasLater here mid client seat → HasLater here later client seat
-goes_on here mid later client seat first past x =
+goes_on : (here mid later : WorldState) (client : ℕ) (member : WorldClient) → Later here mid → Later mid later → HasLater here mid client member → HasLater here later client member
+goes_on here mid later client member first past x =
     let y = past.clients client x.next x.there in
     let more = x.calls in
     let more_then = y.calls in
@@ -56,7 +56,7 @@ later_on here mid later first past =
     let epoch = first.epoch in
     let epoch_then = past.epoch in
     record {
-      clients = λ client seat is. goes_on here mid later client seat first past (first.clients client seat is);
+      clients = λ client member is. goes_on here mid later client member first past (first.clients client member is);
       epoch = omega arith;
       clock = λ same.
           let e = between here.rows.epoch mid.rows.epoch later.rows.epoch first.epoch past.epoch same in
@@ -83,16 +83,16 @@ moved_fair : (now past own own_then least_now least_own ln lo : ℕ) → now ≤
 moved_fair now past own own_then least_now least_own ln lo a b c d e = omega arith
 
 fair_between : (here later : WorldState) → IsConsistent here → IsConsistent later → Later here later → AreFairClocks here later
-fair_between here later h k l master successor up up_then same number seat moved is is_then =
+fair_between here later h k l master successor up up_then same number member moved is is_then =
     let epoch : later.rows.epoch ≡ here.rows.epoch =
     sym (agrees_at later later.master successor up_then k.master).epoch ∙ same ∙ (agrees_at here here.master master up h.master).epoch in
-    let x = l.clients number seat is in
+    let x = l.clients number member is in
     let next : x.next ≡ moved = some_same x.next moved (sym x.there ∙ is_then) in
-    let began = fair_at here here.master master up h.fair number seat is in
+    let began = fair_at here here.master master up h.fair number member is in
     let ended = fair_at later later.master successor up_then k.fair number moved is_then in
-    moved_fair here.clock later.clock seat.clock moved.clock seat.least_now seat.least_clock moved.least_now moved.least_clock (l.clock epoch)
-    (subst (λ (y : Seat). seat.clock ≤ y.clock) next x.clock) began.least
-    (subst (λ (y : Seat). 16 * y.least_now + 17 * seat.least_clock ≤ 16 * seat.least_now + 17 * y.least_clock) next (x.lead epoch))
+    moved_fair here.clock later.clock member.clock moved.clock member.least_now member.least_clock moved.least_now moved.least_clock (l.clock epoch)
+    (subst (λ (y : WorldClient). member.clock ≤ y.clock) next x.clock) began.least
+    (subst (λ (y : WorldClient). 16 * y.least_now + 17 * member.least_clock ≤ 16 * member.least_now + 17 * y.least_clock) next (x.lead epoch))
     (le_of (16 * later.clock + 17 * moved.least_clock) (16 * moved.least_now + 17 * moved.clock + 17) ended.fair)
 
 -- from each point of a run to its end

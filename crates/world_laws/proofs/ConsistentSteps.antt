@@ -42,41 +42,41 @@ use Rattle.lock_core.specs.Locks.{lock_at}
 use Rattle.cell_state.specs.State.{MasterState, master_of}
 use Rattle.cell_parts.specs.StoredSessions.{taken_over}
 use Rattle.cell_state.specs.Lookups.{session_of, repeated_reply, noted}
-use Rattle.deed_core.specs.Deeds.{with_note, edit_of, lock_changes}
+use Rattle.cell_update.specs.Updates.{with_note, edit_of, lock_changes}
 use Rattle.cell_core.specs.Step.{with_call, asking_for}
 use Rattle.cell_core.specs.Cases.{TakeCase, taken_by}
 use Rattle.sweep_laws.specs.SweepCase.{SweepCase, swept_by, swept_edits, gone_replies}
 use Rattle.sweep_laws.proofs.SweepCases.{first_tellings}
 use Rattle.cell_core.specs.Cases.TakeCase.{Repeated, StartQueued, OldBeat, BeatRefused, BeatParked, OldEpoch, Answered, Granted, Waits}
-use Rattle.turn_core.specs.Outcomes.{left_put}
-use Rattle.deed_core.specs.Replies.{turn_replies, puts_of, replies_to}
-use Rattle.deed_core.specs.Lapses.{lapses_of, lapses_puts, lapses_replies}
+use Rattle.cell_apply.specs.Outcomes.{left_put}
+use Rattle.cell_update.specs.Replies.{turn_replies, puts_of, replies_to}
+use Rattle.cell_update.specs.Lapses.{lapses_of, lapses_puts, lapses_replies}
 use Rattle.sweep_laws.specs.SweepCase.SweepCase.{Quiet, Recovers, Expires, Reopens, Tidies, Spared, Tidied, StartedAgain, Started as StartedFirst, OfEnded, Ended, Applied, Deleted, Locked, Awaited, Left}
 use Rattle.sweep_laws.specs.Kept.{IsKept}
 use Rattle.sweep_laws.specs.Up.{up_edits}
 use Rattle.client_parts.specs.declared.sessions.Session.TheVariants as sessions
 use Rattle.client_core.specs.State.{ClientState}
-use Rattle.seats_core.specs.declared.steps.Step.{Step}
-use Rattle.seats_core.specs.declared.steps.Step.TheVariants as steps
-use Rattle.seats_core.specs.declared.steps.Ticks.{Ticks as ClockSteps}
-use Rattle.stage_core.specs.declared.stages.Turn.{Turn}
-use Rattle.seats_core.specs.declared.mail.Message.{Message}
-use Rattle.seats_core.specs.declared.mail.Message.TheVariants.{ToMaster, ToClient}
-use Rattle.seats_core.specs.declared.seats.Seat.{Seat}
-use Rattle.seats_core.specs.Seats.{Clients, new_seat, seated, each_seat, at_up, clock_then}
-use Rattle.seats_core.specs.Messages.{request_at, out_at, call_of}
-use Rattle.stage_core.specs.World.{WorldState, WorldView, IsUndoubted, seat_of, new_world, world_step, world_sweep, without_quiet, step_edits, IsStored, IsLeft, stays_fair, are_fair, moved, ticked, without_master, Agrees}
+use Rattle.world_clients.specs.declared.steps.Step.{Step}
+use Rattle.world_clients.specs.declared.steps.Step.TheVariants as steps
+use Rattle.world_clients.specs.declared.steps.Ticks.{Ticks as ClockSteps}
+use Rattle.world_core.specs.declared.parts.SweepResult.{SweepResult}
+use Rattle.world_clients.specs.declared.mail.Message.{Message}
+use Rattle.world_clients.specs.declared.mail.Message.TheVariants.{ToMaster, ToClient}
+use Rattle.world_clients.specs.declared.members.WorldClient.{WorldClient}
+use Rattle.world_clients.specs.Members.{Clients, new_member, stepped, each_member, at_up, clock_then}
+use Rattle.world_clients.specs.Messages.{request_at, out_at, call_of}
+use Rattle.world_core.specs.World.{WorldState, WorldView, IsUndoubted, member_of, new_world, world_step, world_sweep, without_quiet, step_edits, IsStored, IsLeft, stays_fair, are_fair, moved, ticked, without_master, Agrees}
 use Rattle.world_laws.specs.Slices.{slice, standing_in}
 use Rattle.world_laws.specs.Contents.{TellsTrue}
-use Rattle.world_laws.specs.Consistent.{IsSeated, Holds, HasSent, IsAnswer, FitsMessages, Fits, IsNoted, IsInTurn, IsFairSince, AreFair, IsConsistent}
+use Rattle.world_laws.specs.Consistent.{IsMember, Holds, HasSent, IsAnswer, FitsMessages, Fits, IsNoted, IsInTurn, IsFairSince, AreFair, IsConsistent}
 use Rattle.world_laws.proofs.MessagesGrow.{none_sent, none_out, request_more, out_more, call_stays, call_more, call_new, no_call, no_request, one_call, its_call, one_request, one_no_out, out_among}
 use Rattle.world_laws.proofs.OneSession.{at_each, kept_in}
 use Rattle.world_laws.proofs.RelockedRows.{let_go, relocked_rows}
 use Rattle.world_laws.proofs.MasterFits.{fits_stays, tellings_fit, take_fits, sweep_fits}
 use Rattle.world_laws.proofs.AwaitedCalls.{awaits_unanswered, shows_own}
-use Rattle.world_laws.proofs.SeatsFound.{some_same, own_seat, other_seat, at_seats, each_found, at_each_seat, all_found, moves_so, fair_at_once, fair_beside}
-use Rattle.stage_core.specs.Made.{WasMade, WasRefused}
-use Rattle.stage_core.proofs.AsRead.{made_doubts, made_sure, refused_doubts, refused_sure}
+use Rattle.world_laws.proofs.MembersFound.{some_same, own_member, other_member, at_members, each_found, at_each_member, all_found, moves_so, fair_at_once, fair_beside}
+use Rattle.world_core.specs.Made.{WasMade, WasRefused}
+use Rattle.world_core.proofs.AsRead.{made_doubts, made_sure, refused_doubts, refused_sure}
 use Rattle.world_laws.proofs.WorldCases.{step_sweeps, swept_master, IsUp, IsSweep, WorldCase, world_case}
 use Rattle.world_laws.proofs.WorldCases.WorldCase.{ComesUp, Joins, Asks, Beats, Gives, Ticks, Takes, Sweeps, GoesDown, CutsSweep, CutsUp, LosesUp}
 use Rattle.world_laws.proofs.OwnSteps.{IsNoCall, IsNextCall, Sends, OfEpoch, sending, IsOwn, asks_own, beats_own, gives_own}
@@ -96,16 +96,16 @@ no_more a b = omega arith
 -- ---- what only grows
 
 -- a client is there later. While no other master has come up, the lead at the point of the least isn't more than it was
-pub record HasLater (old new : WorldState) (client : ℕ) (seat : Seat) : Type 0 where
-  pub next : Seat
-  pub there : seat_of new client ≡ Some next
-  pub calls : seat.client.calls ≤ next.client.calls
-  pub clock : seat.clock ≤ next.clock
-  pub lead : new.rows.epoch ≡ old.rows.epoch → 16 * next.least_now + 17 * seat.least_clock ≤ 16 * seat.least_now + 17 * next.least_clock
+pub record HasLater (old new : WorldState) (client : ℕ) (member : WorldClient) : Type 0 where
+  pub next : WorldClient
+  pub there : member_of new client ≡ Some next
+  pub calls : member.client.calls ≤ next.client.calls
+  pub clock : member.clock ≤ next.clock
+  pub lead : new.rows.epoch ≡ old.rows.epoch → 16 * next.least_now + 17 * member.least_clock ≤ 16 * member.least_now + 17 * next.least_clock
 
 -- clients stay, and neither their calls nor their clocks go back, nor the epoch, nor the clock of a master
 pub record Later (old new : WorldState) : Type 0 where
-  pub clients : (client : ℕ) (seat : Seat) → seat_of old client ≡ Some seat → HasLater old new client seat
+  pub clients : (client : ℕ) (member : WorldClient) → member_of old client ≡ Some member → HasLater old new client member
   pub epoch : old.rows.epoch ≤ new.rows.epoch
   pub clock : new.rows.epoch ≡ old.rows.epoch → old.clock ≤ new.clock
 
@@ -123,7 +123,7 @@ fits_more old new more (Some s) e h = subst (λ (xs : List Message). FitsMessage
 
 -- what its clients hold, what they were replied, and how each sees each name
 pub record IsServed (w : WorldState) : Type 0 where
-  pub holds : (number : ℕ) (seat : Seat) → seat_of w number ≡ Some seat → Holds w.messages seat.client
+  pub holds : (number : ℕ) (member : WorldClient) → member_of w number ≡ Some member → Holds w.messages member.client
   pub answers : (at : ℕ) (reply : Reply) → out_at w.messages at ≡ Some (outs.Reply reply) → IsAnswer w.messages w.rows.secret reply
   pub reached : (client : ℕ) (name : List ℕ) → Reached (slice client name w)
   pub tells : TellsTrue w
@@ -138,12 +138,12 @@ once_served w (Becomes.OnceServed consistent) = consistent
 module _ (old new : WorldState) (more : List Message) (h : IsConsistent old) (later : Later old new) (fresh : AreFresh old new more) where
   sent_later : (client number : ℕ) (call : CallMessage) → HasSent old client number call → HasSent new client number call
   sent_later client number call x =
-      let y = later.clients client x.seat x.joined in
+      let y = later.clients client x.member x.joined in
       let within = x.within in
       let at_least = y.calls in
       let past = x.past in
       let epoch = later.epoch in
-      record { seat = y.next; joined = y.there; within = omega arith; past = omega arith }
+      record { member = y.next; joined = y.there; within = omega arith; past = omega arith }
 
   all_named : (at : ℕ) (call : CallMessage) → request_at new.messages at ≡ Some (requests.Call call) → call_of new.messages call.client call.number ≡ Some call
   all_named at call is =
@@ -177,7 +177,7 @@ module _ (old new : WorldState) (more : List Message) (h : IsConsistent old) (la
         | inr b ↦ fresh.told b.0 present refused b.1 of
       ]
 
-  all_consistent : ((number : ℕ) (seat : Seat) → seat_of new number ≡ Some seat → IsSeated new.rows.epoch number seat) → Fits new new.master → new.lease ≡ old.lease → IsNoted new.clock new.master → AreFair new new.master → Becomes new
+  all_consistent : ((number : ℕ) (member : WorldClient) → member_of new number ≡ Some member → IsMember new.rows.epoch number member) → Fits new new.master → new.lease ≡ old.lease → IsNoted new.clock new.master → AreFair new new.master → Becomes new
   all_consistent clients fits lease noted fair = Becomes.OnceServed (λ master served. record {
     clients = clients;
     holds = served.holds;
@@ -262,24 +262,24 @@ outs_fresh old new sent e telling = record {
 
 same_clients : (old new : WorldState) → new.clients ≡ old.clients → old.rows.epoch ≤ new.rows.epoch → new.clock ≡ old.clock → Later old new
 same_clients old new e epoch clock = record {
-  clients = λ client seat is. record {
-    next = seat;
-    there = subst (λ (c : Clients). lookup (is_at (nat_cmp client)) c ≡ Some seat) (sym e) is;
-    calls = least seat.client.calls;
-    clock = least seat.clock;
-    lead = λ same. no_more seat.least_now seat.least_clock;
+  clients = λ client member is. record {
+    next = member;
+    there = subst (λ (c : Clients). lookup (is_at (nat_cmp client)) c ≡ Some member) (sym e) is;
+    calls = least member.client.calls;
+    clock = least member.clock;
+    lead = λ same. no_more member.least_now member.least_clock;
   };
   epoch = epoch;
   clock = λ same. omega (arith, clock);
 }
 
-seated_later : (old new number : ℕ) (seat : Seat) → old ≤ new → IsSeated old number seat → IsSeated new number seat
-seated_later old new number seat more t = let past = t.past in record { own = t.own; past = omega arith; unstarted = t.unstarted; live = t.live; noted = t.noted }
+stepped_later : (old new number : ℕ) (member : WorldClient) → old ≤ new → IsMember old number member → IsMember new number member
+stepped_later old new number member more t = let past = t.past in record { own = t.own; past = omega arith; unstarted = t.unstarted; live = t.live; noted = t.noted }
 
-same_seats : (old new : WorldState) → IsConsistent old → new.clients ≡ old.clients → old.rows.epoch ≤ new.rows.epoch → (number : ℕ) (seat : Seat) → seat_of new number ≡ Some seat → IsSeated new.rows.epoch number seat
-same_seats old new h e epoch number seat is =
-    let k : seat_of old number ≡ Some seat = subst (λ (c : Clients). lookup (is_at (nat_cmp number)) c ≡ Some seat) e is in
-    seated_later old.rows.epoch new.rows.epoch number seat epoch (h.clients number seat k)
+same_members : (old new : WorldState) → IsConsistent old → new.clients ≡ old.clients → old.rows.epoch ≤ new.rows.epoch → (number : ℕ) (member : WorldClient) → member_of new number ≡ Some member → IsMember new.rows.epoch number member
+same_members old new h e epoch number member is =
+    let k : member_of old number ≡ Some member = subst (λ (c : Clients). lookup (is_at (nat_cmp number)) c ≡ Some member) e is in
+    stepped_later old.rows.epoch new.rows.epoch number member epoch (h.clients number member k)
 
 -- ---- the rows of the table: a master comes up
 
@@ -301,7 +301,7 @@ module _ (w : WorldState) (h : IsConsistent w) (now : ℕ) where
     rows = changed_rows w.rows (up_edits w.rows);
     master = Some (master_of (changed_rows w.rows (up_edits w.rows)) w.lease now);
     clock = now;
-    clients = each_seat (λ number. at_up now) w.clients;
+    clients = each_member (λ number. at_up now) w.clients;
   }
 
   next_epoch : w.rows.epoch ≤ w.rows.epoch + 1
@@ -312,11 +312,11 @@ module _ (w : WorldState) (h : IsConsistent w) (now : ℕ) where
 
   up_later : Later w up
   up_later = record {
-    clients = λ client seat is. record {
-      next = at_up now seat;
+    clients = λ client member is. record {
+      next = at_up now member;
       there = each_found (λ number. at_up now) w.clients client ∙ ap (λ o. option_map (at_up now) o) is;
-      calls = least seat.client.calls;
-      clock = least seat.clock;
+      calls = least member.client.calls;
+      clock = least member.clock;
       lead = λ same. not_next same;
     };
     epoch = next_epoch;
@@ -330,28 +330,28 @@ module _ (w : WorldState) (h : IsConsistent w) (now : ℕ) where
   up_holds : Becomes up
   up_holds =
       all_consistent w up [] h up_later (none_fresh w up refl)
-      (at_each_seat (λ number. at_up now) w.clients (λ q x. IsSeated (w.rows.epoch + 1) q x) (λ q x is.
-      let t = seated_later w.rows.epoch (w.rows.epoch + 1) q x next_epoch (h.clients q x is) in record { own = t.own; past = t.past; unstarted = t.unstarted; live = t.live; noted = t.noted }))
+      (at_each_member (λ number. at_up now) w.clients (λ q x. IsMember (w.rows.epoch + 1) q x) (λ q x is.
+      let t = stepped_later w.rows.epoch (w.rows.epoch + 1) q x next_epoch (h.clients q x is) in record { own = t.own; past = t.past; unstarted = t.unstarted; live = t.live; noted = t.noted }))
       (record { queue = tt; kept = λ client kept is. no_kept client kept is; replies = λ client kept reply is of. no_kept client kept is; answers = λ client kept reply is of. no_kept client kept is; turns = λ client. (all_first now w.rows.sessions client).1; awaited = λ client waits. refl }) refl (least now)
-      (at_each_seat (λ number. at_up now) w.clients (λ q x. IsFairSince now x) (λ q x is. fair_at_once now (at_up now x) refl refl))
+      (at_each_member (λ number. at_up now) w.clients (λ q x. IsFairSince now x) (λ q x is. fair_at_once now (at_up now x) refl refl))
 
 -- ---- a client joins
 
-module _ (w : WorldState) (h : IsConsistent w) (number : ℕ) (principal : List ℕ) (free : seat_of w number ≡ None) where
-  abbrev newcomer : Seat
-  newcomer = new_seat number principal w.clock
+module _ (w : WorldState) (h : IsConsistent w) (number : ℕ) (principal : List ℕ) (free : member_of w number ≡ None) where
+  abbrev newcomer : WorldClient
+  newcomer = new_member number principal w.clock
 
   abbrev joined : WorldState
   joined = record w { clients = insert_entry nat_cmp w.clients number newcomer }
 
-  at_others : (q : ℕ) → q ≢ number → seat_of joined q ≡ seat_of w q
+  at_others : (q : ℕ) → q ≢ number → member_of joined q ≡ member_of w q
   at_others q apart = lookup_put_apart number q apart w.clients newcomer
 
   join_later : Later w joined
   join_later = record {
     clients = λ q x is. record {
       next = x;
-      there = at_others q (λ e. let i : seat_of w number ≡ Some x = rw e at is in cc) ∙ is;
+      there = at_others q (λ e. let i : member_of w number ≡ Some x = rw e at is in cc) ∙ is;
       calls = least x.client.calls;
       clock = least x.clock;
       lead = λ same. no_more x.least_now x.least_clock;
@@ -361,9 +361,9 @@ module _ (w : WorldState) (h : IsConsistent w) (number : ℕ) (principal : List 
   }
 
   -- what holds of the new client and of all others
-  pub at_joined : (P : ℕ → Seat → Type 0) → P number newcomer → ((q : ℕ) (x : Seat) → seat_of w q ≡ Some x → P q x) → (q : ℕ) (x : Seat) → seat_of joined q ≡ Some x → P q x
+  pub at_joined : (P : ℕ → WorldClient → Type 0) → P number newcomer → ((q : ℕ) (x : WorldClient) → member_of w q ≡ Some x → P q x) → (q : ℕ) (x : WorldClient) → member_of joined q ≡ Some x → P q x
   at_joined P own others q =
-      at_each (λ n. (x : Seat) → seat_of joined n ≡ Some x → P n x) number
+      at_each (λ n. (x : WorldClient) → member_of joined n ≡ Some x → P n x) number
       (λ x is. subst (λ y. P number y) (some_same newcomer x (sym (lookup_put number w.clients newcomer) ∙ is)) own)
       (λ n apart x is. others n x (sym (at_others n apart) ∙ is)) q
 
@@ -374,28 +374,28 @@ module _ (w : WorldState) (h : IsConsistent w) (number : ℕ) (principal : List 
   join_holds : Becomes joined
   join_holds =
       all_consistent w joined [] h join_later (none_fresh w joined refl)
-      (at_joined (λ q x. IsSeated w.rows.epoch q x) (record { own = refl; past = zero_least w.rows.epoch; unstarted = λ e. refl; live = λ e. cc; noted = least 0 }) h.clients)
+      (at_joined (λ q x. IsMember w.rows.epoch q x) (record { own = refl; past = zero_least w.rows.epoch; unstarted = λ e. refl; live = λ e. cc; noted = least 0 }) h.clients)
       (fits_more w joined [] w.master (sym (append-nil w.messages)) h.fits) refl h.noted (fair_joined w.master h.fair)
 
 -- ---- a client does a step
 
-module _ (w : WorldState) (h : IsConsistent w) (number : ℕ) (seat : Seat) (found : seat_of w number ≡ Some seat) (client : ClientState) (messages : List Message) where
+module _ (w : WorldState) (h : IsConsistent w) (number : ℕ) (member : WorldClient) (found : member_of w number ≡ Some member) (client : ClientState) (messages : List Message) where
   abbrev acted : WorldState
-  acted = record w { clients = seated w.clients number seat client; messages = messages }
+  acted = record w { clients = stepped w.clients number member client; messages = messages }
 
-  own_later : seat.client.calls ≤ client.calls → Later w acted
+  own_later : member.client.calls ≤ client.calls → Later w acted
   own_later more = record {
-    clients = λ q x is. (at_each (λ n. (y : Seat) → seat_of w n ≡ Some y → HasLater w acted n y) number
-        (λ y at. subst (λ z. HasLater w acted number z) (some_same seat y (sym found ∙ at)) (record {
-          next = record seat { client = client };
-          there = own_seat w.clients number seat client found;
+    clients = λ q x is. (at_each (λ n. (y : WorldClient) → member_of w n ≡ Some y → HasLater w acted n y) number
+        (λ y at. subst (λ z. HasLater w acted number z) (some_same member y (sym found ∙ at)) (record {
+          next = record member { client = client };
+          there = own_member w.clients number member client found;
           calls = more;
-          clock = least seat.clock;
-          lead = λ same. no_more seat.least_now seat.least_clock;
+          clock = least member.clock;
+          lead = λ same. no_more member.least_now member.least_clock;
         }))
         (λ n apart y at. record {
           next = y;
-          there = other_seat w.clients number seat client found n apart ∙ at;
+          there = other_member w.clients number member client found n apart ∙ at;
           calls = least y.client.calls;
           clock = least y.clock;
           lead = λ same. no_more y.least_now y.least_clock;
@@ -407,19 +407,19 @@ module _ (w : WorldState) (h : IsConsistent w) (number : ℕ) (seat : Seat) (fou
   fair_acted : (m : Option MasterState) → AreFair w m → AreFair acted m
   fair_acted None fair = tt
   fair_acted (Some s) fair =
-      let own = fair number seat found in
-      at_seats w.clients number seat client found (λ q x. IsFairSince w.clock x) (record { fair = own.fair; least = own.least }) fair
+      let own = fair number member found in
+      at_members w.clients number member client found (λ q x. IsFairSince w.clock x) (record { fair = own.fair; least = own.least }) fair
 
-  own_consistent : (more : List Message) → messages ≡ w.messages ++ more → Later w acted → AreFresh w acted more → IsSeated w.rows.epoch number (record seat { client = client }) → Becomes acted
+  own_consistent : (more : List Message) → messages ≡ w.messages ++ more → Later w acted → AreFresh w acted more → IsMember w.rows.epoch number (record member { client = client }) → Becomes acted
   own_consistent more grown later fresh own =
-      all_consistent w acted more h later fresh (at_seats w.clients number seat client found (λ q x. IsSeated w.rows.epoch q x) own h.clients)
+      all_consistent w acted more h later fresh (at_members w.clients number member client found (λ q x. IsMember w.rows.epoch q x) own h.clients)
       (fits_more w acted more w.master grown h.fits) refl h.noted (fair_acted w.master h.fair)
 
--- the client's own seat then
-module _ (w : WorldState) (h : IsConsistent w) (number : ℕ) (seat : Seat) (found : seat_of w number ≡ Some seat) (client : ClientState) where
-  seated_by : client.number ≡ seat.client.number → client.clock ≡ max seat.client.clock seat.clock → OfEpoch w.messages seat.client client → IsSeated w.rows.epoch number (record seat { client = client })
-  seated_by own notes (SameEpoch epoch unstarted live) =
-      let t = h.clients number seat found in
+-- the client's own member then
+module _ (w : WorldState) (h : IsConsistent w) (number : ℕ) (member : WorldClient) (found : member_of w number ≡ Some member) (client : ClientState) where
+  stepped_by : client.number ≡ member.client.number → client.clock ≡ max member.client.clock member.clock → OfEpoch w.messages member.client client → IsMember w.rows.epoch number (record member { client = client })
+  stepped_by own notes (SameEpoch epoch unstarted live) =
+      let t = h.clients number member found in
       let within = t.noted in
       let past = t.past in
       record {
@@ -429,8 +429,8 @@ module _ (w : WorldState) (h : IsConsistent w) (number : ℕ) (seat : Seat) (fou
         live = λ e. let some = t.live (live e) in omega (arith, epoch, some);
         noted = omega (arith, notes, within);
       }
-  seated_by own notes (GrantedEpoch at started sent epoch live) =
-      let t = h.clients number seat found in
+  stepped_by own notes (GrantedEpoch at started sent epoch live) =
+      let t = h.clients number member found in
       let within = t.noted in
       let past = h.started at started sent in
       record {
@@ -440,8 +440,8 @@ module _ (w : WorldState) (h : IsConsistent w) (number : ℕ) (seat : Seat) (fou
         live = λ e. let some = started_some w h.reached at started sent in omega (arith, epoch, some);
         noted = omega (arith, notes, within);
       }
-  seated_by own notes (LearnedEpoch at present refused sent fault later epoch live) =
-      let t = h.clients number seat found in
+  stepped_by own notes (LearnedEpoch at present refused sent fault later epoch live) =
+      let t = h.clients number member found in
       let within = t.noted in
       let past = h.told at present refused sent fault in
       record {
@@ -453,28 +453,28 @@ module _ (w : WorldState) (h : IsConsistent w) (number : ℕ) (seat : Seat) (fou
       }
 
 -- the number of the client's next call is new
-pub unsent : (w : WorldState) → IsConsistent w → (number : ℕ) (seat : Seat) → seat_of w number ≡ Some seat → (call : CallMessage) → IsNextCall seat.client call → (o : Option CallMessage) → call_of w.messages call.client call.number ≡ o → o ≡ None
-unsent w h number seat found call m None is = refl
-unsent w h number seat found call m (Some other) is =
+pub unsent : (w : WorldState) → IsConsistent w → (number : ℕ) (member : WorldClient) → member_of w number ≡ Some member → (call : CallMessage) → IsNextCall member.client call → (o : Option CallMessage) → call_of w.messages call.client call.number ≡ o → o ≡ None
+unsent w h number member found call m None is = refl
+unsent w h number member found call m (Some other) is =
     let s = h.sent call.client call.number other is in
-    let n : call.client ≡ number = m.client ∙ (h.clients number seat found).own in
-    let i : seat_of w number ≡ Some s.seat = subst (λ k. seat_of w k ≡ Some s.seat) n s.joined in
-    let y : seat ≡ s.seat = some_same seat s.seat (sym found ∙ i) in
-    let k : call.number ≤ seat.client.calls = subst (λ (x : Seat). call.number ≤ x.client.calls) (sym y) s.within in
+    let n : call.client ≡ number = m.client ∙ (h.clients number member found).own in
+    let i : member_of w number ≡ Some s.member = subst (λ k. member_of w k ≡ Some s.member) n s.joined in
+    let y : member ≡ s.member = some_same member s.member (sym found ∙ i) in
+    let k : call.number ≤ member.client.calls = subst (λ (x : WorldClient). call.number ≤ x.client.calls) (sym y) s.within in
     let is_next = m.number in
     absurd (omega arith)
 
-call_fresh : (w : WorldState) (h : IsConsistent w) (number : ℕ) (seat : Seat) (found : seat_of w number ≡ Some seat) (client : ClientState) (call : CallMessage) → IsNextCall seat.client call → client.calls ≡ seat.client.calls + 1 → AreFresh w (record w { clients = seated w.clients number seat client; messages = w.messages ++ ToMaster (requests.Call call) ∷ [] }) (ToMaster (requests.Call call) ∷ [])
-call_fresh w h number seat found client call m calls =
-    let new : WorldState = record w { clients = seated w.clients number seat client; messages = w.messages ++ ToMaster (requests.Call call) ∷ [] } in
-    let t = h.clients number seat found in
+call_fresh : (w : WorldState) (h : IsConsistent w) (number : ℕ) (member : WorldClient) (found : member_of w number ≡ Some member) (client : ClientState) (call : CallMessage) → IsNextCall member.client call → client.calls ≡ member.client.calls + 1 → AreFresh w (record w { clients = stepped w.clients number member client; messages = w.messages ++ ToMaster (requests.Call call) ∷ [] }) (ToMaster (requests.Call call) ∷ [])
+call_fresh w h number member found client call m calls =
+    let new : WorldState = record w { clients = stepped w.clients number member client; messages = w.messages ++ ToMaster (requests.Call call) ∷ [] } in
+    let t = h.clients number member found in
     let n : call.client ≡ number = m.client ∙ t.own in
     let is_next = m.number in
     let of_epoch = m.epoch in
     let past = t.past in
     let sent : HasSent new call.client call.number call = subst (λ k. HasSent new k call.number call) (sym n) (record {
-      seat = record seat { client = client };
-      joined = own_seat w.clients number seat client found;
+      member = record member { client = client };
+      joined = own_member w.clients number member client found;
       within = omega arith;
       past = omega arith;
     }) in
@@ -483,33 +483,33 @@ call_fresh w h number seat found client call m calls =
       named = λ j other k.
           let e = one_request (requests.Call call) (requests.Call other) j k in
           let o : other ≡ call = cc in
-          rw o (unsent w h number seat found call m (call_of w.messages call.client call.number) refl, its_call call);
+          rw o (unsent w h number member found call m (call_of w.messages call.client call.number) refl, its_call call);
       sent = λ q k other is. let t = one_call call other q k is in rw (t.0, ← t.1, ← t.2) sent;
       started = λ j started k. absurd (one_no_out (requests.Call call) (outs.Started started) j k);
       told = λ j present refused k of. absurd (one_no_out (requests.Call call) (outs.Refused refused) j k);
     }
 
-module _ (w : WorldState) (h : IsConsistent w) (number : ℕ) (seat : Seat) (found : seat_of w number ≡ Some seat) (client : ClientState) (own : IsSeated w.rows.epoch number (record seat { client = client })) where
-  sends_holds : (sent : Option Request) → Sends seat.client client sent → Becomes (record w { clients = seated w.clients number seat client; messages = w.messages ++ sending sent })
+module _ (w : WorldState) (h : IsConsistent w) (number : ℕ) (member : WorldClient) (found : member_of w number ≡ Some member) (client : ClientState) (own : IsMember w.rows.epoch number (record member { client = client })) where
+  sends_holds : (sent : Option Request) → Sends member.client client sent → Becomes (record w { clients = stepped w.clients number member client; messages = w.messages ++ sending sent })
   sends_holds None (Nothing e calls) =
-      own_consistent w h number seat found client (w.messages ++ []) [] refl (own_later w h number seat found client (w.messages ++ []) (omega (arith, calls)))
-      (none_fresh w (record w { clients = seated w.clients number seat client; messages = w.messages ++ [] }) (append-nil w.messages)) own
+      own_consistent w h number member found client (w.messages ++ []) [] refl (own_later w h number member found client (w.messages ++ []) (omega (arith, calls)))
+      (none_fresh w (record w { clients = stepped w.clients number member client; messages = w.messages ++ [] }) (append-nil w.messages)) own
   sends_holds None (NoCall request e none calls) = cc
   sends_holds None (NextCall call e m calls) = cc
   sends_holds (Some request) (Nothing e calls) = cc
   sends_holds (Some request) (NoCall sent e none calls) =
       let is : sent ≡ request = sym (some_same request sent e) in
-      own_consistent w h number seat found client (w.messages ++ ToMaster request ∷ []) (ToMaster request ∷ []) refl (own_later w h number seat found client (w.messages ++ ToMaster request ∷ []) (omega (arith, calls)))
-      (beat_fresh w (record w { clients = seated w.clients number seat client; messages = w.messages ++ ToMaster request ∷ [] }) request (subst IsNoCall is none) refl) own
+      own_consistent w h number member found client (w.messages ++ ToMaster request ∷ []) (ToMaster request ∷ []) refl (own_later w h number member found client (w.messages ++ ToMaster request ∷ []) (omega (arith, calls)))
+      (beat_fresh w (record w { clients = stepped w.clients number member client; messages = w.messages ++ ToMaster request ∷ [] }) request (subst IsNoCall is none) refl) own
   sends_holds (Some request) (NextCall call e m calls) =
-      subst (λ r. Becomes (record w { clients = seated w.clients number seat client; messages = w.messages ++ ToMaster r ∷ [] })) (sym (some_same request (requests.Call call) e))
-      (own_consistent w h number seat found client (w.messages ++ ToMaster (requests.Call call) ∷ []) (ToMaster (requests.Call call) ∷ []) refl
-      (own_later w h number seat found client (w.messages ++ ToMaster (requests.Call call) ∷ []) (omega (arith, calls))) (call_fresh w h number seat found client call m calls) own)
+      subst (λ r. Becomes (record w { clients = stepped w.clients number member client; messages = w.messages ++ ToMaster r ∷ [] })) (sym (some_same request (requests.Call call) e))
+      (own_consistent w h number member found client (w.messages ++ ToMaster (requests.Call call) ∷ []) (ToMaster (requests.Call call) ∷ []) refl
+      (own_later w h number member found client (w.messages ++ ToMaster (requests.Call call) ∷ []) (omega (arith, calls))) (call_fresh w h number member found client call m calls) own)
 
 own_holds : (old new : WorldState) (printed : List Line) → IsConsistent old → IsOwn old new printed → Becomes new
 own_holds old new printed h o =
-    subst Becomes (sym (o.is ∙ ap (λ m. record old { clients = seated old.clients o.number o.seat o.client; messages = m }) o.grown))
-    (sends_holds old h o.number o.seat o.found o.client (seated_by old h o.number o.seat o.found o.client o.own o.notes o.epoch) o.sent o.sends)
+    subst Becomes (sym (o.is ∙ ap (λ m. record old { clients = stepped old.clients o.number o.member o.client; messages = m }) o.grown))
+    (sends_holds old h o.number o.member o.found o.client (stepped_by old h o.number o.member o.found o.client o.own o.notes o.epoch) o.sent o.sends)
 
 more_calls : (s new : ClientState) (sent : Option Request) → Sends s new sent → s.calls ≤ new.calls
 more_calls s new sent (Nothing e calls) = omega (arith, calls)
@@ -517,7 +517,7 @@ more_calls s new sent (NoCall request e none calls) = omega (arith, calls)
 more_calls s new sent (NextCall call e m calls) = omega (arith, calls)
 
 pub own_goes : (old new : WorldState) (printed : List Line) → IsConsistent old → IsOwn old new printed → Later old new
-own_goes old new printed h o = subst (Later old) (sym o.is) (own_later old h o.number o.seat o.found o.client new.messages (more_calls o.seat.client o.client o.sent o.sends))
+own_goes old new printed h o = subst (Later old) (sym o.is) (own_later old h o.number o.member o.found o.client new.messages (more_calls o.member.client o.client o.sent o.sends))
 
 -- ---- clocks move
 
@@ -539,8 +539,8 @@ module _ (w : WorldState) (h : IsConsistent w) (ticks : ClockSteps) where
     clock = λ same. omega arith;
   }
 
-  tick_seated : (q : ℕ) (x : Seat) → seat_of w q ≡ Some x → IsSeated w.rows.epoch q (moved w.master w ticks q x)
-  tick_seated q x is =
+  tick_stepped : (q : ℕ) (x : WorldClient) → member_of w q ≡ Some x → IsMember w.rows.epoch q (moved w.master w ticks q x)
+  tick_stepped q x is =
       let t = h.clients q x is in
       let m = moves_so w.master w ticks q x in
       let same = m.client in
@@ -558,16 +558,16 @@ module _ (w : WorldState) (h : IsConsistent w) (ticks : ClockSteps) where
   noted_ticked None noted = tt
   noted_ticked (Some s) noted = omega (arith, noted)
 
-fair_ticked : (w : WorldState) (ticks : ClockSteps) (m : Option MasterState) → are_fair m w ticks ≡ true → AreFair (record w { clock = w.clock + ticks.master; clients = each_seat (moved m w ticks) w.clients }) m
+fair_ticked : (w : WorldState) (ticks : ClockSteps) (m : Option MasterState) → are_fair m w ticks ≡ true → AreFair (record w { clock = w.clock + ticks.master; clients = each_member (moved m w ticks) w.clients }) m
 fair_ticked w ticks None fair = tt
 fair_ticked w ticks (Some s) fair =
-    at_each_seat (moved (Some s) w ticks) w.clients (λ q x. IsFairSince (w.clock + ticks.master) x)
+    at_each_member (moved (Some s) w ticks) w.clients (λ q x. IsFairSince (w.clock + ticks.master) x)
     (λ q x is. fair_beside (w.clock + ticks.master) (clock_then ticks q x) x (all_found (stays_fair w ticks) w.clients q x fair is))
 
 tick_holds : (w : WorldState) → IsConsistent w → (ticks : ClockSteps) → are_fair w.master w ticks ≡ true → Becomes (ticked w ticks)
 tick_holds w h ticks fair =
     all_consistent w (ticked w ticks) [] h (tick_later w h ticks) (none_fresh w (ticked w ticks) refl)
-    (at_each_seat (moved w.master w ticks) w.clients (λ q x. IsSeated w.rows.epoch q x) (tick_seated w h ticks))
+    (at_each_member (moved w.master w ticks) w.clients (λ q x. IsMember w.rows.epoch q x) (tick_stepped w h ticks))
     (fits_more w (ticked w ticks) [] w.master (sym (append-nil w.messages)) h.fits) refl (noted_ticked w h ticks w.master h.noted) (fair_ticked w ticks w.master fair)
 
 -- ---- the master takes and sweeps
@@ -578,7 +578,7 @@ fits_at w o s e k = rw e at k
 pub agrees_at : (w : WorldState) (o : Option MasterState) (s : MasterState) → o ≡ Some s → Agrees w o → IsKept w.cell w.rows s
 agrees_at w o s e k = rw e at k
 
-pub fair_at : (w : WorldState) (o : Option MasterState) (s : MasterState) → o ≡ Some s → AreFair w o → (number : ℕ) (seat : Seat) → seat_of w number ≡ Some seat → IsFairSince w.clock seat
+pub fair_at : (w : WorldState) (o : Option MasterState) (s : MasterState) → o ≡ Some s → AreFair w o → (number : ℕ) (member : WorldClient) → member_of w number ≡ Some member → IsFairSince w.clock member
 fair_at w o s e k = rw e at k
 
 noted_at : (now : ℕ) (o : Option MasterState) (s : MasterState) → o ≡ Some s → IsNoted now o → s.clock ≤ now
@@ -697,7 +697,7 @@ module _ (w : WorldState) (h : IsConsistent w) (s : MasterState) (up : w.master 
       let clock = taken_clock (noted s w.clock) request c in
       let telling : AreTellingIn w.rows.epoch sent = subst (λ n. AreTellingIn n sent) (agrees_at w w.master s up h.master).epoch (taken_tells (noted s w.clock) request c) in
       let early = within in
-      all_consistent w new (map ToClient sent) h (same_clients w new refl (least w.rows.epoch) refl) (outs_fresh w new sent refl telling) (same_seats w new h refl (least w.rows.epoch))
+      all_consistent w new (map ToClient sent) h (same_clients w new refl (least w.rows.epoch) refl) (outs_fresh w new sent refl telling) (same_members w new h refl (least w.rows.epoch))
       fits refl (omega (arith, clock, early)) (fair_at w w.master s up h.fair)
 
   sweep_holds : (c : SweepCase (noted s w.clock)) → Becomes (record w { rows = changed_rows w.rows (swept_edits (noted s w.clock) c); master = Some (swept_master (noted s w.clock) c); messages = w.messages ++ map ToClient (swept_by (noted s w.clock) c).1.outs })
@@ -712,7 +712,7 @@ module _ (w : WorldState) (h : IsConsistent w) (s : MasterState) (up : w.master 
       let no_less : w.rows.epoch ≤ new.rows.epoch = omega (arith, stays) in
       let clock = swept_clock (noted s w.clock) c in
       let early = within in
-      all_consistent w new (map ToClient sent) h (same_clients w new refl no_less refl) (outs_fresh w new sent refl telling) (same_seats w new h refl no_less)
+      all_consistent w new (map ToClient sent) h (same_clients w new refl no_less refl) (outs_fresh w new sent refl telling) (same_members w new h refl no_less)
       (fits_stays w.messages (map ToClient sent) (swept_master (noted s w.clock) c) fits) refl (omega (arith, clock, early)) (fair_at w w.master s up h.fair)
 
 -- ---- the master goes down
@@ -722,7 +722,7 @@ down_later w = same_clients w (without_master w) refl (least w.rows.epoch) refl
 
 down_holds : (w : WorldState) → IsConsistent w → Becomes (without_master w)
 down_holds w h =
-    all_consistent w (without_master w) [] h (down_later w) (none_fresh w (without_master w) refl) (same_seats w (without_master w) h refl (least w.rows.epoch)) tt refl tt tt
+    all_consistent w (without_master w) [] h (down_later w) (none_fresh w (without_master w) refl) (same_members w (without_master w) h refl (least w.rows.epoch)) tt refl tt tt
 
 -- ---- a crash cuts a step behind its commit
 
@@ -732,7 +732,7 @@ cut_later w rows more = same_clients w (record (without_master w) { rows = rows 
 cut_holds : (w : WorldState) → IsConsistent w → (rows : Rows) → w.rows.epoch ≤ rows.epoch → Becomes (record (without_master w) { rows = rows })
 cut_holds w h rows more =
     let new : WorldState = record (without_master w) { rows = rows } in
-    all_consistent w new [] h (cut_later w rows more) (none_fresh w new refl) (same_seats w new h refl more) tt refl tt tt
+    all_consistent w new [] h (cut_later w rows more) (none_fresh w new refl) (same_members w new h refl more) tt refl tt tt
 
 -- no master was up
 pub rows_only : (w : WorldState) (rows : Rows) → w.master ≡ None → record w { rows = rows } ≡ record (without_master w) { rows = rows }
@@ -798,7 +798,7 @@ step_holds leads old new step (Err fault) fits agrees made refused none =
     let sure : old.doubt ≡ 0 = omega arith in
     subst IsConsistent (sym (refused_sure old step new (lines.Refused fault ∷ []) refused none).left.same) (fits sure)
 
-pub swept_holds : LeadsOn → (old new : WorldView) (r : Result Turn Fault) → (IsUndoubted old → IsConsistent old.world) → Agrees new.world new.world.master → IfOk r (λ turn. world_sweep old.world old.world.master ≡ Ok (new.world, turn)) → OnOk r (IsStored (step_edits old.world steps.Sweep) old new) → OnErr r (IsLeft (step_edits old.world steps.Sweep) old new) → IsUndoubted new → IsConsistent new.world
+pub swept_holds : LeadsOn → (old new : WorldView) (r : Result SweepResult Fault) → (IsUndoubted old → IsConsistent old.world) → Agrees new.world new.world.master → IfOk r (λ turn. world_sweep old.world old.world.master ≡ Ok (new.world, turn)) → OnOk r (IsStored (step_edits old.world steps.Sweep) old new) → OnErr r (IsLeft (step_edits old.world steps.Sweep) old new) → IsUndoubted new → IsConsistent new.world
 swept_holds leads old new (Ok turn) fits agrees made stored left none =
     let rises = stored.doubted in
     let sure : old.doubt ≡ 0 = omega arith in
@@ -811,8 +811,8 @@ swept_holds leads old new (Err fault) fits agrees made stored left none =
 -- nothing was sent yet
 pub new_holds : (cell : List ℕ) (rows : Rows) (lease : ℕ) → lease ≤ longest_lease → IsConsistent (new_world cell rows lease)
 new_holds cell rows lease range = record {
-  clients = λ number seat is. cc;
-  holds = λ number seat is. cc;
+  clients = λ number member is. cc;
+  holds = λ number member is. cc;
   named = λ at call is. none_sent at (requests.Call call) is;
   sent = λ client number call is. cc;
   started = λ at started is. none_out at (outs.Started started) is;

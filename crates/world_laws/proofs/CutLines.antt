@@ -10,10 +10,10 @@ use Rattle.rights_core.specs.Rights.{numbers_ending}
 use Rattle.lock_core.specs.Turns.{reopened}
 use Rattle.lock_core.specs.Locks.{lock_at}
 use Rattle.cell_state.specs.State.{MasterState}
-use Rattle.deed_core.specs.Lapses.{lapses_of}
+use Rattle.cell_update.specs.Lapses.{lapses_of}
 use Rattle.sweep_laws.specs.SweepCase.{SweepCase, swept_by}
 use Rattle.sweep_laws.specs.SweepCase.SweepCase.{Recovers, Expires, Reopens, Left}
-use Rattle.stage_core.specs.World.{is_of_commit}
+use Rattle.world_core.specs.World.{is_of_commit}
 use Rattle.world_laws.proofs.LockLines.{reopened_of_locks, left_of_locks, expiry_kept}
 use Rattle.world_laws.specs.Runs.{Told, map_by, map_at, epoch_by, epoch_at, live_by, live_at, put_number, applied, rights_by, rights_at}
 

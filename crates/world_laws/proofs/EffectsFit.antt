@@ -47,7 +47,7 @@ use Rattle.lock_core.specs.declared.turns.Acquired.TheVariants as asked
 use Rattle.lock_core.specs.declared.turns.Turn.{Turn}
 use Rattle.lock_core.specs.State.{LockState}
 use Rattle.lock_core.specs.Turns.{tried, acquired, released}
-use Rattle.deed_core.specs.declared.deeds.Change.{Change}
+use Rattle.cell_update.specs.declared.updates.Change.{Change}
 use Rattle.cell_parts.specs.EphemeralNames.{is_ephemeral}
 use Rattle.cell_state.specs.Lookups.{has_open, has_to_stay}
 use Rattle.cell_core.specs.Ephemerals.{is_idle_node}
@@ -55,8 +55,8 @@ use Rattle.cell_parts.specs.Claims.{owner_of, claim_of}
 use Rattle.cell_state.specs.State.{MasterState}
 use Rattle.cell_state.specs.Lookups.{missing_right, node_of_handle, new_handle, sequencer_fault, lock_under, answer_on_node, answer_under, is_of_cell, may}
 use Rattle.cell_parts.specs.Calls.{node_fault, delay_fault, create_fault, write_fault, needing, bytes_of}
-use Rattle.turn_core.specs.declared.effects.Effect.{Effect}
-use Rattle.turn_core.specs.Effect.{answered, refused, changes_to, deleted, create_made, create_numbered, create_permitted, create_in, create_under, create_new, create_over, create_effect, create_under_sequencer, open_effect, generation_fits, is_last, put_at, acquire_by, try_by, release_by, delete_at, change_at, change_on, effect_on, handle_effect, effect, new_view, acls_of, with_content, with_acls}
+use Rattle.cell_apply.specs.declared.effects.Effect.{Effect}
+use Rattle.cell_apply.specs.Effect.{answered, refused, changes_to, deleted, create_made, create_numbered, create_permitted, create_in, create_under, create_new, create_over, create_effect, create_under_sequencer, open_effect, generation_fits, is_last, put_at, acquire_by, try_by, release_by, delete_at, change_at, change_on, effect_on, handle_effect, effect, new_view, acls_of, with_content, with_acls}
 use Rattle.sweep_laws.specs.Kept.{IsKept}
 use Rattle.world_laws.specs.Runs.{change_of}
 
@@ -349,8 +349,8 @@ module _ (cell : List ℕ) (rows : Rows) (s : MasterState) (k : IsKept cell rows
   unanswered handle call view (Some fault) none = cc
 
   -- what would be answered at once is answered, and else the change is made
-  turn_fits : (handle : Handle) (call : Call) (o : Option Fault) → Fits (option_map_or (λ answer. answered answer) (option_map_or (λ view. answer_under s handle call view o) (node_of_handle s handle) (Some (results.Refused faults.StaleInstance))) (change_on s handle call))
-  turn_fits handle call o =
+  application_fits : (handle : Handle) (call : Call) (o : Option Fault) → Fits (option_map_or (λ answer. answered answer) (option_map_or (λ view. answer_under s handle call view o) (node_of_handle s handle) (Some (results.Refused faults.StaleInstance))) (change_on s handle call))
+  application_fits handle call o =
       let stale : Option CallResult = Some (results.Refused faults.StaleInstance) in
       by_option Fits (λ (answer : CallResult). answered answer) (option_map_or (λ view. answer_under s handle call view o) (node_of_handle s handle) stale) (change_on s handle call) (λ answer is. tt)
       (λ none. by_option Fits (λ view. change_at s handle call view) (node_of_handle s handle) (refused faults.StaleInstance)
@@ -360,7 +360,7 @@ module _ (cell : List ℕ) (rows : Rows) (s : MasterState) (k : IsKept cell rows
 
   on_fits : (handle : Handle) (call : Call) (sequencer : Option (List ℕ)) → Fits (effect_on s handle call sequencer)
   on_fits handle (calls.Close bytes) sequencer = tt
-  on_fits handle call sequencer = turn_fits handle call (sequencer_fault s sequencer)
+  on_fits handle call sequencer = application_fits handle call (sequencer_fault s sequencer)
 
   handle_fits : (call : Call) (sequencer : Option (List ℕ)) (o : Option Handle) → Fits (handle_effect s call sequencer o)
   handle_fits call sequencer None = tt

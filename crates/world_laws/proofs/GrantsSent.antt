@@ -9,9 +9,9 @@ use Rattle.messages_cell.specs.declared.requests.CallMessage.{CallMessage}
 use Rattle.messages_cell.specs.declared.outs.Out.{Out}
 use Rattle.messages_cell.specs.declared.outs.Out.TheVariants as outs
 use Rattle.messages_cell.specs.declared.outs.Reply.{Reply}
-use Rattle.seats_core.specs.declared.mail.Message.{Message}
-use Rattle.seats_core.specs.declared.mail.Message.TheVariants.{ToMaster, ToClient}
-use Rattle.seats_core.specs.Messages.{call_of}
+use Rattle.world_clients.specs.declared.mail.Message.{Message}
+use Rattle.world_clients.specs.declared.mail.Message.TheVariants.{ToMaster, ToClient}
+use Rattle.world_clients.specs.Messages.{call_of}
 use Rattle.world_laws.specs.Slices.{Shown, Grants, GrantsSoFar, asks_for, stamped_grant, reply_grant, grant_of, put_grant, grants_of}
 use Rattle.world_laws.specs.Consistent.{HasGranted}
 use Rattle.world_laws.proofs.MessagesGrow.{first_of, call_append, call_stays}

@@ -30,8 +30,8 @@ use Rattle.client_parts.specs.declared.targets.Target.TheVariants as targets
 use Rattle.client_core.specs.State.{ClientState}
 use Rattle.client_parts.specs.Handles.{handle_of}
 use Rattle.client_core.specs.Lessons.{viewed, view_taught, absence_taught, taught}
-use Rattle.seats_core.specs.declared.mail.Message.{Message}
-use Rattle.seats_core.specs.Messages.{call_of}
+use Rattle.world_clients.specs.declared.mail.Message.{Message}
+use Rattle.world_clients.specs.Messages.{call_of}
 use Rattle.world_laws.specs.Slices.{Shown, asks_for, stamped_grant, grants_of}
 use Rattle.world_laws.specs.Consistent.{AreHandles}
 use Rattle.world_laws.proofs.ClientHolds.{IsReplied}

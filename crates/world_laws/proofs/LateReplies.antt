@@ -17,8 +17,8 @@ use Rattle.lock_core.specs.Turns.{is_of_client, any_waits, lapsed, concerns}
 use Rattle.lock_core.specs.Locks.{LockTable, lapses}
 use Rattle.cell_state.specs.State.{MasterState}
 use Rattle.cell_state.specs.Lookups.{kept_of, reply_of}
-use Rattle.deed_core.specs.Replies.{reply_to, replies_to, turn_replies}
-use Rattle.deed_core.specs.Lapses.{lapses_replies}
+use Rattle.cell_update.specs.Replies.{reply_to, replies_to, turn_replies}
+use Rattle.cell_update.specs.Lapses.{lapses_replies}
 use Rattle.world_laws.specs.Consistent.{awaits_lock, OpensAs}
 use Rattle.world_laws.proofs.LockWaiters.{or_left, or_right, ComesFrom, lapsed_comes}
 
@@ -60,8 +60,8 @@ module _ (s : MasterState) where
       (replies_late answer claims opens (λ q e. waited q (or_right (is_of_client q claim.owner) (list_any (λ c. is_of_client q c.owner) claims) e)))
 
   -- who got the lock, and who was turned away
-  pub turn_late : (waiters : List Claim) (turn : Turn) → ComesFrom waiters turn → HaveWaited waiters → AreLate s (turn_replies s turn)
-  turn_late waiters turn comes waited =
+  pub application_late : (waiters : List Claim) (turn : Turn) → ComesFrom waiters turn → HaveWaited waiters → AreLate s (turn_replies s turn)
+  application_late waiters turn comes waited =
       late_both (replies_to s results.Done turn.granted) (replies_to s (results.Refused faults.Exhausted) turn.exhausted)
       (replies_late results.Done turn.granted (λ call. tt) (λ q e. waited q (comes.granted (λ claim. is_of_client q claim.owner) e)))
       (replies_late (results.Refused faults.Exhausted) turn.exhausted (λ call. tt) (λ q e. waited q (comes.exhausted (λ claim. is_of_client q claim.owner) e)))
@@ -73,6 +73,6 @@ module _ (s : MasterState) where
       let after = lapsed entry.0 entry.1 client s.clock in
       elim (concerns client entry.1) as (λ b. AreLate s (lapses_replies s (map (λ e. lapsed e.0 e.1 client s.clock) (cond b (entry ∷ filter (λ e. concerns client e.1) rest) (filter (λ e. concerns client e.1) rest))))) [
         | true ↦ late_both (turn_replies s after.turn) (lapses_replies s (lapses rest client s.clock))
-            (turn_late entry.1.waiters after.turn (lapsed_comes entry.0 entry.1 client s.clock) (λ q e. h q (or_left (any_waits (is_of_client q) entry.1) (awaits_lock q rest) e))) more
+            (application_late entry.1.waiters after.turn (lapsed_comes entry.0 entry.1 client s.clock) (λ q e. h q (or_left (any_waits (is_of_client q) entry.1) (awaits_lock q rest) e))) more
         | false ↦ more
       ]

@@ -2,7 +2,7 @@ pub mod SilentLines
 pub mod LockLines
 pub mod RelockedRows
 pub mod OneSession
-pub mod SeatsFound
+pub mod MembersFound
 pub mod WorldCases
 pub mod CutLines
 pub mod OwnSteps

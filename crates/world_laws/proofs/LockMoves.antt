@@ -34,10 +34,10 @@ use Rattle.cell_parts.specs.Claims.{owner_of, claim_of}
 use Rattle.cell_state.specs.State.{MasterState}
 use Rattle.cell_state.specs.Lookups.{may, missing_right, is_of_cell, sequencer_fault, lock_under, node_of_handle, new_handle, answer_on}
 use Rattle.cell_parts.specs.Calls.{create_fault, bytes_of}
-use Rattle.turn_core.specs.declared.effects.Effect.{Effect}
-use Rattle.turn_core.specs.declared.effects.Locking.{Locking}
-use Rattle.turn_core.specs.declared.effects.Locking.TheVariants as lockings
-use Rattle.turn_core.specs.Effect.{answered, refused, changes_to, is_last, acls_of, new_view, create_made, create_numbered, create_permitted, create_in, create_under, create_new, create_over, create_effect, create_under_sequencer, open_effect, acquire_by, try_by, release_by, close_by, close_under, generation_fits, with_content, with_acls, put_at, deleted, change_at, change_on, effect_on, handle_effect, effect}
+use Rattle.cell_apply.specs.declared.effects.Effect.{Effect}
+use Rattle.cell_apply.specs.declared.effects.Locking.{Locking}
+use Rattle.cell_apply.specs.declared.effects.Locking.TheVariants as lockings
+use Rattle.cell_apply.specs.Effect.{answered, refused, changes_to, is_last, acls_of, new_view, create_made, create_numbered, create_permitted, create_in, create_under, create_new, create_over, create_effect, create_under_sequencer, open_effect, acquire_by, try_by, release_by, close_by, close_under, generation_fits, with_content, with_acls, put_at, deleted, change_at, change_on, effect_on, handle_effect, effect}
 use Rattle.world_laws.proofs.LockWaiters.{ComesFrom, released_comes, closed_comes}
 
 -- who gets a lock at once leaves the waiters; who waits comes behind them; and whoever is granted a lock or turned away where somebody leaves it was among them

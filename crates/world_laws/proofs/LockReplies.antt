@@ -16,13 +16,13 @@ use Rattle.session_core.specs.Sessions.{SessionTable, session_of as session_in}
 use Rattle.lock_core.specs.declared.claims.Claim.{Claim}
 use Rattle.lock_core.specs.declared.turns.Lapse.{Lapse}
 use Rattle.lock_core.specs.declared.turns.Turn.{Turn}
-use Rattle.deed_core.specs.declared.deeds.KeptPut.{KeptPut}
+use Rattle.cell_update.specs.declared.updates.KeptPut.{KeptPut}
 use Rattle.cell_state.specs.State.{MasterState}
 use Rattle.cell_state.specs.Lookups.{kept_of, reply_of}
-use Rattle.deed_core.specs.Deeds.{with_kept_put}
-use Rattle.deed_core.specs.Replies.{sent, reply_to, replies_to, turn_replies}
-use Rattle.deed_core.specs.Lapses.{lapses_replies}
-use Rattle.seats_core.specs.declared.mail.Message.TheVariants.{ToClient}
+use Rattle.cell_update.specs.Updates.{with_kept_put}
+use Rattle.cell_update.specs.Replies.{sent, reply_to, replies_to, turn_replies}
+use Rattle.cell_update.specs.Lapses.{lapses_replies}
+use Rattle.world_clients.specs.declared.mail.Message.TheVariants.{ToClient}
 use Rattle.world_laws.specs.Slices.{GrantsSoFar, seen_of, put_offer, grant_of}
 use Rattle.world_laws.proofs.GrantsSent.{unstamped, granted_by}
 use Rattle.world_laws.proofs.Slices.{lease_stays, seen_stays}
@@ -47,14 +47,14 @@ waiters_unstamped s answer (claim ∷ claims) =
     unstamped_both (reply_to s answer claim.owner.client) (replies_to s answer claims)
     (one_unstamped s answer claim.owner.client (is_client_number claim.owner.client) (kept_of s claim.owner.client)) (waiters_unstamped s answer claims)
 
-pub turn_unstamped : (s : MasterState) (turn : Turn) → AreUnstamped (turn_replies s turn)
-turn_unstamped s turn =
+pub application_unstamped : (s : MasterState) (turn : Turn) → AreUnstamped (turn_replies s turn)
+application_unstamped s turn =
     unstamped_both (replies_to s results.Done turn.granted) (replies_to s (results.Refused faults.Exhausted) turn.exhausted)
     (waiters_unstamped s results.Done turn.granted) (waiters_unstamped s (results.Refused faults.Exhausted) turn.exhausted)
 
 pub lapses_unstamped : (s : MasterState) (lapses : List Lapse) → AreUnstamped (lapses_replies s lapses)
 lapses_unstamped s [] = tt
-lapses_unstamped s (lapse ∷ lapses) = unstamped_both (turn_replies s lapse.turn) (lapses_replies s lapses) (turn_unstamped s lapse.turn) (lapses_unstamped s lapses)
+lapses_unstamped s (lapse ∷ lapses) = unstamped_both (turn_replies s lapse.turn) (lapses_replies s lapses) (application_unstamped s lapse.turn) (lapses_unstamped s lapses)
 
 -- ---- what is sent
 

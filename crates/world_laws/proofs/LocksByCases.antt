@@ -27,14 +27,14 @@ use Rattle.rows_cell.proofs.SoundParts.{has_instance, parts_of}
 use Rattle.lock_core.specs.State.{LockState, lock_of}
 use Rattle.lock_core.specs.Turns.{lapsed, concerns, reopened}
 use Rattle.lock_core.specs.Locks.{LockTable, lock_at, with_lock}
-use Rattle.deed_core.specs.declared.deeds.LockPut.{LockPut}
+use Rattle.cell_update.specs.declared.updates.LockPut.{LockPut}
 use Rattle.cell_parts.specs.Locks.{lock_rows}
 use Rattle.cell_state.specs.State.{MasterState}
-use Rattle.deed_core.specs.Deeds.{edit_of, with_lock_put}
-use Rattle.turn_core.specs.declared.effects.Effect.{Effect}
-use Rattle.deed_core.specs.Replies.{name_of, puts_of}
-use Rattle.turn_core.specs.Outcomes.{left_put}
-use Rattle.deed_core.specs.Lapses.{lapses_of, lapses_puts}
+use Rattle.cell_update.specs.Updates.{edit_of, with_lock_put}
+use Rattle.cell_apply.specs.declared.effects.Effect.{Effect}
+use Rattle.cell_update.specs.Replies.{name_of, puts_of}
+use Rattle.cell_apply.specs.Outcomes.{left_put}
+use Rattle.cell_update.specs.Lapses.{lapses_of, lapses_puts}
 use Rattle.sweep_laws.specs.SweepCase.{SweepCase, swept_by, swept_edits}
 use Rattle.sweep_laws.specs.SweepCase.SweepCase.{Quiet, Recovers, Expires, Tidies, Spared, Tidied, AnswersBeat, TurnedAway, StartedAgain, Started, Reopens, OfEnded, Ended, Applied, Deleted, Locked, Awaited, Left}
 use Rattle.sweep_laws.specs.Kept.{IsKept, is_there}

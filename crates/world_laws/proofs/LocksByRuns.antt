@@ -14,14 +14,14 @@ use Rattle.cell_state.specs.State.{MasterState}
 use Rattle.cell_state.specs.Lookups.{noted}
 use Rattle.sweep_laws.specs.Kept.{IsKept}
 use Rattle.sweep_laws.proofs.KeptBySweeps.{case_kept}
-use Rattle.seats_core.specs.declared.steps.Step.{Step}
-use Rattle.seats_core.specs.declared.steps.Step.TheVariants as steps
-use Rattle.stage_core.specs.World.{WorldState, WorldView, IsUndoubted, Agrees}
+use Rattle.world_clients.specs.declared.steps.Step.{Step}
+use Rattle.world_clients.specs.declared.steps.Step.TheVariants as steps
+use Rattle.world_core.specs.World.{WorldState, WorldView, IsUndoubted, Agrees}
 use Rattle.world_laws.specs.Consistent.{IsConsistent}
 use Rattle.world_laws.specs.Runs.{Run}
-use Rattle.stage_core.specs.Made.{Does, WasMade, WasRefused}
+use Rattle.world_core.specs.Made.{Does, WasMade, WasRefused}
 use Rattle.world_laws.specs.Locks.{AreLegalRows, HasLegalLocks, begins_in, CountsHolds, LetsNoneFall, NoGenerationTwice}
-use Rattle.stage_core.proofs.AsRead.{made_sure, refused_sure, made_doubts, refused_doubts}
+use Rattle.world_core.proofs.AsRead.{made_sure, refused_sure, made_doubts, refused_doubts}
 use Rattle.world_laws.proofs.ClocksByRuns.{run_consistent}
 use Rattle.world_laws.proofs.ConsistentSteps.{agrees_at}
 use Rattle.world_laws.proofs.InstancesKept.{has_of, generation_of, same_begin}

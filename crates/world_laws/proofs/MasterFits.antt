@@ -34,8 +34,8 @@ use Rattle.session_core.specs.declared.records.Session.{Session}
 use Rattle.session_core.specs.Session.{keeping, beaten, prolonged, answered, session_until, issued_through}
 use Rattle.session_core.specs.Session as of_session
 use Rattle.session_core.specs.Sessions.{with_session, with_new, issued_by}
-use Rattle.deed_core.specs.declared.deeds.Change.{Change}
-use Rattle.deed_core.specs.declared.deeds.LockPut.{LockPut}
+use Rattle.cell_update.specs.declared.updates.Change.{Change}
+use Rattle.cell_update.specs.declared.updates.LockPut.{LockPut}
 use Rattle.cell_parts.specs.declared.handles.Note.{Note}
 use Rattle.cell_parts.specs.declared.pending.Asked.{Asked}
 use Rattle.cell_parts.specs.declared.pending.Idle.{Idle}
@@ -50,33 +50,33 @@ use Rattle.cell_state.specs.Lookups.{session_of, kept_of, is_live, reply_of, sta
 use Rattle.cell_parts.specs.Calls.{bytes_of}
 use Rattle.cell_parts.specs.Answered.{answered_by}
 use Rattle.cell_core.specs.Step.{recorded, queued, names_of, task_of, with_call, with_right, asking_for, parked, replied, granting, waits}
-use Rattle.deed_core.specs.Deeds.{with_note, with_locks, without_lock}
+use Rattle.cell_update.specs.Updates.{with_note, with_locks, without_lock}
 use Rattle.cell_core.specs.Ephemerals.{tidied}
 use Rattle.cell_core.specs.Cases.{IsBehind, TakeCase, taken_by}
 use Rattle.cell_core.specs.Names.{name_asked}
 use Rattle.cell_core.proofs.Told.{told_is_shown}
 use Rattle.cell_core.specs.Cases.TakeCase.{StartQueued, BeatParked, Recovering, Answered, Granted, Waits}
-use Rattle.turn_core.specs.declared.effects.Effect.{Effect}
-use Rattle.turn_core.specs.declared.effects.Leave.{Leave}
-use Rattle.turn_core.specs.Effect.{effect}
+use Rattle.cell_apply.specs.declared.effects.Effect.{Effect}
+use Rattle.cell_apply.specs.declared.effects.Leave.{Leave}
+use Rattle.cell_apply.specs.Effect.{effect}
 use Rattle.sweep_laws.specs.Kept.{is_unanswered}
-use Rattle.deed_core.specs.Replies.{replies_to, turn_replies, puts_of}
-use Rattle.turn_core.specs.Outcomes.{left_put}
-use Rattle.deed_core.specs.Lapses.{lapses_of, lapses_puts, lapses_replies}
-use Rattle.sweep_laws.specs.SweepCase.{IsTurn, SweepCase, swept_by, rest, ended, mapped, told, expired, gone_change, gone_replies}
+use Rattle.cell_update.specs.Replies.{replies_to, turn_replies, puts_of}
+use Rattle.cell_apply.specs.Outcomes.{left_put}
+use Rattle.cell_update.specs.Lapses.{lapses_of, lapses_puts, lapses_replies}
+use Rattle.sweep_laws.specs.SweepCase.{IsNextApplied, SweepCase, swept_by, rest, ended, mapped, told, expired, gone_change, gone_replies}
 use Rattle.sweep_laws.specs.SweepCase.SweepCase.{Quiet, Recovers, Expires, Reopens, Tidies, Spared, Tidied, AnswersBeat, TurnedAway, StartedAgain, Started as StartedFirst, OfEnded, Ended, Applied, Deleted, Locked, Awaited, Left}
-use Rattle.seats_core.specs.declared.mail.Message.{Message}
-use Rattle.seats_core.specs.declared.mail.Message.TheVariants.{ToClient}
-use Rattle.seats_core.specs.Messages.{call_of}
+use Rattle.world_clients.specs.declared.mail.Message.{Message}
+use Rattle.world_clients.specs.declared.mail.Message.TheVariants.{ToClient}
+use Rattle.world_clients.specs.Messages.{call_of}
 use Rattle.world_laws.specs.Consistent.{put_waiting, put_task, waiting, IsWaiting, IsLastInTurn, IsInTurn, IsOfMessage, IsTaskOfMessage, AreOfMessages, WasSent, IsReplyTo, awaits_lock, OpensAs, IsAnswer, FitsMessages}
 use Rattle.world_laws.proofs.MessagesGrow.{call_stays}
-use Rattle.world_laws.proofs.LateReplies.{IsLate, AreLate, replies_late, turn_late, lapses_late}
+use Rattle.world_laws.proofs.LateReplies.{IsLate, AreLate, replies_late, application_late, lapses_late}
 use Rattle.world_laws.proofs.LockMoves.{MovesLocks, effect_moves}
 use Rattle.world_laws.proofs.LockWaiters.{or_cases, ComesFrom, reopened_comes, waits_at, ArePutFor, puts_await, puts_for, lapses_for, removed_awaits}
 use Rattle.world_laws.proofs.OpensNamed.{answer_opens}
-use Rattle.world_laws.proofs.AnswersSent.{answer_stays, plain_answer, told_answer, answered_opens, turned_opens}
+use Rattle.world_laws.proofs.AnswersSent.{answer_stays, plain_answer, told_answer, answered_opens, applied_opens}
 use Rattle.world_laws.proofs.OneSession.{at_each, same, kept_in, each_apart, each_session, each_with_new, each_issued, answered_so}
-use Rattle.world_laws.proofs.SeatsFound.{some_same}
+use Rattle.world_laws.proofs.MembersFound.{some_same}
 
 -- a change that waits
 abbrev pub waits_as : ℕ → List (List ℕ) → Task → Waiting Task
@@ -548,7 +548,7 @@ queue_at sent epoch (x ∷ front) w back h = let t = queue_at sent epoch front w
 
 -- a call that waits shows a handle of its client
 abbrev pub ShowsOwn : MasterState → Type 0
-ShowsOwn s = (front back : List (Waiting Task)) (asked : Asked) (call : Call) (sequencer : Option (List ℕ)) (handle : Handle) → IsTurn s front (tasks.Asked asked) back → asked.work ≡ works.Calls call sequencer → read_handle s.secret (bytes_of call) ≡ Some handle → handle.client ≡ asked.client
+ShowsOwn s = (front back : List (Waiting Task)) (asked : Asked) (call : Call) (sequencer : Option (List ℕ)) (handle : Handle) → IsNextApplied s front (tasks.Asked asked) back → asked.work ≡ works.Calls call sequencer → read_handle s.secret (bytes_of call) ≡ Some handle → handle.client ≡ asked.client
 
 -- behind those that wait there is one more
 waits_behind : (q : ℕ) (waiters : List Claim) (claim : Claim) → list_any (λ c. is_of_client q c.owner) (waiters ++ claim ∷ []) ≡ true → (list_any (λ c. is_of_client q c.owner) waiters ≡ true) ⊎ (claim.owner.client ≡ q)
@@ -563,9 +563,9 @@ mapped_fits : (sent : List Message) (s : MasterState) (change : Change) → Fits
 mapped_fits sent s change h = record { queue = h.queue; kept = h.kept; replies = h.replies; answers = h.answers; turns = h.turns; awaited = h.awaited }
 
 -- a change leaves the gate
-module _ (sent : List Message) (s : MasterState) (front : List (Waiting Task)) (task : Task) (back : List (Waiting Task)) (turn : IsTurn s front task back) (h : FitsMessages sent s) where
-  at_turn : IsTaskOfMessage sent s.epoch task × AreOfMessages sent s.epoch (front ++ back)
-  at_turn = queue_at sent s.epoch front (waits_as turn.number turn.touched task) back (subst (λ ws. AreOfMessages sent s.epoch ws) turn.waited h.queue)
+module _ (sent : List Message) (s : MasterState) (front : List (Waiting Task)) (task : Task) (back : List (Waiting Task)) (turn : IsNextApplied s front task back) (h : FitsMessages sent s) where
+  at_application : IsTaskOfMessage sent s.epoch task × AreOfMessages sent s.epoch (front ++ back)
+  at_application = queue_at sent s.epoch front (waits_as turn.number turn.touched task) back (subst (λ ws. AreOfMessages sent s.epoch ws) turn.waited h.queue)
 
   waited_before : (q : ℕ) → waiting q s.gate.waiting ≡ waiting q front ++ put_task q task (waiting q back)
   waited_before q = ap (waiting q) turn.waited ∙ waiting_append q front (waits_as turn.number turn.touched task ∷ back)
@@ -589,7 +589,7 @@ module _ (sent : List Message) (s : MasterState) (front : List (Waiting Task)) (
   -- one that is no client's call
   uncalled_left : ((q : ℕ) → put_task q task (waiting q back) ≡ waiting q back) → FitsMessages sent (rest s front back)
   uncalled_left uncalled = record {
-    queue = at_turn.1;
+    queue = at_application.1;
     kept = h.kept;
     replies = h.replies;
     answers = h.answers;
@@ -598,14 +598,14 @@ module _ (sent : List Message) (s : MasterState) (front : List (Waiting Task)) (
   }
 
 -- what the cell does by itself
-tidied_left : (sent : List Message) (s : MasterState) (front : List (Waiting Task)) (idle : Idle) (back : List (Waiting Task)) → IsTurn s front (tasks.Tidies idle) back → FitsMessages sent s → FitsMessages sent (rest s front back)
+tidied_left : (sent : List Message) (s : MasterState) (front : List (Waiting Task)) (idle : Idle) (back : List (Waiting Task)) → IsNextApplied s front (tasks.Tidies idle) back → FitsMessages sent s → FitsMessages sent (rest s front back)
 tidied_left sent s front idle back turn h = uncalled_left sent s front (tasks.Tidies idle) back turn h (λ q. refl)
 
 -- what a client asked for
-module _ (sent : List Message) (s : MasterState) (front : List (Waiting Task)) (asked : Asked) (back : List (Waiting Task)) (turn : IsTurn s front (tasks.Asked asked) back) (h : FitsMessages sent s) where
+module _ (sent : List Message) (s : MasterState) (front : List (Waiting Task)) (asked : Asked) (back : List (Waiting Task)) (turn : IsNextApplied s front (tasks.Asked asked) back) (h : FitsMessages sent s) where
   -- the call was sent
-  pub turn_sent : (call : Call) (sequencer : Option (List ℕ)) → asked.work ≡ works.Calls call sequencer → call_of sent asked.client asked.number ≡ Some (record { client = asked.client; epoch = s.epoch; number = asked.number; call = call; sequencer = sequencer })
-  turn_sent call sequencer work = subst (λ x. IsOfMessage sent s.epoch asked.client asked.number x) work (at_turn sent s front (tasks.Asked asked) back turn h).0
+  pub application_sent : (call : Call) (sequencer : Option (List ℕ)) → asked.work ≡ works.Calls call sequencer → call_of sent asked.client asked.number ≡ Some (record { client = asked.client; epoch = s.epoch; number = asked.number; call = call; sequencer = sequencer })
+  application_sent call sequencer work = subst (λ x. IsOfMessage sent s.epoch asked.client asked.number x) work (at_application sent s front (tasks.Asked asked) back turn h).0
 
   start_left : (principal : List ℕ) (received : ℕ) → asked.work ≡ works.Starts principal received → FitsMessages sent (rest s front back)
   start_left principal received work = uncalled_left sent s front (tasks.Asked asked) back turn h (λ q. ap (λ x. put_waiting q asked.client asked.number x (waiting q back)) work)
@@ -614,19 +614,19 @@ module _ (sent : List Message) (s : MasterState) (front : List (Waiting Task)) (
   none_awaited = fewer_awaited sent s front (tasks.Asked asked) back turn h
 
   module _ (call : Call) (sequencer : Option (List ℕ)) (work : asked.work ≡ works.Calls call sequencer) where
-    pub call_turn : IsItsTurn (kept_of s asked.client) asked.number (waiting asked.client front) (waiting asked.client back)
-    call_turn =
+    pub call_application : IsItsTurn (kept_of s asked.client) asked.number (waiting asked.client front) (waiting asked.client back)
+    call_application =
         its_turn (session_of s asked.client) asked.number (waiting asked.client front) (waiting asked.client back)
         (subst (λ xs. IsInTurn (session_of s asked.client) (waiting asked.client front ++ xs)) (ap (λ x. put_waiting asked.client asked.client asked.number x (waiting asked.client back)) work ∙ waits_own asked.client asked.number call sequencer (waiting asked.client back)) (in_turn sent s front (tasks.Asked asked) back turn h asked.client))
 
     -- no call of the client waits then
     none_left : waiting asked.client (front ++ back) ≡ []
-    none_left = waiting_append asked.client front back ∙ ap (λ xs. xs ++ waiting asked.client back) call_turn.front ∙ call_turn.back
+    none_left = waiting_append asked.client front back ∙ ap (λ xs. xs ++ waiting asked.client back) call_application.front ∙ call_application.back
 
     -- it leaves without a reply
     call_left : FitsMessages sent (rest s front back)
     call_left = record {
-      queue = (at_turn sent s front (tasks.Asked asked) back turn h).1;
+      queue = (at_application sent s front (tasks.Asked asked) back turn h).1;
       kept = h.kept;
       replies = h.replies;
       answers = h.answers;
@@ -643,7 +643,7 @@ module _ (sent : List Message) (s : MasterState) (front : List (Waiting Task)) (
 
       its_reply : IsKeptAs sent s.epoch s.secret asked.client (answered_by reply)
       its_reply =
-          let was : WasSent sent s.epoch asked.client asked.number = record { call = record { client = asked.client; epoch = s.epoch; number = asked.number; call = call; sequencer = sequencer }; found = turn_sent call sequencer work; same = refl } in
+          let was : WasSent sent s.epoch asked.client asked.number = record { call = record { client = asked.client; epoch = s.epoch; number = asked.number; call = call; sequencer = sequencer }; found = application_sent call sequencer work; same = refl } in
           replied_kept sent s.epoch s.secret asked.client asked.number reply was (record { to = refl; answered = refl }) (plain_answer sent s.secret reply was.call was.found refl opens)
 
       replied_left : (puts : List LockPut) → ArePutFor (λ q. waiting q (front ++ back) ≡ []) puts → FitsMessages sent (recorded (with_locks (rest s front back) puts) asked.client (answered_by reply))
@@ -687,7 +687,7 @@ sweep_fits sent s (Reopens instance due) h own =
     let puts = puts_of s instance turn.lock in
     told_fits sent (with_locks s puts) (turn_replies s turn)
     (locks_fit sent s h puts (puts_for (λ q. waiting q s.gate.waiting ≡ []) s instance turn.lock (λ q waits. h.awaited q (waits_at q instance s.locks ((reopened_comes lock).left (λ claim. is_of_client q claim.owner) waits)))))
-    (all_late sent s (with_locks s puts) (turn_replies s turn) h refl refl (λ q none. none) (turn_late s lock.waiters turn (reopened_comes lock) (λ q waits. waits_at q instance s.locks waits)))
+    (all_late sent s (with_locks s puts) (turn_replies s turn) h refl refl (λ q none. none) (application_late s lock.waiters turn (reopened_comes lock) (λ q waits. waits_at q instance s.locks waits)))
 sweep_fits sent s (Tidies idle due) h own = tidies_fits sent s idle h
 sweep_fits sent s (Spared front back idle turn held) h own = tidied_left sent s front idle back turn h
 sweep_fits sent s (Tidied front back idle turn still) h own =
@@ -709,12 +709,12 @@ sweep_fits sent s (StartedFirst front back asked principal received turn work no
 sweep_fits sent s (OfEnded front back asked call sequencer turn work gone) h own = call_left sent s front asked back turn h call sequencer work
 sweep_fits sent s (Ended front back asked call sequencer note answer turn work live made) h own =
     fits_note sent (recorded (rest s front back) asked.client (answered_by (reply_of s asked.client asked.number answer))) note
-    (replied_left sent s front asked back turn h call sequencer work answer (turned_opens s asked.client asked.number call sequencer _ answer made refl) [] tt)
+    (replied_left sent s front asked back turn h call sequencer work answer (applied_opens s asked.client asked.number call sequencer _ answer made refl) [] tt)
 sweep_fits sent s (Applied front back asked call sequencer note change answer turn work live made) h own =
-    let f = replied_left sent s front asked back turn h call sequencer work answer (turned_opens s asked.client asked.number call sequencer _ answer made refl) [] tt in
+    let f = replied_left sent s front asked back turn h call sequencer work answer (applied_opens s asked.client asked.number call sequencer _ answer made refl) [] tt in
     fits_note sent (recorded (mapped (rest s front back) change) asked.client (answered_by (reply_of s asked.client asked.number answer))) note (mapped_fits sent _ change f)
 sweep_fits sent s (Deleted front back asked call sequencer change instance waiters answer turn work live made) h own =
-    let f = replied_left sent s front asked back turn h call sequencer work answer (turned_opens s asked.client asked.number call sequencer _ answer made refl) [] tt in
+    let f = replied_left sent s front asked back turn h call sequencer work answer (applied_opens s asked.client asked.number call sequencer _ answer made refl) [] tt in
     let t : MasterState = ended (mapped (rest s front back) change) asked None answer in
     let replies = replies_to s (results.Refused faults.StaleInstance) waiters in
     let same = moved sent s front asked back turn h call sequencer work _ made own in
@@ -724,7 +724,7 @@ sweep_fits sent s (Deleted front back asked call sequencer change instance waite
     (replies_late s (results.Refused faults.StaleInstance) waiters (λ x. tt) (λ q waits. waits_at q instance s.locks (subst (λ ws. list_any (λ claim. is_of_client q claim.owner) ws ≡ true) same waits)))))
     (Some instance)
 sweep_fits sent s (Locked front back asked call sequencer put claim answer turn work live made) h own =
-    replied_left sent s front asked back turn h call sequencer work answer (turned_opens s asked.client asked.number call sequencer _ answer made refl) (put ∷ [])
+    replied_left sent s front asked back turn h call sequencer work answer (applied_opens s asked.client asked.number call sequencer _ answer made refl) (put ∷ [])
     (taken_for sent s front asked back turn h call sequencer work put (moved sent s front asked back turn h call sequencer work _ made own))
 sweep_fits sent s (Awaited front back asked call sequencer put turn work live made) h own =
     let claim = moved sent s front asked back turn h call sequencer work _ made own in
@@ -734,7 +734,7 @@ sweep_fits sent s (Left front back asked call sequencer note leave answer turn w
     let comes = moved sent s front asked back turn h call sequencer work _ made own in
     let t : MasterState = recorded (with_locks (rest s front back) (left_put leave ∷ [])) asked.client (answered_by (reply_of s asked.client asked.number answer)) in
     told_fits sent (with_note t note) (turn_replies s leave.turn)
-    (fits_note sent t note (replied_left sent s front asked back turn h call sequencer work answer (turned_opens s asked.client asked.number call sequencer _ answer made refl) (left_put leave ∷ []) (left_for sent s front asked back turn h call sequencer work leave comes)))
+    (fits_note sent t note (replied_left sent s front asked back turn h call sequencer work answer (applied_opens s asked.client asked.number call sequencer _ answer made refl) (left_put leave ∷ []) (left_for sent s front asked back turn h call sequencer work leave comes)))
     (all_late sent s (with_note t note) (turn_replies s leave.turn) h (epoch_note t note) (secret_note t note)
     (λ q none. ap (λ (g : GateState Task). waiting q g.waiting) (gate_note t note) ∙ fewer sent s front (tasks.Asked asked) back turn h q none)
-    (turn_late s (lock_at s.locks leave.instance).waiters leave.turn comes (λ q waits. waits_at q leave.instance s.locks waits)))
+    (application_late s (lock_at s.locks leave.instance).waiters leave.turn comes (λ q waits. waits_at q leave.instance s.locks waits)))

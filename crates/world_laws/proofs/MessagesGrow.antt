@@ -8,9 +8,9 @@ use Rattle.messages_cell.specs.declared.requests.Request.{Request}
 use Rattle.messages_cell.specs.declared.requests.Request.TheVariants as requests
 use Rattle.messages_cell.specs.declared.requests.CallMessage.{CallMessage}
 use Rattle.messages_cell.specs.declared.outs.Out.{Out}
-use Rattle.seats_core.specs.declared.mail.Message.{Message}
-use Rattle.seats_core.specs.declared.mail.Message.TheVariants.{ToMaster, ToClient}
-use Rattle.seats_core.specs.Messages.{message_at, as_request, as_out, request_at, out_at, put_call, call_of}
+use Rattle.world_clients.specs.declared.mail.Message.{Message}
+use Rattle.world_clients.specs.declared.mail.Message.TheVariants.{ToMaster, ToClient}
+use Rattle.world_clients.specs.Messages.{message_at, as_request, as_out, request_at, out_at, put_call, call_of}
 
 -- ---- by their numbers
 

@@ -41,41 +41,41 @@ use Rattle.cell_parts.specs.declared.pending.Work.TheVariants as works
 use Rattle.cell_parts.specs.declared.notices.Telling.{Telling}
 use Rattle.cell_state.specs.Notices.{with_tellings}
 use Rattle.cell_state.specs.State.{MasterState}
-use Rattle.deed_core.specs.Deeds.{with_locks, with_note}
+use Rattle.cell_update.specs.Updates.{with_locks, with_note}
 use Rattle.cell_state.specs.Lookups.{kept_of, is_live, reply_of, stamped_reply, granted_lines, acknowledgement, repeated_reply, noted}
 use Rattle.cell_parts.specs.Answered.{answered_by}
 use Rattle.cell_core.specs.Step.{recorded, queued, with_call, asking_for}
 use Rattle.cell_core.specs.Cases.{IsBehind, TakeCase, taken_by}
-use Rattle.deed_core.specs.Replies.{replies_to, turn_replies, locked_lines, puts_of}
-use Rattle.turn_core.specs.Outcomes.{leave_lines, left_put}
-use Rattle.deed_core.specs.Lapses.{lapses_lines, lapses_of, lapses_puts, lapses_replies}
-use Rattle.turn_core.specs.declared.effects.Leave.{Leave}
-use Rattle.sweep_laws.specs.SweepCase.{IsTurn, SweepCase, swept_by, rest, ended, mapped, told, expired, gone_change, gone_replies}
+use Rattle.cell_update.specs.Replies.{replies_to, turn_replies, locked_lines, puts_of}
+use Rattle.cell_apply.specs.Outcomes.{leave_lines, left_put}
+use Rattle.cell_update.specs.Lapses.{lapses_lines, lapses_of, lapses_puts, lapses_replies}
+use Rattle.cell_apply.specs.declared.effects.Leave.{Leave}
+use Rattle.sweep_laws.specs.SweepCase.{IsNextApplied, SweepCase, swept_by, rest, ended, mapped, told, expired, gone_change, gone_replies}
 use Rattle.sweep_laws.proofs.SweepCases.{first_tellings}
 use Rattle.cell_core.specs.Cases.TakeCase.{StartRefused, OldBeat, BeatRefused, BeatParked, OldEpoch, NoSession, Repeated, OlderCall, Outstanding, Recovering, Answered, Granted, Waits}
 use Rattle.sweep_laws.specs.SweepCase.SweepCase.{Quiet, Recovers, Expires, Reopens, Tidies, Spared, Tidied, AnswersBeat, TurnedAway, StartedAgain, Started as StartedFirst, OfEnded, Ended, Applied, Deleted, Locked, Awaited, Left}
-use Rattle.seats_core.specs.declared.steps.Step.{Step}
+use Rattle.world_clients.specs.declared.steps.Step.{Step}
 use Rattle.client_core.specs.State.{ClientState}
-use Rattle.seats_core.specs.declared.seats.Seat.{Seat}
-use Rattle.seats_core.specs.declared.mail.Message.{Message}
-use Rattle.seats_core.specs.declared.mail.Message.TheVariants.{ToMaster, ToClient}
-use Rattle.seats_core.specs.Messages.{call_of}
-use Rattle.stage_core.specs.World.{WorldState, WorldView, seat_of}
+use Rattle.world_clients.specs.declared.members.WorldClient.{WorldClient}
+use Rattle.world_clients.specs.declared.mail.Message.{Message}
+use Rattle.world_clients.specs.declared.mail.Message.TheVariants.{ToMaster, ToClient}
+use Rattle.world_clients.specs.Messages.{call_of}
+use Rattle.world_core.specs.World.{WorldState, WorldView, member_of}
 use Rattle.world_laws.specs.Consistent.{FitsMessages, IsConsistent}
 use Rattle.world_laws.specs.Runs.{Run, applied, put_number, IsAbove, RisesFrom, Rises}
-use Rattle.stage_core.specs.Made.{Does}
+use Rattle.world_core.specs.Made.{Does}
 use Rattle.world_laws.proofs.SilentLines.{IsSilentLine, IsSilent, quiet_silent, silent_numbers}
 use Rattle.world_laws.proofs.LockLines.{reopened_of_locks, left_of_locks, lapses_of_locks}
 use Rattle.world_laws.proofs.MessagesGrow.{call_more, no_call, one_call}
 use Rattle.world_laws.proofs.OneSession.{same, other, kept_in, each_session, kept_own, kept_other, kept_stays, kept_issued, kept_begins, answered_so}
-use Rattle.world_laws.proofs.MasterFits.{turn_sent, call_turn, WasAsked, live_note, behind_note, epoch_note}
+use Rattle.world_laws.proofs.MasterFits.{application_sent, call_application, WasAsked, live_note, behind_note, epoch_note}
 use Rattle.world_laws.proofs.WorldCases.{swept_master, WorldCase, world_case}
 use Rattle.world_laws.proofs.ToldSweeps.{told_kept}
 use Rattle.world_laws.proofs.WorldCases.WorldCase.{ComesUp, Joins, Asks, Beats, Gives, Ticks, Takes, Sweeps, GoesDown, CutsSweep, CutsUp, LosesUp}
 use Rattle.world_laws.proofs.CutLines.{cut_applied}
 use Rattle.world_laws.proofs.OwnSteps.{IsNextCall, Sends, sending, IsOwn, own_silent, asks_own, beats_own, gives_own}
 use Rattle.world_laws.proofs.OwnSteps.Sends.{Nothing, NoCall, NextCall}
-use Rattle.world_laws.proofs.SeatsFound.{some_same}
+use Rattle.world_laws.proofs.MembersFound.{some_same}
 use Rattle.world_laws.proofs.ConsistentSteps.{Later, own_goes, case_later, noted_fits, no_call_found, all_first}
 
 abbrev last_after : Option ℕ → List ℕ → Option ℕ
@@ -110,9 +110,9 @@ PastIn sent client (Some s) last = PastMaster sent client s last
 
 -- the client is there, and has made that many calls at least
 record HasMade (w : WorldState) (client calls : ℕ) : Type 0 where
-  seat : Seat
-  there : seat_of w client ≡ Some seat
-  more : calls ≤ seat.client.calls
+  member : WorldClient
+  there : member_of w client ≡ Some member
+  more : calls ≤ member.client.calls
 
 -- the client numbered that far
 abbrev IsCounted : WorldState → ℕ → Option ℕ → Type 0
@@ -129,10 +129,10 @@ record Past (w : WorldState) (client : ℕ) (last : Option ℕ) : Type 0 where
 counted_later : (old new : WorldState) (client : ℕ) (last : Option ℕ) → Later old new → IsCounted old client last → IsCounted new client last
 counted_later old new client None l h = tt
 counted_later old new client (Some last) l h =
-    let y = l.clients client h.seat h.there in
+    let y = l.clients client h.member h.there in
     let a = h.more in
     let b = y.calls in
-    record { seat = y.next; there = y.there; more = omega arith }
+    record { member = y.next; there = y.there; more = omega arith }
 
 kept_later : (xs ys : List Message) (epoch client : ℕ) (o : Option (Kept Reply)) (last : Option ℕ) → ((number : ℕ) (call : CallMessage) → call_of ys client number ≡ Some call → IsAbove last number) → PastKept xs epoch client o last → PastKept (xs ++ ys) epoch client o last
 kept_later xs ys epoch client (Some kept) last fresh h = h
@@ -343,9 +343,9 @@ kept_from sent epoch client o last h kept is = let k : PastKept sent epoch clien
 
 module _ (sent : List Message) (s : MasterState) (client : ℕ) (last : Option ℕ) (fits : FitsMessages sent s) (h : PastMaster sent client s last) (some : 1 ≤ client) where
   -- the call whose turn it is is above the last one
-  turn_above : (front back : List (Waiting Task)) (asked : Asked) (call : Call) (sequencer : Option (List ℕ)) → IsTurn s front (tasks.Asked asked) back → asked.work ≡ works.Calls call sequencer → asked.client ≡ client → IsAbove last asked.number
-  turn_above front back asked call sequencer turn work own =
-      let t = call_turn sent s front asked back turn fits call sequencer work in
+  application_above : (front back : List (Waiting Task)) (asked : Asked) (call : Call) (sequencer : Option (List ℕ)) → IsNextApplied s front (tasks.Asked asked) back → asked.work ≡ works.Calls call sequencer → asked.client ≡ client → IsAbove last asked.number
+  application_above front back asked call sequencer turn work own =
+      let t = call_application sent s front asked back turn fits call sequencer work in
       let k : PastMaster sent asked.client s last = rw (← own) at h in
       let w : PastResult t.kept.number t.kept.reply last = subst (λ o. PastKept sent s.epoch asked.client o last) t.is_kept k in
       let v : PastResult t.kept.number None last = subst (λ o. PastResult t.kept.number o last) t.no_reply w in
@@ -372,17 +372,17 @@ module _ (sent : List Message) (s : MasterState) (client : ℕ) (last : Option �
   differ n m e = grind (arith, nat_tests)
 
   -- the call whose turn it is isn't applied
-  unapplied_past : (t : MasterState) (front back : List (Waiting Task)) (asked : Asked) (call : Call) (sequencer : Option (List ℕ)) (note : Option Note) (answer : CallResult) → t.sessions ≡ s.sessions → t.epoch ≡ s.epoch → is_live s asked.client ≡ true → IsTurn s front (tasks.Asked asked) back → asked.work ≡ works.Calls call sequencer → PastMaster sent client (ended t asked note answer) last
+  unapplied_past : (t : MasterState) (front back : List (Waiting Task)) (asked : Asked) (call : Call) (sequencer : Option (List ℕ)) (note : Option Note) (answer : CallResult) → t.sessions ≡ s.sessions → t.epoch ≡ s.epoch → is_live s asked.client ≡ true → IsNextApplied s front (tasks.Asked asked) back → asked.work ≡ works.Calls call sequencer → PastMaster sent client (ended t asked note answer) last
   unapplied_past t front back asked call sequencer note answer same_sessions same_epoch live turn work =
-      end_past t asked note answer last same_sessions same_epoch live (λ own. above_from last asked.number (turn_above front back asked call sequencer turn work own)) (λ apart. refl)
+      end_past t asked note answer last same_sessions same_epoch live (λ own. above_from last asked.number (application_above front back asked call sequencer turn work own)) (λ apart. refl)
 
   -- what is kept of the client then
   still_from : (kept : Kept Reply) → kept_of s client ≡ Some kept → IsFrom last kept.number
   still_from kept is = kept_from sent s.epoch client (kept_of s client) last h kept is
 
-  turn_from_it : (front back : List (Waiting Task)) (asked : Asked) (call : Call) (sequencer : Option (List ℕ)) → IsTurn s front (tasks.Asked asked) back → asked.work ≡ works.Calls call sequencer → asked.client ≡ client → (kept : Kept Reply) → kept_of s client ≡ Some kept → IsFrom (Some asked.number) kept.number
+  turn_from_it : (front back : List (Waiting Task)) (asked : Asked) (call : Call) (sequencer : Option (List ℕ)) → IsNextApplied s front (tasks.Asked asked) back → asked.work ≡ works.Calls call sequencer → asked.client ≡ client → (kept : Kept Reply) → kept_of s client ≡ Some kept → IsFrom (Some asked.number) kept.number
   turn_from_it front back asked call sequencer turn work own kept is =
-      let t = call_turn sent s front asked back turn fits call sequencer work in
+      let t = call_application sent s front asked back turn fits call sequencer work in
       let k : kept_of s asked.client ≡ Some kept = ap (λ n. kept_of s n) own ∙ is in
       let e : t.kept ≡ kept = some_same t.kept kept (sym t.is_kept ∙ k) in
       let n : kept.number ≡ asked.number = ap (λ (x : Kept Reply). x.number) (sym e) ∙ t.same in
@@ -394,11 +394,11 @@ module _ (sent : List Message) (s : MasterState) (client : ℕ) (last : Option �
     past : PastMaster sent client (ended t asked note answer) (last_after last (cond b (asked.number ∷ []) []))
     from : (kept : Kept Reply) → kept_of s client ≡ Some kept → IsFrom (last_after last (cond b (asked.number ∷ []) [])) kept.number
 
-  applied_past : (t : MasterState) (front back : List (Waiting Task)) (asked : Asked) (call : Call) (sequencer : Option (List ℕ)) (note : Option Note) (answer : CallResult) → t.sessions ≡ s.sessions → t.epoch ≡ s.epoch → is_live s asked.client ≡ true → IsTurn s front (tasks.Asked asked) back → asked.work ≡ works.Calls call sequencer → (b : Bool) → (asked.client == client) ≡ b → AppliedOn t asked note answer b
+  applied_past : (t : MasterState) (front back : List (Waiting Task)) (asked : Asked) (call : Call) (sequencer : Option (List ℕ)) (note : Option Note) (answer : CallResult) → t.sessions ≡ s.sessions → t.epoch ≡ s.epoch → is_live s asked.client ≡ true → IsNextApplied s front (tasks.Asked asked) back → asked.work ≡ works.Calls call sequencer → (b : Bool) → (asked.client == client) ≡ b → AppliedOn t asked note answer b
   applied_past t front back asked call sequencer note answer same_sessions same_epoch live turn work true e =
       let n : asked.client ≡ client = same asked.client client e in
       record {
-        rises = (turn_above front back asked call sequencer turn work n, tt);
+        rises = (application_above front back asked call sequencer turn work n, tt);
         past = end_past t asked note answer (Some asked.number) same_sessions same_epoch live (λ own. omega arith) (λ apart. let d = differ client asked.client apart in cc);
         from = turn_from_it front back asked call sequencer turn work n;
       }
@@ -474,11 +474,11 @@ silent_on client new printed last silent h =
     let e = none_applied client printed silent in record { rises = rw e tt; past = rw e h }
 
 -- what a sweep applied was sent
-counted_put : (w : WorldState) (h : IsConsistent w) (s : MasterState) (front back : List (Waiting Task)) (asked : Asked) (call : Call) (sequencer : Option (List ℕ)) (client : ℕ) (last : Option ℕ) → IsTurn s front (tasks.Asked asked) back → asked.work ≡ works.Calls call sequencer → FitsMessages w.messages s → IsCounted w client last → IsCounted w client (last_after last (cond (asked.client == client) (asked.number ∷ []) []))
+counted_put : (w : WorldState) (h : IsConsistent w) (s : MasterState) (front back : List (Waiting Task)) (asked : Asked) (call : Call) (sequencer : Option (List ℕ)) (client : ℕ) (last : Option ℕ) → IsNextApplied s front (tasks.Asked asked) back → asked.work ≡ works.Calls call sequencer → FitsMessages w.messages s → IsCounted w client last → IsCounted w client (last_after last (cond (asked.client == client) (asked.number ∷ []) []))
 counted_put w h s front back asked call sequencer client last turn work fits counted =
-    let sent = h.sent asked.client asked.number (record { client = asked.client; epoch = s.epoch; number = asked.number; call = call; sequencer = sequencer }) (turn_sent w.messages s front asked back turn fits call sequencer work) in
+    let sent = h.sent asked.client asked.number (record { client = asked.client; epoch = s.epoch; number = asked.number; call = call; sequencer = sequencer }) (application_sent w.messages s front asked back turn fits call sequencer work) in
     (elim (asked.client == client) as (λ b. (asked.client == client) ≡ b → IsCounted w client (last_after last (cond b (asked.number ∷ []) []))) [
-      | true ↦ (λ e. let n : asked.client ≡ client = same asked.client client e in rw (← n) (record { seat = sent.seat; there = sent.joined; more = sent.within }))
+      | true ↦ (λ e. let n : asked.client ≡ client = same asked.client client e in rw (← n) (record { member = sent.member; there = sent.joined; more = sent.within }))
       | false ↦ (λ e. counted)
     ]) refl
 
@@ -498,29 +498,29 @@ past_master : (sent : List Message) (client : ℕ) (last : Option ℕ) (m : Opti
 past_master sent client last m s e k = rw e at k
 
 -- a call that is sent now is above all that were
-sent_above : (w : WorldState) → IsConsistent w → (number client : ℕ) (seat : Seat) (call : CallMessage) (last : Option ℕ) → seat_of w number ≡ Some seat → IsNextCall seat.client call → IsCounted w client last → call.client ≡ client → IsAbove last call.number
-sent_above w h number client seat call None found made counted of = tt
-sent_above w h number client seat call (Some l) found made counted of =
-    let n : client ≡ number = sym of ∙ made.client ∙ (h.clients number seat found).own in
+sent_above : (w : WorldState) → IsConsistent w → (number client : ℕ) (member : WorldClient) (call : CallMessage) (last : Option ℕ) → member_of w number ≡ Some member → IsNextCall member.client call → IsCounted w client last → call.client ≡ client → IsAbove last call.number
+sent_above w h number client member call None found made counted of = tt
+sent_above w h number client member call (Some l) found made counted of =
+    let n : client ≡ number = sym of ∙ made.client ∙ (h.clients number member found).own in
     let there = counted.there in
-    let i : seat_of w number ≡ Some counted.seat = rw n at there in
-    let y : seat ≡ counted.seat = some_same seat counted.seat (sym found ∙ i) in
+    let i : member_of w number ≡ Some counted.member = rw n at there in
+    let y : member ≡ counted.member = some_same member counted.member (sym found ∙ i) in
     let more = counted.more in
-    let k : l ≤ seat.client.calls = rw (← y) at more in
+    let k : l ≤ member.client.calls = rw (← y) at more in
     let is_next = made.number in
     omega arith
 
 -- and so is each call in what a client sends
-sending_above : (w : WorldState) → IsConsistent w → (number client : ℕ) (seat : Seat) (new : ClientState) (sent : Option Request) (last : Option ℕ) → seat_of w number ≡ Some seat → Sends seat.client new sent → IsCounted w client last → (n : ℕ) (call : CallMessage) → call_of (sending sent) client n ≡ Some call → IsAbove last n
-sending_above w h number client seat new sent last found (Nothing e calls) counted n call is =
+sending_above : (w : WorldState) → IsConsistent w → (number client : ℕ) (member : WorldClient) (new : ClientState) (sent : Option Request) (last : Option ℕ) → member_of w number ≡ Some member → Sends member.client new sent → IsCounted w client last → (n : ℕ) (call : CallMessage) → call_of (sending sent) client n ≡ Some call → IsAbove last n
+sending_above w h number client member new sent last found (Nothing e calls) counted n call is =
     let k : call_of [] client n ≡ Some call = subst (λ o. call_of (sending o) client n ≡ Some call) e is in cc
-sending_above w h number client seat new sent last found (NoCall request e none calls) counted n call is =
+sending_above w h number client member new sent last found (NoCall request e none calls) counted n call is =
     let k : call_of (ToMaster request ∷ []) client n ≡ Some call = subst (λ o. call_of (sending o) client n ≡ Some call) e is in
     let nothing = no_call_found request client n none in cc
-sending_above w h number client seat new sent last found (NextCall next e m calls) counted n call is =
+sending_above w h number client member new sent last found (NextCall next e m calls) counted n call is =
     let k : call_of (ToMaster (requests.Call next) ∷ []) client n ≡ Some call = subst (λ o. call_of (sending o) client n ≡ Some call) e is in
     let t = one_call next call client n k in
-    subst (λ x. IsAbove last x) t.2 (sent_above w h number client seat next last found m counted t.1)
+    subst (λ x. IsAbove last x) t.2 (sent_above w h number client member next last found m counted t.1)
 
 module _ (client : ℕ) (last : Option ℕ) (old : WorldState) (step : Step) (new : WorldState) (printed : List Line) (h : IsConsistent old) (p : Past old client last) (some : 1 ≤ client) where
   counted_on : WorldCase old step new printed → IsCounted new client last
@@ -534,7 +534,7 @@ module _ (client : ℕ) (last : Option ℕ) (old : WorldState) (step : Step) (ne
   own_on o =
       silent_on client new printed last (own_silent old new printed o) (record {
         counted = counted_later old new client last (own_goes old new printed h o) p.counted;
-        master = same_master (sending o.sent) o.grown (ap (λ (w : WorldState). w.master) o.is) (λ number call is. sending_above old h o.number client o.seat o.client o.sent last o.found o.sends p.counted number call is);
+        master = same_master (sending o.sent) o.grown (ap (λ (w : WorldState). w.master) o.is) (λ number call is. sending_above old h o.number client o.member o.client o.sent last o.found o.sends p.counted number call is);
       })
 
   step_on : WorldCase old step new printed → StepsOn client last printed new

@@ -45,13 +45,13 @@ use Rattle.client_core.specs.Cases.BeatCase.{BeatTooLate, OutOfBeats, Starts, Be
 use Rattle.client_core.specs.Cases.GiveCase.{GivenTooLate, OfAnother, Started, StartedUnfit, StartedDropped, LeaseTaken, LeaseStays, AliveUnfit, AliveDropped, OutOfNumbers, Replied, Installed, ReplyDropped, NotAwaited, Learns, Lost, TurnedAway, RefusalDropped}
 use Rattle.client_core.proofs.Noting.{unstarted_before, note_number, note_clock, note_epoch, note_session}
 use Rattle.client_core.proofs.Leases.{SessionStays, note_keeps, behind_live}
-use Rattle.seats_core.specs.declared.steps.Step.{Step}
-use Rattle.seats_core.specs.declared.mail.Message.{Message}
-use Rattle.seats_core.specs.declared.mail.Message.TheVariants.{ToMaster}
-use Rattle.seats_core.specs.declared.seats.Seat.{Seat}
-use Rattle.seats_core.specs.Seats.{seated}
-use Rattle.seats_core.specs.Messages.{out_at}
-use Rattle.stage_core.specs.World.{WorldState, Outcome, seat_of, with_client, with_refusal, asked, beaten, gave}
+use Rattle.world_clients.specs.declared.steps.Step.{Step}
+use Rattle.world_clients.specs.declared.mail.Message.{Message}
+use Rattle.world_clients.specs.declared.mail.Message.TheVariants.{ToMaster}
+use Rattle.world_clients.specs.declared.members.WorldClient.{WorldClient}
+use Rattle.world_clients.specs.Members.{stepped}
+use Rattle.world_clients.specs.Messages.{out_at}
+use Rattle.world_core.specs.World.{WorldState, Outcome, member_of, with_client, with_refusal, asked, beaten, gave}
 use Rattle.world_laws.proofs.SilentLines.{IsSilent, IsQuiet, append_quiet, quiet_silent}
 use Rattle.world_laws.proofs.WorldCases.{IsAsk, IsBeat, IsGive}
 
@@ -86,17 +86,17 @@ sending (Some request) = ToMaster request ∷ []
 -- one client does a step: it is in the place of what it was, and what it sends is behind all messages
 pub record IsOwn (old new : WorldState) (printed : List Line) : Type 0 where
   pub number : ℕ
-  pub seat : Seat
-  pub found : seat_of old number ≡ Some seat
+  pub member : WorldClient
+  pub found : member_of old number ≡ Some member
   pub client : ClientState
   pub sent : Option Request
-  pub is : new ≡ record old { clients = seated old.clients number seat client; messages = new.messages }
+  pub is : new ≡ record old { clients = stepped old.clients number member client; messages = new.messages }
   pub grown : new.messages ≡ old.messages ++ sending sent
   pub quiet : IsQuiet printed
-  pub own : client.number ≡ seat.client.number
-  pub notes : client.clock ≡ max seat.client.clock seat.clock
-  pub sends : Sends seat.client client sent
-  pub epoch : OfEpoch old.messages seat.client client
+  pub own : client.number ≡ member.client.number
+  pub notes : client.clock ≡ max member.client.clock member.clock
+  pub sends : Sends member.client client sent
+  pub epoch : OfEpoch old.messages member.client client
 
 pub own_silent : (old new : WorldState) (printed : List Line) → IsOwn old new printed → IsSilent printed
 own_silent old new printed o = quiet_silent printed o.quiet
@@ -112,18 +112,18 @@ it_comes P outcome new printed is h = let k : Comes P (Ok (new, printed)) = subs
 
 -- ---- the noting of the time
 
-turn_quiet : (number : ℕ) (before after : Standing) → IsQuiet (option_to_list (turn_line number before after))
-turn_quiet number standings.Safe standings.Safe = tt
-turn_quiet number standings.Safe (standings.Jeopardy since) = (tt, tt, tt)
-turn_quiet number standings.Safe standings.Lost = (tt, tt, tt)
-turn_quiet number (standings.Jeopardy since) standings.Safe = (tt, tt, tt)
-turn_quiet number (standings.Jeopardy since) (standings.Jeopardy later) = tt
-turn_quiet number (standings.Jeopardy since) standings.Lost = (tt, tt, tt)
-turn_quiet number standings.Lost after = tt
+application_quiet : (number : ℕ) (before after : Standing) → IsQuiet (option_to_list (turn_line number before after))
+application_quiet number standings.Safe standings.Safe = tt
+application_quiet number standings.Safe (standings.Jeopardy since) = (tt, tt, tt)
+application_quiet number standings.Safe standings.Lost = (tt, tt, tt)
+application_quiet number (standings.Jeopardy since) standings.Safe = (tt, tt, tt)
+application_quiet number (standings.Jeopardy since) (standings.Jeopardy later) = tt
+application_quiet number (standings.Jeopardy since) standings.Lost = (tt, tt, tt)
+application_quiet number standings.Lost after = tt
 
 noted_in_quiet : (s : ClientState) (session : Session) (moment : ℕ) → IsQuiet (note_lines_in session s moment)
 noted_in_quiet s sessions.Unstarted moment = tt
-noted_in_quiet s sessions.Live moment = turn_quiet s.number s.standing (standing_then s moment)
+noted_in_quiet s sessions.Live moment = application_quiet s.number s.standing (standing_then s moment)
 noted_in_quiet s sessions.Lost moment = tt
 noted_in_quiet s sessions.TurnedAway moment = tt
 
@@ -188,16 +188,16 @@ ends_so s target _ = record { number = refl; clock = refl; calls = refl; epoch =
 
 -- ---- the cases
 
-module _ (w : WorldState) (number : ℕ) (seat : Seat) (found : seat_of w number ≡ Some seat) where
+module _ (w : WorldState) (number : ℕ) (member : WorldClient) (found : member_of w number ≡ Some member) where
   -- the moment that is noted
   abbrev then : ℕ
-  then = noted_moment seat.client seat.clock
+  then = noted_moment member.client member.clock
 
   -- nothing is sent, and the epoch stays
-  stays : (client : ClientState) (printed : List Line) → IsQuiet printed → client.number ≡ seat.client.number → client.clock ≡ then → client.calls ≡ seat.client.calls → OfEpoch w.messages seat.client client → IsOwn w (with_client w number seat client) printed
+  stays : (client : ClientState) (printed : List Line) → IsQuiet printed → client.number ≡ member.client.number → client.clock ≡ then → client.calls ≡ member.client.calls → OfEpoch w.messages member.client client → IsOwn w (with_client w number member client) printed
   stays client printed quiet own notes calls epoch = record {
     number = number;
-    seat = seat;
+    member = member;
     found = found;
     client = client;
     sent = None;
@@ -211,43 +211,43 @@ module _ (w : WorldState) (number : ℕ) (seat : Seat) (found : seat_of w number
   }
 
   -- only the moment is noted
-  notes_only : (printed : List Line) → IsQuiet printed → IsOwn w (with_client w number seat (note seat.client then)) printed
+  notes_only : (printed : List Line) → IsQuiet printed → IsOwn w (with_client w number member (note member.client then)) printed
   notes_only printed quiet =
-      stays (note seat.client then) printed quiet (note_number seat.client seat.client.session then) (note_clock seat.client seat.client.session then) (note_calls seat.client seat.client.session then)
-      (SameEpoch (note_epoch seat.client seat.client.session then) (λ e. unstarted_before seat.client seat.client.session then (sym (note_session seat.client then) ∙ e))
-      (live_before seat.client (note seat.client then) (note_keeps seat.client then).of_session.session))
+      stays (note member.client then) printed quiet (note_number member.client member.client.session then) (note_clock member.client member.client.session then) (note_calls member.client member.client.session then)
+      (SameEpoch (note_epoch member.client member.client.session then) (λ e. unstarted_before member.client member.client.session then (sym (note_session member.client then) ∙ e))
+      (live_before member.client (note member.client then) (note_keeps member.client then).of_session.session))
 
   -- in a session that isn't given up
-  in_session : IsLive seat.client seat.clock → (session_behind (standing_then seat.client then) ≡ sessions.Unstarted → seat.client.session ≡ sessions.Unstarted)
-  in_session live e = sym (behind_live seat.client seat.clock live) ∙ e
+  in_session : IsLive member.client member.clock → (session_behind (standing_then member.client then) ≡ sessions.Unstarted → member.client.session ≡ sessions.Unstarted)
+  in_session live e = sym (behind_live member.client member.clock live) ∙ e
 
-  refused_quiet : (o : Option Outstanding) (handle : ℕ) → IsQuiet (refused_lines seat.client handle o)
+  refused_quiet : (o : Option Outstanding) (handle : ℕ) → IsQuiet (refused_lines member.client handle o)
   refused_quiet None handle = tt
   refused_quiet (Some call) handle =
-      elim (is_on handle call.target) as (λ b. IsQuiet (cond b (lines.Done seat.client.number (request_number call.request) (answers.Refused faults.Poisoned) ∷ []) [])) [ true ↦ (tt, tt, tt) | false ↦ tt ]
+      elim (is_on handle call.target) as (λ b. IsQuiet (cond b (lines.Done member.client.number (request_number call.request) (answers.Refused faults.Poisoned) ∷ []) [])) [ true ↦ (tt, tt, tt) | false ↦ tt ]
 
-  ask_comes : (ask : Ask) (c : AskCase seat.client seat.clock ask) → Comes (IsOwn w) (asked w number seat (asked_in seat.client seat.clock ask c))
+  ask_comes : (ask : Ask) (c : AskCase member.client member.clock ask) → Comes (IsOwn w) (asked w number member (asked_in member.client member.clock ask c))
   ask_comes ask (AskedTooLate late) = tt
-  ask_comes ask (Unsafe fault early is) = notes_only (with_refusal (note_lines seat.client then) fault) (refusal_quiet (note_lines seat.client then) fault (noted_quiet seat.client then))
-  ask_comes ask (Refused fault safe is) = stays (at_moment seat.client then) (lines.Refused fault ∷ []) (tt, tt, tt) refl refl refl (SameEpoch refl (λ e. e) (λ e. e))
+  ask_comes ask (Unsafe fault early is) = notes_only (with_refusal (note_lines member.client then) fault) (refusal_quiet (note_lines member.client then) fault (noted_quiet member.client then))
+  ask_comes ask (Refused fault safe is) = stays (at_moment member.client then) (lines.Refused fault ∷ []) (tt, tt, tt) refl refl refl (SameEpoch refl (λ e. e) (λ e. e))
   ask_comes ask (ReadServed handle mine entry safe is readable) =
-      stays (at_moment seat.client then) (lines.Served seat.client.number mine.name entry ∷ []) (tt, tt, tt) refl refl refl (SameEpoch refl (λ e. e) (λ e. e))
+      stays (at_moment member.client then) (lines.Served member.client.number mine.name entry ∷ []) (tt, tt, tt) refl refl refl (SameEpoch refl (λ e. e) (λ e. e))
   ask_comes ask (AbsenceServed opening safe is plain cached) =
-      stays (at_moment seat.client then) (lines.Served seat.client.number opening.name None ∷ []) (tt, tt, tt) refl refl refl (SameEpoch refl (λ e. e) (λ e. e))
+      stays (at_moment member.client then) (lines.Served member.client.number opening.name None ∷ []) (tt, tt, tt) refl refl refl (SameEpoch refl (λ e. e) (λ e. e))
   ask_comes ask (Shared opening view handle safe is shared room) =
-      stays (with_shared seat.client then (kept_handle handle opening true))
-      (lines.Served seat.client.number opening.name (Some view) ∷ lines.Done seat.client.number 0 (answers.Opened (seat.client.opened + 1)) ∷ []) (tt, tt, (tt, tt, tt)) refl refl refl (SameEpoch refl (λ e. e) (λ e. e))
+      stays (with_shared member.client then (kept_handle handle opening true))
+      (lines.Served member.client.number opening.name (Some view) ∷ lines.Done member.client.number 0 (answers.Opened (member.client.opened + 1)) ∷ []) (tt, tt, (tt, tt, tt)) refl refl refl (SameEpoch refl (λ e. e) (λ e. e))
   ask_comes ask (OutOfHandles opening view handle safe is shared last) = tt
   ask_comes ask (Released handle mine safe is found shared) =
-      stays (without_handle seat.client then handle) (lines.Done seat.client.number 0 answers.Closed ∷ []) (tt, tt, tt) refl refl refl (SameEpoch refl (λ e. e) (λ e. e))
+      stays (without_handle member.client then handle) (lines.Done member.client.number 0 answers.Closed ∷ []) (tt, tt, tt) refl refl refl (SameEpoch refl (λ e. e) (λ e. e))
   ask_comes ask (OutOfCalls call sequencer target sendable last) = tt
   ask_comes ask (Sent call sequencer target sendable room) =
-      let message : CallMessage = record { client = seat.client.number; epoch = seat.client.epoch; number = seat.client.calls + 1; call = call; sequencer = sequencer } in
+      let message : CallMessage = record { client = member.client.number; epoch = member.client.epoch; number = member.client.calls + 1; call = call; sequencer = sequencer } in
       record {
         number = number;
-        seat = seat;
+        member = member;
         found = found;
-        client = with_call seat.client then call sequencer target;
+        client = with_call member.client then call sequencer target;
         sent = Some (requests.Call message);
         is = refl;
         grown = refl;
@@ -258,15 +258,15 @@ module _ (w : WorldState) (number : ℕ) (seat : Seat) (found : seat_of w number
         epoch = SameEpoch refl (λ e. e) (λ e. e);
       }
   ask_comes ask (Poisoned handle mine safe is usable) =
-      stays (with_poisoned seat.client then handle mine) (poison_lines seat.client handle)
-      (append_quiet (refused_lines seat.client handle seat.client.outstanding) (lines.Done seat.client.number 0 answers.Poisoned ∷ []) (refused_quiet seat.client.outstanding handle) (tt, tt, tt))
+      stays (with_poisoned member.client then handle mine) (poison_lines member.client handle)
+      (append_quiet (refused_lines member.client handle member.client.outstanding) (lines.Done member.client.number 0 answers.Poisoned ∷ []) (refused_quiet member.client.outstanding handle) (tt, tt, tt))
       refl refl refl (SameEpoch refl (λ e. e) (λ e. e))
 
   -- a Start or a Beat is sent
-  sends_beat : (client : ClientState) (printed : List Line) (request : Request) → IsNoCall request → IsQuiet printed → client.number ≡ seat.client.number → client.clock ≡ then → client.calls ≡ seat.client.calls → OfEpoch w.messages seat.client client → IsOwn w (record w { clients = seated w.clients number seat client; messages = w.messages ++ ToMaster request ∷ [] }) printed
+  sends_beat : (client : ClientState) (printed : List Line) (request : Request) → IsNoCall request → IsQuiet printed → client.number ≡ member.client.number → client.clock ≡ then → client.calls ≡ member.client.calls → OfEpoch w.messages member.client client → IsOwn w (record w { clients = stepped w.clients number member client; messages = w.messages ++ ToMaster request ∷ [] }) printed
   sends_beat client printed request none quiet own notes calls epoch = record {
     number = number;
-    seat = seat;
+    member = member;
     found = found;
     client = client;
     sent = Some request;
@@ -279,75 +279,75 @@ module _ (w : WorldState) (number : ℕ) (seat : Seat) (found : seat_of w number
     epoch = epoch;
   }
 
-  beat_comes : (c : BeatCase seat.client seat.clock) → Comes (IsOwn w) (beaten w number seat (beaten_in seat.client seat.clock c))
+  beat_comes : (c : BeatCase member.client member.clock) → Comes (IsOwn w) (beaten w number member (beaten_in member.client member.clock c))
   beat_comes (BeatTooLate late) = tt
   beat_comes (OutOfBeats early last) = tt
-  beat_comes (Starts early unstarted room) = sends_beat (with_beat seat.client then) [] (start_message seat.client) tt tt refl refl refl (SameEpoch refl (λ e. e) (λ e. e))
+  beat_comes (Starts early unstarted room) = sends_beat (with_beat member.client then) [] (start_message member.client) tt tt refl refl refl (SameEpoch refl (λ e. e) (λ e. e))
   beat_comes (Beats early live safe room) =
-      sends_beat (with_beat (note_live seat.client then) then) (note_lines seat.client then) (beat_message seat.client) tt (noted_quiet seat.client then) refl refl refl
+      sends_beat (with_beat (note_live member.client then) then) (note_lines member.client then) (beat_message member.client) tt (noted_quiet member.client then) refl refl refl
       (SameEpoch refl (in_session (record { live = live; then = safe })) (λ e. live))
-  beat_comes (Quiet early started live) = notes_only (note_lines seat.client then) (noted_quiet seat.client then)
+  beat_comes (Quiet early started live) = notes_only (note_lines member.client then) (noted_quiet member.client then)
 
   -- the time is noted, and perhaps the message refused
-  passed_comes : IsOwn w (with_client w number seat (note seat.client then)) (note_lines seat.client then ++ [])
-  passed_comes = notes_only (note_lines seat.client then ++ []) (told_quiet seat.client then [] tt)
+  passed_comes : IsOwn w (with_client w number member (note member.client then)) (note_lines member.client then ++ [])
+  passed_comes = notes_only (note_lines member.client then ++ []) (told_quiet member.client then [] tt)
 
-  rejected_comes : (fault : Fault) → IsOwn w (with_client w number seat (note seat.client then)) (with_refusal (note_lines seat.client then ++ []) fault)
-  rejected_comes fault = notes_only (with_refusal (note_lines seat.client then ++ []) fault) (refusal_quiet (note_lines seat.client then ++ []) fault (told_quiet seat.client then [] tt))
+  rejected_comes : (fault : Fault) → IsOwn w (with_client w number member (note member.client then)) (with_refusal (note_lines member.client then ++ []) fault)
+  rejected_comes fault = notes_only (with_refusal (note_lines member.client then ++ []) fault) (refusal_quiet (note_lines member.client then ++ []) fault (told_quiet member.client then [] tt))
 
   -- a call ends
-  ended_comes : IsLive seat.client seat.clock → (client : ClientState) → EndsSo (note_live seat.client then) client → (printed : List Line) → IsQuiet printed → IsOwn w (with_client w number seat client) printed
+  ended_comes : IsLive member.client member.clock → (client : ClientState) → EndsSo (note_live member.client then) client → (printed : List Line) → IsQuiet printed → IsOwn w (with_client w number member client) printed
   ended_comes live client so printed quiet =
       stays client printed quiet so.number so.clock so.calls (SameEpoch so.epoch (λ e. in_session live (sym so.session ∙ e)) (λ e. live.live))
 
-  give_comes : (at : ℕ) (out : Out) → out_at w.messages at ≡ Some out → (c : GiveCase seat.client seat.clock out) → Comes (IsOwn w) (gave w number seat (given_in seat.client seat.clock out c))
+  give_comes : (at : ℕ) (out : Out) → out_at w.messages at ≡ Some out → (c : GiveCase member.client member.clock out) → Comes (IsOwn w) (gave w number member (given_in member.client member.clock out c))
   give_comes at out sent (GivenTooLate late) = tt
   give_comes at out sent (OfAnother early other) = passed_comes
   give_comes at out sent (Started message heard is standing fits) =
-      stays (begun seat.client then message) (note_lines seat.client then ++ []) (told_quiet seat.client then [] tt) refl refl refl
+      stays (begun member.client then message) (note_lines member.client then ++ []) (told_quiet member.client then [] tt) refl refl refl
       (GrantedEpoch at message (subst (λ o. out_at w.messages at ≡ Some o) is sent) refl refl)
   give_comes at out sent (StartedUnfit message heard is standing long) = rejected_comes faults.ProtocolFault
   give_comes at out sent (StartedDropped message heard is old) = passed_comes
   give_comes at out sent (LeaseTaken message heard is fit taken) =
-      let behind = with_processed (note_live seat.client then) message in
-      let events = event_lines seat.client.number seat.client.heard message.events in
-      stays (bettered behind then (offered seat.client message.span)) (note_lines seat.client then ++ (events ++ safe_lines behind then message))
-      (told_quiet seat.client then (events ++ safe_lines behind then message) (append_quiet events (safe_lines behind then message) (events_quiet seat.client.number seat.client.heard message.events) (safe_quiet behind then message))) refl refl refl (SameEpoch refl (in_session fit.alive.live) (λ e. fit.alive.live.live))
+      let behind = with_processed (note_live member.client then) message in
+      let events = event_lines member.client.number member.client.heard message.events in
+      stays (bettered behind then (offered member.client message.span)) (note_lines member.client then ++ (events ++ safe_lines behind then message))
+      (told_quiet member.client then (events ++ safe_lines behind then message) (append_quiet events (safe_lines behind then message) (events_quiet member.client.number member.client.heard message.events) (safe_quiet behind then message))) refl refl refl (SameEpoch refl (in_session fit.alive.live) (λ e. fit.alive.live.live))
   give_comes at out sent (LeaseStays message heard is fit worse) =
-      let events = event_lines seat.client.number seat.client.heard message.events in
-      stays (with_processed (note_live seat.client then) message) (note_lines seat.client then ++ events) (told_quiet seat.client then events (events_quiet seat.client.number seat.client.heard message.events)) refl refl refl (SameEpoch refl (in_session fit.alive.live) (λ e. fit.alive.live.live))
+      let events = event_lines member.client.number member.client.heard message.events in
+      stays (with_processed (note_live member.client then) message) (note_lines member.client then ++ events) (told_quiet member.client then events (events_quiet member.client.number member.client.heard message.events)) refl refl refl (SameEpoch refl (in_session fit.alive.live) (λ e. fit.alive.live.live))
   give_comes at out sent (AliveUnfit message heard is alive unfit) = rejected_comes faults.ProtocolFault
   give_comes at out sent (AliveDropped message heard is strange) = passed_comes
   give_comes at out sent (OutOfNumbers message call heard is for last) = tt
   give_comes at out sent (Replied message call heard is for room kept plain) =
-      ended_comes for.live (ended_plainly (note_live seat.client then) call.target message.result) (ends_so (note_live seat.client then) call.target message.result)
-      (note_lines seat.client then ++ lines.Done seat.client.number message.number (answer_of seat.client message.result) ∷ []) (told_quiet seat.client then _ (tt, tt, tt))
+      ended_comes for.live (ended_plainly (note_live member.client then) call.target message.result) (ends_so (note_live member.client then) call.target message.result)
+      (note_lines member.client then ++ lines.Done member.client.number message.number (answer_of member.client message.result) ∷ []) (told_quiet member.client then _ (tt, tt, tt))
   give_comes at out sent (Installed message call taught stamp heard is for learned) =
-      stays (with_lesson seat.client then taught) (note_lines seat.client then ++ lines.Done seat.client.number message.number (answer_of seat.client message.result) ∷ [])
-      (told_quiet seat.client then _ (tt, tt, tt)) refl refl refl (SameEpoch refl (λ e. e) (λ e. e))
+      stays (with_lesson member.client then taught) (note_lines member.client then ++ lines.Done member.client.number message.number (answer_of member.client message.result) ∷ [])
+      (told_quiet member.client then _ (tt, tt, tt)) refl refl refl (SameEpoch refl (λ e. e) (λ e. e))
   give_comes at out sent (ReplyDropped message call heard is for dropped) =
-      ended_comes for.live (record (note_live seat.client then) { outstanding = None }) (record { number = refl; clock = refl; calls = refl; epoch = refl; session = refl }) (note_lines seat.client then ++ []) (told_quiet seat.client then [] tt)
+      ended_comes for.live (record (note_live member.client then) { outstanding = None }) (record { number = refl; clock = refl; calls = refl; epoch = refl; session = refl }) (note_lines member.client then ++ []) (told_quiet member.client then [] tt)
   give_comes at out sent (NotAwaited message heard is none) = passed_comes
   give_comes at out sent (Learns message present heard is later) =
-      stays (learned (note_live seat.client then) present) (note_lines seat.client then ++ unknown_lines seat.client.number seat.client.outstanding)
-      (told_quiet seat.client then (unknown_lines seat.client.number seat.client.outstanding) (unknown_quiet seat.client.number seat.client.outstanding)) refl refl refl
-      (LearnedEpoch at present message (subst (λ o. out_at w.messages at ≡ Some o) is sent) later.fault later.later refl (behind_live seat.client seat.clock later.live ∙ later.live.live))
+      stays (learned (note_live member.client then) present) (note_lines member.client then ++ unknown_lines member.client.number member.client.outstanding)
+      (told_quiet member.client then (unknown_lines member.client.number member.client.outstanding) (unknown_quiet member.client.number member.client.outstanding)) refl refl refl
+      (LearnedEpoch at present message (subst (λ o. out_at w.messages at ≡ Some o) is sent) later.fault later.later refl (behind_live member.client member.clock later.live ∙ later.live.live))
   give_comes at out sent (Lost message heard is loss) =
-      stays (lost (note_live seat.client then) sessions.Lost) (note_lines seat.client then ++ lines.Lost seat.client.number ∷ []) (told_quiet seat.client then _ (tt, tt, tt)) refl refl refl (SameEpoch refl (λ e. cc) (λ e. cc))
+      stays (lost (note_live member.client then) sessions.Lost) (note_lines member.client then ++ lines.Lost member.client.number ∷ []) (told_quiet member.client then _ (tt, tt, tt)) refl refl refl (SameEpoch refl (λ e. cc) (λ e. cc))
   give_comes at out sent (TurnedAway message heard is fault unstarted) =
-      stays (lost (at_moment seat.client then) sessions.TurnedAway) (note_lines seat.client then ++ lines.Lost seat.client.number ∷ []) (told_quiet seat.client then _ (tt, tt, tt)) refl refl refl (SameEpoch refl (λ e. cc) (λ e. cc))
+      stays (lost (at_moment member.client then) sessions.TurnedAway) (note_lines member.client then ++ lines.Lost member.client.number ∷ []) (told_quiet member.client then _ (tt, tt, tt)) refl refl refl (SameEpoch refl (λ e. cc) (λ e. cc))
   give_comes at out sent (RefusalDropped message heard is earlier stays_so) = passed_comes
 
 -- ---- the rows
 
 pub asks_own : (old : WorldState) (step : Step) (new : WorldState) (printed : List Line) → IsAsk old step new printed → IsOwn old new printed
 asks_own old step new printed a =
-    it_comes (IsOwn old) (asked old a.number a.seat (asked_in a.seat.client a.seat.clock a.ask a.case)) new printed a.is (ask_comes old a.number a.seat a.found a.ask a.case)
+    it_comes (IsOwn old) (asked old a.number a.member (asked_in a.member.client a.member.clock a.ask a.case)) new printed a.is (ask_comes old a.number a.member a.found a.ask a.case)
 
 pub beats_own : (old : WorldState) (step : Step) (new : WorldState) (printed : List Line) → IsBeat old step new printed → IsOwn old new printed
 beats_own old step new printed b =
-    it_comes (IsOwn old) (beaten old b.number b.seat (beaten_in b.seat.client b.seat.clock b.case)) new printed b.is (beat_comes old b.number b.seat b.found b.case)
+    it_comes (IsOwn old) (beaten old b.number b.member (beaten_in b.member.client b.member.clock b.case)) new printed b.is (beat_comes old b.number b.member b.found b.case)
 
 pub gives_own : (old : WorldState) (step : Step) (new : WorldState) (printed : List Line) → IsGive old step new printed → IsOwn old new printed
 gives_own old step new printed g =
-    it_comes (IsOwn old) (gave old (out_client g.out) g.seat (given_in g.seat.client g.seat.clock g.out g.case)) new printed g.is (give_comes old (out_client g.out) g.seat g.found g.at g.out g.was_sent g.case)
+    it_comes (IsOwn old) (gave old (out_client g.out) g.member (given_in g.member.client g.member.clock g.out g.case)) new printed g.is (give_comes old (out_client g.out) g.member g.found g.at g.out g.was_sent g.case)

@@ -6,10 +6,10 @@ use Rattle.std.proofs.lemmas.List.{append-nil}
 use Rattle.node_core.specs.declared.refusals.Fault.{Fault}
 use Rattle.node_core.specs.declared.lines.Line.{Line}
 use Rattle.node_core.specs.declared.lines.Line.TheVariants as lines
-use Rattle.seats_core.specs.declared.steps.Step.{Step}
-use Rattle.stage_core.specs.World.{WorldView, IsUndoubted}
+use Rattle.world_clients.specs.declared.steps.Step.{Step}
+use Rattle.world_core.specs.World.{WorldView, IsUndoubted}
 use Rattle.world_laws.specs.Runs.{AnyRun, Run}
-use Rattle.stage_core.specs.Made.{Does, AnyStep, WasRefused}
+use Rattle.world_core.specs.Made.{Does, AnyStep, WasRefused}
 use Rattle.world_laws.specs.Consistent.{IsConsistent}
 use Rattle.world_laws.proofs.SureRuns.{run_doubts, run_sure}
 

@@ -2,8 +2,8 @@
 use Rattle.std.proofs.Common.{ℕ, List, sym, ap, ◌∙◌, subst}
 use Rattle.coherence.specs.Slice.{Reached}
 use Rattle.node_core.specs.declared.lines.Line.{Line}
-use Rattle.seats_core.specs.declared.steps.Step.{Step}
-use Rattle.stage_core.specs.World.{WorldState}
+use Rattle.world_clients.specs.declared.steps.Step.{Step}
+use Rattle.world_core.specs.World.{WorldState}
 use Rattle.world_laws.specs.Slices.{slice}
 use Rattle.world_laws.specs.Consistent.{IsConsistent}
 use Rattle.world_laws.proofs.SliceSteps.{reached_behind_ticks, reached_behind_up, reached_behind_join, reached_behind_ask, reached_behind_beat, reached_behind_give, reached_behind_take, reached_behind_sweep, reached_behind_down}
@@ -18,9 +18,9 @@ use Rattle.world_laws.proofs.TellsOn.{tells_on}
 reaches_on : (old : WorldState) (step : Step) (new : WorldState) (printed : List Line) → IsConsistent old → WorldCase old step new printed → (client : ℕ) (name : List ℕ) → Reached (slice client name new)
 reaches_on old step new printed h (ComesUp u) client name = subst (λ z. Reached (slice client name z)) (sym u.is) (reached_behind_up old h client name u.now u.none)
 reaches_on old step new printed h (Joins j) client name = subst (λ z. Reached (slice client name z)) (sym j.is) (reached_behind_join old h client name j.number j.principal j.free)
-reaches_on old step new printed h (Asks a) client name = reached_behind_ask old h client name new a.number a.seat printed a.ask a.case a.found a.is
-reaches_on old step new printed h (Beats b) client name = reached_behind_beat old h client name new b.number b.seat printed b.case b.found b.is
-reaches_on old step new printed h (Gives g) client name = reached_behind_give old h client name new g.seat g.at g.out printed g.case g.was_sent g.found g.is
+reaches_on old step new printed h (Asks a) client name = reached_behind_ask old h client name new a.number a.member printed a.ask a.case a.found a.is
+reaches_on old step new printed h (Beats b) client name = reached_behind_beat old h client name new b.number b.member printed b.case b.found b.is
+reaches_on old step new printed h (Gives g) client name = reached_behind_give old h client name new g.member g.at g.out printed g.case g.was_sent g.found g.is
 reaches_on old step new printed h (Ticks t) client name = subst (λ z. Reached (slice client name z)) (sym t.is) (reached_behind_ticks old h client name t.ticks t.fair)
 reaches_on old step new printed h (Takes t) client name = subst (λ z. Reached (slice client name z)) (sym t.is) (reached_behind_take old h client name t.master t.at t.request t.case t.is_up t.was_sent t.unspent)
 reaches_on old step new printed h (Sweeps t) client name = subst (λ z. Reached (slice client name z)) (sym t.is) (reached_behind_sweep old h client name t.master t.case t.is_up)

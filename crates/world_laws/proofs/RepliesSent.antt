@@ -22,7 +22,7 @@ use Rattle.cell_core.proofs.Told.{told_is_shown}
 use Rattle.lock_core.specs.Turns.{is_of_client, reopened}
 use Rattle.lock_core.specs.Locks.{lock_at}
 use Rattle.cell_state.specs.State.{MasterState}
-use Rattle.deed_core.specs.Deeds.{edit_of, lock_changes, with_note}
+use Rattle.cell_update.specs.Updates.{edit_of, lock_changes, with_note}
 use Rattle.cell_state.specs.Lookups.{kept_of, reply_of, stamped_reply, repeated_reply, noted}
 use Rattle.cell_core.specs.Cases.{TakeCase, taken_by}
 use Rattle.cell_core.specs.Cases.TakeCase.{StartQueued, BeatParked, Repeated, Recovering, Answered, Granted, Waits}
@@ -31,23 +31,23 @@ use Rattle.cell_parts.specs.declared.pending.Task.{Task}
 use Rattle.cell_parts.specs.declared.pending.Task.TheVariants as tasks
 use Rattle.cell_parts.specs.declared.pending.Work.TheVariants as works
 use Rattle.gate_core.specs.declared.pending.Waiting.{Waiting}
-use Rattle.sweep_laws.specs.SweepCase.{IsTurn, SweepCase, swept_by, swept_edits, gone_replies}
-use Rattle.turn_core.specs.Outcomes.{left_put}
-use Rattle.deed_core.specs.Replies.{turn_replies, puts_of, replies_to}
-use Rattle.deed_core.specs.Lapses.{lapses_of, lapses_puts, lapses_replies}
+use Rattle.sweep_laws.specs.SweepCase.{IsNextApplied, SweepCase, swept_by, swept_edits, gone_replies}
+use Rattle.cell_apply.specs.Outcomes.{left_put}
+use Rattle.cell_update.specs.Replies.{turn_replies, puts_of, replies_to}
+use Rattle.cell_update.specs.Lapses.{lapses_of, lapses_puts, lapses_replies}
 use Rattle.sweep_laws.specs.SweepCase.SweepCase.{Quiet, Recovers, Expires, Reopens, Tidies, Spared, Tidied, OfEnded, Ended, Applied, Deleted, Locked, Awaited, Left}
-use Rattle.seats_core.specs.declared.mail.Message.{Message}
-use Rattle.seats_core.specs.declared.mail.Message.TheVariants.{ToMaster, ToClient}
-use Rattle.seats_core.specs.declared.steps.Step.{Step}
-use Rattle.seats_core.specs.Messages.{out_at, call_of}
-use Rattle.stage_core.specs.World.{WorldState}
+use Rattle.world_clients.specs.declared.mail.Message.{Message}
+use Rattle.world_clients.specs.declared.mail.Message.TheVariants.{ToMaster, ToClient}
+use Rattle.world_clients.specs.declared.steps.Step.{Step}
+use Rattle.world_clients.specs.Messages.{out_at, call_of}
+use Rattle.world_core.specs.World.{WorldState}
 use Rattle.world_laws.specs.Consistent.{OpensAs, IsAnswer, FitsMessages, IsConsistent}
 use Rattle.world_laws.proofs.MessagesGrow.{out_more, out_among, one_no_out}
 use Rattle.world_laws.proofs.LockWaiters.{reopened_comes, waits_at}
-use Rattle.world_laws.proofs.LateReplies.{IsLate, AreLate, replies_late, turn_late, lapses_late}
-use Rattle.world_laws.proofs.MasterFits.{WasAsked, ShowsOwn, secret_note, turn_sent, moved}
+use Rattle.world_laws.proofs.LateReplies.{IsLate, AreLate, replies_late, application_late, lapses_late}
+use Rattle.world_laws.proofs.MasterFits.{WasAsked, ShowsOwn, secret_note, application_sent, moved}
 use Rattle.world_laws.proofs.AwaitedCalls.{shows_own}
-use Rattle.world_laws.proofs.AnswersSent.{answer_stays, plain_answer, told_answer, answered_opens, turned_opens, AreAnswers, answer_at}
+use Rattle.world_laws.proofs.AnswersSent.{answer_stays, plain_answer, told_answer, answered_opens, applied_opens, AreAnswers, answer_at}
 use Rattle.world_laws.proofs.OpensNamed.{answer_opens}
 use Rattle.world_laws.proofs.RelockedRows.{let_go, relocked_rows}
 use Rattle.world_laws.proofs.ConsistentSteps.{noted_fits, agrees_at}
@@ -101,12 +101,12 @@ sends_late : (sent : List Message) (s : MasterState) (replies : List Reply) → 
 sends_late sent s replies h late = late_answers sent (map ToClient (map outs.Reply replies)) s replies h late
 
 -- a call that has its turn is answered, and then those that waited for a lock
-module _ (sent : List Message) (s : MasterState) (front : List (Waiting Task)) (asked : Asked) (back : List (Waiting Task)) (turn : IsTurn s front (tasks.Asked asked) back) (h : FitsMessages sent s) (call : Call) (sequencer : Option (List ℕ)) (work : asked.work ≡ works.Calls call sequencer) where
-  turn_answers : (answer : CallResult) (replies : List Reply) → OpensAs call answer → AreLate s replies → Sends sent s.secret (outs.Reply (reply_of s asked.client asked.number answer) ∷ map outs.Reply replies)
-  turn_answers answer replies opens late =
+module _ (sent : List Message) (s : MasterState) (front : List (Waiting Task)) (asked : Asked) (back : List (Waiting Task)) (turn : IsNextApplied s front (tasks.Asked asked) back) (h : FitsMessages sent s) (call : Call) (sequencer : Option (List ℕ)) (work : asked.work ≡ works.Calls call sequencer) where
+  application_answers : (answer : CallResult) (replies : List Reply) → OpensAs call answer → AreLate s replies → Sends sent s.secret (outs.Reply (reply_of s asked.client asked.number answer) ∷ map outs.Reply replies)
+  application_answers answer replies opens late =
       let reply = reply_of s asked.client asked.number answer in
       let more = map ToClient (outs.Reply reply ∷ map outs.Reply replies) in
-      let found = turn_sent sent s front asked back turn h call sequencer work in
+      let found = application_sent sent s front asked back turn h call sequencer work in
       (answer_stays sent more s.secret reply (plain_answer sent s.secret reply (record { client = asked.client; epoch = s.epoch; number = asked.number; call = call; sequencer = sequencer }) found refl opens), late_answers sent more s replies h late)
 
 pub swept_answers : (sent : List Message) (s : MasterState) (c : SweepCase s) → FitsMessages sent s → ShowsOwn s → Sends sent s.secret (swept_by s c).1.outs
@@ -115,28 +115,28 @@ swept_answers sent s (Recovers recovering heard) h own = tt
 swept_answers sent s (Expires client session due) h own = sends_late sent s (lapses_replies s (lapses_of s client)) h (lapses_late s client s.locks (λ q waits. waits))
 swept_answers sent s (Reopens instance due) h own =
     let lock = lock_at s.locks instance in
-    sends_late sent s (turn_replies s (reopened lock)) h (turn_late s lock.waiters (reopened lock) (reopened_comes lock) (λ q waits. waits_at q instance s.locks waits))
+    sends_late sent s (turn_replies s (reopened lock)) h (application_late s lock.waiters (reopened lock) (reopened_comes lock) (λ q waits. waits_at q instance s.locks waits))
 swept_answers sent s (Tidies idle due) h own = tt
 swept_answers sent s (Spared front back idle turn held) h own = tt
 swept_answers sent s (Tidied front back idle turn still) h own =
     sends_late sent s (gone_replies s idle) h (replies_late s (results.Refused faults.StaleInstance) (lock_at s.locks idle.instance).waiters (λ x. tt) (λ q waits. waits_at q idle.instance s.locks waits))
 swept_answers sent s (OfEnded front back asked call sequencer turn work gone) h own = tt
 swept_answers sent s (Ended front back asked call sequencer _ answer turn work live made) h own =
-    turn_answers sent s front asked back turn h call sequencer work answer [] (turned_opens s asked.client asked.number call sequencer _ answer made refl) tt
+    application_answers sent s front asked back turn h call sequencer work answer [] (applied_opens s asked.client asked.number call sequencer _ answer made refl) tt
 swept_answers sent s (Applied front back asked call sequencer _ change answer turn work live made) h own =
-    turn_answers sent s front asked back turn h call sequencer work answer [] (turned_opens s asked.client asked.number call sequencer _ answer made refl) tt
+    application_answers sent s front asked back turn h call sequencer work answer [] (applied_opens s asked.client asked.number call sequencer _ answer made refl) tt
 swept_answers sent s (Deleted front back asked call sequencer change instance waiters answer turn work live made) h own =
     let gone = results.Refused faults.StaleInstance in
     let same = moved sent s front asked back turn h call sequencer work _ made own in
-    turn_answers sent s front asked back turn h call sequencer work answer (replies_to s gone waiters) (turned_opens s asked.client asked.number call sequencer _ answer made refl)
+    application_answers sent s front asked back turn h call sequencer work answer (replies_to s gone waiters) (applied_opens s asked.client asked.number call sequencer _ answer made refl)
     (replies_late s gone waiters (λ x. tt) (λ q waits. waits_at q instance s.locks (subst (λ ws. list_any (λ claim. is_of_client q claim.owner) ws ≡ true) same waits)))
 swept_answers sent s (Locked front back asked call sequencer put claim answer turn work live made) h own =
-    turn_answers sent s front asked back turn h call sequencer work answer [] (turned_opens s asked.client asked.number call sequencer _ answer made refl) tt
+    application_answers sent s front asked back turn h call sequencer work answer [] (applied_opens s asked.client asked.number call sequencer _ answer made refl) tt
 swept_answers sent s (Awaited front back asked call sequencer put turn work live made) h own = tt
 swept_answers sent s (Left front back asked call sequencer _ leave answer turn work live made) h own =
     let comes = moved sent s front asked back turn h call sequencer work _ made own in
-    turn_answers sent s front asked back turn h call sequencer work answer (turn_replies s leave.turn) (turned_opens s asked.client asked.number call sequencer _ answer made refl)
-    (turn_late s (lock_at s.locks leave.instance).waiters leave.turn comes (λ q waits. waits_at q leave.instance s.locks waits))
+    application_answers sent s front asked back turn h call sequencer work answer (turn_replies s leave.turn) (applied_opens s asked.client asked.number call sequencer _ answer made refl)
+    (application_late s (lock_at s.locks leave.instance).waiters leave.turn comes (λ q waits. waits_at q leave.instance s.locks waits))
 swept_answers sent s _ h own = (tt, tt)
 
 -- ---- the cell's secret stays

@@ -28,19 +28,19 @@ use Rattle.cell_parts.specs.declared.handles.Note.{Note}
 use Rattle.cell_state.specs.State.{MasterState}
 use Rattle.cell_state.specs.Lookups.{granted_lines, repeated_reply, noted}
 use Rattle.cell_core.specs.Step.{with_call, asking_for}
-use Rattle.deed_core.specs.Deeds.{with_note}
+use Rattle.cell_update.specs.Updates.{with_note}
 use Rattle.cell_core.specs.Cases.{TakeCase, taken_by}
 use Rattle.cell_core.specs.Cases.TakeCase.{BeatParked, Repeated, Answered, Granted, Waits}
-use Rattle.deed_core.specs.Replies.{locked_lines}
-use Rattle.turn_core.specs.Outcomes.{leave_lines}
-use Rattle.deed_core.specs.Lapses.{lapses_lines, lapses_of}
+use Rattle.cell_update.specs.Replies.{locked_lines}
+use Rattle.cell_apply.specs.Outcomes.{leave_lines}
+use Rattle.cell_update.specs.Lapses.{lapses_lines, lapses_of}
 use Rattle.sweep_laws.specs.SweepCase.{SweepCase, swept_by}
 use Rattle.sweep_laws.specs.SweepCase.SweepCase.{Expires, Reopens, Tidies, Ended, Applied, Left}
-use Rattle.seats_core.specs.declared.steps.Step.{Step}
-use Rattle.stage_core.specs.World.{WorldState, WorldView, is_of_commit}
+use Rattle.world_clients.specs.declared.steps.Step.{Step}
+use Rattle.world_core.specs.World.{WorldState, WorldView, is_of_commit}
 use Rattle.world_laws.specs.Consistent.{IsConsistent}
 use Rattle.world_laws.specs.Runs.{Run, Told, is_held_as, with_status, told_more, told_ended, rights_by, rights_at, told_of, rights_in, is_held_told, is_acknowledged_told, is_expired_told, totals_by, AreRecordedOnce}
-use Rattle.stage_core.specs.Made.{Does}
+use Rattle.world_core.specs.Made.{Does}
 use Rattle.world_laws.proofs.SilentLines.{IsOfNoRight, AreOfNoRight, quiet_rightless}
 use Rattle.world_laws.proofs.LockLines.{AreOfLocks, reopened_of_locks, left_of_locks, lapses_of_locks}
 use Rattle.world_laws.proofs.WorldCases.{swept_master, WorldCase, world_case}

@@ -31,10 +31,10 @@ use Rattle.lock_core.specs.Turns.{reopened}
 use Rattle.lock_core.specs.Locks.{lock_at}
 use Rattle.cell_state.specs.State.{MasterState}
 use Rattle.cell_state.specs.Lookups.{acknowledgement, granted_lines, repeated_reply, noted}
-use Rattle.deed_core.specs.Deeds.{with_note}
+use Rattle.cell_update.specs.Updates.{with_note}
 use Rattle.cell_core.specs.Cases.{TakeCase, taken_by}
 use Rattle.cell_core.specs.Cases.TakeCase.{StartRefused, OldBeat, BeatRefused, BeatParked, OldEpoch, NoSession, Repeated, OlderCall, Outstanding as StillOutstanding, Granted}
-use Rattle.deed_core.specs.Lapses.{lapses_lines, lapses_of}
+use Rattle.cell_update.specs.Lapses.{lapses_lines, lapses_of}
 use Rattle.sweep_laws.specs.SweepCase.{SweepCase, swept_by}
 use Rattle.sweep_laws.specs.SweepCase.SweepCase.{Recovers, Expires, Reopens, Tidied, Started as StartedFirst, Applied, Deleted, Locked, Left}
 use Rattle.client_parts.specs.declared.asks.Ask.{Ask}
@@ -52,16 +52,16 @@ use Rattle.client_core.specs.Cases.{noted_moment, AskCase, asked_in, BeatCase, b
 use Rattle.client_core.specs.Cases.AskCase.{AskedTooLate, Unsafe, Refused, ReadServed, AbsenceServed, Shared, OutOfHandles, Released, OutOfCalls, Sent, Poisoned}
 use Rattle.client_core.specs.Cases.BeatCase.{BeatTooLate, OutOfBeats, Starts, Beats as BeatSent, Quiet}
 use Rattle.client_core.specs.Cases.GiveCase.{GivenTooLate, OfAnother, Started, StartedUnfit, StartedDropped, LeaseTaken, LeaseStays, AliveUnfit, AliveDropped, OutOfNumbers, Replied, Installed, ReplyDropped, NotAwaited, Learns, Lost, TurnedAway, RefusalDropped}
-use Rattle.seats_core.specs.declared.steps.Step.{Step}
-use Rattle.seats_core.specs.declared.seats.Seat.{Seat}
-use Rattle.stage_core.specs.World.{WorldState, WorldView, IsUndoubted, is_of_commit, seat_of, with_client, with_refusal, asked, beaten, gave, world_step}
+use Rattle.world_clients.specs.declared.steps.Step.{Step}
+use Rattle.world_clients.specs.declared.members.WorldClient.{WorldClient}
+use Rattle.world_core.specs.World.{WorldState, WorldView, IsUndoubted, is_of_commit, member_of, with_client, with_refusal, asked, beaten, gave, world_step}
 use Rattle.world_laws.specs.Slices.{slice, client_of}
 use Rattle.world_laws.specs.Consistent.{IsConsistent}
 use Rattle.world_laws.specs.Runs.{map_by, map_at, Run}
-use Rattle.stage_core.specs.Made.{Does, WasMade}
+use Rattle.world_core.specs.Made.{Does, WasMade}
 use Rattle.world_laws.proofs.SilentLines.{IsOther, AreOthers, both_others}
 use Rattle.world_laws.proofs.LockLines.{reopened_of_locks, left_of_locks, lapses_of_locks}
-use Rattle.stage_core.proofs.AsRead.{made_doubts, made_sure}
+use Rattle.world_core.proofs.AsRead.{made_doubts, made_sure}
 use Rattle.world_laws.specs.Served.{ServesPresent, ServesPresentByThen}
 use Rattle.world_laws.proofs.Slices.{latest}
 use Rattle.world_laws.proofs.EntryFacts.{is_leased_so}
@@ -133,18 +133,18 @@ record StepServes (old new : WorldState) (printed : List Line) : Type 0 where
 others_step : (old new : WorldState) (printed : List Line) → AreOthers printed → StepServes old new printed
 others_step old new printed h = record { before = others_serve (map_of old.rows) printed h; behind = others_at (map_of new.rows) printed h }
 
-turn_other : (number : ℕ) (former now : Standing) → AreOthers (option_to_list (turn_line number former now))
-turn_other number standings.Safe standings.Safe = tt
-turn_other number standings.Safe (standings.Jeopardy since) = (tt, tt)
-turn_other number standings.Safe standings.Lost = (tt, tt)
-turn_other number (standings.Jeopardy since) standings.Safe = (tt, tt)
-turn_other number (standings.Jeopardy since) (standings.Jeopardy later) = tt
-turn_other number (standings.Jeopardy since) standings.Lost = (tt, tt)
-turn_other number standings.Lost now = tt
+application_other : (number : ℕ) (former now : Standing) → AreOthers (option_to_list (turn_line number former now))
+application_other number standings.Safe standings.Safe = tt
+application_other number standings.Safe (standings.Jeopardy since) = (tt, tt)
+application_other number standings.Safe standings.Lost = (tt, tt)
+application_other number (standings.Jeopardy since) standings.Safe = (tt, tt)
+application_other number (standings.Jeopardy since) (standings.Jeopardy later) = tt
+application_other number (standings.Jeopardy since) standings.Lost = (tt, tt)
+application_other number standings.Lost now = tt
 
 noted_other : (s : ClientState) (session : Session) (moment : ℕ) → AreOthers (note_lines_in session s moment)
 noted_other s sessions.Unstarted moment = tt
-noted_other s sessions.Live moment = turn_other s.number s.standing (standing_then s moment)
+noted_other s sessions.Live moment = application_other s.number s.standing (standing_then s moment)
 noted_other s sessions.Lost moment = tt
 noted_other s sessions.TurnedAway moment = tt
 
@@ -188,28 +188,28 @@ answered_by true true entry view h = (refl, h)
 answered_by true false entry view h = cc
 answered_by false leased entry view h = cc
 
-module _ (w : WorldState) (h : IsConsistent w) (number : ℕ) (seat : Seat) (found : seat_of w number ≡ Some seat) where
+module _ (w : WorldState) (h : IsConsistent w) (number : ℕ) (member : WorldClient) (found : member_of w number ≡ Some member) where
   abbrev s : ClientState
-  s = seat.client
+  s = member.client
 
   abbrev then : ℕ
-  then = noted_moment s seat.clock
+  then = noted_moment s member.clock
 
   -- it is the present view of the name
   answer_is_present : (name : List ℕ) (entry : Option View) → answer s.cache then name ≡ Some entry → entry ≡ get_node (map_of w.rows) name
   answer_is_present name entry is =
       let a = answered_by s.cache.enabled (is_leased s.cache.lease then) (entry_of s.cache.entries name) entry is in
-      let leased : is_leased s.cache.lease seat.clock ≡ true = subst (λ (n : ℕ). is_leased s.cache.lease n ≡ true) (latest s.clock seat.clock (h.clients number seat found).noted) a.0 in
+      let leased : is_leased s.cache.lease member.clock ≡ true = subst (λ (n : ℕ). is_leased s.cache.lease n ≡ true) (latest s.clock member.clock (h.clients number member found).noted) a.0 in
       reached_serves_present (slice number name w) (h.reached number name) entry
-      (subst (λ (o : Option Seat). (client_of name o).entry ≡ Some entry) (sym found) a.1)
-      (subst (λ (o : Option Seat). IsUnexpired (client_of name o).lease_sent (client_of name o).lease_span (client_of name o).now) (sym found) (is_leased_so s.cache.lease seat.clock leased))
+      (subst (λ (o : Option WorldClient). (client_of name o).entry ≡ Some entry) (sym found) a.1)
+      (subst (λ (o : Option WorldClient). IsUnexpired (client_of name o).lease_sent (client_of name o).lease_span (client_of name o).now) (sym found) (is_leased_so s.cache.lease member.clock leased))
 
-  served_step : (client : ClientState) (whose : ℕ) (name : List ℕ) (entry : Option View) (more : List Line) → answer s.cache then name ≡ Some entry → AreOthers more → StepServes w (with_client w number seat client) (lines.Served whose name entry ∷ more)
+  served_step : (client : ClientState) (whose : ℕ) (name : List ℕ) (entry : Option View) (more : List Line) → answer s.cache then name ≡ Some entry → AreOthers more → StepServes w (with_client w number member client) (lines.Served whose name entry ∷ more)
   served_step client whose name entry more is others =
       let e = answer_is_present name entry is in
       record { before = (e, others_serve (map_of w.rows) more others); behind = (e, others_at (map_of w.rows) more others) }
 
-  ask_serves : (ask : Ask) (c : AskCase s seat.clock ask) → Comes (StepServes w) (asked w number seat (asked_in s seat.clock ask c))
+  ask_serves : (ask : Ask) (c : AskCase s member.clock ask) → Comes (StepServes w) (asked w number member (asked_in s member.clock ask c))
   ask_serves ask (AskedTooLate late) = tt
   ask_serves ask (Unsafe fault early is) = others_step w _ (with_refusal (note_lines s then) fault) (refusal_other (note_lines s then) fault (noted_other s s.session then))
   ask_serves ask (Refused fault safe is) = others_step w _ (lines.Refused fault ∷ []) (tt, tt)
@@ -222,7 +222,7 @@ module _ (w : WorldState) (h : IsConsistent w) (number : ℕ) (seat : Seat) (fou
   ask_serves ask (Sent call sequencer target sendable room) = others_step w _ [] tt
   ask_serves ask (Poisoned handle mine safe is usable) = others_step w _ (poison_lines s handle) (both_others (refused_lines s handle s.outstanding) (lines.Done s.number 0 answers.Poisoned ∷ []) (poison_other s handle s.outstanding) (tt, tt))
 
-  beat_serves : (c : BeatCase s seat.clock) → Comes (StepServes w) (beaten w number seat (beaten_in s seat.clock c))
+  beat_serves : (c : BeatCase s member.clock) → Comes (StepServes w) (beaten w number member (beaten_in s member.clock c))
   beat_serves (BeatTooLate late) = tt
   beat_serves (OutOfBeats early last) = tt
   beat_serves (Starts early unstarted room) = others_step w _ [] tt
@@ -235,7 +235,7 @@ module _ (w : WorldState) (h : IsConsistent w) (number : ℕ) (seat : Seat) (fou
   refuses : (new : WorldState) (fault : Fault) → StepServes w new (with_refusal (note_lines s then ++ []) fault)
   refuses new fault = others_step w new (with_refusal (note_lines s then ++ []) fault) (refusal_other (note_lines s then ++ []) fault (told_other s then [] tt))
 
-  give_serves : (out : Out) (c : GiveCase s seat.clock out) → Comes (StepServes w) (gave w number seat (given_in s seat.clock out c))
+  give_serves : (out : Out) (c : GiveCase s member.clock out) → Comes (StepServes w) (gave w number member (given_in s member.clock out c))
   give_serves out (GivenTooLate late) = tt
   give_serves out (OfAnother early other) = tells_only _ [] tt
   give_serves out (Started message heard is standing fits) = tells_only _ [] tt
@@ -311,9 +311,9 @@ cut_others (line ∷ told) h =
 case_serves : (old : WorldState) (step : Step) (new : WorldState) (printed : List Line) → IsConsistent old → WorldCase old step new printed → StepServes old new printed
 case_serves old step new printed h (ComesUp u) = others_step old new printed (subst AreOthers (sym u.tells) (tt, tt))
 case_serves old step new printed h (Joins j) = others_step old new printed (subst AreOthers (sym j.tells) tt)
-case_serves old step new printed h (Asks a) = it_comes (StepServes old) (asked old a.number a.seat (asked_in a.seat.client a.seat.clock a.ask a.case)) new printed a.is (ask_serves old h a.number a.seat a.found a.ask a.case)
-case_serves old step new printed h (Beats b) = it_comes (StepServes old) (beaten old b.number b.seat (beaten_in b.seat.client b.seat.clock b.case)) new printed b.is (beat_serves old h b.number b.seat b.found b.case)
-case_serves old step new printed h (Gives g) = it_comes (StepServes old) (gave old (out_client g.out) g.seat (given_in g.seat.client g.seat.clock g.out g.case)) new printed g.is (give_serves old h (out_client g.out) g.seat g.found g.out g.case)
+case_serves old step new printed h (Asks a) = it_comes (StepServes old) (asked old a.number a.member (asked_in a.member.client a.member.clock a.ask a.case)) new printed a.is (ask_serves old h a.number a.member a.found a.ask a.case)
+case_serves old step new printed h (Beats b) = it_comes (StepServes old) (beaten old b.number b.member (beaten_in b.member.client b.member.clock b.case)) new printed b.is (beat_serves old h b.number b.member b.found b.case)
+case_serves old step new printed h (Gives g) = it_comes (StepServes old) (gave old (out_client g.out) g.member (given_in g.member.client g.member.clock g.out g.case)) new printed g.is (give_serves old h (out_client g.out) g.member g.found g.out g.case)
 case_serves old step new printed h (Ticks t) = others_step old new printed (subst AreOthers (sym t.tells) tt)
 case_serves old step new printed h (Takes t) = others_step old new printed (subst AreOthers (sym t.tells) (taken_other (noted t.master old.clock) t.request t.case))
 case_serves old step new printed h (Sweeps t) = others_step old new printed (subst AreOthers (sym t.tells) (swept_other (noted t.master old.clock) t.case))

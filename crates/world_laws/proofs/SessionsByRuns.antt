@@ -23,17 +23,17 @@ use Rattle.lock_core.specs.Turns.{reopened}
 use Rattle.lock_core.specs.Locks.{lock_at}
 use Rattle.cell_state.specs.State.{MasterState}
 use Rattle.cell_state.specs.Lookups.{noted}
-use Rattle.deed_core.specs.Deeds.{edit_of, lock_changes}
-use Rattle.deed_core.specs.Replies.{locked_line, locked_lines, puts_of}
-use Rattle.turn_core.specs.Outcomes.{leave_lines, left_put}
-use Rattle.deed_core.specs.Lapses.{lapses_lines, lapses_of, lapses_puts}
+use Rattle.cell_update.specs.Updates.{edit_of, lock_changes}
+use Rattle.cell_update.specs.Replies.{locked_line, locked_lines, puts_of}
+use Rattle.cell_apply.specs.Outcomes.{leave_lines, left_put}
+use Rattle.cell_update.specs.Lapses.{lapses_lines, lapses_of, lapses_puts}
 use Rattle.sweep_laws.specs.SweepCase.{SweepCase, swept_by, swept_edits}
 use Rattle.sweep_laws.specs.SweepCase.SweepCase.{Expires, Reopens, Tidied, Started as StartedFirst, Applied, Deleted, Locked, Awaited, Left}
-use Rattle.seats_core.specs.declared.steps.Step.{Step}
-use Rattle.stage_core.specs.World.{WorldState, WorldView}
+use Rattle.world_clients.specs.declared.steps.Step.{Step}
+use Rattle.world_core.specs.World.{WorldState, WorldView}
 use Rattle.world_laws.specs.Consistent.{IsConsistent}
 use Rattle.world_laws.specs.Runs.{Run, live_by, live_at}
-use Rattle.stage_core.specs.Made.{Does}
+use Rattle.world_core.specs.Made.{Does}
 use Rattle.world_laws.proofs.SilentLines.{IsSilentLine, IsSilent, quiet_silent}
 use Rattle.world_laws.proofs.LockLines.{AreOfLocks, reopened_of_locks, left_of_locks, lapses_of_locks}
 use Rattle.world_laws.proofs.RelockedRows.{let_go, relocked_rows}

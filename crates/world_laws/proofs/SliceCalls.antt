@@ -46,9 +46,9 @@ use Rattle.cell_core.specs.Names.{name_asked, shown_by}
 use Rattle.cell_core.specs.Ephemerals.{tidied}
 use Rattle.sweep_laws.specs.Kept.{AreIssued, AreOwned}
 use Rattle.sweep_laws.proofs.OwnedRights.{none_issued}
-use Rattle.seats_core.specs.declared.mail.Message.TheVariants.{ToClient}
-use Rattle.seats_core.specs.Messages.{call_of}
-use Rattle.stage_core.specs.World.{WorldState}
+use Rattle.world_clients.specs.declared.mail.Message.TheVariants.{ToClient}
+use Rattle.world_clients.specs.Messages.{call_of}
+use Rattle.world_core.specs.World.{WorldState}
 use Rattle.world_laws.specs.Slices.{Shown, Grants, SeenRight, standing_so, standing_of, seen_of, heard_from, right_of, start_of, starts_of, put_offer, offers_of, asks_for, stamped_grant, grant_of, grants_of}
 use Rattle.world_laws.specs.Consistent.{HasGranted, IsReplyTo}
 use Rattle.world_laws.proofs.GrantsSent.{grant_front, unstamped}

@@ -34,10 +34,10 @@ use Rattle.client_core.proofs.GiveCases.{taught_if}
 use Rattle.client_core.proofs.OneEntry.{StaysOrGoes, EntryDoes, none_stays, asked_stays, beaten_stays, given_entry}
 use Rattle.client_core.proofs.OneEntry.EntryDoes.{EntryStays, EntryInstalled}
 use Rattle.client_core.specs.Lessons.{may_install, taught}
-use Rattle.seats_core.specs.declared.seats.Seat.{Seat}
-use Rattle.seats_core.specs.Messages.{out_at}
-use Rattle.stage_core.specs.World.{WorldState, seat_of, with_client, sends, asked, beaten, gave}
-use Rattle.world_laws.specs.Consistent.{IsSeated, Holds, IsConsistent}
+use Rattle.world_clients.specs.declared.members.WorldClient.{WorldClient}
+use Rattle.world_clients.specs.Messages.{out_at}
+use Rattle.world_core.specs.World.{WorldState, member_of, with_client, sends, asked, beaten, gave}
+use Rattle.world_laws.specs.Consistent.{IsMember, Holds, IsConsistent}
 use Rattle.world_laws.specs.Slices.{Shown, slice, beat_of, beats_of, name_number, offers_of, grants_of, client_of}
 use Rattle.world_laws.proofs.GrantsSent.{grants_request}
 use Rattle.world_laws.proofs.SliceRights.{four_same}
@@ -45,7 +45,7 @@ use Rattle.world_laws.proofs.EntryFacts.{passed_entry, taken_entry, is_leased_so
 use Rattle.world_laws.proofs.InstalledGrants.{was_granted}
 use Rattle.world_laws.proofs.HoldsOn.{the_reply}
 use Rattle.world_laws.proofs.OwnSteps.{Comes, it_comes}
-use Rattle.world_laws.proofs.Slices.{LeadsTo, reached_stays, unseen, by_test, is_same, is_other, same_test, three_same, beats_more, offers_stay, offer_sent, seated_as, latest, first_of, none_more, first_in}
+use Rattle.world_laws.proofs.Slices.{LeadsTo, reached_stays, unseen, by_test, is_same, is_other, same_test, three_same, beats_more, offers_stay, offer_sent, stepped_as, latest, first_of, none_more, first_in}
 
 -- ---- what a step of a client leaves of what its slice shows
 
@@ -60,25 +60,25 @@ pub record Keeps (old new : ClientState) : Type 0 where
 six_same : {A B C D E F X : Type 0} (f : A → B → C → D → E → F → X) (a g : A) (b h : B) (c i : C) (d j : D) (e k : E) (l m : F) → a ≡ g → b ≡ h → c ≡ i → d ≡ j → e ≡ k → l ≡ m → f a b c d e l ≡ f g h i j k m
 six_same f a g b h c i d j e k l m n o p q r s = cc
 
-module _ (x : List ℕ) (w : WorldState) (number : ℕ) (seat : Seat) (client : ClientState) where
-  abbrev seat_then : Seat
-  seat_then = record seat { client = client }
+module _ (x : List ℕ) (w : WorldState) (number : ℕ) (member : WorldClient) (client : ClientState) where
+  abbrev member_then : WorldClient
+  member_then = record member { client = client }
 
-  found_then : seat_of w number ≡ Some seat → seat_of (with_client w number seat client) number ≡ Some seat_then
-  found_then found = lookup_set number w.clients seat_then ∙ ap (option_map (λ (old : Seat). seat_then)) found
+  found_then : member_of w number ≡ Some member → member_of (with_client w number member client) number ≡ Some member_then
+  found_then found = lookup_set number w.clients member_then ∙ ap (option_map (λ (old : WorldClient). member_then)) found
 
-  -- by a client's seat
-  abbrev seated_here : ℕ → Option Seat → Slice Shown
-  seated_here c o = seated_as c x w o (beats_of c w.messages) (offers_of c x w.messages) (grants_of c x w.rows.secret w.messages)
+  -- by a client's member
+  abbrev stepped_here : ℕ → Option WorldClient → Slice Shown
+  stepped_here c o = stepped_as c x w o (beats_of c w.messages) (offers_of c x w.messages) (grants_of c x w.rows.secret w.messages)
 
   -- another client's slice
-  pub other_client : (c : ℕ) → c ≢ number → slice c x (with_client w number seat client) ≡ slice c x w
-  other_client c other = ap (seated_here c) (lookup_set_apart number c other w.clients seat_then)
+  pub other_client : (c : ℕ) → c ≢ number → slice c x (with_client w number member client) ≡ slice c x w
+  other_client c other = ap (stepped_here c) (lookup_set_apart number c other w.clients member_then)
 
   -- the client's part
   abbrev half : ℕ → ℕ → ℕ → ℕ → Option LeaseTerms → Option Shown → one.Client Shown
   half beats sent epoch processed lease entry = record {
-    now = seat.clock;
+    now = member.clock;
     newest = beats;
     newest_sent = sent;
     epoch = epoch;
@@ -97,42 +97,42 @@ module _ (x : List ℕ) (w : WorldState) (number : ℕ) (seat : Seat) (client : 
 
   -- the slice by it
   abbrev with_half : one.Client Shown → List one.Beat → Slice Shown
-  with_half part beats = record (seated_here number (Some seat)) { client = part; beats = beats }
+  with_half part beats = record (stepped_here number (Some member)) { client = part; beats = beats }
 
   -- the client's own slice is led to where its part is this
-  own_led : (events : List (Event Shown)) (part : one.Client Shown) → seat_of w number ≡ Some seat → half_then ≡ part → Leads (seated_here number (Some seat)) events (with_half part (beats_of number w.messages)) → Leads (slice number x w) events (slice number x (with_client w number seat client))
+  own_led : (events : List (Event Shown)) (part : one.Client Shown) → member_of w number ≡ Some member → half_then ≡ part → Leads (stepped_here number (Some member)) events (with_half part (beats_of number w.messages)) → Leads (slice number x w) events (slice number x (with_client w number member client))
   own_led events part found is led =
-      subst (λ (o : Option Seat). Leads (seated_here number o) events (slice number x (with_client w number seat client))) (sym found)
-      (subst (Leads (seated_here number (Some seat)) events) (ap (λ (k : one.Client Shown). with_half k (beats_of number w.messages)) (sym is) ∙ ap (seated_here number) (sym (found_then found))) led)
+      subst (λ (o : Option WorldClient). Leads (stepped_here number o) events (slice number x (with_client w number member client))) (sym found)
+      (subst (Leads (stepped_here number (Some member)) events) (ap (λ (k : one.Client Shown). with_half k (beats_of number w.messages)) (sym is) ∙ ap (stepped_here number) (sym (found_then found))) led)
 
   -- nothing but its entry may go
-  own_keeps : seat_of w number ≡ Some seat → Keeps seat.client client → StaysOrGoes seat.client.cache.entries client.cache.entries x → LeadsTo number x w (with_client w number seat client)
+  own_keeps : member_of w number ≡ Some member → Keeps member.client client → StaysOrGoes member.client.cache.entries client.cache.entries x → LeadsTo number x w (with_client w number member client)
   own_keeps found keeps (inl same) = (
     [],
-    own_led [] (half seat.client.beats seat.client.sent seat.client.epoch seat.client.processed seat.client.cache.lease (entry_of seat.client.cache.entries x)) found
-        (half_is seat.client.beats seat.client.sent seat.client.epoch seat.client.processed seat.client.cache.lease (entry_of seat.client.cache.entries x) keeps.beats keeps.sent keeps.epoch keeps.processed keeps.lease same)
+    own_led [] (half member.client.beats member.client.sent member.client.epoch member.client.processed member.client.cache.lease (entry_of member.client.cache.entries x)) found
+        (half_is member.client.beats member.client.sent member.client.epoch member.client.processed member.client.cache.lease (entry_of member.client.cache.entries x) keeps.beats keeps.sent keeps.epoch keeps.processed keeps.lease same)
         (record { allowed = tt; leads_there = refl }),
   )
   own_keeps found keeps (inr gone) = (
     Forget ∷ [],
-    own_led (Forget ∷ []) (half seat.client.beats seat.client.sent seat.client.epoch seat.client.processed seat.client.cache.lease None) found
-        (half_is seat.client.beats seat.client.sent seat.client.epoch seat.client.processed seat.client.cache.lease None keeps.beats keeps.sent keeps.epoch keeps.processed keeps.lease gone)
+    own_led (Forget ∷ []) (half member.client.beats member.client.sent member.client.epoch member.client.processed member.client.cache.lease None) found
+        (half_is member.client.beats member.client.sent member.client.epoch member.client.processed member.client.cache.lease None keeps.beats keeps.sent keeps.epoch keeps.processed keeps.lease gone)
         (record { allowed = record { first = tt; rest = tt }; leads_there = refl }),
   )
 
   -- what the client alone sees
-  own_or_unseen : (c : ℕ) → LeadsTo number x w (with_client w number seat client) → LeadsTo c x w (with_client w number seat client)
+  own_or_unseen : (c : ℕ) → LeadsTo number x w (with_client w number member client) → LeadsTo c x w (with_client w number member client)
   own_or_unseen c led = by_test (c == number)
-      (λ own. subst (λ (z : ℕ). LeadsTo z x w (with_client w number seat client)) (sym (is_same c number own)) led)
-      (λ other. unseen c x w (with_client w number seat client) (sym (other_client c (is_other c number other))))
+      (λ own. subst (λ (z : ℕ). LeadsTo z x w (with_client w number member client)) (sym (is_same c number own)) led)
+      (λ other. unseen c x w (with_client w number member client) (sym (other_client c (is_other c number other))))
 
-  pub client_leads : (c : ℕ) → seat_of w number ≡ Some seat → Keeps seat.client client → StaysOrGoes seat.client.cache.entries client.cache.entries x → LeadsTo c x w (with_client w number seat client)
+  pub client_leads : (c : ℕ) → member_of w number ≡ Some member → Keeps member.client client → StaysOrGoes member.client.cache.entries client.cache.entries x → LeadsTo c x w (with_client w number member client)
   client_leads c found keeps entry = own_or_unseen c (own_keeps found keeps entry)
 
 -- what is sent to the master and is no Start or Beat of the client
 pub sending_stays : (c : ℕ) (x : List ℕ) (w : WorldState) (request : Request) → beat_of c request (beats_of c w.messages) ≡ beats_of c w.messages → slice c x (sends w request) ≡ slice c x w
 sending_stays c x w request none =
-    three_same (seated_as c x w (seat_of w c)) (beats_of c (sends w request).messages) (beats_of c w.messages) (offers_of c x (sends w request).messages) (offers_of c x w.messages) (grants_of c x w.rows.secret (sends w request).messages) (grants_of c x w.rows.secret w.messages)
+    three_same (stepped_as c x w (member_of w c)) (beats_of c (sends w request).messages) (beats_of c w.messages) (offers_of c x (sends w request).messages) (offers_of c x w.messages) (grants_of c x w.rows.secret (sends w request).messages) (grants_of c x w.rows.secret w.messages)
     (beats_more c w.messages request ∙ none) (offers_stay c x w.messages request) (grants_request c x w.rows.secret w.messages request)
 
 -- the same, behind other steps
@@ -141,15 +141,15 @@ then_sends c x w middle request none led = (led.0, subst (Leads (slice c x w) le
 
 -- ---- a client is asked for a call
 
-module _ (c : ℕ) (x : List ℕ) (w : WorldState) (number : ℕ) (seat : Seat) (found : seat_of w number ≡ Some seat) (holds : Holds w.messages seat.client) where
-  asked_leads : (ask : Ask) (case : AskCase seat.client seat.clock ask) → LeadsTo c x w (with_client w number seat (asked_in seat.client seat.clock ask case).0)
+module _ (c : ℕ) (x : List ℕ) (w : WorldState) (number : ℕ) (member : WorldClient) (found : member_of w number ≡ Some member) (holds : Holds w.messages member.client) where
+  asked_leads : (ask : Ask) (case : AskCase member.client member.clock ask) → LeadsTo c x w (with_client w number member (asked_in member.client member.clock ask case).0)
   asked_leads ask case =
-      let k = asked_keeps seat.client seat.clock ask case in
-      client_leads x w number seat (asked_in seat.client seat.clock ask case).0 c found
+      let k = asked_keeps member.client member.clock ask case in
+      client_leads x w number member (asked_in member.client member.clock ask case).0 c found
       (record { beats = k.of_beats.beats; sent = k.of_beats.sent; epoch = k.of_session.epoch; processed = k.of_session.processed; lease = k.of_session.lease })
-      (asked_stays seat.client seat.clock ask x case holds.entries).entry
+      (asked_stays member.client member.clock ask x case holds.entries).entry
 
-  ask_leads : (ask : Ask) (case : AskCase seat.client seat.clock ask) → Comes (λ new printed. LeadsTo c x w new) (asked w number seat (asked_in seat.client seat.clock ask case))
+  ask_leads : (ask : Ask) (case : AskCase member.client member.clock ask) → Comes (λ new printed. LeadsTo c x w new) (asked w number member (asked_in member.client member.clock ask case))
   ask_leads ask (AskedTooLate late) = tt
   ask_leads ask (Unsafe fault early is) = asked_leads ask (Unsafe fault early is)
   ask_leads ask (Refused fault safe is) = asked_leads ask (Refused fault safe is)
@@ -160,7 +160,7 @@ module _ (c : ℕ) (x : List ℕ) (w : WorldState) (number : ℕ) (seat : Seat) 
   ask_leads ask (Released handle mine safe is there shared) = asked_leads ask (Released handle mine safe is there shared)
   ask_leads ask (OutOfCalls call sequencer target sendable last) = tt
   ask_leads ask (Sent call sequencer target sendable room) =
-      then_sends c x w (with_client w number seat (asked_in seat.client seat.clock ask (Sent call sequencer target sendable room)).0) (message_of seat.client call sequencer) refl (asked_leads ask (Sent call sequencer target sendable room))
+      then_sends c x w (with_client w number member (asked_in member.client member.clock ask (Sent call sequencer target sendable room)).0) (message_of member.client call sequencer) refl (asked_leads ask (Sent call sequencer target sendable room))
   ask_leads ask (Poisoned handle mine safe is usable) = asked_leads ask (Poisoned handle mine safe is usable)
 
 -- ---- a client sends a Start or a Beat
@@ -173,90 +173,90 @@ unstarted_processed : (slice : Slice Shown) → Reached slice → slice.client.e
 unstarted_processed slice reached = subst (λ (z : Slice Shown). z.client.epoch ≡ 0 → z.client.processed ≡ 0) reached.leads_here
     (λ none. ((always reached.present reached.session reached.epoch reached.events reached.allowed).epochs.unstarted none).0)
 
-none_processed : (x : List ℕ) (w : WorldState) (number : ℕ) (seat : Seat) → Reached (slice number x w) → seat_of w number ≡ Some seat → seat.client.epoch ≡ 0 → seat.client.processed ≡ 0
-none_processed x w number seat reached found = subst (λ (o : Option Seat). (client_of x o).epoch ≡ 0 → (client_of x o).processed ≡ 0) found (unstarted_processed (slice number x w) reached)
+none_processed : (x : List ℕ) (w : WorldState) (number : ℕ) (member : WorldClient) → Reached (slice number x w) → member_of w number ≡ Some member → member.client.epoch ≡ 0 → member.client.processed ≡ 0
+none_processed x w number member reached found = subst (λ (o : Option WorldClient). (client_of x o).epoch ≡ 0 → (client_of x o).processed ≡ 0) found (unstarted_processed (slice number x w) reached)
 
 -- the client sent one more
-record SendsOne (seat : Seat) (client : ClientState) : Type 0 where
-  beats : client.beats ≡ seat.client.beats + 1
-  sent : client.sent ≡ seat.clock
-  epoch : client.epoch ≡ seat.client.epoch
-  processed : client.processed ≡ seat.client.processed
-  lease : client.cache.lease ≡ seat.client.cache.lease
+record SendsOne (member : WorldClient) (client : ClientState) : Type 0 where
+  beats : client.beats ≡ member.client.beats + 1
+  sent : client.sent ≡ member.clock
+  epoch : client.epoch ≡ member.client.epoch
+  processed : client.processed ≡ member.client.processed
+  lease : client.cache.lease ≡ member.client.cache.lease
 
-module _ (x : List ℕ) (w : WorldState) (number : ℕ) (seat : Seat) (client : ClientState) (request : Request) where
+module _ (x : List ℕ) (w : WorldState) (number : ℕ) (member : WorldClient) (client : ClientState) (request : Request) where
   abbrev pub has_sent : WorldState
-  has_sent = sends (with_client w number seat client) request
+  has_sent = sends (with_client w number member client) request
 
   -- what goes out
   abbrev beat_then : ℕ → ℕ → one.Beat
-  beat_then epoch processed = record { epoch = epoch; number = seat.client.beats + 1; processed = processed }
+  beat_then epoch processed = record { epoch = epoch; number = member.client.beats + 1; processed = processed }
 
   abbrev the_beat : one.Beat
-  the_beat = beat_then seat.client.epoch seat.client.processed
+  the_beat = beat_then member.client.epoch member.client.processed
 
-  sent_led : (events : List (Event Shown)) (part : one.Client Shown) → seat_of w number ≡ Some seat → half_then x w number seat client ≡ part → beat_of number request (beats_of number w.messages) ≡ the_beat ∷ beats_of number w.messages
-      → Leads (seated_here x w number seat client number (Some seat)) events (with_half x w number seat client part (the_beat ∷ beats_of number w.messages)) → LeadsTo number x w has_sent
+  sent_led : (events : List (Event Shown)) (part : one.Client Shown) → member_of w number ≡ Some member → half_then x w number member client ≡ part → beat_of number request (beats_of number w.messages) ≡ the_beat ∷ beats_of number w.messages
+      → Leads (stepped_here x w number member client number (Some member)) events (with_half x w number member client part (the_beat ∷ beats_of number w.messages)) → LeadsTo number x w has_sent
   sent_led events part found is goes_out led =
       let beats_are : beats_of number has_sent.messages ≡ the_beat ∷ beats_of number w.messages = beats_more number w.messages request ∙ goes_out in (
         events,
-        subst (λ (o : Option Seat). Leads (seated_here x w number seat client number o) events (slice number x has_sent)) (sym found)
-            (subst (Leads (seated_here x w number seat client number (Some seat)) events)
-            (ap (λ (k : one.Client Shown). with_half x w number seat client k (the_beat ∷ beats_of number w.messages)) (sym is)
-            ∙ four_same (seated_as number x w) (Some (seat_then x w number seat client)) (seat_of has_sent number) (the_beat ∷ beats_of number w.messages) (beats_of number has_sent.messages) (offers_of number x w.messages) (offers_of number x has_sent.messages) (grants_of number x w.rows.secret w.messages) (grants_of number x w.rows.secret has_sent.messages)
-            (sym (found_then x w number seat client found)) (sym beats_are) (sym (offers_stay number x w.messages request)) (sym (grants_request number x w.rows.secret w.messages request))) led),
+        subst (λ (o : Option WorldClient). Leads (stepped_here x w number member client number o) events (slice number x has_sent)) (sym found)
+            (subst (Leads (stepped_here x w number member client number (Some member)) events)
+            (ap (λ (k : one.Client Shown). with_half x w number member client k (the_beat ∷ beats_of number w.messages)) (sym is)
+            ∙ four_same (stepped_as number x w) (Some (member_then x w number member client)) (member_of has_sent number) (the_beat ∷ beats_of number w.messages) (beats_of number has_sent.messages) (offers_of number x w.messages) (offers_of number x has_sent.messages) (grants_of number x w.rows.secret w.messages) (grants_of number x w.rows.secret has_sent.messages)
+            (sym (found_then x w number member client found)) (sym beats_are) (sym (offers_stay number x w.messages request)) (sym (grants_request number x w.rows.secret w.messages request))) led),
       )
 
-  own_beat : seat_of w number ≡ Some seat → SendsOne seat client → StaysOrGoes seat.client.cache.entries client.cache.entries x → beat_of number request (beats_of number w.messages) ≡ the_beat ∷ beats_of number w.messages → LeadsTo number x w has_sent
+  own_beat : member_of w number ≡ Some member → SendsOne member client → StaysOrGoes member.client.cache.entries client.cache.entries x → beat_of number request (beats_of number w.messages) ≡ the_beat ∷ beats_of number w.messages → LeadsTo number x w has_sent
   own_beat found one (inl same) goes_out =
-      sent_led (SendBeat ∷ []) (half x w number seat client (seat.client.beats + 1) seat.clock seat.client.epoch seat.client.processed seat.client.cache.lease (entry_of seat.client.cache.entries x)) found
-      (half_is x w number seat client (seat.client.beats + 1) seat.clock seat.client.epoch seat.client.processed seat.client.cache.lease (entry_of seat.client.cache.entries x) one.beats one.sent one.epoch one.processed one.lease same)
+      sent_led (SendBeat ∷ []) (half x w number member client (member.client.beats + 1) member.clock member.client.epoch member.client.processed member.client.cache.lease (entry_of member.client.cache.entries x)) found
+      (half_is x w number member client (member.client.beats + 1) member.clock member.client.epoch member.client.processed member.client.cache.lease (entry_of member.client.cache.entries x) one.beats one.sent one.epoch one.processed one.lease same)
       goes_out (record { allowed = record { first = tt; rest = tt }; leads_there = refl })
   own_beat found one (inr gone) goes_out =
-      sent_led (Forget ∷ SendBeat ∷ []) (half x w number seat client (seat.client.beats + 1) seat.clock seat.client.epoch seat.client.processed seat.client.cache.lease None) found
-      (half_is x w number seat client (seat.client.beats + 1) seat.clock seat.client.epoch seat.client.processed seat.client.cache.lease None one.beats one.sent one.epoch one.processed one.lease gone)
+      sent_led (Forget ∷ SendBeat ∷ []) (half x w number member client (member.client.beats + 1) member.clock member.client.epoch member.client.processed member.client.cache.lease None) found
+      (half_is x w number member client (member.client.beats + 1) member.clock member.client.epoch member.client.processed member.client.cache.lease None one.beats one.sent one.epoch one.processed one.lease gone)
       goes_out (record { allowed = record { first = tt; rest = record { first = tt; rest = tt } }; leads_there = refl })
 
   other_beat : (c : ℕ) → c ≢ number → beat_of c request (beats_of c w.messages) ≡ beats_of c w.messages → slice c x w ≡ slice c x has_sent
-  other_beat c other none = sym (sending_stays c x (with_client w number seat client) request none ∙ other_client x w number seat client c other)
+  other_beat c other none = sym (sending_stays c x (with_client w number member client) request none ∙ other_client x w number member client c other)
 
-  beat_by : (c : ℕ) → seat_of w number ≡ Some seat → SendsOne seat client → StaysOrGoes seat.client.cache.entries client.cache.entries x
+  beat_by : (c : ℕ) → member_of w number ≡ Some member → SendsOne member client → StaysOrGoes member.client.cache.entries client.cache.entries x
       → (c ≡ number → beat_of number request (beats_of number w.messages) ≡ the_beat ∷ beats_of number w.messages) → ((k : ℕ) → k ≢ number → beat_of k request (beats_of k w.messages) ≡ beats_of k w.messages) → LeadsTo c x w has_sent
   beat_by c found one entry goes_out none = by_test (c == number)
       (λ own. subst (λ (z : ℕ). LeadsTo z x w has_sent) (sym (is_same c number own)) (own_beat found one entry (goes_out (is_same c number own))))
       (λ other. unseen c x w has_sent (other_beat c (is_other c number other) (none c (is_other c number other))))
 
-module _ (c : ℕ) (x : List ℕ) (w : WorldState) (number : ℕ) (seat : Seat) (found : seat_of w number ≡ Some seat) (holds : Holds w.messages seat.client) (fits : IsSeated w.rows.epoch number seat) (reached : Reached (slice c x w)) where
-  now_is : noted_moment seat.client seat.clock ≡ seat.clock
-  now_is = latest seat.client.clock seat.clock fits.noted
+module _ (c : ℕ) (x : List ℕ) (w : WorldState) (number : ℕ) (member : WorldClient) (found : member_of w number ≡ Some member) (holds : Holds w.messages member.client) (fits : IsMember w.rows.epoch number member) (reached : Reached (slice c x w)) where
+  now_is : noted_moment member.client member.clock ≡ member.clock
+  now_is = latest member.client.clock member.clock fits.noted
 
-  beaten_stays_here : (case : BeatCase seat.client seat.clock) → StaysOrGoes seat.client.cache.entries (beaten_in seat.client seat.clock case).0.cache.entries x
-  beaten_stays_here case = (beaten_stays seat.client seat.clock x case holds.entries).entry
+  beaten_stays_here : (case : BeatCase member.client member.clock) → StaysOrGoes member.client.cache.entries (beaten_in member.client member.clock case).0.cache.entries x
+  beaten_stays_here case = (beaten_stays member.client member.clock x case holds.entries).entry
 
   -- of a Start the epoch and the count are 0
-  start_beat : c ≡ number → seat.client.session ≡ sessions.Unstarted → beat_of number (start_message seat.client) (beats_of number w.messages) ≡ the_beat x w number seat seat.client (start_message seat.client) ∷ beats_of number w.messages
+  start_beat : c ≡ number → member.client.session ≡ sessions.Unstarted → beat_of number (start_message member.client) (beats_of number w.messages) ≡ the_beat x w number member member.client (start_message member.client) ∷ beats_of number w.messages
   start_beat own unstarted =
       let none = fits.unstarted unstarted in
-      let processed = none_processed x w number seat (subst (λ (z : ℕ). Reached (slice z x w)) own reached) found none in
-      first_of (number == seat.client.number) (record { epoch = 0; number = seat.client.beats + 1; processed = 0 }) (beats_of number w.messages) (same_test number seat.client.number (sym fits.own))
-      ∙ three_same (λ epoch count (rest : List one.Beat). record { epoch = epoch; number = seat.client.beats + 1; processed = count } ∷ rest) 0 seat.client.epoch 0 seat.client.processed (beats_of number w.messages) (beats_of number w.messages) (sym none) (sym processed) refl
+      let processed = none_processed x w number member (subst (λ (z : ℕ). Reached (slice z x w)) own reached) found none in
+      first_of (number == member.client.number) (record { epoch = 0; number = member.client.beats + 1; processed = 0 }) (beats_of number w.messages) (same_test number member.client.number (sym fits.own))
+      ∙ three_same (λ epoch count (rest : List one.Beat). record { epoch = epoch; number = member.client.beats + 1; processed = count } ∷ rest) 0 member.client.epoch 0 member.client.processed (beats_of number w.messages) (beats_of number w.messages) (sym none) (sym processed) refl
 
-  beat_leads : (case : BeatCase seat.client seat.clock) → Comes (λ new printed. LeadsTo c x w new) (beaten w number seat (beaten_in seat.client seat.clock case))
+  beat_leads : (case : BeatCase member.client member.clock) → Comes (λ new printed. LeadsTo c x w new) (beaten w number member (beaten_in member.client member.clock case))
   beat_leads (BeatTooLate late) = tt
   beat_leads (OutOfBeats early last) = tt
   beat_leads (Starts early unstarted room) =
-      beat_by x w number seat (beaten_in seat.client seat.clock (Starts early unstarted room)).0 (start_message seat.client) c found
+      beat_by x w number member (beaten_in member.client member.clock (Starts early unstarted room)).0 (start_message member.client) c found
       (record { beats = refl; sent = now_is; epoch = refl; processed = refl; lease = refl }) (beaten_stays_here (Starts early unstarted room))
       (λ own. start_beat own unstarted)
-      (λ k other. none_more (k == seat.client.number) (record { epoch = 0; number = seat.client.beats + 1; processed = 0 }) (beats_of k w.messages) (no_test k seat.client.number (λ e. other (e ∙ fits.own))))
+      (λ k other. none_more (k == member.client.number) (record { epoch = 0; number = member.client.beats + 1; processed = 0 }) (beats_of k w.messages) (no_test k member.client.number (λ e. other (e ∙ fits.own))))
   beat_leads (Beats early live then room) =
-      beat_by x w number seat (beaten_in seat.client seat.clock (Beats early live then room)).0 (beat_message seat.client) c found
-      (record { beats = refl; sent = now_is; epoch = refl; processed = refl; lease = noted_lease seat.client.cache (noted_moment seat.client seat.clock) }) (beaten_stays_here (Beats early live then room))
-      (λ own. first_of (number == seat.client.number) (the_beat x w number seat seat.client (beat_message seat.client)) (beats_of number w.messages) (same_test number seat.client.number (sym fits.own)))
-      (λ k other. none_more (k == seat.client.number) (the_beat x w number seat seat.client (beat_message seat.client)) (beats_of k w.messages) (no_test k seat.client.number (λ e. other (e ∙ fits.own))))
+      beat_by x w number member (beaten_in member.client member.clock (Beats early live then room)).0 (beat_message member.client) c found
+      (record { beats = refl; sent = now_is; epoch = refl; processed = refl; lease = noted_lease member.client.cache (noted_moment member.client member.clock) }) (beaten_stays_here (Beats early live then room))
+      (λ own. first_of (number == member.client.number) (the_beat x w number member member.client (beat_message member.client)) (beats_of number w.messages) (same_test number member.client.number (sym fits.own)))
+      (λ k other. none_more (k == member.client.number) (the_beat x w number member member.client (beat_message member.client)) (beats_of k w.messages) (no_test k member.client.number (λ e. other (e ∙ fits.own))))
   beat_leads (Quiet early started live) =
-      let k = note_keeps seat.client (noted_moment seat.client seat.clock) in
-      client_leads x w number seat (beaten_in seat.client seat.clock (Quiet early started live)).0 c found
+      let k = note_keeps member.client (noted_moment member.client member.clock) in
+      client_leads x w number member (beaten_in member.client member.clock (Quiet early started live)).0 c found
       (record { beats = k.of_beats.beats; sent = k.of_beats.sent; epoch = k.of_session.epoch; processed = k.of_session.processed; lease = k.of_session.lease }) (beaten_stays_here (Quiet early started live))
 
 -- ---- a client is given a message
@@ -278,46 +278,46 @@ alive_offer x message = record {
   name_invalidation = name_number x message.invalidations;
 }
 
-module _ (x : List ℕ) (w : WorldState) (number : ℕ) (seat : Seat) (client : ClientState) (found : seat_of w number ≡ Some seat) where
+module _ (x : List ℕ) (w : WorldState) (number : ℕ) (member : WorldClient) (client : ClientState) (found : member_of w number ≡ Some member) where
   abbrev s : ClientState
-  s = seat.client
+  s = member.client
 
   -- it takes the lease of a Started that was sent
   takes_started : (offer : one.Offer) → IsIn offer (offers_of number x w.messages) → offer.number ≡ s.beats → s.epoch ≡ 0
-      → client.beats ≡ s.beats → client.sent ≡ s.sent → client.epoch ≡ offer.epoch → client.processed ≡ s.processed → client.cache.lease ≡ Some (offered s offer.span) → entry_of client.cache.entries x ≡ None → LeadsTo number x w (with_client w number seat client)
+      → client.beats ≡ s.beats → client.sent ≡ s.sent → client.epoch ≡ offer.epoch → client.processed ≡ s.processed → client.cache.lease ≡ Some (offered s offer.span) → entry_of client.cache.entries x ≡ None → LeadsTo number x w (with_client w number member client)
   takes_started offer was_offered newest epoch beats_are sent_is epoch_is processed_is lease_is none = (
     StartAnew offer ∷ [],
-    own_led x w number seat client (StartAnew offer ∷ []) (half x w number seat client s.beats s.sent offer.epoch s.processed (Some (offered s offer.span)) None) found
-        (half_is x w number seat client s.beats s.sent offer.epoch s.processed (Some (offered s offer.span)) None beats_are sent_is epoch_is processed_is lease_is none)
+    own_led x w number member client (StartAnew offer ∷ []) (half x w number member client s.beats s.sent offer.epoch s.processed (Some (offered s offer.span)) None) found
+        (half_is x w number member client s.beats s.sent offer.epoch s.processed (Some (offered s offer.span)) None beats_are sent_is epoch_is processed_is lease_is none)
         (record { allowed = record { first = record { offered = was_offered; newest = newest; epoch = inl epoch }; rest = tt }; leads_there = refl }),
   )
 
   -- what an Alive leaves of the client
   module _ (offer : one.Offer) (was_offered : IsIn offer (offers_of number x w.messages)) (epoch : s.epoch ≡ offer.epoch) (beats_are : client.beats ≡ s.beats) (sent_is : client.sent ≡ s.sent) (epoch_is : client.epoch ≡ s.epoch) (processed_is : client.processed ≡ max s.processed offer.last_invalidation) where
     -- it processes what is to be acknowledged, and the entry is gone
-    passes_gone : client.cache.lease ≡ s.cache.lease → entry_of client.cache.entries x ≡ None → LeadsTo number x w (with_client w number seat client)
+    passes_gone : client.cache.lease ≡ s.cache.lease → entry_of client.cache.entries x ≡ None → LeadsTo number x w (with_client w number member client)
     passes_gone lease_is none = (
       Invalidate offer ∷ [],
-      own_led x w number seat client (Invalidate offer ∷ []) (half x w number seat client s.beats s.sent s.epoch (max s.processed offer.last_invalidation) s.cache.lease None) found
-          (half_is x w number seat client s.beats s.sent s.epoch (max s.processed offer.last_invalidation) s.cache.lease None beats_are sent_is epoch_is processed_is lease_is none)
+      own_led x w number member client (Invalidate offer ∷ []) (half x w number member client s.beats s.sent s.epoch (max s.processed offer.last_invalidation) s.cache.lease None) found
+          (half_is x w number member client s.beats s.sent s.epoch (max s.processed offer.last_invalidation) s.cache.lease None beats_are sent_is epoch_is processed_is lease_is none)
           (record { allowed = record { first = record { offered = was_offered; epoch = epoch }; rest = tt }; leads_there = refl }),
     )
 
     -- or it stands
-    passes_kept : client.cache.lease ≡ s.cache.lease → entry_of client.cache.entries x ≡ entry_of s.cache.entries x → offer.name_invalidation ≤ s.processed → LeadsTo number x w (with_client w number seat client)
+    passes_kept : client.cache.lease ≡ s.cache.lease → entry_of client.cache.entries x ≡ entry_of s.cache.entries x → offer.name_invalidation ≤ s.processed → LeadsTo number x w (with_client w number member client)
     passes_kept lease_is same known = (
       Process offer ∷ [],
-      own_led x w number seat client (Process offer ∷ []) (half x w number seat client s.beats s.sent s.epoch (max s.processed offer.last_invalidation) s.cache.lease (entry_of s.cache.entries x)) found
-          (half_is x w number seat client s.beats s.sent s.epoch (max s.processed offer.last_invalidation) s.cache.lease (entry_of s.cache.entries x) beats_are sent_is epoch_is processed_is lease_is same)
+      own_led x w number member client (Process offer ∷ []) (half x w number member client s.beats s.sent s.epoch (max s.processed offer.last_invalidation) s.cache.lease (entry_of s.cache.entries x)) found
+          (half_is x w number member client s.beats s.sent s.epoch (max s.processed offer.last_invalidation) s.cache.lease (entry_of s.cache.entries x) beats_are sent_is epoch_is processed_is lease_is same)
           (record { allowed = record { first = record { offered = was_offered; epoch = epoch; known = known }; rest = tt }; leads_there = refl }),
     )
 
     -- and then it takes the lease
-    takes_gone : offer.number ≡ s.beats → client.cache.lease ≡ Some (offered s offer.span) → entry_of client.cache.entries x ≡ None → LeadsTo number x w (with_client w number seat client)
+    takes_gone : offer.number ≡ s.beats → client.cache.lease ≡ Some (offered s offer.span) → entry_of client.cache.entries x ≡ None → LeadsTo number x w (with_client w number member client)
     takes_gone newest lease_is none = (
       Invalidate offer ∷ StartAnew offer ∷ [],
-      own_led x w number seat client (Invalidate offer ∷ StartAnew offer ∷ []) (half x w number seat client s.beats s.sent offer.epoch (max s.processed offer.last_invalidation) (Some (offered s offer.span)) None) found
-          (half_is x w number seat client s.beats s.sent offer.epoch (max s.processed offer.last_invalidation) (Some (offered s offer.span)) None beats_are sent_is (epoch_is ∙ epoch) processed_is lease_is none)
+      own_led x w number member client (Invalidate offer ∷ StartAnew offer ∷ []) (half x w number member client s.beats s.sent offer.epoch (max s.processed offer.last_invalidation) (Some (offered s offer.span)) None) found
+          (half_is x w number member client s.beats s.sent offer.epoch (max s.processed offer.last_invalidation) (Some (offered s offer.span)) None beats_are sent_is (epoch_is ∙ epoch) processed_is lease_is none)
           (record {
             allowed = record {
               first = record { offered = was_offered; epoch = epoch };
@@ -327,11 +327,11 @@ module _ (x : List ℕ) (w : WorldState) (number : ℕ) (seat : Seat) (client : 
           }),
     )
 
-    takes_kept : offer.number ≡ s.beats → client.cache.lease ≡ Some (offered s offer.span) → entry_of client.cache.entries x ≡ entry_of s.cache.entries x → offer.name_invalidation ≤ s.processed → IsUnexpired (lease_of s.cache.lease).sent (lease_of s.cache.lease).span seat.clock → LeadsTo number x w (with_client w number seat client)
+    takes_kept : offer.number ≡ s.beats → client.cache.lease ≡ Some (offered s offer.span) → entry_of client.cache.entries x ≡ entry_of s.cache.entries x → offer.name_invalidation ≤ s.processed → IsUnexpired (lease_of s.cache.lease).sent (lease_of s.cache.lease).span member.clock → LeadsTo number x w (with_client w number member client)
     takes_kept newest lease_is same known unexpired = (
       Process offer ∷ Prolong offer ∷ [],
-      own_led x w number seat client (Process offer ∷ Prolong offer ∷ []) (half x w number seat client s.beats s.sent s.epoch (max s.processed offer.last_invalidation) (Some (offered s offer.span)) (entry_of s.cache.entries x)) found
-          (half_is x w number seat client s.beats s.sent s.epoch (max s.processed offer.last_invalidation) (Some (offered s offer.span)) (entry_of s.cache.entries x) beats_are sent_is epoch_is processed_is lease_is same)
+      own_led x w number member client (Process offer ∷ Prolong offer ∷ []) (half x w number member client s.beats s.sent s.epoch (max s.processed offer.last_invalidation) (Some (offered s offer.span)) (entry_of s.cache.entries x)) found
+          (half_is x w number member client s.beats s.sent s.epoch (max s.processed offer.last_invalidation) (Some (offered s offer.span)) (entry_of s.cache.entries x) beats_are sent_is epoch_is processed_is lease_is same)
           (record {
             allowed = record {
               first = record { offered = was_offered; epoch = epoch; known = known };
@@ -343,21 +343,21 @@ module _ (x : List ℕ) (w : WorldState) (number : ℕ) (seat : Seat) (client : 
 
   -- it is told of a later epoch
   learns : (present : ℕ) → 0 < s.epoch → s.epoch < present → present ≤ w.rows.epoch
-      → client.beats ≡ s.beats → client.sent ≡ s.sent → client.epoch ≡ present → client.processed ≡ 0 → client.cache.lease ≡ s.cache.lease → entry_of client.cache.entries x ≡ None → LeadsTo number x w (with_client w number seat client)
+      → client.beats ≡ s.beats → client.sent ≡ s.sent → client.epoch ≡ present → client.processed ≡ 0 → client.cache.lease ≡ s.cache.lease → entry_of client.cache.entries x ≡ None → LeadsTo number x w (with_client w number member client)
   learns present started later committed beats_are sent_is epoch_is processed_is lease_is none = (
     LearnEpoch present ∷ [],
-    own_led x w number seat client (LearnEpoch present ∷ []) (half x w number seat client s.beats s.sent present 0 s.cache.lease None) found
-        (half_is x w number seat client s.beats s.sent present 0 s.cache.lease None beats_are sent_is epoch_is processed_is lease_is none)
+    own_led x w number member client (LearnEpoch present ∷ []) (half x w number member client s.beats s.sent present 0 s.cache.lease None) found
+        (half_is x w number member client s.beats s.sent present 0 s.cache.lease None beats_are sent_is epoch_is processed_is lease_is none)
         (record { allowed = record { first = record { started = started; later = later; committed = committed }; rest = tt }; leads_there = refl }),
   )
 
   -- it puts a granted view into its cache
-  installs : (grant : one.Grant Shown) → IsIn grant (grants_of number x w.rows.secret w.messages) → grant.epoch ≡ s.epoch → s.processed ≤ grant.stamp → IsUnexpired (lease_of s.cache.lease).sent (lease_of s.cache.lease).span seat.clock
-      → Keeps s client → entry_of client.cache.entries x ≡ Some grant.view → LeadsTo number x w (with_client w number seat client)
+  installs : (grant : one.Grant Shown) → IsIn grant (grants_of number x w.rows.secret w.messages) → grant.epoch ≡ s.epoch → s.processed ≤ grant.stamp → IsUnexpired (lease_of s.cache.lease).sent (lease_of s.cache.lease).span member.clock
+      → Keeps s client → entry_of client.cache.entries x ≡ Some grant.view → LeadsTo number x w (with_client w number member client)
   installs grant granted epoch stamp unexpired keeps there = (
     Install grant ∷ [],
-    own_led x w number seat client (Install grant ∷ []) (half x w number seat client s.beats s.sent s.epoch s.processed s.cache.lease (Some grant.view)) found
-        (half_is x w number seat client s.beats s.sent s.epoch s.processed s.cache.lease (Some grant.view) keeps.beats keeps.sent keeps.epoch keeps.processed keeps.lease there)
+    own_led x w number member client (Install grant ∷ []) (half x w number member client s.beats s.sent s.epoch s.processed s.cache.lease (Some grant.view)) found
+        (half_is x w number member client s.beats s.sent s.epoch s.processed s.cache.lease (Some grant.view) keeps.beats keeps.sent keeps.epoch keeps.processed keeps.lease there)
         (record { allowed = record { first = record { granted = granted; epoch = epoch; stamp = stamp; unexpired = unexpired }; rest = tt }; leads_there = refl }),
   )
 
@@ -369,49 +369,49 @@ by_entry (Some v) none some = some v refl
 no_session : {P : Type 0} (s : ClientState) → s.session ≡ sessions.Live → s.session ≡ sessions.Unstarted → P
 no_session s h k = let two : sessions.Live ≡ sessions.Unstarted = sym h ∙ k in cc
 
-module _ (c : ℕ) (x : List ℕ) (w : WorldState) (h : IsConsistent w) (seat : Seat) (at : ℕ) (out : Out) (sent : out_at w.messages at ≡ Some out) (found : seat_of w (out_client out) ≡ Some seat) where
+module _ (c : ℕ) (x : List ℕ) (w : WorldState) (h : IsConsistent w) (member : WorldClient) (at : ℕ) (out : Out) (sent : out_at w.messages at ≡ Some out) (found : member_of w (out_client out) ≡ Some member) where
   abbrev to : ℕ
   to = out_client out
 
   abbrev own : ClientState
-  own = seat.client
+  own = member.client
 
   abbrev then : ℕ
-  then = noted_moment own seat.clock
+  then = noted_moment own member.clock
 
   holds : Holds w.messages own
-  holds = h.holds to seat found
+  holds = h.holds to member found
 
-  then_is : then ≡ seat.clock
-  then_is = latest own.clock seat.clock (h.clients to seat found).noted
+  then_is : then ≡ member.clock
+  then_is = latest own.clock member.clock (h.clients to member found).noted
 
-  runs : is_leased own.cache.lease then ≡ true → IsUnexpired (lease_of own.cache.lease).sent (lease_of own.cache.lease).span seat.clock
-  runs leased = is_leased_so own.cache.lease seat.clock (subst (λ (n : ℕ). is_leased own.cache.lease n ≡ true) then_is leased)
+  runs : is_leased own.cache.lease then ≡ true → IsUnexpired (lease_of own.cache.lease).sent (lease_of own.cache.lease).span member.clock
+  runs leased = is_leased_so own.cache.lease member.clock (subst (λ (n : ℕ). is_leased own.cache.lease n ≡ true) then_is leased)
 
-  abbrev client_by : GiveCase own seat.clock out → ClientState
-  client_by case = (given_in own seat.clock out case).0
+  abbrev client_by : GiveCase own member.clock out → ClientState
+  client_by case = (given_in own member.clock out case).0
 
-  abbrev LeadsBy : GiveCase own seat.clock out → Type 0
-  LeadsBy case = LeadsTo c x w (with_client w to seat (client_by case))
+  abbrev LeadsBy : GiveCase own member.clock out → Type 0
+  LeadsBy case = LeadsTo c x w (with_client w to member (client_by case))
 
   -- what its reply teaches was granted
-  installs_by : (case : GiveCase own seat.clock out) → Keeps own (client_by case) → EntryDoes own seat.clock out x (client_by case) → LeadsBy case
-  installs_by case keeps (EntryStays stays) = client_leads x w to seat (client_by case) c found keeps stays.entry
+  installs_by : (case : GiveCase own member.clock out) → Keeps own (client_by case) → EntryDoes own member.clock out x (client_by case) → LeadsBy case
+  installs_by case keeps (EntryStays stays) = client_leads x w to member (client_by case) c found keeps stays.entry
   installs_by case keeps (EntryInstalled message call entry stamp is for learned there fits) =
-      let reply = the_reply w h to seat found at out sent message call (sym (h.clients to seat found).own) is for in
+      let reply = the_reply w h to member found at out sent message call (sym (h.clients to member found).own) is for in
       let granted = was_granted w.messages w.rows.secret own message call holds.handles reply x entry stamp (taught_if (may_install own then message.stamp) (taught own call.target message.result) (x, entry) learned.teaches).1 learned.stamped in
       let grant : one.Grant Shown = record { epoch = message.epoch; stamp = stamp; view = entry } in
-      own_or_unseen x w to seat (client_by case) c
-      (installs x w to seat (client_by case) found grant (subst (λ (n : ℕ). IsIn grant (grants_of n x w.rows.secret w.messages)) (sym (ap out_client is)) granted) for.epoch learned.fresh (runs learned.safe.leased) keeps there)
+      own_or_unseen x w to member (client_by case) c
+      (installs x w to member (client_by case) found grant (subst (λ (n : ℕ). IsIn grant (grants_of n x w.rows.secret w.messages)) (sym (ap out_client is)) granted) for.epoch learned.fresh (runs learned.safe.leased) keeps there)
 
-  keeps_by : (case : GiveCase own seat.clock out) → Keeps own (client_by case) → LeadsBy case
-  keeps_by case keeps = installs_by case keeps (given_entry own seat.clock out x case holds.entries)
+  keeps_by : (case : GiveCase own member.clock out) → Keeps own (client_by case) → LeadsBy case
+  keeps_by case keeps = installs_by case keeps (given_entry own member.clock out x case holds.entries)
 
   note_keeps_here : Keeps own (note own then)
   note_keeps_here = let k = note_keeps own then in record { beats = k.of_beats.beats; sent = k.of_beats.sent; epoch = k.of_session.epoch; processed = k.of_session.processed; lease = k.of_session.lease }
 
   -- nothing is there before a session
-  none_begun : (new : ClientState) → own.session ≡ sessions.Unstarted → EntryDoes own seat.clock out x new → entry_of new.cache.entries x ≡ None
+  none_begun : (new : ClientState) → own.session ≡ sessions.Unstarted → EntryDoes own member.clock out x new → entry_of new.cache.entries x ≡ None
   none_begun new unstarted (EntryStays stays) = none_stays own.cache.entries new.cache.entries x stays.entry (holds.none_before unstarted x)
   none_begun new unstarted (EntryInstalled message call entry stamp is for learned there fits) = no_session own for.live.live unstarted
 
@@ -424,38 +424,38 @@ module _ (c : ℕ) (x : List ℕ) (w : WorldState) (h : IsConsistent w) (seat : 
       let k = ended_same (note_live own then) call.target message.result in
       record { beats = k.beats; sent = k.sent; epoch = k.epoch; processed = k.processed; lease = ap (λ (cache : CacheState). cache.lease) k.cache ∙ noted_lease own.cache then }
 
-  stays_leads : (message : Alive) (is : out ≡ outs.Alive message) (heard : IsHeard own seat.clock out) (fit : IsFit own seat.clock message) (worse : _) → LeadsBy (LeaseStays message heard is fit worse)
+  stays_leads : (message : Alive) (is : out ≡ outs.Alive message) (heard : IsHeard own member.clock out) (fit : IsFit own member.clock message) (worse : _) → LeadsBy (LeaseStays message heard is fit worse)
   stays_leads message is heard fit worse =
       let client = client_by (LeaseStays message heard is fit worse) in
       let leased = noted_lease own.cache then in
-      own_or_unseen x w to seat client c (by_entry (entry_of client.cache.entries x)
-      (λ none. passes_gone x w to seat client found (alive_offer x message) (was_offered message is) (sym fit.alive.epoch) refl refl refl refl leased none)
+      own_or_unseen x w to member client c (by_entry (entry_of client.cache.entries x)
+      (λ none. passes_gone x w to member client found (alive_offer x message) (was_offered message is) (sym fit.alive.epoch) refl refl refl refl leased none)
       (λ v there.
       let still = passed_entry own.cache then own.processed message.invalidations x v holds.entries there in
-      passes_kept x w to seat client found (alive_offer x message) (was_offered message is) (sym fit.alive.epoch) refl refl refl refl leased (there ∙ sym still.same) still.known))
+      passes_kept x w to member client found (alive_offer x message) (was_offered message is) (sym fit.alive.epoch) refl refl refl refl leased (there ∙ sym still.same) still.known))
 
-  taken_leads : (message : Alive) (is : out ≡ outs.Alive message) (heard : IsHeard own seat.clock out) (fit : IsFit own seat.clock message) (taken : IsTaken own message) → LeadsBy (LeaseTaken message heard is fit taken)
+  taken_leads : (message : Alive) (is : out ≡ outs.Alive message) (heard : IsHeard own member.clock out) (fit : IsFit own member.clock message) (taken : IsTaken own message) → LeadsBy (LeaseTaken message heard is fit taken)
   taken_leads message is heard fit taken =
       let client = client_by (LeaseTaken message heard is fit taken) in
       let leased = under_lease_is (record (noted_cache own.cache then) { entries = all_flushed own.processed (noted_cache own.cache then).entries message.invalidations }) (offered own message.span) (is_unexpired own.sent message.span then) in
-      own_or_unseen x w to seat client c (by_entry (entry_of client.cache.entries x)
-      (λ none. takes_gone x w to seat client found (alive_offer x message) (was_offered message is) (sym fit.alive.epoch) refl refl refl refl taken.newest leased none)
+      own_or_unseen x w to member client c (by_entry (entry_of client.cache.entries x)
+      (λ none. takes_gone x w to member client found (alive_offer x message) (was_offered message is) (sym fit.alive.epoch) refl refl refl refl taken.newest leased none)
       (λ v there.
       let still = taken_entry own.cache (offered own message.span) then own.processed message.invalidations x v holds.entries there in
-      takes_kept x w to seat client found (alive_offer x message) (was_offered message is) (sym fit.alive.epoch) refl refl refl refl taken.newest leased (there ∙ sym still.same) still.known (runs still.leased)))
+      takes_kept x w to member client found (alive_offer x message) (was_offered message is) (sym fit.alive.epoch) refl refl refl refl taken.newest leased (there ∙ sym still.same) still.known (runs still.leased)))
 
-  give_leads : (case : GiveCase own seat.clock out) → Comes (λ new printed. LeadsTo c x w new) (gave w to seat (given_in own seat.clock out case))
+  give_leads : (case : GiveCase own member.clock out) → Comes (λ new printed. LeadsTo c x w new) (gave w to member (given_in own member.clock out case))
   give_leads (GivenTooLate late) = tt
   give_leads (OfAnother early other) = keeps_by (OfAnother early other) note_keeps_here
   give_leads (Started message heard is standing fits) =
       let client = client_by (Started message heard is standing fits) in
       let offer = offer_by message.epoch message.number message.span in
-      own_or_unseen x w to seat client c
-      (takes_started x w to seat client found offer
+      own_or_unseen x w to member client c
+      (takes_started x w to member client found offer
       (offer_sent to x w.messages at (outs.Started message) offer (sent ∙ ap (λ o. Some o) is) (λ offers. first_in (to == message.client) offer offers (same_test to message.client (ap out_client is))))
-      standing.newest ((h.clients to seat found).unstarted standing.unstarted)
+      standing.newest ((h.clients to member found).unstarted standing.unstarted)
       refl refl refl refl (under_lease_is own.cache (offered own message.span) (is_unexpired own.sent message.span then))
-      (none_begun client standing.unstarted (given_entry own seat.clock out x (Started message heard is standing fits) holds.entries)))
+      (none_begun client standing.unstarted (given_entry own member.clock out x (Started message heard is standing fits) holds.entries)))
   give_leads (StartedUnfit message heard is standing long) = keeps_by (StartedUnfit message heard is standing long) note_keeps_here
   give_leads (StartedDropped message heard is old) = keeps_by (StartedDropped message heard is old) note_keeps_here
   give_leads (LeaseTaken message heard is fit taken) = taken_leads message is heard fit taken
@@ -470,26 +470,26 @@ module _ (c : ℕ) (x : List ℕ) (w : WorldState) (h : IsConsistent w) (seat : 
   give_leads (Learns message present heard is later) =
       let committed = h.told at present message (sent ∙ ap (λ o. Some o) is) later.fault in
       let client = client_by (Learns message present heard is later) in
-      own_or_unseen x w to seat client c
-      (learns x w to seat client found present ((h.clients to seat found).live later.live.live) later.later committed refl refl refl refl (noted_lease own.cache then) refl)
+      own_or_unseen x w to member client c
+      (learns x w to member client found present ((h.clients to member found).live later.live.live) later.later committed refl refl refl refl (noted_lease own.cache then) refl)
   give_leads (Lost message heard is loss) = keeps_by (Lost message heard is loss) (record { beats = refl; sent = refl; epoch = refl; processed = refl; lease = noted_lease own.cache then })
   give_leads (TurnedAway message heard is fault unstarted) = keeps_by (TurnedAway message heard is fault unstarted) (record { beats = refl; sent = refl; epoch = refl; processed = refl; lease = refl })
   give_leads (RefusalDropped message heard is earlier stays_so) = keeps_by (RefusalDropped message heard is earlier stays_so) note_keeps_here
 
 -- ---- each step leaves the slice reached
 
-module _ (c : ℕ) (x : List ℕ) (w new : WorldState) (h : IsConsistent w) (seat : Seat) (printed : List Line) where
+module _ (c : ℕ) (x : List ℕ) (w new : WorldState) (h : IsConsistent w) (member : WorldClient) (printed : List Line) where
   led_on : LeadsTo c x w new → Reached (slice c x new)
   led_on led = reached_stays c x w new led (h.reached c x)
 
-  pub reached_stays_at_ask : (number : ℕ) (ask : Ask) (case : AskCase seat.client seat.clock ask) → seat_of w number ≡ Some seat → asked w number seat (asked_in seat.client seat.clock ask case) ≡ Ok (new, printed) → Reached (slice c x new)
+  pub reached_stays_at_ask : (number : ℕ) (ask : Ask) (case : AskCase member.client member.clock ask) → member_of w number ≡ Some member → asked w number member (asked_in member.client member.clock ask case) ≡ Ok (new, printed) → Reached (slice c x new)
   reached_stays_at_ask number ask case found is =
-      led_on (it_comes (λ z lines. LeadsTo c x w z) (asked w number seat (asked_in seat.client seat.clock ask case)) new printed is (ask_leads c x w number seat found (h.holds number seat found) ask case))
+      led_on (it_comes (λ z lines. LeadsTo c x w z) (asked w number member (asked_in member.client member.clock ask case)) new printed is (ask_leads c x w number member found (h.holds number member found) ask case))
 
-  pub reached_stays_at_beat : (number : ℕ) (case : BeatCase seat.client seat.clock) → seat_of w number ≡ Some seat → beaten w number seat (beaten_in seat.client seat.clock case) ≡ Ok (new, printed) → Reached (slice c x new)
+  pub reached_stays_at_beat : (number : ℕ) (case : BeatCase member.client member.clock) → member_of w number ≡ Some member → beaten w number member (beaten_in member.client member.clock case) ≡ Ok (new, printed) → Reached (slice c x new)
   reached_stays_at_beat number case found is =
-      led_on (it_comes (λ z lines. LeadsTo c x w z) (beaten w number seat (beaten_in seat.client seat.clock case)) new printed is (beat_leads c x w number seat found (h.holds number seat found) (h.clients number seat found) (h.reached c x) case))
+      led_on (it_comes (λ z lines. LeadsTo c x w z) (beaten w number member (beaten_in member.client member.clock case)) new printed is (beat_leads c x w number member found (h.holds number member found) (h.clients number member found) (h.reached c x) case))
 
-  pub reached_stays_at_give : (at : ℕ) (out : Out) (case : GiveCase seat.client seat.clock out) → out_at w.messages at ≡ Some out → seat_of w (out_client out) ≡ Some seat → gave w (out_client out) seat (given_in seat.client seat.clock out case) ≡ Ok (new, printed) → Reached (slice c x new)
+  pub reached_stays_at_give : (at : ℕ) (out : Out) (case : GiveCase member.client member.clock out) → out_at w.messages at ≡ Some out → member_of w (out_client out) ≡ Some member → gave w (out_client out) member (given_in member.client member.clock out case) ≡ Ok (new, printed) → Reached (slice c x new)
   reached_stays_at_give at out case sent found is =
-      led_on (it_comes (λ z lines. LeadsTo c x w z) (gave w (out_client out) seat (given_in seat.client seat.clock out case)) new printed is (give_leads c x w h seat at out sent found case))
+      led_on (it_comes (λ z lines. LeadsTo c x w z) (gave w (out_client out) member (given_in member.client member.clock out case)) new printed is (give_leads c x w h member at out sent found case))

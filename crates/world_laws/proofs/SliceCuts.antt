@@ -11,10 +11,10 @@ use Rattle.messages_cell.specs.declared.outs.Out.TheVariants as outs
 use Rattle.cell_state.specs.State.{MasterState}
 use Rattle.cell_state.specs.Lookups.{noted}
 use Rattle.sweep_laws.specs.SweepCase.{SweepCase, swept_by, swept_edits}
-use Rattle.seats_core.specs.declared.mail.Message.TheVariants.{ToClient}
-use Rattle.seats_core.specs.declared.seats.Seat.{Seat}
-use Rattle.seats_core.specs.Seats.{at_up}
-use Rattle.stage_core.specs.World.{WorldState, seat_of, without_master}
+use Rattle.world_clients.specs.declared.mail.Message.TheVariants.{ToClient}
+use Rattle.world_clients.specs.declared.members.WorldClient.{WorldClient}
+use Rattle.world_clients.specs.Members.{at_up}
+use Rattle.world_core.specs.World.{WorldState, member_of, without_master}
 use Rattle.world_laws.specs.Slices.{Shown, slice, beats_of, offer_of, put_offer, offers_of, grants_of, client_of}
 use Rattle.world_laws.proofs.GrantsSent.{grants_stay}
 use Rattle.world_laws.proofs.Slices.{LeadsTo, reached_stays, beats_stay, offers_more, lookup_each}
@@ -77,13 +77,13 @@ module _ (c : ℕ) (x : List ℕ) (w : WorldState) (s : MasterState) (case : Swe
 -- ---- a master that comes up
 
 -- which is not seen of a client
-up_unseen : (x : List ℕ) (now : ℕ) (seat : Option Seat) → client_of x (option_map (at_up now) seat) ≡ client_of x seat
+up_unseen : (x : List ℕ) (now : ℕ) (member : Option WorldClient) → client_of x (option_map (at_up now) member) ≡ client_of x member
 up_unseen x now None = refl
-up_unseen x now (Some seat) = refl
+up_unseen x now (Some member) = refl
 
 module _ (c : ℕ) (x : List ℕ) (w : WorldState) (now : ℕ) where
-  same_client : client_of x (seat_of (behind_up w now) c) ≡ client_of x (seat_of w c)
-  same_client = ap (client_of x) (lookup_each c (λ number. at_up now) w.clients) ∙ up_unseen x now (seat_of w c)
+  same_client : client_of x (member_of (behind_up w now) c) ≡ client_of x (member_of w c)
+  same_client = ap (client_of x) (lookup_each c (λ number. at_up now) w.clients) ∙ up_unseen x now (member_of w c)
 
   cut_up_leads : LeadsTo c x (behind_up w now) (behind_cut w (behind_up w now).rows)
   cut_up_leads = (

@@ -12,8 +12,8 @@ use Rattle.messages_cell.specs.declared.outs.Reply.{Reply}
 use Rattle.session_core.specs.declared.records.Session.{Session}
 use Rattle.cell_state.specs.State.{MasterState}
 use Rattle.cell_state.specs.Lookups.{session_of}
-use Rattle.seats_core.specs.declared.seats.Seat.{Seat}
-use Rattle.stage_core.specs.World.{WorldState, seat_of}
+use Rattle.world_clients.specs.declared.members.WorldClient.{WorldClient}
+use Rattle.world_core.specs.World.{WorldState, member_of}
 use Rattle.world_laws.specs.Slices.{slice, standing_so, standing_of, seen_of, client_of, master_of}
 use Rattle.world_laws.specs.Consistent.{IsConsistent}
 use Rattle.world_laws.specs.Runs.{LeasesKeepSessions, AreJoint}
@@ -29,13 +29,13 @@ live_row (Some session) h = is_live session.live h
 -- where the master is up, it may not end the session yet
 in_time : (w : WorldState) (number : ℕ) (name : List ℕ) (master : MasterState) (session : Session Reply) → ((slice number name w).master.up ≡ true → (slice number name w).master.now < (slice number name w).master.timeout) → w.master ≡ Some master → session_of master number ≡ Some session → w.clock < session.timeout
 in_time w number name master session before up found =
-    let here = subst (λ (m : Option MasterState). (master_of number name w.clock (seat_of w number) m).up ≡ true → (master_of number name w.clock (seat_of w number) m).now < (master_of number name w.clock (seat_of w number) m).timeout) up before in
+    let here = subst (λ (m : Option MasterState). (master_of number name w.clock (member_of w number) m).up ≡ true → (master_of number name w.clock (member_of w number) m).now < (master_of number name w.clock (member_of w number) m).timeout) up before in
     subst (λ (o : Option (Session Reply)). w.clock < (seen_of o).timeout) found (here refl)
 
 pub leases_keep_sessions : (w : WorldState) → IsConsistent w → LeasesKeepSessions w
-leases_keep_sessions w fits number seat found unexpired =
+leases_keep_sessions w fits number member found unexpired =
     let joint = reached_is_joint (slice number [] w) (fits.reached number []) in
-    let lives = joint.session_outlives_lease (subst (λ (o : Option Seat). IsUnexpired (client_of [] o).lease_sent (client_of [] o).lease_span (client_of [] o).now) (sym found) unexpired) in
+    let lives = joint.session_outlives_lease (subst (λ (o : Option WorldClient). IsUnexpired (client_of [] o).lease_sent (client_of [] o).lease_span (client_of [] o).now) (sym found) unexpired) in
     record {
       live = live_row (lookup (is_at (nat_cmp number)) w.rows.sessions) lives.live;
       in_time = λ master session up there. in_time w number [] master session lives.before_timeout up there;

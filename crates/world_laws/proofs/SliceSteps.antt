@@ -11,10 +11,10 @@ use Rattle.cell_state.specs.State.{MasterState}
 use Rattle.cell_state.specs.Lookups.{noted, is_spent}
 use Rattle.cell_core.specs.Cases.{TakeCase}
 use Rattle.sweep_laws.specs.SweepCase.{SweepCase}
-use Rattle.seats_core.specs.declared.seats.Seat.{Seat}
-use Rattle.seats_core.specs.declared.steps.Ticks.{Ticks}
-use Rattle.seats_core.specs.Messages.{request_at, out_at}
-use Rattle.stage_core.specs.World.{WorldState, seat_of, asked, beaten, gave, ticked, are_fair, without_master, Agrees}
+use Rattle.world_clients.specs.declared.members.WorldClient.{WorldClient}
+use Rattle.world_clients.specs.declared.steps.Ticks.{Ticks}
+use Rattle.world_clients.specs.Messages.{request_at, out_at}
+use Rattle.world_core.specs.World.{WorldState, member_of, asked, beaten, gave, ticked, are_fair, without_master, Agrees}
 use Rattle.world_laws.specs.Slices.{slice}
 use Rattle.world_laws.specs.Consistent.{IsConsistent, Fits, IsNoted}
 use Rattle.world_laws.proofs.SliceTicks.{behind_up, behind_join, reached_stays_at_ticks, reached_stays_at_up, reached_stays_at_down, reached_stays_at_join}
@@ -29,17 +29,17 @@ module _ (w : WorldState) (fits : IsConsistent w) (c : ℕ) (x : List ℕ) where
   pub reached_behind_up : (now : ℕ) → w.master ≡ None → Reached (slice c x (behind_up w now))
   reached_behind_up now down = reached_stays_at_up c x w now down fits.lease (fits.reached c x)
 
-  pub reached_behind_join : (number : ℕ) (principal : List ℕ) → seat_of w number ≡ None → Reached (slice c x (behind_join w number principal))
+  pub reached_behind_join : (number : ℕ) (principal : List ℕ) → member_of w number ≡ None → Reached (slice c x (behind_join w number principal))
   reached_behind_join number principal free = reached_stays_at_join x w number principal c free (fits.reached c x)
 
-  pub reached_behind_ask : (new : WorldState) (number : ℕ) (seat : Seat) (printed : List Line) (ask : Ask) (case : AskCase seat.client seat.clock ask) → seat_of w number ≡ Some seat → asked w number seat (asked_in seat.client seat.clock ask case) ≡ Ok (new, printed) → Reached (slice c x new)
-  reached_behind_ask new number seat printed ask case found made = reached_stays_at_ask c x w new fits seat printed number ask case found made
+  pub reached_behind_ask : (new : WorldState) (number : ℕ) (member : WorldClient) (printed : List Line) (ask : Ask) (case : AskCase member.client member.clock ask) → member_of w number ≡ Some member → asked w number member (asked_in member.client member.clock ask case) ≡ Ok (new, printed) → Reached (slice c x new)
+  reached_behind_ask new number member printed ask case found made = reached_stays_at_ask c x w new fits member printed number ask case found made
 
-  pub reached_behind_beat : (new : WorldState) (number : ℕ) (seat : Seat) (printed : List Line) (case : BeatCase seat.client seat.clock) → seat_of w number ≡ Some seat → beaten w number seat (beaten_in seat.client seat.clock case) ≡ Ok (new, printed) → Reached (slice c x new)
-  reached_behind_beat new number seat printed case found made = reached_stays_at_beat c x w new fits seat printed number case found made
+  pub reached_behind_beat : (new : WorldState) (number : ℕ) (member : WorldClient) (printed : List Line) (case : BeatCase member.client member.clock) → member_of w number ≡ Some member → beaten w number member (beaten_in member.client member.clock case) ≡ Ok (new, printed) → Reached (slice c x new)
+  reached_behind_beat new number member printed case found made = reached_stays_at_beat c x w new fits member printed number case found made
 
-  pub reached_behind_give : (new : WorldState) (seat : Seat) (at : ℕ) (out : Out) (printed : List Line) (case : GiveCase seat.client seat.clock out) → out_at w.messages at ≡ Some out → seat_of w (out_client out) ≡ Some seat → gave w (out_client out) seat (given_in seat.client seat.clock out case) ≡ Ok (new, printed) → Reached (slice c x new)
-  reached_behind_give new seat at out printed case sent found made = reached_stays_at_give c x w new fits seat printed at out case sent found made
+  pub reached_behind_give : (new : WorldState) (member : WorldClient) (at : ℕ) (out : Out) (printed : List Line) (case : GiveCase member.client member.clock out) → out_at w.messages at ≡ Some out → member_of w (out_client out) ≡ Some member → gave w (out_client out) member (given_in member.client member.clock out case) ≡ Ok (new, printed) → Reached (slice c x new)
+  reached_behind_give new member at out printed case sent found made = reached_stays_at_give c x w new fits member printed at out case sent found made
 
   pub reached_behind_take : (s : MasterState) (at : ℕ) (request : Request) (case : TakeCase (noted s w.clock) request) → w.master ≡ Some s → request_at w.messages at ≡ Some request → is_spent s ≡ false → Reached (slice c x (behind_take w s request case))
   reached_behind_take s at request case up sent room =

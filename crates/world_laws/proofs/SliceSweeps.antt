@@ -37,7 +37,7 @@ use Rattle.session_core.proofs.OneClient.{lookup_put, lookup_put_apart, other_se
 use Rattle.gate_core.specs.declared.pending.Waiting.{Waiting}
 use Rattle.gate_core.specs.Gate.{touches, push_answer}
 use Rattle.gate_core.specs.Laws.{touching}
-use Rattle.deed_core.specs.declared.deeds.Change.{Change}
+use Rattle.cell_update.specs.declared.updates.Change.{Change}
 use Rattle.cell_parts.specs.declared.handles.Note.{Note}
 use Rattle.cell_parts.specs.declared.pending.Asked.{Asked}
 use Rattle.cell_parts.specs.declared.pending.Idle.{Idle}
@@ -47,7 +47,7 @@ use Rattle.cell_parts.specs.declared.pending.Work.TheVariants as works
 use Rattle.lock_core.specs.declared.turns.Turn.{Turn}
 use Rattle.lock_core.specs.Turns.{reopened}
 use Rattle.lock_core.specs.Locks.{lock_at}
-use Rattle.deed_core.specs.declared.deeds.LockPut.{LockPut}
+use Rattle.cell_update.specs.declared.updates.LockPut.{LockPut}
 use Rattle.cell_state.specs.State.{MasterState}
 use Rattle.cell_parts.specs.StoredSessions.{row_of}
 use Rattle.cell_state.specs.Lookups.{session_of, noted, reply_of, turned_away}
@@ -55,24 +55,24 @@ use Rattle.cell_parts.specs.Answered.{answered_by}
 use Rattle.cell_core.specs.Step.{names_of}
 use Rattle.cell_core.specs.Names.{name_changed}
 use Rattle.cell_core.specs.Ephemerals.{is_ok, spared_for}
-use Rattle.deed_core.specs.Deeds.{edit_of, with_kept_put, with_locks, without_lock, lock_changes}
+use Rattle.cell_update.specs.Updates.{edit_of, with_kept_put, with_locks, without_lock, lock_changes}
 use Rattle.client_parts.specs.Invalidations.{last_number}
-use Rattle.turn_core.specs.Effect.{effect}
-use Rattle.plan_core.specs.Plans.{started_out, alive_out, invalidations_for}
-use Rattle.deed_core.specs.Replies.{sent, kept_puts, replies_to, turn_replies, puts_of}
-use Rattle.turn_core.specs.Outcomes.{left_put}
-use Rattle.deed_core.specs.Lapses.{lapses_of, lapses_puts, lapses_replies}
-use Rattle.sweep_laws.specs.SweepCase.{IsTurn, IsDueToEnd, IsDue, SweepCase, rest, ended, mapped, told, expired, relocking, gone_change, gone_replies, swept_by, swept_edits}
+use Rattle.cell_apply.specs.Effect.{effect}
+use Rattle.sweep_plan.specs.Plans.{started_out, alive_out, invalidations_for}
+use Rattle.cell_update.specs.Replies.{sent, kept_puts, replies_to, turn_replies, puts_of}
+use Rattle.cell_apply.specs.Outcomes.{left_put}
+use Rattle.cell_update.specs.Lapses.{lapses_of, lapses_puts, lapses_replies}
+use Rattle.sweep_laws.specs.SweepCase.{IsNextApplied, IsDueToEnd, IsDue, SweepCase, rest, ended, mapped, told, expired, relocking, gone_change, gone_replies, swept_by, swept_edits}
 use Rattle.sweep_laws.specs.SweepCase.SweepCase.{Quiet, Recovers, Expires, Reopens, Tidies, Spared, Tidied, AnswersBeat, TurnedAway, StartedAgain, Started, OfEnded, Ended, Applied, Deleted, Locked, Awaited, Left}
 use Rattle.sweep_laws.specs.Kept.{IsKept, names_touched_by}
 use Rattle.sweep_laws.proofs.SweepCases.{first_tellings}
 use Rattle.sweep_laws.proofs.Touching.{change_is_named}
-use Rattle.plan_core.proofs.Unacknowledged.{IsAskedFor, each_is_asked, asked_is_named}
-use Rattle.seats_core.specs.declared.mail.Message.TheVariants.{ToClient}
-use Rattle.stage_core.specs.World.{WorldState}
+use Rattle.sweep_plan.proofs.Unacknowledged.{IsAskedFor, each_is_asked, asked_is_named}
+use Rattle.world_clients.specs.declared.mail.Message.TheVariants.{ToClient}
+use Rattle.world_core.specs.World.{WorldState}
 use Rattle.world_laws.specs.Slices.{Shown, slice, standing_so, standing_of, standing_in, parked_list, seen_of, heard_from, right_of, put_start, start_of, starts_of, beats_of, name_number, put_offer, offers_of, grants_of}
 use Rattle.world_laws.proofs.RelockedRows.{IsBeside, HasRow, let_go, relocked_rows}
-use Rattle.world_laws.proofs.LockReplies.{AreUnstamped, waiters_unstamped, turn_unstamped, lapses_unstamped, replies_offer_none, replies_grant_none, told_lease, told_seen}
+use Rattle.world_laws.proofs.LockReplies.{AreUnstamped, waiters_unstamped, application_unstamped, lapses_unstamped, replies_offer_none, replies_grant_none, told_lease, told_seen}
 use Rattle.world_laws.proofs.SliceCalls.{tidy_asks}
 use Rattle.world_laws.proofs.SliceRights.{no_right, unowned_right, right_of_another, freed_right, expiry_frees}
 use Rattle.world_laws.proofs.WorldCases.{swept_master}
@@ -89,9 +89,9 @@ drop_in c (y ∷ front) back x r i = elim (in_either r (start_of c y.change.body
   | inr k ↦ in_back r (start_of c y.change.body) (starts_of c (front ++ x ∷ back)) (drop_in c front back x r k)
 ]
 
-turn_in : (c : ℕ) (front back : List (Waiting Task)) (x : Waiting Task) (r : one.Receipt) → IsIn r (start_of c x.change.body) → IsIn r (starts_of c (front ++ x ∷ back))
-turn_in c [] back x r i = in_front r (start_of c x.change.body) (starts_of c back) i
-turn_in c (y ∷ front) back x r i = in_back r (start_of c y.change.body) (starts_of c (front ++ x ∷ back)) (turn_in c front back x r i)
+application_in : (c : ℕ) (front back : List (Waiting Task)) (x : Waiting Task) (r : one.Receipt) → IsIn r (start_of c x.change.body) → IsIn r (starts_of c (front ++ x ∷ back))
+application_in c [] back x r i = in_front r (start_of c x.change.body) (starts_of c back) i
+application_in c (y ∷ front) back x r i = in_back r (start_of c y.change.body) (starts_of c (front ++ x ∷ back)) (application_in c front back x r i)
 
 not_empty : (front back : List (Waiting Task)) (x : Waiting Task) → front ++ x ∷ back ≡ [] → ⊥
 not_empty [] back x h = cc
@@ -289,7 +289,7 @@ module _ (x : List ℕ) (w : WorldState) (s : MasterState) (knows : IsKnown w s)
       let answers : List Reply = turn_replies s turn in
       let changes : List LockChange = lock_changes s (puts_of s instance turn.lock) in
       let relocked = relocked_rows w.rows changes in
-      let silent = replies_silent c answers (turn_unstamped s turn) in
+      let silent = replies_silent c answers (application_unstamped s turn) in
       unseen_behind c (changed_rows w.rows (locks_edits changes)) (told (with_locks s (puts_of s instance turn.lock)) answers) (sent answers) relocked.beside
       (standing_by c (changed_rows w.rows (locks_edits changes)) w.rows.sessions relocked.sessions)
       (told_lease s.sessions (kept_puts answers))
@@ -383,34 +383,34 @@ module _ (x : List ℕ) (w : WorldState) (s : MasterState) (knows : IsKnown w s)
 
   -- ---- a change has its turn
 
-  module _ (front back : List (Waiting Task)) (task : Task) (turn : IsTurn s front task back) where
-    abbrev at_turn : Waiting Task
-    at_turn = record { number = turn.number; change = record { touched = turn.touched; body = task } }
+  module _ (front back : List (Waiting Task)) (task : Task) (turn : IsNextApplied s front task back) where
+    abbrev at_application : Waiting Task
+    at_application = record { number = turn.number; change = record { touched = turn.touched; body = task } }
 
     -- it touches the names that it may change
     touched_is : turn.touched ≡ names_touched_by s.secret task
-    touched_is = all_at (λ (w : Waiting Task). w.change.touched ≡ names_touched_by s.secret w.change.body) front at_turn back (subst (All (λ (w : Waiting Task). w.change.touched ≡ names_touched_by s.secret w.change.body)) turn.waited knows.touching)
+    touched_is = all_at (λ (w : Waiting Task). w.change.touched ≡ names_touched_by s.secret w.change.body) front at_application back (subst (All (λ (w : Waiting Task). w.change.touched ≡ names_touched_by s.secret w.change.body)) turn.waited knows.touching)
 
     -- a change of another name leaves this one
-    untouched : (name : List ℕ) → turn.touched ≡ name ∷ [] → touches x at_turn ≡ false → bytes_eq x name ≡ false
+    untouched : (name : List ℕ) → turn.touched ≡ name ∷ [] → touches x at_application ≡ false → bytes_eq x name ≡ false
     untouched name touched apart = sym (one_name (bytes_eq x name)) ∙ ap (list_any (bytes_eq x)) (sym touched) ∙ apart
 
-    pending_by : (b : Bool) → touches x at_turn ≡ b → touching x s.gate.waiting ≡ touching x (front ++ back) + cond b 1 0
-    pending_by b t = ap (touching x) turn.waited ∙ touching_less x front at_turn back ∙ ap (λ (z : Bool). touching x (front ++ back) + cond z 1 0) t
+    pending_by : (b : Bool) → touches x at_application ≡ b → touching x s.gate.waiting ≡ touching x (front ++ back) + cond b 1 0
+    pending_by b t = ap (touching x) turn.waited ∙ touching_less x front at_application back ∙ ap (λ (z : Bool). touching x (front ++ back) + cond z 1 0) t
 
-    pending_stays : touches x at_turn ≡ false → touching x s.gate.waiting ≡ touching x (front ++ back)
+    pending_stays : touches x at_application ≡ false → touching x s.gate.waiting ≡ touching x (front ++ back)
     pending_stays t = pending_by false t ∙ no_more (touching x (front ++ back))
 
     -- of the receipts, that of a Start whose turn it was goes at most
     rest_kept : (c : ℕ) (receipts : List one.Receipt) (r : one.Receipt) → IsIn r (receipts ++ starts_of c (front ++ back)) → IsIn r (receipts ++ starts_of c s.gate.waiting)
     rest_kept c receipts r i = elim (in_either r receipts (starts_of c (front ++ back)) i) [
       | inl k ↦ in_front r receipts (starts_of c s.gate.waiting) k
-      | inr k ↦ in_back r receipts (starts_of c s.gate.waiting) (subst (λ (ws : List (Waiting Task)). IsIn r (starts_of c ws)) (sym turn.waited) (drop_in c front back at_turn r k))
+      | inr k ↦ in_back r receipts (starts_of c s.gate.waiting) (subst (λ (ws : List (Waiting Task)). IsIn r (starts_of c ws)) (sym turn.waited) (drop_in c front back at_application r k))
     ]
 
     -- what is behind a turn that begins no session
     record IsRest (c : ℕ) (rows : Rows) (t : MasterState) (sent : List Out) : Type 0 where
-      present : touches x at_turn ≡ false → get_node (map_of rows) x ≡ get_node (map_of w.rows) x
+      present : touches x at_application ≡ false → get_node (map_of rows) x ≡ get_node (map_of w.rows) x
       session : standing_in rows c ≡ standing_in w.rows c
       secret : rows.secret ≡ w.rows.secret
       epoch : rows.epoch ≡ w.rows.epoch
@@ -425,7 +425,7 @@ module _ (x : List ℕ) (w : WorldState) (s : MasterState) (knows : IsKnown w s)
     own_parked c = (seen_of (session_of s c)).parked
 
     -- it is in nobody's way of the name
-    passes_by : (c : ℕ) (rows : Rows) (t : MasterState) (sent : List Out) → IsRest c rows t sent → touches x at_turn ≡ false → Goes c x w s rows t sent
+    passes_by : (c : ℕ) (rows : Rows) (t : MasterState) (sent : List Out) → IsRest c rows t sent → touches x at_application ≡ false → Goes c x w s rows t sent
     passes_by c rows t sent r apart =
         let p : UpParts = record (here c x w s) { pending = touching x (front ++ back) } in
         let q : UpParts = record p { starts = starts_of c (front ++ back) } in
@@ -435,9 +435,9 @@ module _ (x : List ℕ) (w : WorldState) (s : MasterState) (knows : IsKnown w s)
         (record { allowed = record { first = rest_kept c (own_parked c); rest = tt }; leads_there = refl })
 
     -- what the name shows then
-    applies : (c : ℕ) (rows : Rows) (t : MasterState) (sent : List Out) → IsRest c rows t sent → touches x at_turn ≡ true → Goes c x w s rows t sent
+    applies : (c : ℕ) (rows : Rows) (t : MasterState) (sent : List Out) → IsRest c rows t sent → touches x at_application ≡ true → Goes c x w s rows t sent
     applies c rows t sent r touched =
-        let none : holds c x s.rights ≡ false = free_of_holders s.rights at_turn c x turn.free touched in
+        let none : holds c x s.rights ≡ false = free_of_holders s.rights at_application c x turn.free touched in
         let p : UpParts = record (here c x w s) { right = record (right_of c x s.rights) { held = false }; pending = touching x (front ++ back) + 1 } in
         let q : UpParts = record p { present = get_node (map_of rows) x; starts = starts_of c (front ++ back); pending = touching x (front ++ back) + 1 - 1 } in
         let right : right_of c x s.rights ≡ record (right_of c x s.rights) { held = false } = ap (λ (held : Bool). record (right_of c x s.rights) { held = held }) none in
@@ -447,11 +447,11 @@ module _ (x : List ℕ) (w : WorldState) (s : MasterState) (knows : IsKnown w s)
         (record { allowed = record { first = rest_kept c (own_parked c); rest = record { first = record { up = refl; pending = any_positive (touching x (front ++ back)); free = refl }; rest = tt } }; leads_there = refl })
 
     leaves : (c : ℕ) (rows : Rows) (t : MasterState) (sent : List Out) → IsRest c rows t sent → Goes c x w s rows t sent
-    leaves c rows t sent r = by_test (touches x at_turn) (applies c rows t sent r) (passes_by c rows t sent r)
+    leaves c rows t sent r = by_test (touches x at_application) (applies c rows t sent r) (passes_by c rows t sent r)
 
     -- the rows of a turn
     record HasRows (c : ℕ) (rows : Rows) : Type 0 where
-      present : touches x at_turn ≡ false → get_node (map_of rows) x ≡ get_node (map_of w.rows) x
+      present : touches x at_application ≡ false → get_node (map_of rows) x ≡ get_node (map_of w.rows) x
       session : standing_in rows c ≡ standing_in w.rows c
       secret : rows.secret ≡ w.rows.secret
       epoch : rows.epoch ≡ w.rows.epoch
@@ -464,7 +464,7 @@ module _ (x : List ℕ) (w : WorldState) (s : MasterState) (knows : IsKnown w s)
     plain_rows : (c : ℕ) → HasRows c w.rows
     plain_rows c = record { present = λ apart. refl; session = refl; secret = refl; epoch = refl }
 
-    mapped_rows_of : (c : ℕ) (change : Change) → (touches x at_turn ≡ false → bytes_eq x (name_of change.change) ≡ false) → HasRows c (changed_rows w.rows (edit_of change.change ∷ NextInstance change.next_instance ∷ []))
+    mapped_rows_of : (c : ℕ) (change : Change) → (touches x at_application ≡ false → bytes_eq x (name_of change.change) ≡ false) → HasRows c (changed_rows w.rows (edit_of change.change ∷ NextInstance change.next_instance ∷ []))
     mapped_rows_of c change other =
         let rows = changed_rows w.rows (edit_of change.change ∷ NextInstance change.next_instance ∷ []) in
         let m = mapped_rows w.rows change.change change.next_instance in
@@ -495,7 +495,7 @@ module _ (x : List ℕ) (w : WorldState) (s : MasterState) (knows : IsKnown w s)
 
   -- ---- a node goes by itself
 
-  module _ (front back : List (Waiting Task)) (idle : Idle) (turn : IsTurn s front (tasks.Tidies idle) back) where
+  module _ (front back : List (Waiting Task)) (idle : Idle) (turn : IsNextApplied s front (tasks.Tidies idle) back) where
     spared : (c : ℕ) → Goes c x w s w.rows (rest s front back) []
     spared c = leaves front back (tasks.Tidies idle) turn c w.rows (rest s front back) [] (plain_rest front back (tasks.Tidies idle) turn c [] (nothing_sent c))
 
@@ -523,7 +523,7 @@ module _ (x : List ℕ) (w : WorldState) (s : MasterState) (knows : IsKnown w s)
 
   -- ---- what a client asked for has its turn
 
-  module _ (front back : List (Waiting Task)) (asked : Asked) (turn : IsTurn s front (tasks.Asked asked) back) where
+  module _ (front back : List (Waiting Task)) (asked : Asked) (turn : IsNextApplied s front (tasks.Asked asked) back) where
     -- ---- a call's turn, with its reply
 
     abbrev reply_at : ℕ → CallResult → Reply
@@ -585,7 +585,7 @@ module _ (x : List ℕ) (w : WorldState) (s : MasterState) (knows : IsKnown w s)
       granted = started_out s asked.client asked.number received ∷ []
 
       -- it touches no name
-      no_name : touches x (at_turn front back (tasks.Asked asked) turn) ≡ false
+      no_name : touches x (at_application front back (tasks.Asked asked) turn) ≡ false
       no_name = not_touched turn.touched x (touched_is front back (tasks.Asked asked) turn ∙ ap (λ z. names_touched_by s.secret (tasks.Asked (record asked { work = z }))) work)
 
       abbrev start_parts : UpParts → UpParts
@@ -614,7 +614,7 @@ module _ (x : List ℕ) (w : WorldState) (s : MasterState) (knows : IsKnown w s)
       was_received : (receipts : List one.Receipt) → IsIn start_receipt (receipts ++ starts_of asked.client s.gate.waiting)
       was_received receipts = in_back start_receipt receipts (starts_of asked.client s.gate.waiting)
           (subst (λ (ws : List (Waiting Task)). IsIn start_receipt (starts_of asked.client ws)) (sym turn.waited)
-          (turn_in asked.client front back (at_turn front back (tasks.Asked asked) turn) start_receipt (subst (IsIn start_receipt) (sym is_start) (inl refl))))
+          (application_in asked.client front back (at_application front back (tasks.Asked asked) turn) start_receipt (subst (IsIn start_receipt) (sym is_start) (inl refl))))
 
       own_offer : fold (put_offer asked.client x) (offers_of asked.client x w.messages) (map ToClient granted) ≡ start_offer w.clock ∷ offers_of asked.client x w.messages
       own_offer = first_of (asked.client == asked.client) (start_offer s.clock) (offers_of asked.client x w.messages) (same_test asked.client asked.client refl) ∙ ap (λ now. start_offer now ∷ offers_of asked.client x w.messages) knows.clock
@@ -685,7 +685,7 @@ module _ (x : List ℕ) (w : WorldState) (s : MasterState) (knows : IsKnown w s)
       begun_events = Admit ∷ SendOffer start_receipt 0 0 ∷ KeepReceipts (starts_of asked.client (front ++ back)) ∷ []
 
       serves : (recovering : Bool) → s.recovering ≡ recovering → recovering ≡ false
-      serves true is = absurd (not_empty front back (at_turn front back (tasks.Asked asked) turn) (sym turn.waited ∙ knows.recovery_is_empty is))
+      serves true is = absurd (not_empty front back (at_application front back (tasks.Asked asked) turn) (sym turn.waited ∙ knows.recovery_is_empty is))
       serves false is = refl
 
       -- a client without a session was granted nothing
@@ -777,7 +777,7 @@ module _ (x : List ℕ) (w : WorldState) (s : MasterState) (knows : IsKnown w s)
   sweep_by c (Awaited front back asked call sequencer put turn work live made) = awaits front back (tasks.Asked asked) turn c (put ∷ [])
   sweep_by c (Left front back asked call sequencer note leave answer turn work live made) =
       replies front back asked turn c (changed_rows w.rows (relocking s (left_put leave ∷ []))) (with_locks (rest s front back) (left_put leave ∷ [])) note answer (turn_replies s leave.turn)
-      (relocked_rows_of front back (tasks.Asked asked) turn c (left_put leave ∷ [])) (turn_unstamped s leave.turn) refl refl refl refl s.epoch
+      (relocked_rows_of front back (tasks.Asked asked) turn c (left_put leave ∷ [])) (application_unstamped s leave.turn) refl refl refl refl s.epoch
 
 -- the world behind the sweep
 abbrev pub behind_sweep : (w : WorldState) (s : MasterState) → SweepCase (noted s w.clock) → WorldState

@@ -30,16 +30,16 @@ use Rattle.cell_parts.specs.declared.pending.Work.TheVariants as works
 use Rattle.cell_parts.specs.Keys.{handle_order}
 use Rattle.cell_state.specs.State.{MasterState}
 use Rattle.cell_state.specs.Lookups.{session_of, kept_of, noted, acknowledgement, repeated_reply, is_spent}
-use Rattle.deed_core.specs.Deeds.{with_note}
+use Rattle.cell_update.specs.Updates.{with_note}
 use Rattle.cell_core.specs.Step.{replied, granting, queued, waits, parked, is_cachable}
 use Rattle.cell_core.specs.Names.{name_asked, shown_by}
 use Rattle.cell_core.specs.Cases.{IsHeard, IsGranted, TakeCase, taken_by}
 use Rattle.cell_core.specs.Cases.TakeCase.{StartQueued, BeatParked, Repeated, Recovering, Answered, Granted, Waits}
 use Rattle.cell_core.proofs.Told.{told_is_shown}
 use Rattle.sweep_laws.specs.Kept.{IsKept}
-use Rattle.seats_core.specs.Messages.{request_at, call_of}
-use Rattle.stage_core.specs.World.{WorldState}
-use Rattle.seats_core.specs.declared.mail.Message.TheVariants.{ToClient}
+use Rattle.world_clients.specs.Messages.{request_at, call_of}
+use Rattle.world_core.specs.World.{WorldState}
+use Rattle.world_clients.specs.declared.mail.Message.TheVariants.{ToClient}
 use Rattle.world_laws.specs.Slices.{Shown, SeenRight, slice, standing_so, parked_list, seen_of, right_of, start_of, starts_of, beats_of}
 use Rattle.world_laws.specs.Consistent.{FitsMessages, HasGranted}
 use Rattle.world_laws.proofs.SliceRights.{right_of_another, given_back_right, acknowledges, beat_gives_back, beat_leaves, is_asked, is_processed}

@@ -34,11 +34,11 @@ use Rattle.cell_parts.specs.StoredSessions.{row_of, session_rows}
 use Rattle.cell_state.specs.Lookups.{session_of, noted}
 use Rattle.client_parts.specs.Invalidations.{last_number}
 use Rattle.sweep_laws.specs.Kept.{AreByBeats, AreIssued, AreOwned, AreTouching, IsKept}
-use Rattle.seats_core.specs.declared.mail.Message.{Message}
-use Rattle.seats_core.specs.declared.mail.Message.TheVariants.{ToMaster, ToClient}
-use Rattle.seats_core.specs.declared.seats.Seat.{Seat}
-use Rattle.seats_core.specs.Messages.{message_at, as_request, as_out, request_at, out_at}
-use Rattle.stage_core.specs.World.{WorldState, seat_of}
+use Rattle.world_clients.specs.declared.mail.Message.{Message}
+use Rattle.world_clients.specs.declared.mail.Message.TheVariants.{ToMaster, ToClient}
+use Rattle.world_clients.specs.declared.members.WorldClient.{WorldClient}
+use Rattle.world_clients.specs.Messages.{message_at, as_request, as_out, request_at, out_at}
+use Rattle.world_core.specs.World.{WorldState, member_of}
 use Rattle.world_laws.specs.Slices.{Seen, SeenRight, Shown, Grants, GrantsSoFar, Clocks, slice, standing_of, standing_in, seen_of, heard_from, right_of, start_of, starts_of, beat_of, put_beat, beats_of, name_number, offer_of, put_offer, offers_of, put_grant, grants_of, clocks_of, client_of, master_of}
 use Rattle.world_laws.proofs.GrantsSent.{granted_by, looked_at}
 
@@ -335,7 +335,7 @@ module _ (c : ℕ) (x : List ℕ) (w : WorldState) where
   there rows t sent = parts_of rows t (w.messages ++ map ToClient sent)
 
   abbrev pub shown : UpParts → Slice Shown
-  shown parts = seen_up w.clock (clocks_of w.clock (seat_of w c)) (client_of x (seat_of w c)) parts
+  shown parts = seen_up w.clock (clocks_of w.clock (member_of w c)) (client_of x (member_of w c)) parts
 
   -- from the master as it is these events lead to one with these rows, that has sent these
   abbrev pub Goes : MasterState → Rows → MasterState → List Out → Type 0
@@ -383,13 +383,13 @@ module _ (c : ℕ) (x : List ℕ) (w : WorldState) where
 
   -- ---- a client
 
-  abbrev pub seated_as : Option Seat → List one.Beat → List one.Offer → Grants → Slice Shown
-  seated_as seat beats offers grants = record {
+  abbrev pub stepped_as : Option WorldClient → List one.Beat → List one.Offer → Grants → Slice Shown
+  stepped_as member beats offers grants = record {
     present = get_node (map_of w.rows) x;
     session = standing_in w.rows c;
     epoch = w.rows.epoch;
-    master = master_of c x w.clock seat w.master;
-    client = client_of x seat;
+    master = master_of c x w.clock member w.master;
+    client = client_of x member;
     beats = beats;
     offers = offers;
     grants = grants;

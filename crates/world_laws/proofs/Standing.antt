@@ -28,11 +28,11 @@ use Rattle.rows_cell.specs.Sound.{sound, are_distinct}
 use Rattle.rows_cell.proofs.RowViews.{keys_of_views}
 use Rattle.rows_cell.proofs.SoundParts.{instances, has_instance, parts_of}
 use Rattle.tags_cell.specs.declared.handles.Handle.{Handle}
-use Rattle.deed_core.specs.declared.deeds.Change.{Change}
-use Rattle.deed_core.specs.declared.deeds.Deed.{Deed}
-use Rattle.deed_core.specs.declared.deeds.LockPut.{LockPut}
-use Rattle.deed_core.specs.declared.deeds.SessionDeed.{SessionDeed}
-use Rattle.deed_core.specs.declared.deeds.SessionDeed.TheVariants.{Begins, Prolongs, Ends, Answers}
+use Rattle.cell_update.specs.declared.updates.Change.{Change}
+use Rattle.cell_update.specs.declared.updates.Update.{Update}
+use Rattle.cell_update.specs.declared.updates.LockPut.{LockPut}
+use Rattle.cell_update.specs.declared.updates.SessionUpdate.{SessionUpdate}
+use Rattle.cell_update.specs.declared.updates.SessionUpdate.TheVariants.{Begins, Prolongs, Ends, Answers}
 use Rattle.cell_parts.specs.declared.handles.HandleKey.{HandleKey}
 use Rattle.cell_parts.specs.declared.handles.HandleState.{HandleState}
 use Rattle.cell_parts.specs.declared.handles.HandleState.TheVariants as states
@@ -43,14 +43,14 @@ use Rattle.cell_parts.specs.declared.notices.Telling.{Telling}
 use Rattle.cell_parts.specs.Events.{instance_of}
 use Rattle.cell_state.specs.Notices.{event_if, event_here, event_on, event_for, is_noted, telling_as, telling_by}
 use Rattle.cell_state.specs.State.{MasterState}
-use Rattle.deed_core.specs.Deeds.{with_note, new_generation, with_begun, with_put, with_locks, gone_of, session_rest, with_session_rest, with_kept, with_map, without_lock, recovered, left, done}
+use Rattle.cell_update.specs.Updates.{with_note, new_generation, with_begun, with_put, with_locks, gone_of, session_rest, with_session_rest, with_kept, with_map, without_lock, recovered, left, done}
 use Rattle.cell_state.specs.Lookups.{holds_lock}
 use Rattle.lock_core.specs.Locks.{LockTable, lock_at}
-use Rattle.turn_core.specs.declared.effects.Effect.{Effect}
-use Rattle.plan_core.specs.declared.plans.Plan.{Plan}
+use Rattle.cell_apply.specs.declared.effects.Effect.{Effect}
+use Rattle.sweep_plan.specs.declared.plans.Plan.{Plan}
 use Rattle.sweep_laws.specs.Kept.{IsKept}
-use Rattle.turn_core.specs.Notices.{above, put_notices, gone_notices, mod_notices, change_notices, lock_notices, locks_notices, contest_notices}
-use Rattle.plan_core.specs.Plans.{notices_of, tellings_of}
+use Rattle.cell_apply.specs.Notices.{above, put_notices, gone_notices, mod_notices, change_notices, lock_notices, locks_notices, contest_notices}
+use Rattle.sweep_plan.specs.Plans.{notices_of, tellings_of}
 use Rattle.sweep_laws.specs.SweepCase.{SweepCase, swept_by, swept_edits, gone_change}
 use Rattle.sweep_laws.specs.SweepCase.SweepCase.{Quiet, Recovers, Expires, Reopens, Tidies, Spared, Tidied, AnswersBeat, TurnedAway, StartedAgain, Started, OfEnded, Ended, Applied, Deleted, Locked, Awaited, Left}
 use Rattle.world_laws.specs.Contents.{IsNoOlder, Stands, IsTrue}
@@ -235,7 +235,7 @@ module _ (cell : List ℕ) (rows : Rows) (s : MasterState) (k : IsKept cell rows
   case_stands (Left front back asked call sequencer None leave answer turn work live made) = same_stands (Left front back asked call sequencer None leave answer turn work live made) refl refl
   case_stands (Left front back asked call sequencer (Some note) leave answer turn work live made) = same_stands (Left front back asked call sequencer (Some note) leave answer turn work live made) refl refl
 
--- ---- what a deed puts is there
+-- ---- what a update puts is there
 
 left_nodes : (s : MasterState) (o : Option ℕ) → (left s o).nodes ≡ s.nodes
 left_nodes s None = refl
@@ -249,37 +249,37 @@ unlocked_nodes : (s : MasterState) (o : Option ℕ) → (without_lock s o).nodes
 unlocked_nodes s None = refl
 unlocked_nodes s (Some instance) = refl
 
-rest_nodes : (s : MasterState) (o : Option SessionDeed) → (with_session_rest s o).nodes ≡ s.nodes
+rest_nodes : (s : MasterState) (o : Option SessionUpdate) → (with_session_rest s o).nodes ≡ s.nodes
 rest_nodes s None = refl
 rest_nodes s (Some (Begins client principal)) = refl
 rest_nodes s (Some (Prolongs client)) = refl
 rest_nodes s (Some (Ends client principal)) = refl
 rest_nodes s (Some (Answers client)) = refl
 
-module _ (s : MasterState) (deed : Deed) where
+module _ (s : MasterState) (update : Update) where
   -- the map is changed so
   abbrev done_by : Mod → ℕ → MasterState
   done_by change next =
-      left (recovered (without_lock (with_map (with_kept (with_session_rest (with_locks (with_put (with_note (with_begun s deed.session) deed.note) change) deed.locks) (session_rest deed.session)) deed.kept) (Some (record { gone = gone_of change; next_instance = next }))) deed.ends_lock) deed.recovers) deed.leaves
+      left (recovered (without_lock (with_map (with_kept (with_session_rest (with_locks (with_put (with_note (with_begun s update.session) update.note) change) update.locks) (session_rest update.session)) update.kept) (Some (record { gone = gone_of change; next_instance = next }))) update.ends_lock) update.recovers) update.leaves
 
   put_stays : (name : List ℕ) (view : View) (next : ℕ) → get_node (done_by (Put name view) next).nodes name ≡ Some view
   put_stays name view next =
-      let begun : MasterState = with_note (with_begun s deed.session) deed.note in
-      let placed : MasterState = with_locks (with_put begun (Put name view)) deed.locks in
-      let kept : MasterState = with_kept (with_session_rest placed (session_rest deed.session)) deed.kept in
+      let begun : MasterState = with_note (with_begun s update.session) update.note in
+      let placed : MasterState = with_locks (with_put begun (Put name view)) update.locks in
+      let kept : MasterState = with_kept (with_session_rest placed (session_rest update.session)) update.kept in
       let mapped : MasterState = with_map kept (Some (record { gone = None; next_instance = next })) in
-      let unlocked : MasterState = without_lock mapped deed.ends_lock in
+      let unlocked : MasterState = without_lock mapped update.ends_lock in
       let nodes : (done_by (Put name view) next).nodes ≡ insert_entry (slice_cmp nat_cmp) begun.nodes name view =
-      left_nodes (recovered unlocked deed.recovers) deed.leaves ∙ recovered_nodes unlocked deed.recovers ∙ unlocked_nodes mapped deed.ends_lock ∙ rest_nodes placed (session_rest deed.session) in
+      left_nodes (recovered unlocked update.recovers) update.leaves ∙ recovered_nodes unlocked update.recovers ∙ unlocked_nodes mapped update.ends_lock ∙ rest_nodes placed (session_rest update.session) in
       ap (λ (ns : Nodes). get_node ns name) nodes ∙ put_there begun.nodes name view
 
-  whole : (o : Option Change) → deed.change ≡ o → (change : Change) → o ≡ Some change → done s deed ≡ done_by change.change change.next_instance
+  whole : (o : Option Change) → update.change ≡ o → (change : Change) → o ≡ Some change → done s update ≡ done_by change.change change.next_instance
   whole o is change some = rw (is ∙ some) refl
 
-  pub put_is_there : (change : Change) (name : List ℕ) (view : View) → deed.change ≡ Some change → change.change ≡ Put name view → get_node (done s deed).nodes name ≡ Some view
+  pub put_is_there : (change : Change) (name : List ℕ) (view : View) → update.change ≡ Some change → change.change ≡ Put name view → get_node (done s update).nodes name ≡ Some view
   put_is_there change name view is puts =
       let P : Mod → Type 0 = λ m. get_node (done_by m change.next_instance).nodes name ≡ Some view in
-      ap (λ (m : MasterState). get_node m.nodes name) (whole deed.change refl change is) ∙ subst P (sym puts) (put_stays name view change.next_instance)
+      ap (λ (m : MasterState). get_node m.nodes name) (whole update.change refl change is) ∙ subst P (sym puts) (put_stays name view change.next_instance)
 
 -- ---- what clients are told
 
@@ -372,19 +372,19 @@ module _ (rows : Rows) where
   contest_true (Some instance) = (tt, tt)
 
   -- by what is planned, where what it puts stands in the rows
-  module _ (s : MasterState) (plan : Plan) (stands : (name : List ℕ) (view : View) → get_node (done s plan.deed).nodes name ≡ Some view → Stands rows view.instance view.content_generation) where
-    mod_true : (m : Mod) (change : Change) → plan.deed.change ≡ Some change → change.change ≡ m → AllByRecursion (IsTrueNotice rows) (mod_notices s m)
-    mod_true (Put name view) change is puts = put_true s name view (get_node s.nodes name) (stands name view (put_is_there s plan.deed change name view is puts))
+  module _ (s : MasterState) (plan : Plan) (stands : (name : List ℕ) (view : View) → get_node (done s plan.update).nodes name ≡ Some view → Stands rows view.instance view.content_generation) where
+    mod_true : (m : Mod) (change : Change) → plan.update.change ≡ Some change → change.change ≡ m → AllByRecursion (IsTrueNotice rows) (mod_notices s m)
+    mod_true (Put name view) change is puts = put_true s name view (get_node s.nodes name) (stands name view (put_is_there s plan.update change name view is puts))
     mod_true (Gone name) change is puts = gone_true s name (get_node s.nodes name)
 
-    change_true : (o : Option Change) → plan.deed.change ≡ o → AllByRecursion (IsTrueNotice rows) (change_notices s o)
+    change_true : (o : Option Change) → plan.update.change ≡ o → AllByRecursion (IsTrueNotice rows) (change_notices s o)
     change_true None is = tt
     change_true (Some change) is = mod_true change.change change is refl
 
     all_true : AllByRecursion (IsTrueNotice rows) (notices_of s plan)
     all_true =
-        both_true (change_notices s plan.deed.change ++ locks_notices s.locks plan.deed.locks) (contest_notices plan.contested)
-        (both_true (change_notices s plan.deed.change) (locks_notices s.locks plan.deed.locks) (change_true plan.deed.change refl) (locks_true s.locks plan.deed.locks)) (contest_true plan.contested)
+        both_true (change_notices s plan.update.change ++ locks_notices s.locks plan.update.locks) (contest_notices plan.contested)
+        (both_true (change_notices s plan.update.change) (locks_notices s.locks plan.update.locks) (change_true plan.update.change refl) (locks_true s.locks plan.update.locks)) (contest_true plan.contested)
 
     pub tellings_true : AllByRecursion (λ (telling : Telling). IsTrue rows telling.event) (tellings_of s plan)
-    tellings_true = each_true s plan.deed.note (notices_of s plan) s.handles all_true
+    tellings_true = each_true s plan.update.note (notices_of s plan) s.handles all_true

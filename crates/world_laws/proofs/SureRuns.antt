@@ -1,10 +1,10 @@
 -- Where nothing is in doubt at the end of a run, each of its steps is by the world of before.
 use Rattle.std.proofs.Common.{List, [], ◌∷◌, ◌≤◌, ◌≡◌, sym, subst, arith}
 use Rattle.node_core.specs.declared.lines.Line.{Line}
-use Rattle.seats_core.specs.declared.steps.Step.{Step}
-use Rattle.stage_core.specs.World.{WorldView, IsUndoubted}
+use Rattle.world_clients.specs.declared.steps.Step.{Step}
+use Rattle.world_core.specs.World.{WorldView, IsUndoubted}
 use Rattle.world_laws.specs.Runs.{AnyRun, Run}
-use Rattle.stage_core.proofs.AsRead.{step_doubts, step_sure}
+use Rattle.world_core.proofs.AsRead.{step_doubts, step_sure}
 
 pub run_doubts : (old : WorldView) (steps : List Step) (printed : List Line) (new : WorldView) → AnyRun old steps printed new → old.doubt ≤ new.doubt
 run_doubts old [] printed new run = subst (λ (w : WorldView). old.doubt ≤ w.doubt) (sym run.1) (omega arith)

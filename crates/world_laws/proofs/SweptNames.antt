@@ -28,7 +28,7 @@ use Rattle.gate_core.specs.Gate.{touches, is_free}
 use Rattle.gate_core.specs.Laws.{touching}
 use Rattle.cell_parts.specs.declared.pending.Task.{Task}
 use Rattle.client_parts.specs.Invalidations.{last_number}
-use Rattle.plan_core.proofs.Unacknowledged.{IsAskedFor}
+use Rattle.sweep_plan.proofs.Unacknowledged.{IsAskedFor}
 use Rattle.world_laws.specs.Slices.{name_number}
 
 -- ---- a change leaves the gate

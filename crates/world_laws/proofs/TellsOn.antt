@@ -18,24 +18,24 @@ use Rattle.session_core.specs.declared.records.Kept.{Kept}
 use Rattle.session_core.specs.declared.records.Session.{Session}
 use Rattle.session_core.specs.Sessions.{session_of}
 use Rattle.cell_parts.specs.declared.notices.Telling.{Telling}
-use Rattle.deed_core.specs.Deeds.{done}
+use Rattle.cell_update.specs.Updates.{done}
 use Rattle.cell_state.specs.State.{MasterState}
 use Rattle.cell_state.specs.Lookups.{noted}
 use Rattle.cell_core.specs.Cases.{taken_by}
 use Rattle.sweep_laws.specs.Kept.{IsKept}
-use Rattle.plan_core.specs.declared.actions.Action.{Action}
-use Rattle.plan_core.specs.declared.actions.Action.TheVariants.{Tidy}
+use Rattle.sweep_plan.specs.declared.actions.Action.{Action}
+use Rattle.sweep_plan.specs.declared.actions.Action.TheVariants.{Tidy}
 use Rattle.sweep_laws.specs.Sweep.{acted}
-use Rattle.plan_core.specs.Plans.{first_action, plan_of}
+use Rattle.sweep_plan.specs.Plans.{first_action, plan_of}
 use Rattle.sweep_laws.specs.SweepCase.{swept_by, swept_edits}
 use Rattle.sweep_laws.proofs.KeptBySweeps.{case_kept}
 use Rattle.sweep_laws.proofs.SweepCases.{first_tellings}
-use Rattle.seats_core.specs.declared.mail.Message.{Message}
-use Rattle.seats_core.specs.declared.mail.Message.TheVariants.{ToMaster, ToClient}
-use Rattle.seats_core.specs.declared.steps.Step.{Step}
-use Rattle.seats_core.specs.declared.steps.Step.TheVariants as steps
-use Rattle.seats_core.specs.Messages.{out_at}
-use Rattle.stage_core.specs.World.{WorldState, Agrees}
+use Rattle.world_clients.specs.declared.mail.Message.{Message}
+use Rattle.world_clients.specs.declared.mail.Message.TheVariants.{ToMaster, ToClient}
+use Rattle.world_clients.specs.declared.steps.Step.{Step}
+use Rattle.world_clients.specs.declared.steps.Step.TheVariants as steps
+use Rattle.world_clients.specs.Messages.{out_at}
+use Rattle.world_core.specs.World.{WorldState, Agrees}
 use Rattle.world_laws.specs.Contents.{Stands, IsTrue, AreTrue, TellsTrue}
 use Rattle.world_laws.proofs.Carried.{IfReply, IfKept, IfQueue, OfSession, OfSessions, OfOut, OfOuts, Shows, out_holds, tellings_hold, taken_over_hold, taken_hold, taken_outs_hold, swept_hold, swept_outs_hold}
 use Rattle.world_laws.proofs.ConsistentSteps.{agrees_at}
@@ -153,7 +153,7 @@ event_stays old step new printed agrees case _ h = tt
 -- ---- what clients are told by a sweep
 
 -- what is queued alone leaves the map
-acted_nodes : (s : MasterState) (action : Action) → (acted s action).0.nodes ≡ (done s (plan_of s action).deed).nodes
+acted_nodes : (s : MasterState) (action : Action) → (acted s action).0.nodes ≡ (done s (plan_of s action).update).nodes
 acted_nodes s (Tidy idle) = refl
 acted_nodes s _ = refl
 

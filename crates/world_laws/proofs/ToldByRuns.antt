@@ -26,14 +26,14 @@ use Rattle.cell_parts.specs.declared.notices.Telling.{Telling}
 use Rattle.cell_state.specs.State.{MasterState}
 use Rattle.cell_state.specs.Lookups.{session_of, kept_of, noted}
 use Rattle.sweep_laws.proofs.SweepCases.{first_tellings}
-use Rattle.seats_core.specs.declared.seats.Seat.{Seat}
-use Rattle.seats_core.specs.declared.steps.Step.{Step}
-use Rattle.seats_core.specs.Messages.{out_at, call_of}
-use Rattle.stage_core.specs.World.{WorldState, WorldView, seat_of, Agrees}
+use Rattle.world_clients.specs.declared.members.WorldClient.{WorldClient}
+use Rattle.world_clients.specs.declared.steps.Step.{Step}
+use Rattle.world_clients.specs.Messages.{out_at, call_of}
+use Rattle.world_core.specs.World.{WorldState, WorldView, member_of, Agrees}
 use Rattle.world_laws.specs.Contents.{IsNoOlder, Stands, IsTrue}
 use Rattle.world_laws.specs.Consistent.{Fits, FitsMessages, IsConsistent}
 use Rattle.world_laws.specs.Runs.{Run}
-use Rattle.stage_core.specs.Made.{Does}
+use Rattle.world_core.specs.Made.{Does}
 use Rattle.world_laws.specs.Served.{ServesPresent}
 use Rattle.world_laws.specs.Told.{IsNoOlderAnswer, calls_of, ShowsNoOlder}
 use Rattle.world_laws.proofs.Carried.{IfReply, IfKept, IfQueue, OfSession, OfOut}
@@ -128,8 +128,8 @@ module _ (client calls instance generation : ℕ) where
     unsent : (whose number : ℕ) (call : CallMessage) → call_of w.messages whose number ≡ Some call → whose ≡ client → calls < number → ⊥
     unsent whose number call is own above =
         let s = h.sent whose number call is in
-        let there : seat_of w client ≡ Some s.seat = subst (λ n. seat_of w n ≡ Some s.seat) own s.joined in
-        let counted : calls ≡ s.seat.client.calls = sym asked ∙ ap (λ (o : Option Seat). option_map_or (λ (seat : Seat). seat.client.calls) o 0) there in
+        let there : member_of w client ≡ Some s.member = subst (λ n. member_of w n ≡ Some s.member) own s.joined in
+        let counted : calls ≡ s.member.client.calls = sym asked ∙ ap (λ (o : Option WorldClient). option_map_or (λ (member : WorldClient). member.client.calls) o 0) there in
         let within = s.within in
         omega (arith, counted)
 

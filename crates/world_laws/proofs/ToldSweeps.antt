@@ -13,7 +13,7 @@ use Rattle.cell_state.specs.Notices.{with_telling, with_tellings}
 use Rattle.cell_state.specs.State.{MasterState}
 use Rattle.cell_state.specs.Lookups.{kept_of}
 use Rattle.sweep_laws.proofs.ToldSessions.{reads_told, lease_told}
-use Rattle.stage_core.specs.World.{WorldState}
+use Rattle.world_core.specs.World.{WorldState}
 use Rattle.world_laws.specs.Slices.{seen_of, heard_from}
 use Rattle.world_laws.proofs.Slices.{AreSame, Goes, there, shown, here, same_parts}
 

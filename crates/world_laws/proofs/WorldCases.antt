@@ -24,8 +24,8 @@ use Rattle.cell_parts.specs.StoredSessions.{row_of}
 use Rattle.cell_state.specs.Notices.{with_tellings}
 use Rattle.cell_core.specs.Step.{take_step, is_past_end}
 use Rattle.cell_state.specs.Lookups.{is_spent, noted}
-use Rattle.turn_core.specs.Effect.{is_last}
-use Rattle.plan_core.specs.Plans.{first_action}
+use Rattle.cell_apply.specs.Effect.{is_last}
+use Rattle.sweep_plan.specs.Plans.{first_action}
 use Rattle.sweep_laws.specs.Sweep.{acted, telling, is_over, sweep_step, sweep_edits}
 use Rattle.cell_core.specs.Cases.{TakeCase, taken_by}
 use Rattle.sweep_laws.specs.SweepCase.{SweepCase, swept_by, swept_edits}
@@ -40,16 +40,16 @@ use Rattle.client_core.specs.Gives.{give_step}
 use Rattle.client_core.specs.Cases.{AskCase, asked_in, BeatCase, beaten_in, GiveCase, given_in}
 use Rattle.client_core.proofs.AskCases.{ask_case, beat_case}
 use Rattle.client_core.proofs.GiveCases.{give_case}
-use Rattle.seats_core.specs.declared.steps.Step.{Step}
-use Rattle.seats_core.specs.declared.steps.Step.TheVariants as steps
-use Rattle.seats_core.specs.declared.steps.Ticks.{Ticks as ClockSteps}
-use Rattle.seats_core.specs.declared.steps.Commit.{Commit}
-use Rattle.seats_core.specs.declared.steps.Commit.TheVariants.{Kept, Lost}
-use Rattle.seats_core.specs.declared.mail.Message.TheVariants.{ToClient}
-use Rattle.seats_core.specs.declared.seats.Seat.{Seat}
-use Rattle.seats_core.specs.Seats.{new_seat, each_seat, at_up}
-use Rattle.seats_core.specs.Messages.{request_at, out_at}
-use Rattle.stage_core.specs.World.{Agrees, WorldState, Outcome, world_step, world_up, came_up, seat_of, asked, beaten, took, world_take, world_give, gave, given_to, swept, world_sweep, without_quiet, without_master, world_down, is_of_commit, cut_sweep, world_cut_sweep, cut_up, world_cut_up, moves_nobody, are_joined, are_fair, goes_past_end, ticked}
+use Rattle.world_clients.specs.declared.steps.Step.{Step}
+use Rattle.world_clients.specs.declared.steps.Step.TheVariants as steps
+use Rattle.world_clients.specs.declared.steps.Ticks.{Ticks as ClockSteps}
+use Rattle.world_clients.specs.declared.steps.Commit.{Commit}
+use Rattle.world_clients.specs.declared.steps.Commit.TheVariants.{Kept, Lost}
+use Rattle.world_clients.specs.declared.mail.Message.TheVariants.{ToClient}
+use Rattle.world_clients.specs.declared.members.WorldClient.{WorldClient}
+use Rattle.world_clients.specs.Members.{new_member, each_member, at_up}
+use Rattle.world_clients.specs.Messages.{request_at, out_at}
+use Rattle.world_core.specs.World.{Agrees, WorldState, Outcome, world_step, world_up, came_up, member_of, asked, beaten, took, world_take, world_give, gave, given_to, swept, world_sweep, without_quiet, without_master, world_down, is_of_commit, cut_sweep, world_cut_sweep, cut_up, world_cut_up, moves_nobody, are_joined, are_fair, goes_past_end, ticked}
 
 -- ---- the rows
 
@@ -63,7 +63,7 @@ pub record IsUp (old : WorldState) (step : Step) (new : WorldState) (printed : L
     rows = changed_rows old.rows (up_edits old.rows);
     master = Some (master_of (changed_rows old.rows (up_edits old.rows)) old.lease now);
     clock = now;
-    clients = each_seat (λ number. at_up now) old.clients;
+    clients = each_member (λ number. at_up now) old.clients;
   }
   pub tells : printed ≡ lines.Up (old.rows.epoch + 1) ∷ []
 
@@ -71,8 +71,8 @@ pub record IsJoin (old : WorldState) (step : Step) (new : WorldState) (printed :
   pub number : ℕ
   pub principal : List ℕ
   pub is_step : step ≡ steps.Join number principal
-  pub free : seat_of old number ≡ None
-  pub is : new ≡ record old { clients = insert_entry nat_cmp old.clients number (new_seat number principal old.clock) }
+  pub free : member_of old number ≡ None
+  pub is : new ≡ record old { clients = insert_entry nat_cmp old.clients number (new_member number principal old.clock) }
   pub tells : printed ≡ []
 
 -- a client is asked
@@ -80,19 +80,19 @@ pub record IsAsk (old : WorldState) (step : Step) (new : WorldState) (printed : 
   pub number : ℕ
   pub ask : Ask
   pub is_step : step ≡ steps.Ask number ask
-  pub seat : Seat
-  pub found : seat_of old number ≡ Some seat
-  pub case : AskCase seat.client seat.clock ask
-  pub is : asked old number seat (asked_in seat.client seat.clock ask case) ≡ Ok (new, printed)
+  pub member : WorldClient
+  pub found : member_of old number ≡ Some member
+  pub case : AskCase member.client member.clock ask
+  pub is : asked old number member (asked_in member.client member.clock ask case) ≡ Ok (new, printed)
 
 -- a client beats
 pub record IsBeat (old : WorldState) (step : Step) (new : WorldState) (printed : List Line) : Type 0 where
   pub number : ℕ
   pub is_step : step ≡ steps.Beat number
-  pub seat : Seat
-  pub found : seat_of old number ≡ Some seat
-  pub case : BeatCase seat.client seat.clock
-  pub is : beaten old number seat (beaten_in seat.client seat.clock case) ≡ Ok (new, printed)
+  pub member : WorldClient
+  pub found : member_of old number ≡ Some member
+  pub case : BeatCase member.client member.clock
+  pub is : beaten old number member (beaten_in member.client member.clock case) ≡ Ok (new, printed)
 
 -- a client is given a message
 pub record IsGive (old : WorldState) (step : Step) (new : WorldState) (printed : List Line) : Type 0 where
@@ -100,10 +100,10 @@ pub record IsGive (old : WorldState) (step : Step) (new : WorldState) (printed :
   pub is_step : step ≡ steps.Give at
   pub out : Out
   pub was_sent : out_at old.messages at ≡ Some out
-  pub seat : Seat
-  pub found : seat_of old (out_client out) ≡ Some seat
-  pub case : GiveCase seat.client seat.clock out
-  pub is : gave old (out_client out) seat (given_in seat.client seat.clock out case) ≡ Ok (new, printed)
+  pub member : WorldClient
+  pub found : member_of old (out_client out) ≡ Some member
+  pub case : GiveCase member.client member.clock out
+  pub is : gave old (out_client out) member (given_in member.client member.clock out case) ≡ Ok (new, printed)
 
 pub record IsTick (old : WorldState) (step : Step) (new : WorldState) (printed : List Line) : Type 0 where
   pub ticks : ClockSteps
@@ -237,7 +237,7 @@ module _ (w : WorldState) (step : Step) (new : WorldState) (printed : List Line)
   came_case now false false true at none is_late is_damaged h = cc
   came_case now false false false at none is_late is_damaged h =
       let master : MasterState = master_of (changed_rows w.rows (up_edits w.rows)) w.lease now in
-      let p = ok_pair (record w { rows = changed_rows w.rows (up_edits w.rows); master = Some master; clock = now; clients = each_seat (λ number. at_up now) w.clients }, lines.Up master.epoch ∷ []) new printed h in
+      let p = ok_pair (record w { rows = changed_rows w.rows (up_edits w.rows); master = Some master; clock = now; clients = each_member (λ number. at_up now) w.clients }, lines.Up master.epoch ∷ []) new printed h in
       record { now = now; is_step = at; none = none; early = is_late; are_sound = not_false (sound w.cell w.rows) is_damaged; is = sym p.0; tells = sym p.1 }
 
   up_case : (now : ℕ) (m : Option MasterState) → step ≡ steps.Up now → w.master ≡ m → world_up w now m ≡ Ok (new, printed) → WorldCase w step new printed
@@ -246,35 +246,35 @@ module _ (w : WorldState) (step : Step) (new : WorldState) (printed : List Line)
 
   -- ---- a client joins
 
-  joined_case : (number : ℕ) (principal : List ℕ) (o : Option Seat) → step ≡ steps.Join number principal → seat_of w number ≡ o → (let r : Outcome = cond (is_some o) (Err faults.Exists) (Ok (record w { clients = insert_entry nat_cmp w.clients number (new_seat number principal w.clock) }, [])) in r) ≡ Ok (new, printed) → WorldCase w step new printed
-  joined_case number principal (Some seat) at is h = cc
+  joined_case : (number : ℕ) (principal : List ℕ) (o : Option WorldClient) → step ≡ steps.Join number principal → member_of w number ≡ o → (let r : Outcome = cond (is_some o) (Err faults.Exists) (Ok (record w { clients = insert_entry nat_cmp w.clients number (new_member number principal w.clock) }, [])) in r) ≡ Ok (new, printed) → WorldCase w step new printed
+  joined_case number principal (Some member) at is h = cc
   joined_case number principal None at is h =
-      let p = ok_pair (record w { clients = insert_entry nat_cmp w.clients number (new_seat number principal w.clock) }, []) new printed h in
+      let p = ok_pair (record w { clients = insert_entry nat_cmp w.clients number (new_member number principal w.clock) }, []) new printed h in
       Joins (record { number = number; principal = principal; is_step = at; free = is; is = sym p.0; tells = sym p.1 })
 
   -- ---- a client is asked, beats or is given a message
 
-  ask_row : (number : ℕ) (ask : Ask) (o : Option Seat) → step ≡ steps.Ask number ask → seat_of w number ≡ o → option_map_or (λ seat. asked w number seat (ask_step seat.client seat.clock ask)) o (Err faults.NoSession) ≡ Ok (new, printed) → WorldCase w step new printed
+  ask_row : (number : ℕ) (ask : Ask) (o : Option WorldClient) → step ≡ steps.Ask number ask → member_of w number ≡ o → option_map_or (λ member. asked w number member (ask_step member.client member.clock ask)) o (Err faults.NoSession) ≡ Ok (new, printed) → WorldCase w step new printed
   ask_row number ask None at found h = cc
-  ask_row number ask (Some seat) at found h =
-      let c = ask_case seat.client seat.clock ask in
-      Asks (record { number = number; ask = ask; is_step = at; seat = seat; found = found; case = c.0; is = ap (asked w number seat) (sym c.1) ∙ h })
+  ask_row number ask (Some member) at found h =
+      let c = ask_case member.client member.clock ask in
+      Asks (record { number = number; ask = ask; is_step = at; member = member; found = found; case = c.0; is = ap (asked w number member) (sym c.1) ∙ h })
 
-  beat_row : (number : ℕ) (o : Option Seat) → step ≡ steps.Beat number → seat_of w number ≡ o → option_map_or (λ seat. beaten w number seat (beat_step seat.client seat.clock)) o (Err faults.NoSession) ≡ Ok (new, printed) → WorldCase w step new printed
+  beat_row : (number : ℕ) (o : Option WorldClient) → step ≡ steps.Beat number → member_of w number ≡ o → option_map_or (λ member. beaten w number member (beat_step member.client member.clock)) o (Err faults.NoSession) ≡ Ok (new, printed) → WorldCase w step new printed
   beat_row number None at found h = cc
-  beat_row number (Some seat) at found h =
-      let c = beat_case seat.client seat.clock in
-      Beats (record { number = number; is_step = at; seat = seat; found = found; case = c.0; is = ap (beaten w number seat) (sym c.1) ∙ h })
+  beat_row number (Some member) at found h =
+      let c = beat_case member.client member.clock in
+      Beats (record { number = number; is_step = at; member = member; found = found; case = c.0; is = ap (beaten w number member) (sym c.1) ∙ h })
 
-  given_case : (at : ℕ) (out : Out) (o : Option Seat) → step ≡ steps.Give at → out_at w.messages at ≡ Some out → seat_of w (out_client out) ≡ o → option_map_or (λ seat. gave w (out_client out) seat (give_step seat.client seat.clock out)) o (Err faults.NoSession) ≡ Ok (new, printed) → WorldCase w step new printed
+  given_case : (at : ℕ) (out : Out) (o : Option WorldClient) → step ≡ steps.Give at → out_at w.messages at ≡ Some out → member_of w (out_client out) ≡ o → option_map_or (λ member. gave w (out_client out) member (give_step member.client member.clock out)) o (Err faults.NoSession) ≡ Ok (new, printed) → WorldCase w step new printed
   given_case at out None is sent found h = cc
-  given_case at out (Some seat) is sent found h =
-      let c = give_case seat.client seat.clock out in
-      Gives (record { at = at; is_step = is; out = out; was_sent = sent; seat = seat; found = found; case = c.0; is = ap (gave w (out_client out) seat) (sym c.1) ∙ h })
+  given_case at out (Some member) is sent found h =
+      let c = give_case member.client member.clock out in
+      Gives (record { at = at; is_step = is; out = out; was_sent = sent; member = member; found = found; case = c.0; is = ap (gave w (out_client out) member) (sym c.1) ∙ h })
 
   give_row : (at : ℕ) (o : Option Out) → step ≡ steps.Give at → out_at w.messages at ≡ o → option_map_or (λ out. given_to w out) o (Err faults.NoSuchMessage) ≡ Ok (new, printed) → WorldCase w step new printed
   give_row at None is sent h = cc
-  give_row at (Some out) is sent h = given_case at out (seat_of w (out_client out)) is sent refl h
+  give_row at (Some out) is sent h = given_case at out (member_of w (out_client out)) is sent refl h
 
   -- ---- clocks move
 
@@ -368,7 +368,7 @@ module _ (w : WorldState) (step : Step) (new : WorldState) (printed : List Line)
   cut_came_row : (now : ℕ) (commit : Commit) (r : Result MasterState Fault) → step ≡ steps.CutUp now commit → w.master ≡ None → up_step w.cell w.rows w.lease now ≡ r → cut_up w commit r ≡ Ok (new, printed) → WorldCase w step new printed
   cut_came_row now commit (Err fault) is none step_is h = cc
   cut_came_row now Kept (Ok master) is none step_is h =
-      let mid : WorldState = record w { rows = changed_rows w.rows (up_edits w.rows); master = Some master; clock = now; clients = each_seat (λ number. at_up now) w.clients } in
+      let mid : WorldState = record w { rows = changed_rows w.rows (up_edits w.rows); master = Some master; clock = now; clients = each_member (λ number. at_up now) w.clients } in
       let told : List Line = lines.Up master.epoch ∷ [] in
       let came = came_case w (steps.Up now) mid told now (is_past_end now) (not (sound w.cell w.rows)) (is_last w.rows.epoch) refl none refl refl (ap (came_up w now) step_is) in
       let q = ok_pair (record w { rows = mid.rows }, told ++ lines.Down ∷ []) new printed h in
@@ -386,9 +386,9 @@ module _ (w : WorldState) (step : Step) (new : WorldState) (printed : List Line)
 pub world_case : (w : WorldState) (step : Step) (new : WorldState) (printed : List Line) → Agrees w w.master → world_step w step ≡ Ok (new, printed) → WorldCase w step new printed
 unfolding world_step
 world_case w (steps.Up now) new printed agrees h = up_case w (steps.Up now) new printed now w.master refl refl h
-world_case w (steps.Join number principal) new printed agrees h = joined_case w (steps.Join number principal) new printed number principal (seat_of w number) refl refl h
-world_case w (steps.Ask number ask) new printed agrees h = ask_row w (steps.Ask number ask) new printed number ask (seat_of w number) refl refl h
-world_case w (steps.Beat number) new printed agrees h = beat_row w (steps.Beat number) new printed number (seat_of w number) refl refl h
+world_case w (steps.Join number principal) new printed agrees h = joined_case w (steps.Join number principal) new printed number principal (member_of w number) refl refl h
+world_case w (steps.Ask number ask) new printed agrees h = ask_row w (steps.Ask number ask) new printed number ask (member_of w number) refl refl h
+world_case w (steps.Beat number) new printed agrees h = beat_row w (steps.Beat number) new printed number (member_of w number) refl refl h
 world_case w (steps.Tick ticks) new printed agrees h =
     tick_case w (steps.Tick ticks) new printed ticks (moves_nobody w.master ticks) (are_joined w ticks.own) (are_fair w.master w ticks) (goes_past_end w ticks) refl refl refl refl refl h
 world_case w (steps.Take at) new printed agrees h = take_row w (steps.Take at) new printed at w.master refl refl h

@@ -43,24 +43,24 @@ use Rattle.cell_parts.specs.declared.pending.Work.TheVariants as works
 use Rattle.cell_state.specs.State.{MasterState}
 use Rattle.cell_core.specs.Names.{name_asked}
 use Rattle.cell_state.specs.Lookups.{session_of, kept_of}
-use Rattle.seats_core.specs.declared.mail.Message.{Message}
-use Rattle.seats_core.specs.declared.seats.Seat.{Seat}
-use Rattle.seats_core.specs.Messages.{request_at, out_at, call_of}
-use Rattle.seats_core.specs.Seats.{is_fair}
-use Rattle.stage_core.specs.World.{WorldState, seat_of, Agrees}
+use Rattle.world_clients.specs.declared.mail.Message.{Message}
+use Rattle.world_clients.specs.declared.members.WorldClient.{WorldClient}
+use Rattle.world_clients.specs.Messages.{request_at, out_at, call_of}
+use Rattle.world_clients.specs.Members.{is_fair}
+use Rattle.world_core.specs.World.{WorldState, member_of, Agrees}
 use Rattle.world_laws.specs.Slices.{Shown, grant_of, grants_of, slice}
 use Rattle.world_laws.specs.Contents.{TellsTrue}
 
 -- ---- clients
 
 -- the client of a number has it, and its session is of an epoch that was
-pub record IsSeated (epoch number : ℕ) (seat : Seat) : Type 0 where
-  pub own : seat.client.number ≡ number
-  pub past : seat.client.epoch ≤ epoch
-  pub unstarted : seat.client.session ≡ sessions.Unstarted → seat.client.epoch ≡ 0
-  pub live : seat.client.session ≡ sessions.Live → 0 < seat.client.epoch
+pub record IsMember (epoch number : ℕ) (member : WorldClient) : Type 0 where
+  pub own : member.client.number ≡ number
+  pub past : member.client.epoch ≤ epoch
+  pub unstarted : member.client.session ≡ sessions.Unstarted → member.client.epoch ≡ 0
+  pub live : member.client.session ≡ sessions.Live → 0 < member.client.epoch
   -- it knows no moment to come
-  pub noted : seat.client.clock ≤ seat.clock
+  pub noted : member.client.clock ≤ member.clock
 
 -- ---- what a client holds
 
@@ -94,9 +94,9 @@ pub record Holds (sent : List Message) (s : ClientState) : Type 0 where
 
 -- a client that joined sent the call, under one of its numbers so far, in an epoch that was
 pub record HasSent (w : WorldState) (client number : ℕ) (call : CallMessage) : Type 0 where
-  pub seat : Seat
-  pub joined : seat_of w client ≡ Some seat
-  pub within : number ≤ seat.client.calls
+  pub member : WorldClient
+  pub joined : member_of w client ≡ Some member
+  pub within : number ≤ member.client.calls
   pub past : call.epoch ≤ w.rows.epoch
 
 -- ---- the master
@@ -197,21 +197,21 @@ IsNoted now None = Unit {0}
 IsNoted now (Some s) = s.clock ≤ now
 
 -- a client's clock and the master's are fair since the point of their least lead, and the lead isn't less now
-pub record IsFairSince (now : ℕ) (seat : Seat) : Type 0 where
-  pub fair : is_fair now seat.clock seat ≡ true
-  pub least : 16 * seat.least_now + 17 * seat.clock ≤ 16 * now + 17 * seat.least_clock
+pub record IsFairSince (now : ℕ) (member : WorldClient) : Type 0 where
+  pub fair : is_fair now member.clock member ≡ true
+  pub least : 16 * member.least_now + 17 * member.clock ≤ 16 * now + 17 * member.least_clock
 
 -- the clocks of each client and of the master
 abbrev pub AreFair : WorldState → Option MasterState → Type 0
 AreFair w None = Unit {0}
-AreFair w (Some s) = (number : ℕ) (seat : Seat) → seat_of w number ≡ Some seat → IsFairSince w.clock seat
+AreFair w (Some s) = (number : ℕ) (member : WorldClient) → member_of w number ≡ Some member → IsFairSince w.clock member
 
 -- ---- all of it
 
 pub record IsConsistent (w : WorldState) : Type 0 where
   -- each client is the one of its number
-  pub clients : (number : ℕ) (seat : Seat) → seat_of w number ≡ Some seat → IsSeated w.rows.epoch number seat
-  pub holds : (number : ℕ) (seat : Seat) → seat_of w number ≡ Some seat → Holds w.messages seat.client
+  pub clients : (number : ℕ) (member : WorldClient) → member_of w number ≡ Some member → IsMember w.rows.epoch number member
+  pub holds : (number : ℕ) (member : WorldClient) → member_of w number ≡ Some member → Holds w.messages member.client
   -- client and number name one call
   pub named : (at : ℕ) (call : CallMessage) → request_at w.messages at ≡ Some (requests.Call call) → call_of w.messages call.client call.number ≡ Some call
   -- each call is of a client that joined

@@ -14,8 +14,8 @@ use Rattle.event_core.specs.Queue.{EventQueue}
 use Rattle.session_core.specs.declared.records.Session.{Session}
 use Rattle.cell_state.specs.State.{MasterState}
 use Rattle.cell_state.specs.Lookups.{session_of}
-use Rattle.seats_core.specs.Messages.{out_at}
-use Rattle.stage_core.specs.World.{WorldState}
+use Rattle.world_clients.specs.Messages.{out_at}
+use Rattle.world_core.specs.World.{WorldState}
 
 -- the view of another node, or of this one with no older content
 abbrev pub IsNoOlder : ℕ → ℕ → View → Type 0

@@ -8,14 +8,14 @@ pub use Rattle.rights_core.specs.Laws as RightsLaws
 pub use Rattle.cell_state.specs.State
 pub use Rattle.cell_state.specs.Lookups
 pub use Rattle.cell_core.specs.Cases
-pub use Rattle.turn_core.specs.Effect
+pub use Rattle.cell_apply.specs.Effect
 pub use Rattle.sweep_laws.specs.SweepCase
 pub use Rattle.sweep_laws.specs.Kept
 pub use Rattle.client_core.specs.State as Clients
-pub use Rattle.seats_core.specs.Messages
-pub use Rattle.seats_core.specs.Seats
-pub use Rattle.stage_core.specs.World
-pub use Rattle.stage_core.specs.Made
+pub use Rattle.world_clients.specs.Messages
+pub use Rattle.world_clients.specs.Members
+pub use Rattle.world_core.specs.World
+pub use Rattle.world_core.specs.Made
 pub mod Slices
 pub mod Contents
 pub mod Consistent

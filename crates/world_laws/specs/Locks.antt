@@ -13,8 +13,8 @@ use Rattle.lock_core.specs.State.{IsLegal}
 use Rattle.lock_core.specs.Locks.{lock_at}
 use Rattle.cell_state.specs.State.{MasterState}
 use Rattle.sweep_laws.specs.Kept.{AreGenerations, AreLockRows}
-use Rattle.seats_core.specs.declared.steps.Step.{Step}
-use Rattle.stage_core.specs.World.{WorldState, WorldView}
+use Rattle.world_clients.specs.declared.steps.Step.{Step}
+use Rattle.world_core.specs.World.{WorldState, WorldView}
 use Rattle.world_laws.specs.Runs.{Run}
 
 -- ---- legal locks

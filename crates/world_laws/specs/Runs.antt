@@ -11,7 +11,7 @@ use Rattle.node_core.specs.Nodes.{Nodes, changed, after, get_node}
 use Rattle.messages_cell.specs.declared.calls.Call.{Call}
 use Rattle.messages_cell.specs.declared.requests.Request.TheVariants as requests
 use Rattle.rows_cell.specs.Rows.{map_of}
-use Rattle.turn_core.specs.declared.effects.Effect.{Effect}
+use Rattle.cell_apply.specs.declared.effects.Effect.{Effect}
 use Rattle.rights_core.specs.declared.cache_rights.CacheRight.{CacheRight}
 use Rattle.rights_core.specs.declared.cache_rights.Status.{Status}
 use Rattle.rights_core.specs.declared.cache_rights.Status.TheVariants as statuses
@@ -23,11 +23,11 @@ use Rattle.cell_parts.specs.declared.pending.Task.TheVariants as tasks
 use Rattle.cell_parts.specs.declared.pending.Work.TheVariants as works
 use Rattle.cell_state.specs.State.{MasterState}
 use Rattle.cell_core.specs.Ephemerals.{is_idle_node}
-use Rattle.turn_core.specs.Effect.{effect}
-use Rattle.seats_core.specs.declared.steps.Step.{Step}
-use Rattle.seats_core.specs.declared.steps.Step.TheVariants.{Take, Sweep, CutSweep}
-use Rattle.seats_core.specs.declared.steps.Commit.TheVariants.{Kept}
-use Rattle.seats_core.specs.Messages.{request_at, call_of}
+use Rattle.cell_apply.specs.Effect.{effect}
+use Rattle.world_clients.specs.declared.steps.Step.{Step}
+use Rattle.world_clients.specs.declared.steps.Step.TheVariants.{Take, Sweep, CutSweep}
+use Rattle.world_clients.specs.declared.steps.Commit.TheVariants.{Kept}
+use Rattle.world_clients.specs.Messages.{request_at, call_of}
 use Rattle.lease_core.specs.Lease.{IsUnexpired}
 use Rattle.coherence.specs.Joint.{IsJoint}
 use Rattle.rows_cell.specs.Sound.{is_live_in}
@@ -35,9 +35,9 @@ use Rattle.messages_cell.specs.declared.outs.Reply.{Reply}
 use Rattle.session_core.specs.declared.records.Session.{Session}
 use Rattle.cell_state.specs.Lookups.{session_of}
 use Rattle.client_core.specs.State.{lease_of}
-use Rattle.seats_core.specs.declared.seats.Seat.{Seat}
-use Rattle.stage_core.specs.World.{WorldState, WorldView, IsUndoubted, seat_of}
-use Rattle.stage_core.specs.Made.{IsMade, Does, AnyStep}
+use Rattle.world_clients.specs.declared.members.WorldClient.{WorldClient}
+use Rattle.world_core.specs.World.{WorldState, WorldView, IsUndoubted, member_of}
+use Rattle.world_core.specs.Made.{IsMade, Does, AnyStep}
 use Rattle.world_laws.specs.Slices.{slice}
 use Rattle.world_laws.specs.Consistent.{IsConsistent}
 
@@ -104,7 +104,7 @@ pub record HasSession (w : WorldState) (number : ℕ) : Type 0 where
 
 -- a client whose lease runs by its own clock has its session
 abbrev pub LeasesKeepSessions : WorldState → Type 0
-LeasesKeepSessions w = (number : ℕ) (seat : Seat) → seat_of w number ≡ Some seat → IsUnexpired (lease_of seat.client.cache.lease).sent (lease_of seat.client.cache.lease).span seat.clock → HasSession w number
+LeasesKeepSessions w = (number : ℕ) (member : WorldClient) → member_of w number ≡ Some member → IsUnexpired (lease_of member.client.cache.lease).sent (lease_of member.client.cache.lease).span member.clock → HasSession w number
 
 -- ---- each client and each name
 
@@ -118,8 +118,8 @@ AreJoint w = (client : ℕ) (name : List ℕ) → IsJoint (slice client name w)
 -- at two points of one master's life, for a client that had joined by the first
 abbrev pub AreFairClocks : WorldState → WorldState → Type 0
 AreFairClocks here later =
-    (master successor : MasterState) → here.master ≡ Some master → later.master ≡ Some successor → successor.epoch ≡ master.epoch → (number : ℕ) (seat moved : Seat)
-    → seat_of here number ≡ Some seat → seat_of later number ≡ Some moved → 16 * (later.clock - here.clock) ≤ 17 * ((moved.clock - seat.clock) + 1)
+    (master successor : MasterState) → here.master ≡ Some master → later.master ≡ Some successor → successor.epoch ≡ master.epoch → (number : ℕ) (member moved : WorldClient)
+    → member_of here number ≡ Some member → member_of later number ≡ Some moved → 16 * (later.clock - here.clock) ≤ 17 * ((moved.clock - member.clock) + 1)
 
 -- from each point of a run to its end
 abbrev pub KeepsClocksFair : WorldView → List Step → WorldView → Type 0

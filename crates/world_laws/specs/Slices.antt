@@ -36,11 +36,11 @@ use Rattle.cell_core.specs.Names.{name_asked, shown_by}
 use Rattle.client_parts.specs.Invalidations.{last_number}
 use Rattle.cache_core.specs.Caches.{entry_of}
 use Rattle.client_core.specs.State.{lease_of}
-use Rattle.seats_core.specs.Messages.{call_of}
-use Rattle.seats_core.specs.declared.mail.Message.{Message}
-use Rattle.seats_core.specs.declared.mail.Message.TheVariants as messages
-use Rattle.seats_core.specs.declared.seats.Seat.{Seat}
-use Rattle.stage_core.specs.World.{WorldState, seat_of}
+use Rattle.world_clients.specs.Messages.{call_of}
+use Rattle.world_clients.specs.declared.mail.Message.{Message}
+use Rattle.world_clients.specs.declared.mail.Message.TheVariants as messages
+use Rattle.world_clients.specs.declared.members.WorldClient.{WorldClient}
+use Rattle.world_core.specs.World.{WorldState, member_of}
 
 -- ---- the rows
 
@@ -215,9 +215,9 @@ pub record Clocks : Type 0 where
   pub least_client : ℕ
 
 -- the clock of a client that hasn't joined stands at 0
-abbrev pub clocks_of : ℕ → Option Seat → Clocks
+abbrev pub clocks_of : ℕ → Option WorldClient → Clocks
 clocks_of now None = record { client_when_up = 0; least_now = now; least_client = 0 }
-clocks_of now (Some seat) = record { client_when_up = seat.clock_when_up; least_now = seat.least_now; least_client = seat.least_clock }
+clocks_of now (Some member) = record { client_when_up = member.clock_when_up; least_now = member.least_now; least_client = member.least_clock }
 
 -- now: the master's clock
 abbrev pub master_part : ℕ → List ℕ → ℕ → MasterState → Seen → SeenRight → Clocks → one.Master
@@ -240,22 +240,22 @@ master_part client name now s seen right clocks = record {
   pending = touching name s.gate.waiting;
 }
 
-abbrev pub master_of : ℕ → List ℕ → ℕ → Option Seat → Option MasterState → one.Master
-master_of client name now seat None = nobody
-master_of client name now seat (Some s) = master_part client name now s (seen_of (session_of s client)) (right_of client name s.rights) (clocks_of now seat)
+abbrev pub master_of : ℕ → List ℕ → ℕ → Option WorldClient → Option MasterState → one.Master
+master_of client name now member None = nobody
+master_of client name now member (Some s) = master_part client name now s (seen_of (session_of s client)) (right_of client name s.rights) (clocks_of now member)
 
 -- with its cache's entry of the name
-abbrev pub client_of : List ℕ → Option Seat → one.Client Shown
+abbrev pub client_of : List ℕ → Option WorldClient → one.Client Shown
 client_of name None = record { now = 0; newest = 0; newest_sent = 0; epoch = 0; processed = 0; lease_sent = 0; lease_span = 0; entry = None }
-client_of name (Some seat) = record {
-  now = seat.clock;
-  newest = seat.client.beats;
-  newest_sent = seat.client.sent;
-  epoch = seat.client.epoch;
-  processed = seat.client.processed;
-  lease_sent = (lease_of seat.client.cache.lease).sent;
-  lease_span = (lease_of seat.client.cache.lease).span;
-  entry = entry_of seat.client.cache.entries name;
+client_of name (Some member) = record {
+  now = member.clock;
+  newest = member.client.beats;
+  newest_sent = member.client.sent;
+  epoch = member.client.epoch;
+  processed = member.client.processed;
+  lease_sent = (lease_of member.client.cache.lease).sent;
+  lease_span = (lease_of member.client.cache.lease).span;
+  entry = entry_of member.client.cache.entries name;
 }
 
 abbrev pub slice : ℕ → List ℕ → WorldState → Slice Shown
@@ -263,8 +263,8 @@ slice client name w = record {
   present = get_node (map_of w.rows) name;
   session = standing_in w.rows client;
   epoch = w.rows.epoch;
-  master = master_of client name w.clock (seat_of w client) w.master;
-  client = client_of name (seat_of w client);
+  master = master_of client name w.clock (member_of w client) w.master;
+  client = client_of name (member_of w client);
   beats = beats_of client w.messages;
   offers = offers_of client name w.messages;
   grants = grants_of client name w.rows.secret w.messages;

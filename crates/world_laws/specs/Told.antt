@@ -7,8 +7,8 @@ use Rattle.node_core.specs.declared.events.Event.TheVariants as events
 use Rattle.node_core.specs.declared.lines.Line.{Line}
 use Rattle.node_core.specs.declared.lines.Line.TheVariants as lines
 use Rattle.node_core.specs.declared.views.View.{View}
-use Rattle.seats_core.specs.declared.steps.Step.{Step}
-use Rattle.stage_core.specs.World.{WorldState, WorldView, seat_of}
+use Rattle.world_clients.specs.declared.steps.Step.{Step}
+use Rattle.world_core.specs.World.{WorldState, WorldView, member_of}
 use Rattle.world_laws.specs.Contents.{IsNoOlder}
 use Rattle.world_laws.specs.Runs.{Run}
 
@@ -37,7 +37,7 @@ ServesNoOlder instance generation printed =
 
 -- how many calls a client has asked; none before it joins
 abbrev pub calls_of : WorldState → ℕ → ℕ
-calls_of w client = option_map_or (λ seat. seat.client.calls) (seat_of w client) 0
+calls_of w client = option_map_or (λ member. member.client.calls) (member_of w client) 0
 
 -- from any point of a run on: where its lines so far told anybody of a content, no call that any client asks from then on shows one that is older, on whichever handle, and nobody serves
 -- one from its cache

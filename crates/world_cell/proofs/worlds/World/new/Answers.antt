@@ -1,5 +1,5 @@
 use Rattle.std.proofs.Common.{subst, sym}
-use Rattle.stage_core.specs.World.{WorldView, IsUndoubted}
+use Rattle.world_core.specs.World.{WorldView, IsUndoubted}
 use Rattle.world_laws.specs.Consistent.{IsConsistent}
 use Rattle.world_laws.proofs.ConsistentSteps.{new_holds}
 use Rattle.world_cell.proofs.worlds.World.new.Goals as goal

@@ -4,4 +4,4 @@ use Rattle.world_cell.proofs.worlds.World.sweep.Goals as goal
 
 pub invariant_of-self : goal.invariant_of-self
 invariant_of-self g c =
-    swept_holds leads_on c.self.inside.stage c.sweep-turn.new.self c.sweep-turn.result c.self.invariant c.kept.ensures c.sweep-turn.ensures.ok c.sweep-turn.ensures.stored c.sweep-turn.ensures.left
+    swept_holds leads_on c.self.inside.parts c.sweep-turn.new.self c.sweep-turn.result c.self.invariant c.kept.ensures c.sweep-turn.ensures.ok c.sweep-turn.ensures.stored c.sweep-turn.ensures.left

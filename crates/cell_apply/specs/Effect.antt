@@ -1,0 +1,293 @@
+-- What a change does when its turn comes.
+use Rattle.std.specs.Prelude.{ℕ, Bool, true, ◌==◌, ◌+◌, ◌||◌, nat_le, List, [], Option, Some, None, Result, Ok, Err, if◌then◌else◌, is_none}
+use Rattle.std.specs.Option.{option_map_or}
+use Rattle.names_cell.specs.Text.{parent_of}
+use Rattle.node_core.specs.declared.refusals.Fault.{Fault}
+use Rattle.node_core.specs.declared.views.View.{View}
+use Rattle.node_core.specs.declared.views.Mod.{Mod}
+use Rattle.node_core.specs.declared.views.Mod.TheVariants.{Put, Gone}
+use Rattle.node_core.specs.declared.kinds.Kind.{Kind}
+use Rattle.node_core.specs.declared.kinds.LockMode.{LockMode}
+use Rattle.node_core.specs.declared.kinds.Life.{Life}
+use Rattle.node_core.specs.Limits.{number_limit}
+use Rattle.node_core.specs.Nodes.{get_node, has_children}
+use Rattle.tags_cell.specs.Handles.{read_handle}
+use Rattle.tags_cell.specs.declared.handles.Handle.{Handle}
+use Rattle.messages_cell.specs.declared.calls.AclNames.{AclNames}
+use Rattle.messages_cell.specs.declared.calls.NewNode.{NewNode}
+use Rattle.messages_cell.specs.declared.calls.Open.{Open}
+use Rattle.messages_cell.specs.declared.calls.Create.{Create}
+use Rattle.messages_cell.specs.declared.calls.Disposition.{Disposition}
+use Rattle.messages_cell.specs.declared.calls.Disposition.TheVariants.{May, Must}
+use Rattle.messages_cell.specs.declared.calls.Call.{Call}
+use Rattle.messages_cell.specs.declared.outs.CallResult.{CallResult}
+use Rattle.cell_apply.specs.declared.effects.Effect.{Effect}
+use Rattle.cell_parts.specs.declared.pending.Idle.{Idle}
+use Rattle.cell_apply.specs.declared.effects.Locking.{Locking}
+use Rattle.cell_apply.specs.declared.effects.Locking.TheVariants.{Nothing, Takes, Waits, Leaves, Goes}
+use Rattle.lock_core.specs.declared.claims.Claim.{Claim}
+use Rattle.lock_core.specs.declared.turns.Turn.{Turn}
+use Rattle.lock_core.specs.declared.turns.Acquired.{Acquired}
+use Rattle.lock_core.specs.State.{LockState}
+use Rattle.lock_core.specs.Locks.{lock_at}
+use Rattle.lock_core.specs.Turns.{tried, acquired, released, closed_by}
+use Rattle.cell_update.specs.declared.updates.LockPut.{LockPut}
+use Rattle.cell_parts.specs.Claims.{owner_of, claim_of}
+use Rattle.cell_state.specs.State.{MasterState}
+use Rattle.cell_state.specs.Lookups.{may, missing_right, is_of_cell, sequencer_fault, lock_under, holds_lock, node_of_handle, new_handle, open_present, plain_open, opened_answer, opened_note, answer_on}
+use Rattle.cell_parts.specs.Calls.{create_fault, bytes_of}
+use Rattle.cell_parts.specs.Keys.{key_of}
+use Rattle.node_core.specs.declared.refusals.Fault.TheVariants as faults
+use Rattle.node_core.specs.declared.kinds.Kind.TheVariants as kinds
+use Rattle.node_core.specs.declared.kinds.Right.TheVariants as rights
+use Rattle.messages_cell.specs.declared.calls.NewNode.TheVariants as made
+use Rattle.messages_cell.specs.declared.calls.Call.TheVariants as calls
+use Rattle.messages_cell.specs.declared.outs.CallResult.TheVariants as results
+use Rattle.cell_parts.specs.declared.handles.HandleState.TheVariants as states
+use Rattle.lock_core.specs.declared.turns.Acquired.TheVariants as asked
+
+-- an answer that changes nothing
+abbrev pub answered : CallResult → Effect
+answered answer = record { note = None; change = None; locking = Nothing; answer = Some answer }
+
+abbrev pub refused : Fault → Effect
+refused fault = answered (results.Refused fault)
+
+abbrev pub changes_to : Mod → ℕ → CallResult → Effect
+changes_to change next_instance answer = record { note = None; change = Some (record { change = change; next_instance = next_instance }); locking = Nothing; answer = Some answer }
+
+-- a number at its end
+abbrev pub is_last : ℕ → Bool
+is_last n = nat_le number_limit n
+
+-- ---- creates
+
+abbrev pub opened_effect : MasterState → Result Handle Fault → Effect
+opened_effect s opened = record { note = opened_note s opened; change = None; locking = Nothing; answer = Some (opened_answer s opened) }
+
+abbrev pub kind_of : NewNode → Kind
+kind_of (made.File content) = kinds.File
+kind_of made.Directory = kinds.Directory
+
+-- 1 for a new file, 0 for a directory
+abbrev pub first_generation : NewNode → ℕ
+first_generation (made.File content) = 1
+first_generation made.Directory = 0
+
+abbrev pub content_of : NewNode → List ℕ
+content_of (made.File content) = content
+content_of made.Directory = []
+
+-- the names that are given, or those of the parent
+abbrev pub acls_of : View → Option AclNames → AclNames
+acls_of above (Some acls) = acls
+acls_of above None = record { read = above.read; write = above.write; change = above.change }
+
+-- a new node under a directory
+abbrev pub new_view : ℕ → NewNode → Life → AclNames → View
+new_view instance node life acls = record {
+  kind = kind_of node;
+  instance = instance;
+  content_generation = first_generation node;
+  acl_generation = 1;
+  read = acls.read;
+  write = acls.write;
+  change = acls.change;
+  life = life;
+  content = content_of node;
+}
+
+-- the new node is put, and its handle is open
+abbrev pub create_made : MasterState → Open → View → Result Handle Fault → Effect
+create_made s opening view (Err fault) = refused fault
+create_made s opening view (Ok handle) = record {
+  note = opened_note s (Ok handle);
+  change = Some (record { change = Put opening.name view; next_instance = s.next_instance + 1 });
+  locking = Nothing;
+  answer = Some (opened_answer s (Ok handle));
+}
+
+abbrev pub create_numbered : MasterState → ℕ → ℕ → Open → View → Effect
+create_numbered s client number opening view =
+    if is_last s.next_instance then refused faults.Exhausted else create_made s opening view (new_handle s client number opening view)
+
+-- the rights of the mode, on the ACLs of the new node
+abbrev pub create_permitted : MasterState → ℕ → ℕ → Open → View → Effect
+create_permitted s client number opening view =
+    option_map_or (λ right. refused (faults.Denied right)) (missing_right s client opening.mode view) (create_numbered s client number opening view)
+
+-- write on the directory above comes first
+abbrev pub create_in : MasterState → ℕ → ℕ → Open → Create → View → Kind → Effect
+create_in s client number opening create above kinds.File = refused (faults.WrongKind kinds.File)
+create_in s client number opening create above kinds.Directory =
+    if may s client above rights.Write
+    then create_permitted s client number opening (new_view s.next_instance create.node create.life (acls_of above create.acls))
+    else refused (faults.Denied rights.Write)
+
+abbrev pub create_under : MasterState → ℕ → ℕ → Open → Create → Option View → Effect
+create_under s client number opening create None = refused faults.NotFound
+create_under s client number opening create (Some above) = create_in s client number opening create above above.kind
+
+abbrev pub create_new : MasterState → ℕ → ℕ → Open → Create → Effect
+create_new s client number opening create =
+    option_map_or (λ parent. create_under s client number opening create (get_node s.nodes parent)) (parent_of opening.name) (refused faults.NotFound)
+
+-- a node of the name is there: it is opened where it may be
+abbrev pub create_over : MasterState → ℕ → ℕ → Open → Disposition → View → Effect
+create_over s client number opening Must view = refused faults.Exists
+create_over s client number opening May view = opened_effect s (open_present s client number opening view)
+
+abbrev pub create_effect : MasterState → ℕ → ℕ → Open → Create → Effect
+create_effect s client number opening create =
+    option_map_or (λ view. create_over s client number opening create.disposition view) (get_node s.nodes opening.name) (create_new s client number opening create)
+
+-- its content and its lock-delay are tested again
+abbrev pub create_tested : MasterState → ℕ → ℕ → Open → Create → Effect
+create_tested s client number opening create =
+    option_map_or (λ answer. answered answer) (create_fault opening create.node) (create_effect s client number opening create)
+
+-- its sequencer is tested first
+abbrev pub create_under_sequencer : MasterState → ℕ → ℕ → Open → Create → Option Fault → Effect
+create_under_sequencer s client number opening create (Some fault) = refused fault
+create_under_sequencer s client number opening create None = create_tested s client number opening create
+
+-- the tests of a create that comes are made again
+abbrev pub create_here : MasterState → ℕ → ℕ → Open → Create → Option (List ℕ) → Effect
+create_here s client number opening create sequencer =
+    if is_of_cell s opening.name then create_under_sequencer s client number opening create (sequencer_fault s sequencer) else refused faults.OtherCell
+
+abbrev pub open_effect : MasterState → ℕ → ℕ → Open → Option (List ℕ) → Option Create → Effect
+open_effect s client number opening sequencer None = opened_effect s (plain_open s client number opening)
+open_effect s client number opening sequencer (Some create) = create_here s client number opening create sequencer
+
+-- ---- locks
+
+-- what becomes of the lock of a handle's node
+abbrev pub lock_put : Handle → LockState → LockPut
+lock_put handle lock = record { name = handle.name; instance = handle.instance; lock = lock }
+
+-- the caller holds the lock
+abbrev pub lock_taken : Handle → Claim → LockState → Effect
+lock_taken handle claim lock = record { note = None; change = None; locking = Takes (lock_put handle lock) claim; answer = Some results.Done }
+
+-- the caller waits behind all others, and is answered when it gets the lock, or can't get it any more
+abbrev pub lock_awaited : Handle → LockState → Effect
+lock_awaited handle lock = record { note = None; change = None; locking = Waits (lock_put handle lock); answer = None }
+
+-- the caller has left the lock
+abbrev pub leaving_by : Handle → Bool → Turn → Locking
+leaving_by handle held turn = Leaves (record { name = handle.name; instance = handle.instance; held = held; turn = turn })
+
+abbrev pub acquire_by : Handle → Claim → Result Acquired Fault → Effect
+acquire_by handle claim (Ok (asked.Held lock)) = lock_taken handle claim lock
+acquire_by handle claim (Ok (asked.Waits lock)) = lock_awaited handle lock
+acquire_by handle claim (Err fault) = refused fault
+
+abbrev pub try_by : Handle → Claim → Result LockState Fault → Effect
+try_by handle claim (Ok lock) = lock_taken handle claim lock
+try_by handle claim (Err fault) = refused fault
+
+abbrev pub release_by : Handle → Result Turn Fault → Effect
+release_by handle (Ok turn) = record { note = None; change = None; locking = leaving_by handle true turn; answer = Some results.Done }
+release_by handle (Err fault) = refused fault
+
+abbrev pub acquire_at : MasterState → Handle → LockMode → Effect
+acquire_at s handle mode = acquire_by handle (claim_of handle mode) (acquired (lock_under s handle) (claim_of handle mode))
+
+-- by the moment that the master was told
+abbrev pub try_at : MasterState → Handle → LockMode → Effect
+try_at s handle mode = try_by handle (claim_of handle mode) (tried (lock_under s handle) (claim_of handle mode) s.clock)
+
+abbrev pub release_at : MasterState → Handle → Effect
+release_at s handle = release_by handle (released (lock_under s handle) (owner_of handle))
+
+abbrev pub close_by : MasterState → Handle → Option Turn → Locking
+close_by s handle None = Nothing
+close_by s handle (Some turn) = leaving_by handle (holds_lock s handle) turn
+
+-- where its node is gone, so is the lock
+abbrev pub close_under : MasterState → Handle → Option View → Locking
+close_under s handle None = Nothing
+close_under s handle (Some view) = close_by s handle (closed_by (lock_under s handle) (owner_of handle))
+
+-- a handle that is closed lets its lock go, or waits for it no longer
+abbrev pub close_at : MasterState → Handle → Effect
+close_at s handle = record {
+  note = Some (record { key = key_of handle; state = states.Closed });
+  change = None;
+  locking = close_under s handle (node_of_handle s handle);
+  answer = Some results.Closed;
+}
+
+-- ---- writes
+
+-- the generation that a call names, if it names one, has to be the present one
+abbrev pub generation_fits : Option ℕ → ℕ → Bool
+generation_fits None present = true
+generation_fits (Some wanted) present = wanted == present
+
+abbrev pub with_content : View → List ℕ → View
+with_content view content = record view { content_generation = view.content_generation + 1; content = content }
+
+abbrev pub with_acls : View → AclNames → View
+with_acls view acls = record view { acl_generation = view.acl_generation + 1; read = acls.read; write = acls.write; change = acls.change }
+
+abbrev pub put_at : MasterState → Handle → ℕ → Option ℕ → View → Effect
+put_at s handle present wanted view =
+    if generation_fits wanted present
+    then (if is_last present then refused faults.Exhausted else changes_to (Put handle.name view) s.next_instance results.Done)
+    else refused (faults.WrongGeneration present)
+
+-- the node goes, and its lock with it
+abbrev pub deleted : MasterState → Handle → Effect
+deleted s handle = record {
+  note = None;
+  change = Some (record { change = Gone handle.name; next_instance = s.next_instance });
+  locking = Goes handle.instance (lock_under s handle).waiters;
+  answer = Some results.Done;
+}
+
+-- the root and a directory with children stay
+abbrev pub delete_at : MasterState → Handle → Effect
+delete_at s handle =
+    if has_children s.nodes handle.name || is_none (parent_of handle.name) then refused faults.NotEmpty
+    else deleted s handle
+
+abbrev pub change_at : MasterState → Handle → Call → View → Effect
+change_at s handle (calls.Set bytes content generation) view = put_at s handle view.content_generation generation (with_content view content)
+change_at s handle (calls.SetAcl bytes acls generation) view = put_at s handle view.acl_generation generation (with_acls view acls)
+change_at s handle (calls.Delete bytes) view = delete_at s handle
+change_at s handle (calls.Acquire bytes mode) view = acquire_at s handle mode
+change_at s handle (calls.TryAcquire bytes mode) view = try_at s handle mode
+change_at s handle (calls.Release bytes) view = release_at s handle
+change_at s handle _ view = refused faults.BadHandle
+
+abbrev pub change_on : MasterState → Handle → Call → Effect
+change_on s handle call = option_map_or (λ view. change_at s handle call view) (node_of_handle s handle) (refused faults.StaleInstance)
+
+-- ---- by the cell itself
+
+-- an ephemeral node that nobody holds open goes as one that is deleted, and nobody asked for it
+abbrev pub gone_by_itself : MasterState → Idle → Effect
+gone_by_itself s idle = record {
+  note = None;
+  change = Some (record { change = Gone idle.name; next_instance = s.next_instance });
+  locking = Goes idle.instance (lock_at s.locks idle.instance).waiters;
+  answer = None;
+}
+
+-- ---- by the call
+
+-- what would be answered at once is answered now too: so its sequencer is tested again
+abbrev pub effect_on : MasterState → Handle → Call → Option (List ℕ) → Effect
+effect_on s handle (calls.Close bytes) sequencer = close_at s handle
+effect_on s handle call sequencer = option_map_or (λ answer. answered answer) (answer_on s handle call sequencer) (change_on s handle call)
+
+abbrev pub handle_effect : MasterState → Call → Option (List ℕ) → Option Handle → Effect
+handle_effect s call sequencer None = refused faults.BadHandle
+handle_effect s call sequencer (Some handle) = effect_on s handle call sequencer
+
+-- what is noted of a handle, the change of the map and the next instance after it, if there is one, what becomes of a lock, and the answer, if it has one yet
+unfoldable pub effect : MasterState → ℕ → ℕ → Call → Option (List ℕ) → Effect
+effect s client number (calls.Open opening) sequencer = open_effect s client number opening sequencer opening.create
+effect s client number call sequencer = handle_effect s call sequencer (read_handle s.secret (bytes_of call))

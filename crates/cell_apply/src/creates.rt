@@ -1,0 +1,234 @@
+//! What an Open that may make a node does when its turn comes.
+ghost use Rattle.std.specs.Prelude.{◌≡◌, ◌<◌, ◌+◌, ◌-◌, ◌^◌, None, Ok, IfOk};
+ghost use Rattle.node_core.specs.declared.views.Mod.TheVariants.{Put};
+ghost use Rattle.cell_apply.specs.Effect.{create_effect, create_over, create_new, create_in, create_permitted, create_numbered, create_made, new_view, kind_of, first_generation, content_of, acls_of};
+ghost use Rattle.cell_state.specs.Lookups.{may};
+
+use crate::effects::{Effect, Locking, opened_effect};
+use cell_state::Master;
+use cell_update::Change;
+use messages_cell::{AclNames, Create, Disposition, NewNode, Open};
+use names_cell::Name;
+use node_core::{Fault, Kind, Mod, NUMBER_LIMIT, Right, View};
+use plain::Bytes;
+use std::alloc::{AllocError, Global};
+use tags_cell::{ClientNumber, Handle, MessageNumber};
+
+pub(crate) fn create_effect(
+    master: &Master,
+    client: ClientNumber,
+    number: MessageNumber,
+    opening: &Open,
+    create: &Create,
+) -> Result<Effect, AllocError>
+    ensures { IfOk result (λ done. done ≡ create_effect master.now client number opening.now create.now) }
+{
+    match master.map().get(&opening.name) {
+        None => create_new(master, client, number, opening, create),
+        Some(view) => create_over(master, client, number, opening, create.disposition, view),
+    }
+}
+
+// A node of the name is there: it is opened where it may be.
+fn create_over(
+    master: &Master,
+    client: ClientNumber,
+    number: MessageNumber,
+    opening: &Open,
+    disposition: Disposition,
+    view: &View,
+) -> Result<Effect, AllocError>
+    ensures { IfOk result (λ done. done ≡ create_over master.now client number opening.now disposition view.now) }
+{
+    match disposition {
+        Disposition::Must => Ok(Effect::refused(Fault::Exists)),
+        Disposition::May => {
+            let opened = master.open_present(client, number, opening, view)?;
+            opened_effect(master, opened)
+        }
+    }
+}
+
+fn create_new(
+    master: &Master,
+    client: ClientNumber,
+    number: MessageNumber,
+    opening: &Open,
+    create: &Create,
+) -> Result<Effect, AllocError>
+    ensures { IfOk result (λ done. done ≡ create_new master.now client number opening.now create.now) }
+{
+    let Some(parent) = opening.name.parent()? else {
+        return Ok(Effect::refused(Fault::NotFound));
+    };
+    match master.map().get(&parent) {
+        None => Ok(Effect::refused(Fault::NotFound)),
+        Some(above) => create_in(master, client, number, opening, create, above),
+    }
+}
+
+// A node is added by clients that may write the directory above.
+fn may_add(master: &Master, client: ClientNumber, above: &View) -> Result<bool, AllocError>
+    ensures { IfOk result (λ allowed. allowed ≡ may master.now client above.now Right.Write) }
+{
+    master.may(client, above, Right::Write)
+}
+
+// Write on the directory above comes first.
+fn create_in(
+    master: &Master,
+    client: ClientNumber,
+    number: MessageNumber,
+    opening: &Open,
+    create: &Create,
+    above: &View,
+) -> Result<Effect, AllocError>
+    ensures { IfOk result (λ done. done ≡ create_in master.now client number opening.now create.now above.now above.now.kind) }
+{
+    match above.kind {
+        Kind::File => Ok(Effect::refused(Fault::WrongKind(Kind::File))),
+        Kind::Directory => {
+            if !may_add(master, client, above)? {
+                return Ok(Effect::refused(Fault::Denied(Right::Write)));
+            }
+            let view = new_view(master, above, create)?;
+            create_permitted(master, client, number, opening, view)
+        }
+    }
+}
+
+// The rights of the mode, on the ACLs of the new node.
+fn create_permitted(
+    master: &Master,
+    client: ClientNumber,
+    number: MessageNumber,
+    opening: &Open,
+    view: View,
+) -> Result<Effect, AllocError>
+    ensures { IfOk result (λ done. done ≡ create_permitted master.now client number opening.now view) }
+{
+    if let Some(right) = master.missing_right(client, opening.mode, &view)? {
+        return Ok(Effect::refused(Fault::Denied(right)));
+    }
+    create_numbered(master, client, number, opening, view)
+}
+
+fn create_numbered(
+    master: &Master,
+    client: ClientNumber,
+    number: MessageNumber,
+    opening: &Open,
+    view: View,
+) -> Result<Effect, AllocError>
+    ensures { IfOk result (λ done. done ≡ create_numbered master.now client number opening.now view) }
+{
+    if master.next_instance() >= NUMBER_LIMIT {
+        return Ok(Effect::refused(Fault::Exhausted));
+    }
+    match master.new_handle(client, number, opening, &view)? {
+        Ok(handle) => create_made(master, opening, view, handle),
+        Err(fault) => Ok(Effect::refused(fault)),
+    }
+}
+
+// The new node is put, and its handle is open.
+fn create_made(
+    master: &Master,
+    opening: &Open,
+    view: View,
+    handle: Handle,
+) -> Result<Effect, AllocError>
+    requires { master.now.next_instance < 2 ^ 63 - 1 }
+    ensures { IfOk result (λ done. done ≡ create_made master.now opening.now view (Ok handle)) }
+{
+    let name = opening.name.clone()?;
+    let change = made_change(master, name, view);
+    let (note, answer) = master.opened(Ok(handle))?;
+    Ok(Effect {
+        note,
+        locking: Locking::Nothing,
+        answer: Some(answer),
+        change: Some(change),
+    })
+}
+
+// The new node's instance is given but once.
+fn made_change(master: &Master, name: Name, view: View) -> Change
+    requires { master.now.next_instance < 2 ^ 63 - 1 }
+    ensures { result ≡ record { change = Put name view; next_instance = master.now.next_instance + 1 } }
+{
+    Change {
+        change: Mod::Put(name, view),
+        next_instance: master.next_instance() + 1,
+    }
+}
+
+// A new node under a directory.
+fn new_view(master: &Master, above: &View, create: &Create) -> Result<View, AllocError>
+    ensures { IfOk result (λ view. view ≡ new_view master.now.next_instance create.now.node create.now.life (acls_of above.now create.now.acls)) }
+{
+    let AclNames {
+        read,
+        write,
+        change,
+    } = acls_of(above, &create.acls)?;
+    Ok(View {
+        kind: kind_of(&create.node),
+        instance: master.next_instance(),
+        content_generation: first_generation(&create.node),
+        acl_generation: 1,
+        read,
+        write,
+        change,
+        life: create.life,
+        content: content_of(master.alloc(), &create.node)?,
+    })
+}
+
+// The names that are given, or those of the parent.
+fn acls_of(above: &View, acls: &Option<AclNames>) -> Result<AclNames, AllocError>
+    ensures { IfOk result (λ names. names ≡ acls_of above.now acls.now) }
+{
+    match acls {
+        Some(acls) => acls.clone(),
+        None => parent_acls(above),
+    }
+}
+
+fn parent_acls(above: &View) -> Result<AclNames, AllocError>
+    ensures { IfOk result (λ names. names ≡ acls_of above.now None) }
+{
+    Ok(AclNames {
+        read: above.read.clone()?,
+        write: above.write.clone()?,
+        change: above.change.clone()?,
+    })
+}
+
+fn kind_of(node: &NewNode) -> Kind
+    ensures { result ≡ kind_of node.now }
+{
+    match node {
+        NewNode::File(_) => Kind::File,
+        NewNode::Directory => Kind::Directory,
+    }
+}
+
+// 1 for a new file, 0 for a directory.
+fn first_generation(node: &NewNode) -> u64
+    ensures { result ≡ first_generation node.now }
+{
+    match node {
+        NewNode::File(_) => 1,
+        NewNode::Directory => 0,
+    }
+}
+
+fn content_of(alloc: Global, node: &NewNode) -> Result<Bytes, AllocError>
+    ensures { IfOk result (λ content. content ≡ content_of node.now) }
+{
+    match node {
+        NewNode::File(content) => content.clone(),
+        NewNode::Directory => Bytes::copy_of(alloc, &[]),
+    }
+}

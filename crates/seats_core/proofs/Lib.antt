@@ -1,2 +1,0 @@
-pub mod SeatAnswers
-pub mod SeatsMove

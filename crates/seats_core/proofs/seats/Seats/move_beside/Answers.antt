@@ -1,9 +1,0 @@
-use Rattle.std.proofs.Common.{rules}
-use Rattle.std.specs.Prelude.{nat_le}
-use Rattle.lease_core.specs.Lease.{moment_limit}
-use Rattle.seats_core.specs.Seats.{moved_beside, clock_then}
-use Rattle.seats_core.proofs.SeatsMove.{each_written_early}
-use Rattle.seats_core.proofs.seats.Seats.move_beside.Goals as goal
-
-pub returns : goal.returns
-returns c = rw (← c.self.view_is) (λ early. each_written_early _ (λ number seat. moved_beside c.args.now (clock_then c.args.ticks.now number seat) seat) _ (λ entry. nat_le moment_limit (clock_then c.args.ticks.now entry.0 entry.1)) (λ k v b w f in_time h. search rules) _ _ early c.retain.ensures.filtered)

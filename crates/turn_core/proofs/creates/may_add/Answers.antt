@@ -1,5 +1,0 @@
-use Rattle.std.proofs.Common.{rules}
-use Rattle.turn_core.proofs.creates.may_add.Goals as goal
-
-pub returns : goal.returns
-returns c = search rules

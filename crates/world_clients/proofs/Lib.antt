@@ -1,0 +1,2 @@
+pub mod MemberAnswers
+pub mod MembersMove
