@@ -112,7 +112,7 @@ impl Cell {
         self.master.tell(tellings);
     }
 
-    /// Begins a update: all of it that may want memory. Where memory is refused nothing has changed.
+    /// Begins an update: all of it that may want memory. Where memory is refused nothing has changed.
     pub fn grow(&mut self, update: Update) -> Result<Grown, AllocError>
         requires { BeginsNew self.old update.session }
         ensures ok { OnOk result (self.new ≡ grown self.old update) }
@@ -123,21 +123,21 @@ impl Cell {
         grow(&mut self.master, update)
     }
 
-    /// Takes a update back that was begun and not finished. Takes no memory.
+    /// Takes an update back that was begun and not finished. Takes no memory.
     pub fn undo(&mut self, former: Former)
         ensures { self.new ≡ undone self.old former }
     {
         undo(&mut self.master, former);
     }
 
-    /// What was kept for taking a update back is forgotten. To be called behind the commit. Takes no memory.
+    /// What was kept for taking an update back is forgotten. To be called behind the commit. Takes no memory.
     pub fn settle(&mut self, former: Former)
         ensures { self.new ≡ self.old }
     {
         settle(&mut self.master, former);
     }
 
-    /// Finishes a update that was begun. Takes no memory.
+    /// Finishes an update that was begun. Takes no memory.
     pub fn finish(&mut self, rest: Rest)
         ensures { self.new ≡ with_rest self.old rest }
     {

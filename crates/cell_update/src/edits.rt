@@ -1,4 +1,4 @@
-//! What is committed for a update.
+//! What is committed for an update.
 ghost use Rattle.std.specs.Prelude.{◌≡◌, IfOk};
 ghost use Rattle.rows_cell.specs.LockRows.{locks_edits, lock_edits};
 ghost use Rattle.rows_cell.specs.declared.tables.Edit.TheVariants.{PutNode, PutSession};
@@ -15,7 +15,7 @@ use plain::Items;
 use rows_cell::{Edit, LockKey, LockRow, Session};
 use std::alloc::{AllocError, Global};
 
-/// What is committed for a update.
+/// What is committed for an update.
 pub fn edits_of(master: &Master, update: &Update) -> Result<Items<Edit>, AllocError>
     ensures { IfOk result (λ edits. edits ≡ edits_of master.now update.now) }
 {

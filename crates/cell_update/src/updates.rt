@@ -76,7 +76,7 @@ pub struct Update {
     pub leaves: Option<u64>,
 }
 
-/// What takes a update back that was begun: the client whose session began, and what stood at each key before.
+/// What takes an update back that was begun: the client whose session began, and what stood at each key before.
 #[derive(Drop)]
 pub struct Former {
     pub session: Option<ClientNumber>,
@@ -94,7 +94,7 @@ pub struct MapRest {
     pub next_instance: u64,
 }
 
-/// What is left of a update for behind the commit. It takes no memory.
+/// What is left of an update for behind the commit. It takes no memory.
 #[derive(Debug, Drop)]
 pub struct Rest {
     pub session: Option<SessionUpdate>,
@@ -106,7 +106,7 @@ pub struct Rest {
     pub leaves: Option<u64>,
 }
 
-/// A update that was begun: how it is taken back, and what is left of it.
+/// An update that was begun: how it is taken back, and what is left of it.
 #[derive(Drop)]
 pub struct Grown {
     pub former: Former,
@@ -126,7 +126,7 @@ struct GrownParts {
     locks: Items<(u64, Option<Lock>)>,
 }
 
-/// Begins a update: all of it that may want memory. Where memory is refused nothing has changed.
+/// Begins an update: all of it that may want memory. Where memory is refused nothing has changed.
 pub fn grow(master: &mut Master, update: Update) -> Result<Grown, AllocError>
     requires { BeginsNew master.old update.session }
     ensures ok { OnOk result (master.new ≡ grown master.old update) }
@@ -163,7 +163,7 @@ pub fn grow(master: &mut Master, update: Update) -> Result<Grown, AllocError>
     }
 }
 
-/// Takes a update back that was begun and not finished. Takes no memory.
+/// Takes an update back that was begun and not finished. Takes no memory.
 pub fn undo(master: &mut Master, former: Former)
     ensures { master.new ≡ undone master.old former }
 {
@@ -179,7 +179,7 @@ pub fn undo(master: &mut Master, former: Former)
     take_back(master, session);
 }
 
-/// What was kept for taking a update back is forgotten. To be called behind the commit. Takes no memory.
+/// What was kept for taking an update back is forgotten. To be called behind the commit. Takes no memory.
 pub fn settle(master: &mut Master, former: Former)
     ensures { master.new ≡ master.old }
 {
@@ -189,7 +189,7 @@ pub fn settle(master: &mut Master, former: Former)
     }
 }
 
-/// Finishes a update that was begun. Takes no memory.
+/// Finishes an update that was begun. Takes no memory.
 pub fn finish(master: &mut Master, rest: Rest)
     ensures { master.new ≡ with_rest master.old rest }
 {

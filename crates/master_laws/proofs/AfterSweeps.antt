@@ -66,7 +66,7 @@ over : (s : MasterState) (b : Bool) → IsSame (recovered s b) s
 over s false = itself s
 over s true = record { handles = refl; gate = refl }
 
--- ---- a update
+-- ---- an update
 
 left_handles : (s : MasterState) (o : Option ℕ) → (left s o).handles ≡ s.handles
 left_handles s None = refl

@@ -14,11 +14,11 @@ use Rattle.world_clients.specs.declared.steps.Ticks.{Ticks}
 abbrev pub Clients : Type 0
 Clients = List (ℕ × WorldClient)
 
--- a client that has just joined, with the master's clock at this moment
+-- a member, a client with its clock: one that has just joined, with the master's clock at this moment
 abbrev pub new_member : ℕ → List ℕ → ℕ → WorldClient
 new_member number principal now = record { client = new_client number principal; clock = 0; least_now = now; least_clock = 0; clock_when_up = 0 }
 
--- each client's member as a step leaves it
+-- each client with its clock as a step leaves it
 abbrev pub each_member : (ℕ → WorldClient → WorldClient) → Clients → Clients
 each_member step clients = map (λ entry. (entry.0, step entry.0 entry.1)) clients
 

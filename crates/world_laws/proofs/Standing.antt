@@ -235,7 +235,7 @@ module _ (cell : List ℕ) (rows : Rows) (s : MasterState) (k : IsKept cell rows
   case_stands (Left front back asked call sequencer None leave answer turn work live made) = same_stands (Left front back asked call sequencer None leave answer turn work live made) refl refl
   case_stands (Left front back asked call sequencer (Some note) leave answer turn work live made) = same_stands (Left front back asked call sequencer (Some note) leave answer turn work live made) refl refl
 
--- ---- what a update puts is there
+-- ---- what an update puts is there
 
 left_nodes : (s : MasterState) (o : Option ℕ) → (left s o).nodes ≡ s.nodes
 left_nodes s None = refl
