@@ -178,7 +178,7 @@ impl Master {
         ensures { result ≡ is_spent self.now }
     {
         self.gate.pushed() >= NUMBER_LIMIT
-            || self.rights.as_slice().len() as u64 >= NUMBER_LIMIT
+            || self.rights.totals().issued >= NUMBER_LIMIT
             || self.sessions.has_spent_events()
     }
 }
