@@ -16,7 +16,7 @@ use std::alloc::AllocError;
 use tags_cell::{ClientNumber, Handle, MessageNumber};
 
 /// What the tests of a new call give. It is made before anything changes.
-#[derive(Debug, Drop)]
+#[derive(Drop)]
 pub(crate) struct Admission {
     /// What is noted of a handle first.
     pub note: Option<Note>,

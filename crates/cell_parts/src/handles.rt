@@ -15,7 +15,7 @@ use std::marker::Model;
 use tags_cell::{Handle, HandleBytes, Ordinal, written_is_read};
 
 /// Which handle it is: the client that opened it, and the number of the call that did. Ordered by client, then number.
-#[derive(Clone, Copy, Debug, PartialEq, Eq, PartialOrd, Ord)]
+#[derive(Clone, Copy, PartialEq, Eq, PartialOrd, Ord)]
 pub struct HandleKey {
     pub client: Ordinal,
     pub number: Ordinal,
@@ -67,7 +67,7 @@ impl Same for HandleKey {
 }
 
 /// An open handle, with the bytes that its client shows for it: the same bytes need no check digits anew.
-#[derive(Debug, Drop)]
+#[derive(Drop)]
 pub struct OpenHandle {
     handle: Handle,
     bytes: HandleBytes,
@@ -162,7 +162,7 @@ impl OpenHandle {
 }
 
 /// How a handle stands in this epoch.
-#[derive(Debug, Drop)]
+#[derive(Drop)]
 pub enum HandleState {
     /// It was opened, or shown by its client.
     Open(OpenHandle),
@@ -171,7 +171,7 @@ pub enum HandleState {
 }
 
 /// What a master notes of a handle.
-#[derive(Debug, Drop)]
+#[derive(Drop)]
 pub struct Note {
     pub key: HandleKey,
     pub state: HandleState,

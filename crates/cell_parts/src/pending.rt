@@ -11,7 +11,7 @@ use std::alloc::AllocError;
 use tags_cell::{ClientNumber, MessageNumber};
 
 /// What a change that waits will do.
-#[derive(Debug, Drop)]
+#[derive(Drop)]
 pub enum Work {
     /// A Start: it commits the client's session, or lets it live longer. When it was received, in milliseconds.
     Starts(Principal, u64),
@@ -39,7 +39,7 @@ impl Same for Work {
 }
 
 /// What a client asked for.
-#[derive(Debug, Drop)]
+#[derive(Drop)]
 pub struct Asked {
     pub client: ClientNumber,
     /// The number of the Start or of the call.
@@ -64,7 +64,7 @@ impl Same for Asked {
 }
 
 /// An ephemeral node that nobody holds open (Burrows 2006, section 2.3).
-#[derive(Debug, Drop)]
+#[derive(Drop)]
 pub struct Idle {
     pub name: Name,
     pub instance: u64,
@@ -86,7 +86,7 @@ impl Same for Idle {
 }
 
 /// What waits for its turn (Burrows 2006, section 2.7: a modification is held until every cache has let go).
-#[derive(Debug, Drop)]
+#[derive(Drop)]
 pub enum Task {
     /// A client asked for it.
     Asked(Asked),
@@ -120,7 +120,7 @@ pub fn answered_by(reply: Reply) -> Kept<Reply>
 }
 
 /// What a step prints and sends.
-#[derive(Debug, Drop)]
+#[derive(Drop)]
 pub struct Taken {
     pub lines: Items<Line>,
     pub outs: Items<Out>,

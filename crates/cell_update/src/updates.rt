@@ -20,7 +20,7 @@ use std::alloc::AllocError;
 use tags_cell::ClientNumber;
 
 /// What a step does to a client's session.
-#[derive(Debug, Drop)]
+#[derive(Drop)]
 pub enum SessionUpdate {
     /// A session of a client that has none begins, and is committed.
     Begins(ClientNumber, Principal),
@@ -33,7 +33,7 @@ pub enum SessionUpdate {
 }
 
 /// The last call of a client.
-#[derive(Debug, Drop)]
+#[derive(Drop)]
 pub struct KeptPut {
     pub client: ClientNumber,
     pub kept: Kept<Reply>,
@@ -50,7 +50,7 @@ pub struct LockPut {
 }
 
 /// A change of the map.
-#[derive(Debug, Drop)]
+#[derive(Drop)]
 pub struct Change {
     pub change: Mod,
     /// The instance of the next node from then on.
@@ -87,7 +87,7 @@ pub struct Former {
 }
 
 /// What is left of a change of the map.
-#[derive(Debug, Drop)]
+#[derive(Drop)]
 pub struct MapRest {
     /// The name of a node that goes.
     pub gone: Option<Name>,
@@ -95,7 +95,7 @@ pub struct MapRest {
 }
 
 /// What is left of an update for behind the commit. It takes no memory.
-#[derive(Debug, Drop)]
+#[derive(Drop)]
 pub struct Rest {
     pub session: Option<SessionUpdate>,
     pub kept: Items<KeptPut>,

@@ -10,7 +10,7 @@ use tags_cell::HandleBytes;
 
 /// What a client is asked for (Burrows 2006, section 2.6). A handle is named by the client's own number for it: 1, 2, ..
 /// in the order in which its Opens succeed.
-#[derive(Debug, Drop, PartialEq)]
+#[derive(Drop)]
 pub enum Ask {
     Open(Open),
     /// Of a handle, also of a poisoned one.
@@ -27,7 +27,7 @@ pub enum Ask {
 }
 
 /// A call on the node of a handle (Burrows 2006, section 2.6).
-#[derive(Debug, Drop, PartialEq)]
+#[derive(Drop)]
 pub enum NodeCall {
     /// GetContentsAndStat.
     Read,
@@ -84,7 +84,7 @@ impl NodeCall {
 }
 
 /// What comes of it.
-#[derive(Debug, Drop)]
+#[derive(Drop)]
 pub enum Outcome {
     /// The message for the master. The call is outstanding until its reply was given to the client.
     Sent(Request),
@@ -97,7 +97,7 @@ pub enum Outcome {
 }
 
 /// What comes of it, and the lines that are printed. The line of a refusal isn't among them.
-#[derive(Debug, Drop)]
+#[derive(Drop)]
 pub struct Asked {
     pub lines: Items<Line>,
     pub outcome: Outcome,

@@ -13,7 +13,7 @@ use tags_cell::{HandleBytes, Mode, Ordinal};
 /// A handle of a client's: the bytes as its master sent them, which a client doesn't read; its name and mode, as they
 /// were asked for; the instance and the life of the node, as the master told them; whether it was poisoned; and the
 /// sequencer that its calls stand under.
-#[derive(Debug, Drop)]
+#[derive(Drop)]
 pub struct ClientHandle {
     pub bytes: HandleBytes,
     pub name: Name,

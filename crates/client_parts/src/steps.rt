@@ -5,7 +5,7 @@ use node_core::{Fault, Line};
 use plain::Items;
 
 /// What comes of a message that a client was given.
-#[derive(Debug, Drop)]
+#[derive(Drop)]
 pub struct Given {
     /// The lines that are printed, but for that of a refusal.
     pub lines: Items<Line>,
@@ -14,7 +14,7 @@ pub struct Given {
 }
 
 /// What comes of it where a client is asked for a Start or a Beat.
-#[derive(Debug, Drop)]
+#[derive(Drop)]
 pub struct Beaten {
     /// The lines that are printed.
     pub lines: Items<Line>,

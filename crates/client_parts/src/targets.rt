@@ -37,7 +37,7 @@ impl Target {
 }
 
 /// A call that has no reply yet.
-#[derive(Debug, Drop)]
+#[derive(Drop)]
 pub struct Outstanding {
     /// The call's message, as it was sent.
     pub request: Request,

@@ -16,7 +16,7 @@ pub const WAITING_LIMIT: usize = 256;
 /// The events of one session (Burrows 2006, section 2.5), numbered from 1 in each epoch: up to which number they were
 /// acknowledged, those behind it in order, and whether one was missed, as the queue was full. It has room for as many as
 /// may wait, so that only its making takes memory.
-#[derive(Debug, Drop)]
+#[derive(Drop)]
 pub struct EventQueue {
     acknowledged: u64,
     waiting: VecDeque<Event>,

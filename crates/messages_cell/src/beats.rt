@@ -8,7 +8,7 @@ use std::alloc::AllocError;
 use tags_cell::{ClientNumber, MessageNumber};
 
 /// A client with a session lets its master hear of it, and acknowledges what it has processed.
-#[derive(Clone, Copy, Debug, PartialEq)]
+#[derive(Clone, Copy)]
 pub struct Beat {
     pub client: ClientNumber,
     /// The epoch of the master that the client knows.
@@ -26,7 +26,7 @@ impl Same for Beat {
 }
 
 /// A name that the client is to let go of (Burrows 2006, section 2.7).
-#[derive(Debug, Drop)]
+#[derive(Drop)]
 pub struct Invalidation {
     /// Among the invalidations of the client's session in this epoch, from 1.
     pub number: u64,
@@ -49,7 +49,7 @@ impl Same for Invalidation {
 }
 
 /// An event with its number.
-#[derive(Debug, Drop)]
+#[derive(Drop)]
 pub struct NumberedEvent {
     /// Among the events of the client's session in this epoch, from 1.
     pub number: u64,
@@ -72,7 +72,7 @@ impl Same for NumberedEvent {
 }
 
 /// The answer to a Beat.
-#[derive(Debug, Drop)]
+#[derive(Drop)]
 pub struct Alive {
     pub client: ClientNumber,
     /// The master's epoch.

@@ -76,10 +76,3 @@ impl fmt::Display for Answer {
         }
     }
 }
-
-// As it is printed.
-impl fmt::Debug for Answer {
-    fn fmt<W: fmt::Write>(&self, f: &mut fmt::Formatter<W>) -> fmt::Result {
-        write!(f, "{self}")
-    }
-}

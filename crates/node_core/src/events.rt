@@ -10,7 +10,7 @@ use std::fmt;
 
 /// What a client is told (Burrows 2006, section 2.5). The first number of each is that of the handle, which is the
 /// call number of its Open.
-#[derive(Drop, PartialEq)]
+#[derive(Drop)]
 pub enum Event {
     /// A new master has taken over.
     FailOver,
@@ -76,12 +76,5 @@ impl fmt::Display for Event {
             Event::Conflict(handle) => write_number(f, "conflict ", *handle),
             Event::Lost => f.write_str("lost"),
         }
-    }
-}
-
-// As it is printed.
-impl fmt::Debug for Event {
-    fn fmt<W: fmt::Write>(&self, f: &mut fmt::Formatter<W>) -> fmt::Result {
-        write!(f, "{self}")
     }
 }

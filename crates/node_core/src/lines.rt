@@ -1,6 +1,8 @@
 //! The lines that are printed.
-ghost use Rattle.std.specs.Prelude.{◌≡◌, Some};
+ghost use Rattle.std.specs.Prelude.{◌≡◌, IfOk, None, Some};
+ghost use Rattle.std.specs.Fmt.{DisplaysOnOk};
 ghost use Rattle.node_core.specs.Texts.{line_text};
+ghost use Rattle.node_core.specs.declared.lines.Line.TheVariants as lines;
 
 use crate::answers::Answer;
 use crate::events::Event;
@@ -81,11 +83,7 @@ impl Clone for Line {
             Line::Lapsed(client, instance) => Line::Lapsed(*client, *instance),
             Line::Reopened(instance) => Line::Reopened(*instance),
             Line::Served(client, name, None) => Line::Served(*client, name.clone()?, None),
-            Line::Served(client, name, Some(view)) => Line::Served(
-                *client,
-                name.clone()?,
-                Some(view.clone()?),
-            ),
+            Line::Served(client, name, Some(view)) => served_clone(*client, name, view)?,
             Line::Done(client, call, answer) => Line::Done(*client, *call, answer.clone()?),
             Line::Told(client, event) => Line::Told(*client, event.clone()?),
             Line::Jeopardy(client) => Line::Jeopardy(*client),
@@ -94,6 +92,12 @@ impl Clone for Line {
             Line::Refused(fault) => Line::Refused(*fault),
         })
     }
+}
+
+fn served_clone(client: u64, name: &Name, view: &View) -> Result<Line, AllocError>
+    ensures { IfOk result (λ line. line ≡ lines.Served client name.now (Some view.now)) }
+{
+    Ok(Line::Served(client, name.clone()?, Some(view.clone()?)))
 }
 
 impl Same for Line {
@@ -110,21 +114,24 @@ impl fmt::Display for Line {
             Line::Recovered => f.write_str("recovered"),
             Line::Started(client) => write_number(f, "started ", *client),
             Line::Ended(client) => write_number(f, "ended ", *client),
-            Line::Applied(client, call, change) => write!(f, "applied {client} {call} {change}"),
-            Line::Granted(right, client, name) => write!(f, "granted {right} {client} {name}"),
+            Line::Applied(client, call, change) => write_applied(f, *client, *call, change),
+            Line::Granted(right, client, name) => write_granted(f, *right, *client, name),
             Line::Acked(right) => write_number(f, "acked ", *right),
             Line::Expired(right) => write_number(f, "expired ", *right),
-            Line::Locked(client, instance, mode, generation) => write!(
+            Line::Locked(client, instance, mode, generation) => write_locked(
                 f,
-                "locked {client} {instance} {mode} {generation}"
+                *client,
+                *instance,
+                *mode,
+                *generation,
             ),
             Line::Freed(client, instance) => write_numbers(f, "freed ", *client, *instance),
             Line::Lapsed(client, instance) => write_numbers(f, "lapsed ", *client, *instance),
             Line::Reopened(instance) => write_number(f, "reopened ", *instance),
-            Line::Served(client, name, None) => write!(f, "served {client} {name} absent"),
-            Line::Served(client, name, Some(view)) => write!(f, "served {client} {name} {view}"),
-            Line::Done(client, call, answer) => write!(f, "done {client} {call} {answer}"),
-            Line::Told(client, event) => write!(f, "event {client} {event}"),
+            Line::Served(client, name, None) => write_absent(f, *client, name),
+            Line::Served(client, name, Some(view)) => write_served(f, *client, name, view),
+            Line::Done(client, call, answer) => write_done(f, *client, *call, answer),
+            Line::Told(client, event) => write_told(f, *client, event),
             Line::Jeopardy(client) => write_number(f, "jeopardy ", *client),
             Line::Safe(client) => write_number(f, "safe ", *client),
             Line::Lost(client) => write_number(f, "lost ", *client),
@@ -133,9 +140,70 @@ impl fmt::Display for Line {
     }
 }
 
-// As it is printed.
-impl fmt::Debug for Line {
-    fn fmt<W: fmt::Write>(&self, f: &mut fmt::Formatter<W>) -> fmt::Result {
-        write!(f, "{self}")
-    }
+fn write_applied<W: fmt::Write>(
+    f: &mut fmt::Formatter<W>,
+    client: u64,
+    call: u64,
+    change: &Mod,
+) -> fmt::Result
+    ensures { DisplaysOnOk W.write_str_gives f.old result (Some (line_text (lines.Applied client call change.now))) f.new }
+{
+    write!(f, "applied {client} {call} {change}")
+}
+
+fn write_granted<W: fmt::Write>(
+    f: &mut fmt::Formatter<W>,
+    right: u64,
+    client: u64,
+    name: &Name,
+) -> fmt::Result
+    ensures { DisplaysOnOk W.write_str_gives f.old result (Some (line_text (lines.Granted right client name.now))) f.new }
+{
+    write!(f, "granted {right} {client} {name}")
+}
+
+fn write_locked<W: fmt::Write>(
+    f: &mut fmt::Formatter<W>,
+    client: u64,
+    instance: u64,
+    mode: LockMode,
+    generation: u64,
+) -> fmt::Result
+    ensures { DisplaysOnOk W.write_str_gives f.old result (Some (line_text (lines.Locked client instance mode generation))) f.new }
+{
+    write!(f, "locked {client} {instance} {mode} {generation}")
+}
+
+fn write_absent<W: fmt::Write>(f: &mut fmt::Formatter<W>, client: u64, name: &Name) -> fmt::Result
+    ensures { DisplaysOnOk W.write_str_gives f.old result (Some (line_text (lines.Served client name.now None))) f.new }
+{
+    write!(f, "served {client} {name} absent")
+}
+
+fn write_served<W: fmt::Write>(
+    f: &mut fmt::Formatter<W>,
+    client: u64,
+    name: &Name,
+    view: &View,
+) -> fmt::Result
+    ensures { DisplaysOnOk W.write_str_gives f.old result (Some (line_text (lines.Served client name.now (Some view.now)))) f.new }
+{
+    write!(f, "served {client} {name} {view}")
+}
+
+fn write_done<W: fmt::Write>(
+    f: &mut fmt::Formatter<W>,
+    client: u64,
+    call: u64,
+    answer: &Answer,
+) -> fmt::Result
+    ensures { DisplaysOnOk W.write_str_gives f.old result (Some (line_text (lines.Done client call answer.now))) f.new }
+{
+    write!(f, "done {client} {call} {answer}")
+}
+
+fn write_told<W: fmt::Write>(f: &mut fmt::Formatter<W>, client: u64, event: &Event) -> fmt::Result
+    ensures { DisplaysOnOk W.write_str_gives f.old result (Some (line_text (lines.Told client event.now))) f.new }
+{
+    write!(f, "event {client} {event}")
 }

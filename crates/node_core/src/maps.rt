@@ -26,7 +26,7 @@ pub const CONTENT_LIMIT: usize = 262_144;
 pub const NUMBER_LIMIT: u64 = 0x7fff_ffff_ffff_ffff;
 
 /// What a change of the map found.
-#[derive(Debug, Drop, PartialEq)]
+#[derive(Drop)]
 pub struct Outcome {
     /// The node that stood at the name before, if any.
     pub former: Option<View>,

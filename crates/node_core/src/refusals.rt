@@ -13,7 +13,7 @@ use std::error::Error;
 use std::fmt;
 
 /// A refusal: it is printed by its number and its name, and where it has an argument, by this.
-#[derive(Clone, Copy, Debug, PartialEq, Eq)]
+#[derive(Clone, Copy, PartialEq, Eq)]
 pub enum Fault {
     /// A growth was refused.
     NoMemory,
@@ -235,6 +235,13 @@ impl fmt::Display for Fault {
         let name = self.name();
         write!(f, "{number} {name}")?;
         self.write_argument(f)
+    }
+}
+
+// As it is printed.
+impl fmt::Debug for Fault {
+    fn fmt<W: fmt::Write>(&self, f: &mut fmt::Formatter<W>) -> fmt::Result {
+        write!(f, "{self}")
     }
 }
 

@@ -10,7 +10,7 @@ use std::alloc::AllocError;
 use std::fmt;
 
 /// What GetStat tells of a node: no content but its length, and the lock's generation (Burrows 2006, section 2.3).
-#[derive(Debug, Drop, PartialEq)]
+#[derive(Drop)]
 pub struct Stat {
     pub kind: Kind,
     pub instance: u64,

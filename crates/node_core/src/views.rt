@@ -13,7 +13,7 @@ use std::fmt;
 
 /// What a client sees of a node, and may keep in its cache (Burrows 2006, sections 2.3 and 2.7). The lock's
 /// generation isn't among it.
-#[derive(Debug, Drop, PartialEq)]
+#[derive(Drop)]
 pub struct View {
     pub kind: Kind,
     /// Greater than that of any earlier node of the same name.
@@ -88,7 +88,7 @@ impl fmt::Display for View {
 }
 
 /// A change of the map: a node is set, or it is gone. It touches the one name.
-#[derive(Debug, Drop, PartialEq)]
+#[derive(Drop)]
 pub enum Mod {
     Put(Name, View),
     Gone(Name),

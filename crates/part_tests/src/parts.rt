@@ -1,6 +1,6 @@
 //! Masters and a client by themselves.
 use client_core::{Ask, Client, Given, NodeCall, Outcome};
-use messages_cell::{Alive, Open, Out, Request, Started};
+use messages_cell::{Alive, Call, CallMessage, Open, Out, Request, Started};
 use names_cell::{Name, Principal};
 use node_core::Fault;
 use over_core::Cell;
@@ -184,11 +184,28 @@ fn again(client: &Client) -> &'static str {
     }
 }
 
+fn asked_name(request: &Request) -> &str {
+    match request {
+        Request::Call(
+            CallMessage {
+                call: Call::Open(open),
+                ..
+            },
+        ) => open.name.as_str(),
+        _ => "another call",
+    }
+}
+
+fn is_same(request: &Request, other: &Request) -> bool {
+    request.client().get() == other.client().get()
+        && request.number().get() == other.number().get()
+        && asked_name(request) == asked_name(other)
+}
+
 fn again_text(client: &Client, request: &Request) -> &'static str {
-    if client.again() == Some(request) {
-        "sent, and again"
-    } else {
-        "sent"
+    match client.again() {
+        Some(kept) if is_same(kept, request) => "sent, and again",
+        _ => "sent",
     }
 }
 

@@ -15,7 +15,7 @@ use plain::{Items, Same, Secret, Table};
 use std::alloc::{AllocError, Global};
 
 /// A node as it is stored: what is seen of it, and the generation of its lock.
-#[derive(Debug, Drop)]
+#[derive(Drop)]
 pub struct Node {
     pub view: View,
     /// 0 for a new node, one more each time that its lock goes from free to held.
@@ -38,7 +38,7 @@ impl Same for Node {
 }
 
 /// A client's session. One that has ended stays recorded.
-#[derive(Debug, Drop)]
+#[derive(Drop)]
 pub struct Session {
     pub principal: Principal,
     pub live: bool,
@@ -115,7 +115,7 @@ impl Same for Rows {
 }
 
 /// One edit of the rows.
-#[derive(Debug, Drop)]
+#[derive(Drop)]
 pub enum Edit {
     Epoch(u64),
     NextInstance(u64),

@@ -25,7 +25,7 @@ pub struct Numbers {
 }
 
 /// The ACLs that a node names.
-#[derive(Debug, Drop)]
+#[derive(Drop)]
 pub struct Acls {
     pub read: Component,
     pub write: Component,

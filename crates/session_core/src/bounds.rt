@@ -8,7 +8,7 @@ ghost use Rattle.session_core.specs.Quiet.{quiet_until};
 use crate::records::Session;
 
 // What is known of all sessions at once, so that none has to be looked for.
-#[derive(Clone, Copy, Debug)]
+#[derive(Clone, Copy)]
 pub(crate) struct Bounds {
     // Before this moment nothing is to be done for any session.
     pub(crate) quiet: u64,

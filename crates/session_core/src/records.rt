@@ -11,7 +11,7 @@ use tags_cell::MessageNumber;
 
 /// How many invalidations were issued to a session in this epoch (Burrows 2006, section 2.7), numbered from 1, and up to
 /// which number it acknowledged them.
-#[derive(Clone, Copy, Debug, PartialEq, Eq)]
+#[derive(Clone, Copy, PartialEq, Eq)]
 pub struct Tally {
     pub issued: u64,
     pub acknowledged: u64,
@@ -27,7 +27,7 @@ impl Tally {
 }
 
 /// A Beat that waits for its answer.
-#[derive(Clone, Copy, Debug)]
+#[derive(Clone, Copy)]
 pub struct Parked {
     pub number: MessageNumber,
     /// When the master received it, in milliseconds.
@@ -35,7 +35,7 @@ pub struct Parked {
 }
 
 /// What the answer to a Beat offers its client.
-#[derive(Clone, Copy, Debug)]
+#[derive(Clone, Copy)]
 pub struct Offer {
     /// The number of the Beat.
     pub number: MessageNumber,
@@ -45,7 +45,7 @@ pub struct Offer {
 }
 
 /// What the answer to a Start offers its client.
-#[derive(Clone, Copy, Debug)]
+#[derive(Clone, Copy)]
 pub struct Begun {
     /// Whether the session began with this Start, and so is to be committed.
     pub is_new: bool,
@@ -54,7 +54,7 @@ pub struct Begun {
 }
 
 /// The last call of a client, and its reply once there is one: the same call gets it again.
-#[derive(Debug, Drop)]
+#[derive(Drop)]
 pub struct Kept<K> {
     pub number: MessageNumber,
     /// None while the call waits.
@@ -62,7 +62,7 @@ pub struct Kept<K> {
 }
 
 /// A client's session as its master knows it (Burrows 2006, section 2.8). One that has ended stays recorded.
-#[derive(Debug, Drop)]
+#[derive(Drop)]
 pub struct Session<K> {
     pub principal: Principal,
     pub live: bool,

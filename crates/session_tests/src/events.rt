@@ -51,7 +51,7 @@ fn is_lost(alloc: Global, queue: &EventQueue) -> Result<u64, Fault> {
     let waiting = queue.unacked(alloc)?;
     Ok(match waiting.as_slice().last() {
         None => 0,
-        Some(last) => u64::from(last.event == Event::Lost),
+        Some(last) => u64::from(matches!(&last.event, Event::Lost)),
     })
 }
 

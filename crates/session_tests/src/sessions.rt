@@ -143,7 +143,7 @@ fn is_lost(sessions: &Sessions<u64>, client: u64) -> Result<u64, Fault> {
     let waiting = sessions.unacked(client)?;
     Ok(match waiting.as_slice().last() {
         None => 0,
-        Some(last) => u64::from(last.event == Event::Lost),
+        Some(last) => u64::from(matches!(&last.event, Event::Lost)),
     })
 }
 
@@ -151,7 +151,7 @@ fn is_fail_over(sessions: &Sessions<u64>, client: u64) -> Result<u64, Fault> {
     let waiting = sessions.unacked(client)?;
     Ok(match waiting.as_slice().first() {
         None => 0,
-        Some(first) => u64::from(first.event == Event::FailOver),
+        Some(first) => u64::from(matches!(&first.event, Event::FailOver)),
     })
 }
 

@@ -17,7 +17,7 @@ use tags_cell::{ClientNumber, Events};
 use world_clients::{Commit, Step, Ticks};
 
 /// What a line of a script asks for.
-#[derive(Debug, Drop)]
+#[derive(Drop)]
 pub enum Parsed {
     /// Nothing: the line is blank, or a comment.
     Nothing,
@@ -31,7 +31,7 @@ pub enum Parsed {
 }
 
 // Why a line gives no step.
-#[derive(Debug, Drop)]
+#[derive(Drop)]
 enum Flaw {
     Bad,
     Refused(Fault),

@@ -7,7 +7,7 @@ use node_core::Line;
 use plain::Items;
 
 /// What a sweep prints and sends, and whether it found nothing to do.
-#[derive(Debug, Drop)]
+#[derive(Drop)]
 pub struct Swept {
     pub lines: Items<Line>,
     pub outs: Items<Out>,

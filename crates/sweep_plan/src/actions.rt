@@ -10,7 +10,7 @@ use tags_cell::ClientNumber;
 
 /// What a sweep does, one thing at a time, in this order: what is told to clients of their time comes last, so that an
 /// answer never stands before an end or a change that was due.
-#[derive(Debug, Drop)]
+#[derive(Drop)]
 pub enum Action {
     /// The recovery is over: each session of an earlier master has acknowledged the fail-over, or has ended.
     Recover,

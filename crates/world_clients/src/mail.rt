@@ -8,7 +8,7 @@ use messages_cell::{Out, Request};
 use plain::Items;
 
 /// A message that was sent, by its direction.
-#[derive(Debug, Drop)]
+#[derive(Drop)]
 pub enum Message {
     ToMaster(Request),
     ToClient(Out),

@@ -5,7 +5,7 @@ use plain::Items;
 use tags_cell::ClientNumber;
 
 /// How the clocks move, in milliseconds.
-#[derive(Debug, Drop)]
+#[derive(Drop)]
 pub struct Ticks {
     /// The master's.
     pub master: u64,
@@ -24,7 +24,7 @@ pub enum Commit {
 
 /// What may be done in a world. Messages are numbered from 1 in the order in which they were sent, in both directions
 /// together, and may be delivered in any order, any number of times, or never.
-#[derive(Debug, Drop)]
+#[derive(Drop)]
 pub enum Step {
     /// A master comes up, its clock at this moment in milliseconds.
     Up(u64),

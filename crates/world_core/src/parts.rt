@@ -25,7 +25,7 @@ const MESSAGES_A_TAKE: usize = 1;
 const LINES_BESIDE_A_REFUSAL: usize = 1;
 
 /// What a sweep prints, and whether it found nothing to do.
-#[derive(Debug, Drop)]
+#[derive(Drop)]
 pub struct SweepResult {
     pub lines: Items<Line>,
     pub quiet: bool,
