@@ -28,7 +28,8 @@ impl Clone for Work {
             Work::Starts(principal, received) => Work::Starts(principal.clone()?, *received),
             Work::Calls(call, None) => Work::Calls(call.clone()?, None),
             Work::Calls(call, Some(sequencer)) => {
-                Work::Calls(call.clone()?, Some(sequencer.clone()?))
+                let carried = sequencer.clone()?;
+                Work::Calls(call.clone()?, Some(carried))
             }
         })
     }
