@@ -1,8 +1,13 @@
-//! Tests of the bytes and ranges of messages, and of rights, the gate and locks, each by itself, as tables.
+//! Tests of the bytes and ranges of messages, and of rights, the gate, locks, leases and the client's cache, each by itself, as
+//! tables.
 #![tactic(auto)]
 
 #[cfg(test)]
+mod caches;
+#[cfg(test)]
 mod handles;
+#[cfg(test)]
+mod leases;
 #[cfg(test)]
 mod locks;
 #[cfg(test)]

@@ -35,7 +35,7 @@ enum Step {
     Closing(u64, u64),
 }
 
-#[derive(Clone, Copy, Debug, PartialEq)]
+#[derive(Clone, Copy, PartialEq)]
 enum Answer {
     Nothing,
     // A generation, or an instance.
@@ -203,159 +203,162 @@ fn told(alloc: Global, locks: &mut Locks, step: Step) -> Answer {
 }
 
 // A new table of locks, and each step with its answer.
-fn runs(rt: &impl Abort, alloc: Global, table: &[(Step, Answer)]) {
+fn runs(rt: &impl Abort, alloc: Global, name: &str, table: &[(Step, Answer)]) {
     let mut locks = Locks::new(alloc);
     for (row, (step, want)) in table.iter().enumerate() {
-        assert_eq!(rt; told(alloc, &mut locks, *step), *want, "row {row}");
+        assert!(rt;
+            told(alloc, &mut locks, *step) == *want,
+            "row {row} of {name}"
+        );
     }
 }
 
-#[test]
-fn modes_and_waiters(rt: HostRuntime) {
-    let table = [
-        (Step::Acquire(1, Exclusive, 0), Answer::Number(1)),
-        (Step::Acquire(2, Shared, 0), Answer::Waits),
-        (
-            Step::Acquire(1, Exclusive, 0),
-            Answer::Refused(Fault::Held(Exclusive)),
-        ),
-        (
-            Step::Try(1, Exclusive, 0),
-            Answer::Refused(Fault::Held(Exclusive)),
-        ),
-        (
-            Step::Try(3, Shared, 0),
-            Answer::Refused(Fault::Held(Exclusive)),
-        ),
-        (Step::Release(2), Answer::Refused(Fault::NotHolder)),
-        (Step::Release(1), Answer::Turn(1, 0)),
-        (Step::Try(1, Shared, 0), Answer::Number(2)),
-        (Step::Acquire(3, Exclusive, 0), Answer::Waits),
-        (
-            Step::Try(4, Shared, 0),
-            Answer::Refused(Fault::Held(Shared)),
-        ),
-        (Step::Acquire(4, Shared, 0), Answer::Waits),
-        (Step::Release(1), Answer::Turn(0, 0)),
-        (Step::Release(2), Answer::Turn(1, 0)),
-        (Step::Close(4), Answer::Turn(0, 0)),
-        (Step::Close(4), Answer::Nothing),
-        (Step::Release(3), Answer::Turn(0, 0)),
-        (Step::Release(3), Answer::Refused(Fault::NotHolder)),
-    ];
-    runs(&rt, rt.alloc(), table.as_slice());
-}
+const STALE: Answer = Answer::Refused(Fault::SequencerStale);
+
+// Each begins with a new table of locks.
+const TABLES: &[(&str, &[(Step, Answer)])] = &[
+    (
+        "modes_and_waiters",
+        &[
+            (Step::Acquire(1, Exclusive, 0), Answer::Number(1)),
+            (Step::Acquire(2, Shared, 0), Answer::Waits),
+            (
+                Step::Acquire(1, Exclusive, 0),
+                Answer::Refused(Fault::Held(Exclusive)),
+            ),
+            (
+                Step::Try(1, Exclusive, 0),
+                Answer::Refused(Fault::Held(Exclusive)),
+            ),
+            (
+                Step::Try(3, Shared, 0),
+                Answer::Refused(Fault::Held(Exclusive)),
+            ),
+            (Step::Release(2), Answer::Refused(Fault::NotHolder)),
+            (Step::Release(1), Answer::Turn(1, 0)),
+            (Step::Try(1, Shared, 0), Answer::Number(2)),
+            (Step::Acquire(3, Exclusive, 0), Answer::Waits),
+            (
+                Step::Try(4, Shared, 0),
+                Answer::Refused(Fault::Held(Shared)),
+            ),
+            (Step::Acquire(4, Shared, 0), Answer::Waits),
+            (Step::Release(1), Answer::Turn(0, 0)),
+            (Step::Release(2), Answer::Turn(1, 0)),
+            (Step::Close(4), Answer::Turn(0, 0)),
+            (Step::Close(4), Answer::Nothing),
+            (Step::Release(3), Answer::Turn(0, 0)),
+            (Step::Release(3), Answer::Refused(Fault::NotHolder)),
+        ],
+    ),
+    (
+        "lock_delay",
+        &[
+            (Step::Acquire(1, Exclusive, 60_000), Answer::Number(1)),
+            (Step::Expire(1, 60_000), Answer::Number(1)),
+            (
+                Step::Try(2, Exclusive, 60_000),
+                Answer::Refused(Fault::Delayed(60_000)),
+            ),
+            (
+                Step::Try(2, Exclusive, 119_999),
+                Answer::Refused(Fault::Delayed(1)),
+            ),
+            (Step::Due(119_999), Answer::Nothing),
+            (Step::Due(120_000), Answer::Number(NODE)),
+            (
+                Step::Try(2, Exclusive, 120_000),
+                Answer::Refused(Fault::Delayed(0)),
+            ),
+            (Step::Acquire(3, Shared, 0), Answer::Waits),
+            (Step::Reopen, Answer::Turn(1, 0)),
+            (Step::Try(2, Shared, 120_000), Answer::Number(2)),
+        ],
+    ),
+    // With no delay the next waiter gets the lock at once. A session that leaves others there gives no delay.
+    (
+        "expiries",
+        &[
+            (Step::Acquire(1, Exclusive, 0), Answer::Number(1)),
+            (Step::Acquire(2, Shared, 5), Answer::Waits),
+            (Step::Expire(3, 90), Answer::Number(0)),
+            (Step::Expire(1, 100), Answer::Number(1)),
+            (Step::Sequencer(2), Answer::Number(2)),
+            (Step::Acquire(4, Shared, 9), Answer::Number(2)),
+            (Step::Expire(4, 200), Answer::Number(1)),
+            (Step::Due(1_000_000), Answer::Nothing),
+            (Step::Expire(2, 300), Answer::Number(1)),
+            (Step::Due(304), Answer::Nothing),
+            (Step::Due(305), Answer::Number(NODE)),
+        ],
+    ),
+    (
+        "rows_tell_a_new_master",
+        &[
+            (Step::Generation(7), Answer::Number(7)),
+            (Step::Holder(1, Shared, 5), Answer::Number(7)),
+            (Step::Holder(2, Shared, 9), Answer::Number(7)),
+            (
+                Step::Try(3, Exclusive, 0),
+                Answer::Refused(Fault::Held(Shared)),
+            ),
+            (Step::Sequencer(1), Answer::Number(7)),
+            (Step::NodeEnds, Answer::Number(0)),
+            (Step::Generation(3), Answer::Number(3)),
+            (Step::Closing(1_000, 50), Answer::Number(3)),
+            (Step::Due(1_049), Answer::Nothing),
+            (Step::Due(1_050), Answer::Number(NODE)),
+        ],
+    ),
+    (
+        "sequencers",
+        &[
+            (Step::Acquire(1, Exclusive, 0), Answer::Number(1)),
+            (Step::Sequencer(1), Answer::Number(1)),
+            (Step::Sequencer(2), Answer::Refused(Fault::NotHolder)),
+            (Step::Check(Exclusive, NODE, 1, Some(NODE)), Answer::Nothing),
+            (Step::Check(Shared, NODE, 1, Some(NODE)), STALE),
+            (Step::Check(Exclusive, NODE, 2, Some(NODE)), STALE),
+            (Step::Check(Exclusive, 5, 1, Some(5)), STALE),
+            (Step::Check(Exclusive, NODE, 1, Some(5)), STALE),
+            (Step::Check(Exclusive, NODE, 1, None), STALE),
+            (Step::Release(1), Answer::Turn(0, 0)),
+            (Step::Check(Exclusive, NODE, 1, Some(NODE)), STALE),
+            (Step::Try(1, Exclusive, 0), Answer::Number(2)),
+            (Step::Check(Exclusive, NODE, 1, Some(NODE)), STALE),
+        ],
+    ),
+    // Behind the last one the lock is given to nobody; a node that goes ends its lock.
+    (
+        "last_generation",
+        &[
+            (Step::Generation(LAST - 1), Answer::Number(LAST - 1)),
+            (Step::Acquire(1, Exclusive, 5), Answer::Number(LAST)),
+            (Step::Acquire(2, Exclusive, 0), Answer::Waits),
+            (Step::Release(1), Answer::Turn(0, 1)),
+            (
+                Step::Try(2, Exclusive, 0),
+                Answer::Refused(Fault::Exhausted),
+            ),
+            (
+                Step::Acquire(2, Exclusive, 0),
+                Answer::Refused(Fault::Exhausted),
+            ),
+            (Step::Closing(0, 10), Answer::Number(LAST)),
+            (Step::Acquire(2, Exclusive, 0), Answer::Waits),
+            (Step::Reopen, Answer::Turn(0, 1)),
+            (Step::NodeEnds, Answer::Number(0)),
+            (Step::Acquire(1, Exclusive, 0), Answer::Number(1)),
+            (Step::Acquire(2, Exclusive, 0), Answer::Waits),
+            (Step::NodeEnds, Answer::Number(1)),
+            (Step::NodeEnds, Answer::Nothing),
+        ],
+    ),
+];
 
 #[test]
-fn lock_delay(rt: HostRuntime) {
-    let table = [
-        (Step::Acquire(1, Exclusive, 60_000), Answer::Number(1)),
-        (Step::Expire(1, 60_000), Answer::Number(1)),
-        (
-            Step::Try(2, Exclusive, 60_000),
-            Answer::Refused(Fault::Delayed(60_000)),
-        ),
-        (
-            Step::Try(2, Exclusive, 119_999),
-            Answer::Refused(Fault::Delayed(1)),
-        ),
-        (Step::Due(119_999), Answer::Nothing),
-        (Step::Due(120_000), Answer::Number(NODE)),
-        (
-            Step::Try(2, Exclusive, 120_000),
-            Answer::Refused(Fault::Delayed(0)),
-        ),
-        (Step::Acquire(3, Shared, 0), Answer::Waits),
-        (Step::Reopen, Answer::Turn(1, 0)),
-        (Step::Try(2, Shared, 120_000), Answer::Number(2)),
-    ];
-    runs(&rt, rt.alloc(), table.as_slice());
-}
-
-// With no delay the next waiter gets the lock at once. A session that leaves others there gives no delay.
-#[test]
-fn expiries(rt: HostRuntime) {
-    let table = [
-        (Step::Acquire(1, Exclusive, 0), Answer::Number(1)),
-        (Step::Acquire(2, Shared, 5), Answer::Waits),
-        (Step::Expire(3, 90), Answer::Number(0)),
-        (Step::Expire(1, 100), Answer::Number(1)),
-        (Step::Sequencer(2), Answer::Number(2)),
-        (Step::Acquire(4, Shared, 9), Answer::Number(2)),
-        (Step::Expire(4, 200), Answer::Number(1)),
-        (Step::Due(1_000_000), Answer::Nothing),
-        (Step::Expire(2, 300), Answer::Number(1)),
-        (Step::Due(304), Answer::Nothing),
-        (Step::Due(305), Answer::Number(NODE)),
-    ];
-    runs(&rt, rt.alloc(), table.as_slice());
-}
-
-#[test]
-fn rows_tell_a_new_master(rt: HostRuntime) {
-    let table = [
-        (Step::Generation(7), Answer::Number(7)),
-        (Step::Holder(1, Shared, 5), Answer::Number(7)),
-        (Step::Holder(2, Shared, 9), Answer::Number(7)),
-        (
-            Step::Try(3, Exclusive, 0),
-            Answer::Refused(Fault::Held(Shared)),
-        ),
-        (Step::Sequencer(1), Answer::Number(7)),
-        (Step::NodeEnds, Answer::Number(0)),
-        (Step::Generation(3), Answer::Number(3)),
-        (Step::Closing(1_000, 50), Answer::Number(3)),
-        (Step::Due(1_049), Answer::Nothing),
-        (Step::Due(1_050), Answer::Number(NODE)),
-    ];
-    runs(&rt, rt.alloc(), table.as_slice());
-}
-
-#[test]
-fn sequencers(rt: HostRuntime) {
-    let stale = Answer::Refused(Fault::SequencerStale);
-    let table = [
-        (Step::Acquire(1, Exclusive, 0), Answer::Number(1)),
-        (Step::Sequencer(1), Answer::Number(1)),
-        (Step::Sequencer(2), Answer::Refused(Fault::NotHolder)),
-        (Step::Check(Exclusive, NODE, 1, Some(NODE)), Answer::Nothing),
-        (Step::Check(Shared, NODE, 1, Some(NODE)), stale),
-        (Step::Check(Exclusive, NODE, 2, Some(NODE)), stale),
-        (Step::Check(Exclusive, 5, 1, Some(5)), stale),
-        (Step::Check(Exclusive, NODE, 1, Some(5)), stale),
-        (Step::Check(Exclusive, NODE, 1, None), stale),
-        (Step::Release(1), Answer::Turn(0, 0)),
-        (Step::Check(Exclusive, NODE, 1, Some(NODE)), stale),
-        (Step::Try(1, Exclusive, 0), Answer::Number(2)),
-        (Step::Check(Exclusive, NODE, 1, Some(NODE)), stale),
-    ];
-    runs(&rt, rt.alloc(), table.as_slice());
-}
-
-// Behind the last one the lock is given to nobody; a node that goes ends its lock.
-#[test]
-fn last_generation(rt: HostRuntime) {
-    let table = [
-        (Step::Generation(LAST - 1), Answer::Number(LAST - 1)),
-        (Step::Acquire(1, Exclusive, 5), Answer::Number(LAST)),
-        (Step::Acquire(2, Exclusive, 0), Answer::Waits),
-        (Step::Release(1), Answer::Turn(0, 1)),
-        (
-            Step::Try(2, Exclusive, 0),
-            Answer::Refused(Fault::Exhausted),
-        ),
-        (
-            Step::Acquire(2, Exclusive, 0),
-            Answer::Refused(Fault::Exhausted),
-        ),
-        (Step::Closing(0, 10), Answer::Number(LAST)),
-        (Step::Acquire(2, Exclusive, 0), Answer::Waits),
-        (Step::Reopen, Answer::Turn(0, 1)),
-        (Step::NodeEnds, Answer::Number(0)),
-        (Step::Acquire(1, Exclusive, 0), Answer::Number(1)),
-        (Step::Acquire(2, Exclusive, 0), Answer::Waits),
-        (Step::NodeEnds, Answer::Number(1)),
-        (Step::NodeEnds, Answer::Nothing),
-    ];
-    runs(&rt, rt.alloc(), table.as_slice());
+fn locks_step_by_step(rt: HostRuntime) {
+    for (name, table) in TABLES {
+        runs(&rt, rt.alloc(), name, table);
+    }
 }

@@ -26,7 +26,8 @@ enum Step {
     Totals(Totals),
 }
 
-fn name(alloc: Global, number: u64) -> Result<Name, Fail> {
+/// A name is told by its number.
+pub(crate) fn name(alloc: Global, number: u64) -> Result<Name, Fail> {
     let text = format!(in alloc; "/ls/c/{number}")?;
     Ok(Name::parse(alloc, &text)?)
 }

@@ -344,8 +344,8 @@ fn goes_so(
     Ok(())
 }
 
-// A master at the moment 0, with a lease of twelve seconds.
-fn next(alloc: Global, records: ListRecords) -> Result<Cell<ListRecords>, Fail> {
+/// A master at the moment 0, with a lease of twelve seconds.
+pub(crate) fn next(alloc: Global, records: ListRecords) -> Result<Cell<ListRecords>, Fail> {
     match Cell::up(alloc, records, 12_000, 0) {
         Ok(cell) => Ok(cell),
         Err((fault, _)) => Err(Fail::from(fault)),
@@ -368,7 +368,7 @@ fn master_goes_so(
     }
 }
 
-fn new_records(alloc: Global) -> Result<ListRecords, Fail> {
+pub(crate) fn new_records(alloc: Global) -> Result<ListRecords, Fail> {
     let settings = Settings::standard(alloc)?;
     Ok(ListRecords::new(alloc, &settings)?)
 }

@@ -1,32 +1,17 @@
 //! Masters and a client by themselves.
+use crate::masters::{new_records, next};
 use client_core::{Ask, Client, Given, NodeCall, Outcome};
 use messages_cell::{Alive, Call, CallMessage, Open, Out, Request, Started};
 use names_cell::{Name, Principal};
-use node_core::Fault;
-use over_core::Cell;
 use plain::Items;
 use rows_cell::ListRecords;
-use settings_core::Settings;
 use std::alloc::Global;
 use std::process::Abort;
 use std::test::Fail;
 use tags_cell::{ClientNumber, Events, MessageNumber, Mode};
 
-fn new_records(alloc: Global) -> Result<ListRecords, Fail> {
-    let settings = Settings::standard(alloc)?;
-    Ok(ListRecords::new(alloc, &settings)?)
-}
-
-// The next master, with a lease of twelve seconds.
-fn next(alloc: Global, records: ListRecords) -> Result<Cell<ListRecords>, Fault> {
-    match Cell::up(alloc, records, 12_000, 0) {
-        Ok(cell) => Ok(cell),
-        Err((fault, _)) => Err(fault),
-    }
-}
-
 // The epoch of the next master, and what outlives it.
-fn next_epoch(alloc: Global, records: ListRecords) -> Result<(u64, ListRecords), Fault> {
+fn next_epoch(alloc: Global, records: ListRecords) -> Result<(u64, ListRecords), Fail> {
     let cell = next(alloc, records)?;
     Ok((cell.epoch(), cell.down()))
 }

@@ -1,12 +1,8 @@
 //! Scripts of clients' caches: what they serve, what they let go of, and jeopardy.
-use crate::scripts::{Before, prints, prints_text};
-use std::alloc::Global;
-use std::test::Fail;
-
-type Row = (&'static str, Before, &'static str, &'static str);
+use crate::scripts::{Before, Row};
 
 // Reads, and Opens of names at which nothing is.
-const READS: &[Row] = &[
+pub(crate) const READS: &[Row] = &[
     (
         "cached_read",
         Before::File,
@@ -70,7 +66,7 @@ const READS: &[Row] = &[
 ];
 
 // Handles that Opens share.
-const SHARES: &[Row] = &[
+pub(crate) const SHARES: &[Row] = &[
     (
         "shared_handle",
         Before::File,
@@ -110,7 +106,7 @@ const SHARES: &[Row] = &[
 ];
 
 // Leases that end.
-const LEASES: &[Row] = &[
+pub(crate) const LEASES: &[Row] = &[
     (
         "lease_end",
         Before::File,
@@ -167,72 +163,11 @@ const LEASES: &[Row] = &[
     ),
 ];
 
-#[test]
-fn reads_from_a_cache(rt: HostRuntime) -> Result<(), Fail> {
-    for row in READS {
-        prints(&rt, rt.alloc(), row)?;
-    }
-    Ok(())
-}
-
-#[test]
-fn handles_that_are_shared(rt: HostRuntime) -> Result<(), Fail> {
-    for row in SHARES {
-        prints(&rt, rt.alloc(), row)?;
-    }
-    Ok(())
-}
-
-#[test]
-fn leases_that_end(rt: HostRuntime) -> Result<(), Fail> {
-    for row in LEASES {
-        prints(&rt, rt.alloc(), row)?;
-    }
-    Ok(())
-}
-
-// One more than the names that a cache has room for.
-const NAMES: u64 = 4097;
-
-// A client asks for each of them, and none is there.
-fn opens(alloc: Global) -> Result<String, Fail> {
-    let mut text = String::from_str(alloc, "up 0\njoin 1 ann\nbeat 1\nsettle\n")?;
-    for at in 0..NAMES {
-        text.push_str(format!(in alloc; "ask 1 open /ls/c/n{at} r\nsettle\n")?.as_str())?;
-    }
-    Ok(text)
-}
-
-fn grants(alloc: Global) -> Result<String, Fail> {
-    let mut text = String::from_str(alloc, "up 1\nstarted 1\n")?;
-    for at in 0..NAMES {
-        let call = at + 1;
-        let lines = format!(in alloc;
-            "granted {call} 1 /ls/c/n{at}\ndone 1 {call} refused 6 NotFound\n"
-        )?;
-        text.push_str(lines.as_str())?;
-    }
-    Ok(text)
-}
-
-// The first name went for the last, and the second goes where the first comes again.
-#[test]
-fn oldest_entry_goes(rt: HostRuntime) -> Result<(), Fail> {
-    let mut steps = opens(rt.alloc())?;
-    steps.push_str(
-        "ask 1 open /ls/c/n1 r\nask 1 open /ls/c/n4096 r\nask 1 open /ls/c/n0 r\nsettle\n",
-    )?;
-    steps.push_str("ask 1 open /ls/c/n0 r\nask 1 open /ls/c/n1 r\nsettle\n")?;
-    let mut lines = grants(rt.alloc())?;
-    lines.push_str(
-        "served 1 /ls/c/n1 absent\nserved 1 /ls/c/n4096 absent\ndone 1 4098 refused 6 NotFound\n",
-    )?;
-    lines.push_str("served 1 /ls/c/n0 absent\ndone 1 4099 refused 6 NotFound\n")?;
-    prints_text(
-        &rt,
-        rt.alloc(),
-        "oldest_entry_goes",
-        steps.as_str(),
-        lines.as_str(),
-    )
-}
+// A client asks for one name more than a cache has room for, and none is there. The first name went for the last, and the second
+// goes where the first comes again.
+pub(crate) const ROOM: &[Row] = &[(
+    "oldest_entry_goes",
+    Before::Client,
+    "4097 times ask 1 open /ls/c/n{0} r{}settle; ask 1 open /ls/c/n1 r; ask 1 open /ls/c/n4096 r; ask 1 open /ls/c/n0 r; settle; ask 1 open /ls/c/n0 r; ask 1 open /ls/c/n1 r; settle",
+    "4097 times granted {1} 1 /ls/c/n{0}{}done 1 {1} refused 6 NotFound; served 1 /ls/c/n1 absent; served 1 /ls/c/n4096 absent; done 1 4098 refused 6 NotFound; served 1 /ls/c/n0 absent; done 1 4099 refused 6 NotFound",
+)];

@@ -1,11 +1,8 @@
 //! Scripts of nodes that go by themselves once nobody holds them open.
-use crate::scripts::{Before, prints};
-use std::test::Fail;
-
-type Row = (&'static str, Before, &'static str, &'static str);
+use crate::scripts::{Before, Row};
 
 // Which node goes, and when.
-const EPHEMERALS: &[Row] = &[
+pub(crate) const EPHEMERALS: &[Row] = &[
     (
         "ephemeral_goes",
         Before::Client,
@@ -57,7 +54,7 @@ const EPHEMERALS: &[Row] = &[
 ];
 
 // Its deletion waits while a client keeps it in its cache.
-const WAITS: &[Row] = &[
+pub(crate) const WAITS: &[Row] = &[
     (
         "behind_a_client_that_keeps_it",
         Before::Nothing,
@@ -73,7 +70,7 @@ const WAITS: &[Row] = &[
 ];
 
 // Another master spares it for 60,000 ms from the end of its recovery on.
-const FAIL_OVERS: &[Row] = &[
+pub(crate) const SPARED: &[Row] = &[
     (
         "spared_by_a_new_master",
         Before::Client,
@@ -105,27 +102,3 @@ const FAIL_OVERS: &[Row] = &[
         "up 1; started 1; applied 1 1 put /ls/c/e file 4 1 1 base base base ephemeral 0 -; done 1 1 opened 1; down; done 1 2 closed; up 2; refused 28 OldEpoch 2; event 1 failover; recovered; done 1 3 opened 2",
     ),
 ];
-
-#[test]
-fn ephemerals(rt: HostRuntime) -> Result<(), Fail> {
-    for row in EPHEMERALS {
-        prints(&rt, rt.alloc(), row)?;
-    }
-    Ok(())
-}
-
-#[test]
-fn waits(rt: HostRuntime) -> Result<(), Fail> {
-    for row in WAITS {
-        prints(&rt, rt.alloc(), row)?;
-    }
-    Ok(())
-}
-
-#[test]
-fn fail_overs(rt: HostRuntime) -> Result<(), Fail> {
-    for row in FAIL_OVERS {
-        prints(&rt, rt.alloc(), row)?;
-    }
-    Ok(())
-}

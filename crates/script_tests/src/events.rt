@@ -1,12 +1,8 @@
 //! Scripts of the events that clients ask for when they open a node.
-use crate::scripts::{Before, prints, prints_text, text_of};
-use std::alloc::Global;
-use std::test::Fail;
-
-type Row = (&'static str, Before, &'static str, &'static str);
+use crate::scripts::{Before, Row};
 
 // Which handles are told of what.
-const MASKS: &[Row] = &[
+pub(crate) const MASKS: &[Row] = &[
     (
         "content_event",
         Before::File,
@@ -118,7 +114,7 @@ const MASKS: &[Row] = &[
 ];
 
 // In which order, how often, and until when.
-const ORDERS: &[Row] = &[
+pub(crate) const ORDERS: &[Row] = &[
     (
         "by_the_number_of_the_handle",
         Before::File,
@@ -175,55 +171,10 @@ const ORDERS: &[Row] = &[
     ),
 ];
 
-#[test]
-fn masks(rt: HostRuntime) -> Result<(), Fail> {
-    for row in MASKS {
-        prints(&rt, rt.alloc(), row)?;
-    }
-    Ok(())
-}
-
-#[test]
-fn orders(rt: HostRuntime) -> Result<(), Fail> {
-    for row in ORDERS {
-        prints(&rt, rt.alloc(), row)?;
-    }
-    Ok(())
-}
-
-const HELD: &str =
-    "up 0; join 1 ann; join 2 bob; beat 1; beat 2; settle; ask 1 open /ls/c/f w must file permanent -; settle; ask 2 open /ls/c/f w events x; settle; ask 2 acquire 1 x";
-
-const HELD_LINES: &str =
-    "up 1; started 1; started 2; applied 1 1 put /ls/c/f file 4 1 1 base base base permanent 0 -; done 1 1 opened 1; done 2 1 opened 1; locked 2 4 x 1; done 2 2 ok";
-
 // The 257th event and each behind it are missed, and one event tells of them, once.
-const HEARD: &str = "beat 2; settle; beat 2; settle; beat 2; settle; beat 2; settle";
-
-const HEARD_LINES: &str = "256 times event 2 conflict 1; event 2 lost";
-
-// So many tries of a lock that another client holds.
-fn push_tries(
-    alloc: Global,
-    count: u64,
-    steps: &mut String,
-    lines: &mut String,
-) -> Result<(), Fail> {
-    for before in 0..count {
-        let call = before.saturating_add(2);
-        steps.push_str("settle\nask 1 try 1 x\n")?;
-        lines.push_str(format!(in alloc; "done 1 {call} refused 23 Held x\n")?.as_str())?;
-    }
-    Ok(())
-}
-
-#[test]
-fn missed_events(rt: HostRuntime) -> Result<(), Fail> {
-    let alloc = rt.alloc();
-    let mut steps = text_of(alloc, "", HELD)?;
-    let mut lines = text_of(alloc, "", HELD_LINES)?;
-    push_tries(alloc, 260, &mut steps, &mut lines)?;
-    steps.push_str(text_of(alloc, "settle; ", HEARD)?.as_str())?;
-    lines.push_str(text_of(alloc, "", HEARD_LINES)?.as_str())?;
-    prints_text(&rt, alloc, "missed_events", steps.as_str(), lines.as_str())
-}
+pub(crate) const MISSED: &[Row] = &[(
+    "missed_events",
+    Before::Nothing,
+    "up 0; join 1 ann; join 2 bob; beat 1; beat 2; settle; ask 1 open /ls/c/f w must file permanent -; settle; ask 2 open /ls/c/f w events x; settle; ask 2 acquire 1 x; 260 times settle{}ask 1 try 1 x; settle; beat 2; settle; beat 2; settle; beat 2; settle; beat 2; settle",
+    "up 1; started 1; started 2; applied 1 1 put /ls/c/f file 4 1 1 base base base permanent 0 -; done 1 1 opened 1; done 2 1 opened 1; locked 2 4 x 1; done 2 2 ok; 260 times done 1 {2} refused 23 Held x; 256 times event 2 conflict 1; event 2 lost",
+)];

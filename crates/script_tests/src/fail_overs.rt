@@ -1,10 +1,7 @@
 //! Scripts in which a master goes down and another comes up.
-use crate::scripts::{Before, prints};
-use std::test::Fail;
+use crate::scripts::{Before, Row};
 
-type Row = (&'static str, Before, &'static str, &'static str);
-
-const FAIL_OVERS: &[Row] = &[
+pub(crate) const FAIL_OVERS: &[Row] = &[
     (
         "recovery_waits",
         Before::File,
@@ -104,7 +101,7 @@ const FAIL_OVERS: &[Row] = &[
 ];
 
 // A crash in the midst of a step.
-const CUTS: &[Row] = &[
+pub(crate) const CUTS: &[Row] = &[
     (
         "cut_sweep",
         Before::Client,
@@ -178,19 +175,3 @@ const CUTS: &[Row] = &[
         "refused 39 MasterUp; refused 39 MasterUp; down; up 2; down; down; refused 13 Exhausted; refused 13 Exhausted; up 3",
     ),
 ];
-
-#[test]
-fn fail_overs(rt: HostRuntime) -> Result<(), Fail> {
-    for row in FAIL_OVERS {
-        prints(&rt, rt.alloc(), row)?;
-    }
-    Ok(())
-}
-
-#[test]
-fn cuts(rt: HostRuntime) -> Result<(), Fail> {
-    for row in CUTS {
-        prints(&rt, rt.alloc(), row)?;
-    }
-    Ok(())
-}

@@ -1,11 +1,8 @@
 //! Scripts of sessions, their leases, and clocks.
-use crate::scripts::{Before, prints};
-use std::test::Fail;
-
-type Row = (&'static str, Before, &'static str, &'static str);
+use crate::scripts::{Before, Row};
 
 // How clocks move, and when they may not.
-const CLOCKS: &[Row] = &[
+pub(crate) const CLOCKS: &[Row] = &[
     (
         "fair_clocks",
         Before::Nothing,
@@ -51,7 +48,7 @@ const CLOCKS: &[Row] = &[
 ];
 
 // When a Beat is answered, and what comes of it.
-const BEATS: &[Row] = &[
+pub(crate) const BEATS: &[Row] = &[
     (
         "session_expires",
         Before::Client,
@@ -97,7 +94,7 @@ const BEATS: &[Row] = &[
 ];
 
 // What the end of a session does to Starts and calls.
-const ENDS: &[Row] = &[
+pub(crate) const SESSION_ENDS: &[Row] = &[
     (
         "ended_session_starts_no_more",
         Before::Client,
@@ -147,27 +144,3 @@ const ENDS: &[Row] = &[
         "up 1; started 1; refused 19 NoSession; refused 17 BadHandle",
     ),
 ];
-
-#[test]
-fn clocks(rt: HostRuntime) -> Result<(), Fail> {
-    for row in CLOCKS {
-        prints(&rt, rt.alloc(), row)?;
-    }
-    Ok(())
-}
-
-#[test]
-fn beats(rt: HostRuntime) -> Result<(), Fail> {
-    for row in BEATS {
-        prints(&rt, rt.alloc(), row)?;
-    }
-    Ok(())
-}
-
-#[test]
-fn ends_of_sessions(rt: HostRuntime) -> Result<(), Fail> {
-    for row in ENDS {
-        prints(&rt, rt.alloc(), row)?;
-    }
-    Ok(())
-}

@@ -1,8 +1,10 @@
-//! Tests of whole scripts.
+//! Tests of worlds and stores: whole scripts, steps, stores in SQL, their files and their changes, as tables.
 #![tactic(auto)]
 
 #[cfg(test)]
 mod caches;
+#[cfg(test)]
+mod changes;
 #[cfg(test)]
 mod ephemerals;
 #[cfg(test)]
@@ -10,10 +12,24 @@ mod events;
 #[cfg(test)]
 mod fail_overs;
 #[cfg(test)]
+mod files;
+#[cfg(test)]
+mod fuses;
+#[cfg(test)]
+mod kept;
+#[cfg(test)]
 mod leases;
 #[cfg(test)]
 mod locks;
 #[cfg(test)]
+mod records;
+#[cfg(test)]
 mod rights;
 #[cfg(test)]
+mod runs;
+#[cfg(test)]
 mod scripts;
+#[cfg(test)]
+mod stores;
+#[cfg(test)]
+mod texts;

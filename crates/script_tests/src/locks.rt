@@ -1,10 +1,7 @@
 //! Scripts of locks, their sequencers, their waiters and their delays.
-use crate::scripts::{Before, prints};
-use std::test::Fail;
+use crate::scripts::{Before, Row};
 
-type Row = (&'static str, Before, &'static str, &'static str);
-
-const LOCKS: &[Row] = &[
+pub(crate) const LOCKS: &[Row] = &[
     (
         "lock_modes",
         Before::File,
@@ -55,7 +52,7 @@ const LOCKS: &[Row] = &[
     ),
 ];
 
-const SEQUENCERS: &[Row] = &[
+pub(crate) const SEQUENCERS: &[Row] = &[
     (
         "sequencers",
         Before::File,
@@ -106,7 +103,7 @@ const SEQUENCERS: &[Row] = &[
     ),
 ];
 
-const WAITERS: &[Row] = &[
+pub(crate) const WAITERS: &[Row] = &[
     (
         "waiters_of_a_node_that_goes",
         Before::File,
@@ -169,7 +166,7 @@ const WAITERS: &[Row] = &[
     ),
 ];
 
-const DELAYS: &[Row] = &[
+pub(crate) const DELAYS: &[Row] = &[
     (
         "lock_delay",
         Before::FileForLong,
@@ -219,35 +216,3 @@ const DELAYS: &[Row] = &[
         "done 2 2 opened 2; granted 1 2 /ls/c/f; done 2 3 view file 4 1 1 base base base permanent 1 61; done 2 4 opened 3; done 2 5 opened 4; served 2 /ls/c/f file 4 1 1 base base base permanent 1 61; done 2 0 opened 5",
     ),
 ];
-
-#[test]
-fn locks(rt: HostRuntime) -> Result<(), Fail> {
-    for row in LOCKS {
-        prints(&rt, rt.alloc(), row)?;
-    }
-    Ok(())
-}
-
-#[test]
-fn sequencers(rt: HostRuntime) -> Result<(), Fail> {
-    for row in SEQUENCERS {
-        prints(&rt, rt.alloc(), row)?;
-    }
-    Ok(())
-}
-
-#[test]
-fn waiters(rt: HostRuntime) -> Result<(), Fail> {
-    for row in WAITERS {
-        prints(&rt, rt.alloc(), row)?;
-    }
-    Ok(())
-}
-
-#[test]
-fn delays(rt: HostRuntime) -> Result<(), Fail> {
-    for row in DELAYS {
-        prints(&rt, rt.alloc(), row)?;
-    }
-    Ok(())
-}

@@ -1,10 +1,7 @@
 //! Scripts of rights to cache a name, and of the changes that wait for them.
-use crate::scripts::{Before, prints};
-use std::test::Fail;
+use crate::scripts::{Before, Row};
 
-type Row = (&'static str, Before, &'static str, &'static str);
-
-const RIGHTS: &[Row] = &[
+pub(crate) const RIGHTS: &[Row] = &[
     (
         "writer_holds_too",
         Before::File,
@@ -54,11 +51,3 @@ const RIGHTS: &[Row] = &[
         "granted 1 1 /ls/c/f; done 1 2 view file 4 1 1 base base base permanent 1 61; acked 1; applied 1 3 put /ls/c/f file 4 2 1 base base base permanent 1 62; done 1 3 ok; applied 2 2 put /ls/c/f file 4 3 1 base base base permanent 1 63; done 2 2 ok",
     ),
 ];
-
-#[test]
-fn rights(rt: HostRuntime) -> Result<(), Fail> {
-    for row in RIGHTS {
-        prints(&rt, rt.alloc(), row)?;
-    }
-    Ok(())
-}

@@ -1,17 +1,26 @@
 //! Whole scripts, and the limits of the reader.
+use crate::caches::{LEASES, READS, ROOM, SHARES};
+use crate::ephemerals::{EPHEMERALS, SPARED, WAITS};
+use crate::events::{MASKS, MISSED, ORDERS};
+use crate::fail_overs::{CUTS, FAIL_OVERS};
+use crate::leases::{BEATS, CLOCKS, SESSION_ENDS};
+use crate::locks::{DELAYS, LOCKS, SEQUENCERS, WAITERS};
+use crate::records::sql_records;
+use crate::rights::RIGHTS;
+use crate::texts::text_of;
 use names_cell::{Component, Principal};
 use plain::Secret;
-use rows_cell::ListRecords;
-use rows_sql::SqlRecords;
+use rows_cell::{ListRecords, Records};
 use script_cell::{Counted, script};
 use settings_core::Settings;
-use sqlite::Connection;
 use std::alloc::Global;
 use std::io::{Read, Write};
 use std::process::Abort;
 use std::test::Fail;
 use std::{io, str};
-use step_words::number;
+
+/// A name, what the script begins with, its steps and its lines, as `text_of` reads them.
+pub(crate) type Row = (&'static str, Before, &'static str, &'static str);
 
 // What a row's script begins with.
 #[derive(Clone, Copy)]
@@ -56,9 +65,7 @@ const FIRST_PATH: &str =
 const FIRST_PATH_LINES: &str =
     "up 1; started 1; applied 1 1 put /ls/c/f file 4 1 1 base base base permanent 1 61; done 1 1 opened 1; granted 1 1 /ls/c/f; done 1 2 view file 4 1 1 base base base permanent 1 61; acked 1; applied 1 3 put /ls/c/f file 4 2 1 base base base permanent 1 62; done 1 3 ok; granted 2 1 /ls/c/f; done 1 4 view file 4 2 1 base base base permanent 1 62";
 
-// Each has its name, what it begins with, its steps and its lines. Steps and lines are separated by `; `, and each becomes a line;
-// `N times LINE` is that line so often.
-const SCRIPTS: &[(&str, Before, &str, &str)] = &[
+const SCRIPTS: &[Row] = &[
     ("first_path", Before::Nothing, FIRST_PATH, FIRST_PATH_LINES),
     (
         "repeated_call",
@@ -128,36 +135,6 @@ const SCRIPTS: &[(&str, Before, &str, &str)] = &[
     ),
 ];
 
-// Each step or line of a row, with LF behind it.
-fn push_lines(text: &mut String, row: &str) -> Result<(), Fail> {
-    for line in row.split("; ") {
-        push_line(text, line)?;
-    }
-    Ok(())
-}
-
-fn push_line(text: &mut String, line: &str) -> Result<(), Fail> {
-    match line.split_once(" times ") {
-        Some((count, line)) => push_times(text, number(count).ok_or("count")?, line),
-        None => push_times(text, 1, line),
-    }
-}
-
-fn push_times(text: &mut String, count: u64, line: &str) -> Result<(), Fail> {
-    for _ in 0..count {
-        text.push_str(line)?;
-        text.push_str("\n")?;
-    }
-    Ok(())
-}
-
-pub(crate) fn text_of(alloc: Global, before: &str, row: &str) -> Result<String, Fail> {
-    let row = format!(in alloc; "{before}{row}")?;
-    let mut text = String::new(alloc);
-    push_lines(&mut text, row.as_str())?;
-    Ok(text)
-}
-
 // What a script leaves behind.
 #[derive(Drop)]
 struct Ran {
@@ -175,34 +152,25 @@ fn settings(alloc: Global, lease: u64) -> Result<Settings, Fail> {
     Ok(Settings::new(alloc, cell, lease, &[ann, bob], secret)?)
 }
 
-fn run_from<R: Read + Drop>(alloc: Global, lease: u64, reader: R) -> Result<Ran, Fail> {
-    let settings = settings(alloc, lease)?;
-    let records = ListRecords::new(alloc, &settings)?;
+fn over<S: Records + Drop, R: Read + Drop>(
+    alloc: Global,
+    settings: &Settings,
+    records: S,
+    reader: R,
+) -> Ran {
     let mut output = Vec::new(alloc);
     let mut errors = Vec::new(alloc);
-    let status = script(alloc, &settings, records, reader, &mut output, &mut errors);
-    Ok(Ran {
+    let status = script(alloc, settings, records, reader, &mut output, &mut errors);
+    Ran {
         status,
         output,
         errors,
-    })
+    }
 }
 
-// The same over a new store in SQL, in memory.
-fn run_in_sql<R: Read + Drop>(alloc: Global, lease: u64, reader: R) -> Result<Ran, Fail> {
-    let settings = settings(alloc, lease)?;
-    let conn = Connection::open_in_memory(alloc)?;
-    let records = SqlRecords::adopt(alloc, conn, &settings)
-        .ok()
-        .ok_or("adopted")?;
-    let mut output = Vec::new(alloc);
-    let mut errors = Vec::new(alloc);
-    let status = script(alloc, &settings, records, reader, &mut output, &mut errors);
-    Ok(Ran {
-        status,
-        output,
-        errors,
-    })
+fn in_lists<R: Read + Drop>(alloc: Global, settings: &Settings, reader: R) -> Result<Ran, Fail> {
+    let records = ListRecords::new(alloc, settings)?;
+    Ok(over(alloc, settings, records, reader))
 }
 
 fn shown(bytes: &[u8]) -> &str {
@@ -217,11 +185,7 @@ fn ended(rt: &impl Abort, name: &str, ran: &Ran, status: u8, lines: &str, words:
 }
 
 // A row's script prints its lines, over rows in lists and over a store in SQL, and ends with status 0.
-pub(crate) fn prints(
-    rt: &impl Abort,
-    alloc: Global,
-    row: &(&str, Before, &str, &str),
-) -> Result<(), Fail> {
+fn prints(rt: &impl Abort, alloc: Global, row: &Row) -> Result<(), Fail> {
     let (name, before, steps, lines) = row;
     let (steps_before, lines_before) = before.texts();
     let steps = text_of(alloc, steps_before, steps)?;
@@ -236,17 +200,6 @@ pub(crate) fn prints(
     )
 }
 
-// The same of a script and lines that are whole texts.
-pub(crate) fn prints_text(
-    rt: &impl Abort,
-    alloc: Global,
-    name: &str,
-    steps: &str,
-    lines: &str,
-) -> Result<(), Fail> {
-    prints_under(rt, alloc, name, 12_000, steps, lines)
-}
-
 fn prints_under(
     rt: &impl Abort,
     alloc: Global,
@@ -255,17 +208,75 @@ fn prints_under(
     steps: &str,
     lines: &str,
 ) -> Result<(), Fail> {
-    let ran = run_from(alloc, lease, steps.as_bytes())?;
+    let settings = settings(alloc, lease)?;
+    let done = prints_in_both(rt, alloc, &settings, name, steps, lines);
+    drop(settings);
+    done
+}
+
+fn prints_in_both(
+    rt: &impl Abort,
+    alloc: Global,
+    settings: &Settings,
+    name: &str,
+    steps: &str,
+    lines: &str,
+) -> Result<(), Fail> {
+    let records = ListRecords::new(alloc, settings)?;
+    prints_over(rt, alloc, settings, records, name, steps, lines);
+    let records = sql_records(alloc, settings)?;
+    prints_over(rt, alloc, settings, records, name, steps, lines);
+    Ok(())
+}
+
+fn prints_over<S: Records + Drop>(
+    rt: &impl Abort,
+    alloc: Global,
+    settings: &Settings,
+    records: S,
+    name: &str,
+    steps: &str,
+    lines: &str,
+) {
+    let ran = over(alloc, settings, records, steps.as_bytes());
     ended(rt, name, &ran, 0, lines, "");
-    let ran = run_in_sql(alloc, lease, steps.as_bytes())?;
-    ended(rt, name, &ran, 0, lines, "");
+}
+
+const TABLES: &[&[Row]] = &[
+    SCRIPTS,
+    CLOCKS,
+    BEATS,
+    SESSION_ENDS,
+    RIGHTS,
+    READS,
+    SHARES,
+    LEASES,
+    ROOM,
+    LOCKS,
+    SEQUENCERS,
+    WAITERS,
+    DELAYS,
+    EPHEMERALS,
+    WAITS,
+    SPARED,
+    MASKS,
+    ORDERS,
+    MISSED,
+    FAIL_OVERS,
+    CUTS,
+];
+
+fn all_print(rt: &impl Abort, alloc: Global, rows: &[Row]) -> Result<(), Fail> {
+    for row in rows {
+        prints(rt, alloc, row)?;
+    }
     Ok(())
 }
 
 #[test]
 fn scripts(rt: HostRuntime) -> Result<(), Fail> {
-    for row in SCRIPTS {
-        prints(&rt, rt.alloc(), row)?;
+    for rows in TABLES {
+        all_print(&rt, rt.alloc(), rows)?;
     }
     Ok(())
 }
@@ -340,6 +351,13 @@ const ENDS: &[(&str, Bytes, u8, &str, &str)] = &[
     ),
 ];
 
+fn run_from<R: Read + Drop>(alloc: Global, reader: R) -> Result<Ran, Fail> {
+    let settings = Settings::standard(alloc)?;
+    let ran = in_lists(alloc, &settings, reader);
+    drop(settings);
+    ran
+}
+
 fn push_part(bytes: &mut Vec<u8>, part: &[u8], times: usize) -> Result<(), Fail> {
     for _ in 0..times {
         bytes.extend_from_slice(part)?;
@@ -358,7 +376,7 @@ fn ends(rt: &impl Abort, alloc: Global, row: &(&str, Bytes, u8, &str, &str)) -> 
     let (name, parts, status, lines, words) = row;
     let mut bytes = Vec::new(alloc);
     push_parts(&mut bytes, parts)?;
-    let ran = run_from(alloc, 12_000, bytes.as_slice())?;
+    let ran = run_from(alloc, bytes.as_slice())?;
     ended(rt, name, &ran, *status, lines, words);
     Ok(())
 }
@@ -393,7 +411,7 @@ fn read_that_fails(rt: HostRuntime) -> Result<(), Fail> {
     let script = Trickle {
         left: b"up 0\nup 0\nup",
     };
-    let ran = run_from(rt.alloc(), 12_000, script)?;
+    let ran = run_from(rt.alloc(), script)?;
     let lines = "up 1\nrefused 39 MasterUp\n";
     ended(&rt, "read_that_fails", &ran, 1, lines, "line 3: bad step\n");
     Ok(())
@@ -425,19 +443,19 @@ impl Write for Shut {
 }
 
 // The status where nothing can be written, and how many words there are.
-fn shut_status(alloc: Global) -> Result<(u8, usize), Fail> {
-    let settings = Settings::standard(alloc)?;
-    let records = ListRecords::new(alloc, &settings)?;
+fn shut_status(alloc: Global, settings: &Settings) -> Result<(u8, usize), Fail> {
+    let records = ListRecords::new(alloc, settings)?;
     let mut errors = Vec::new(alloc);
     let steps = b"up 0\n".as_slice();
     let mut shut = Shut;
-    let status = script(alloc, &settings, records, steps, &mut shut, &mut errors);
+    let status = script(alloc, settings, records, steps, &mut shut, &mut errors);
     Ok((status, errors.len()))
 }
 
 #[test]
 fn write_that_fails(rt: HostRuntime) -> Result<(), Fail> {
-    assert!(rt; shut_status(rt.alloc())? == (1, 0));
+    let settings = Settings::standard(rt.alloc())?;
+    assert!(rt; shut_status(rt.alloc(), &settings)? == (1, 0));
     Ok(())
 }
 
@@ -457,11 +475,8 @@ impl Write for Marked {
     }
 }
 
-#[test]
-fn lines_are_flushed_before_more_is_read(rt: HostRuntime) -> Result<(), Fail> {
-    let alloc = rt.alloc();
-    let settings = Settings::standard(alloc)?;
-    let records = ListRecords::new(alloc, &settings)?;
+fn flushed_into(alloc: Global, settings: &Settings) -> Result<Marked, Fail> {
+    let records = ListRecords::new(alloc, settings)?;
     let steps = Trickle {
         left: b"up 0\nup 0\n",
     };
@@ -469,8 +484,15 @@ fn lines_are_flushed_before_more_is_read(rt: HostRuntime) -> Result<(), Fail> {
         text: Vec::new(alloc),
     };
     let mut errors = Vec::new(alloc);
-    let _ = script(alloc, &settings, records, steps, &mut output, &mut errors);
+    let _ = script(alloc, settings, records, steps, &mut output, &mut errors);
+    Ok(output)
+}
+
+#[test]
+fn lines_are_flushed_before_more_is_read(rt: HostRuntime) -> Result<(), Fail> {
+    let settings = Settings::standard(rt.alloc())?;
+    let output = flushed_into(rt.alloc(), &settings)?;
     let lines = "|up 1\n|refused 39 MasterUp\n||";
-    assert_eq!(rt; str::from_utf8(output.text.as_slice())?, lines);
+    assert_eq!(rt; shown(output.text.as_slice()), lines);
     Ok(())
 }

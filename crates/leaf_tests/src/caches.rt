@@ -1,4 +1,5 @@
 //! A cache, the handles that Opens share, and the grace period, step by step.
+use crate::rights::name;
 use cache_core::{Cache, CacheOp, Kept, KeptHandles, Standing};
 use lease_core::Lease;
 use names_cell::{Component, Name};
@@ -27,11 +28,6 @@ enum Step {
     Look(u64, u64, Option<u64>),
     /// So many entries are held.
     Len(usize),
-}
-
-fn name(alloc: Global, number: u64) -> Result<Name, Fail> {
-    let text = format!(in alloc; "/ls/c/{number}")?;
-    Ok(Name::parse(alloc, &text)?)
 }
 
 fn view(alloc: Global, instance: u64) -> Result<View, Fail> {

@@ -1,11 +1,11 @@
 //! Changes of the rows, done in SQL and in memory.
+use crate::records::sql_records;
 use names_cell::{Component, Name, Principal};
 use node_core::{Kind, Life, View};
 use plain::{Bytes, Items};
 use rows_cell::{Edit, LockKey, LockRow, LockState, Rows, Session};
 use rows_edits::commit_all;
 use rows_read::load_said;
-use rows_sql::SqlRecords;
 use settings_core::Settings;
 use sqlite::{Alter, Connection, Error, MemStore};
 use std::alloc::Global;
@@ -138,14 +138,21 @@ pub(crate) fn shown(alloc: Global, rows: &Rows) -> Result<String, Fail> {
     Ok(shown)
 }
 
-const NEW: &str =
-    "epoch 0 next 4; /ls/c dir 1 0 1 base base base permanent 0; /ls/c/acl dir 2 0 1 base base base permanent 0; /ls/c/acl/base file 3 1 1 base base base permanent 8 616e6e0a626f620a 0";
+// The nodes of a new store.
+const NODES: &str =
+    "; /ls/c dir 1 0 1 base base base permanent 0; /ls/c/acl dir 2 0 1 base base base permanent 0; /ls/c/acl/base file 3 1 1 base base base permanent 8 616e6e0a626f620a 0";
 
-// What stands in a change's rows behind those of a new store.
-type Row = (&'static str, &'static [&'static [Do]], &'static str);
+// A name, changes of a new store, the epoch and the next instance behind them, and what stands in its rows behind the nodes of a
+// new store.
+type Row = (
+    &'static str,
+    &'static [&'static [Do]],
+    (u64, u64),
+    &'static str,
+);
 
 const CHANGES: &[Row] = &[
-    ("nothing", &[&[]], ""),
+    ("nothing", &[&[]], (0, 4), ""),
     (
         "a file with a session and a lock",
         &[&[
@@ -154,6 +161,7 @@ const CHANGES: &[Row] = &[
             Do::Session(7, "ann", true),
             Do::Lock(4, 7, 1, LockState::Exclusive, 60_000),
         ]],
+        (0, 4),
         "; /ls/c/f file 4 1 1 base base base permanent 1 61 1; 7 ann true; 4 7 1 Exclusive 60000",
     ),
     (
@@ -166,6 +174,7 @@ const CHANGES: &[Row] = &[
             ],
             &[Do::Put("/ls/c/f", 4, b'b')],
         ],
+        (0, 4),
         "; /ls/c/f file 4 1 1 base base base permanent 1 62 3; 4 7 1 Shared 0",
     ),
     (
@@ -180,6 +189,7 @@ const CHANGES: &[Row] = &[
             ],
             &[Do::Remove("/ls/c/f")],
         ],
+        (0, 4),
         "; /ls/c/g file 5 1 1 base base base permanent 1 61 0; 5 7 2 Lapsed 1",
     ),
     (
@@ -190,6 +200,7 @@ const CHANGES: &[Row] = &[
             Do::Remove("/ls/c/f"),
             Do::Put("/ls/c/f", 5, b'b'),
         ]],
+        (0, 4),
         "; /ls/c/f file 5 1 1 base base base permanent 1 62 0",
     ),
     (
@@ -199,6 +210,7 @@ const CHANGES: &[Row] = &[
             Do::Remove("/ls/c/f"),
             Do::Unlock(4, 7, 1),
         ]],
+        (0, 4),
         "",
     ),
     (
@@ -207,6 +219,7 @@ const CHANGES: &[Row] = &[
             &[Do::Session(7, "ann", true), Do::Session(6, "bob", true)],
             &[Do::Session(7, "ann", false)],
         ],
+        (0, 4),
         "; 6 bob true; 7 ann false",
     ),
     (
@@ -220,16 +233,20 @@ const CHANGES: &[Row] = &[
             ],
             &[Do::Lock(4, 7, 1, LockState::Lapsed, 9), Do::Unlock(4, 7, 2)],
         ],
+        (0, 4),
         "; /ls/c/f file 4 1 1 base base base permanent 1 61 0; 4 7 1 Lapsed 9; 4 8 1 Shared 0",
+    ),
+    (
+        "numbers_in_sql",
+        &[&[Do::Epoch(7)], &[Do::Next(9), Do::Epoch(8)]],
+        (8, 9),
+        "",
     ),
 ];
 
 fn new_store(alloc: Global) -> Result<Connection<MemStore>, Fail> {
     let settings = Settings::standard(alloc)?;
-    let conn = Connection::open_in_memory(alloc)?;
-    let records = SqlRecords::adopt(alloc, conn, &settings)
-        .ok()
-        .ok_or("adopted")?;
+    let records = sql_records(alloc, &settings)?;
     Ok(records.release())
 }
 
@@ -249,25 +266,36 @@ fn done(alloc: Global, conn: &mut Connection<MemStore>, changes: &[&[Do]]) -> Re
     Ok(load_said(alloc, conn)?)
 }
 
+fn shown_behind(
+    alloc: Global,
+    conn: &mut Connection<MemStore>,
+    changes: &[&[Do]],
+) -> Result<String, Fail> {
+    let rows = done(alloc, conn, changes)?;
+    let shown = shown(alloc, &rows);
+    drop(rows);
+    shown
+}
+
 fn answer(alloc: Global, changes: &[&[Do]]) -> Result<String, Fail> {
     let mut conn = new_store(alloc)?;
-    let rows = done(alloc, &mut conn, changes)?;
-    shown(alloc, &rows)
+    let answer = shown_behind(alloc, &mut conn, changes);
+    drop(conn);
+    answer
+}
+
+fn is_answered(alloc: Global, row: &Row) -> Result<bool, Fail> {
+    let (_, changes, (epoch, next), more) = row;
+    let answer = answer(alloc, changes)?;
+    let want = format!(in alloc; "epoch {epoch} next {next}{NODES}{more}")?;
+    Ok(answer.as_str() == want.as_str())
 }
 
 #[test]
 fn changes_in_sql(rt: HostRuntime) -> Result<(), Fail> {
-    for (name, changes, more) in CHANGES {
-        let answer = answer(rt.alloc(), changes)?;
-        let want = format!(in rt.alloc(); "{NEW}{more}")?;
-        assert!(rt; answer.as_str() == want.as_str(), "at {name}: {answer}");
+    for row in CHANGES {
+        let name = row.0;
+        assert!(rt; is_answered(rt.alloc(), row)?, "at {name}");
     }
-    Ok(())
-}
-
-#[test]
-fn numbers_in_sql(rt: HostRuntime) -> Result<(), Fail> {
-    let answer = answer(rt.alloc(), &[&[Do::Epoch(7)], &[Do::Next(9), Do::Epoch(8)]])?;
-    assert!(rt; answer.as_str().starts_with("epoch 8 next 9; /ls/c dir 1"));
     Ok(())
 }

@@ -3,7 +3,7 @@ use names_cell::Component;
 use rows_cell::{Counts, StoreFault};
 use rows_file::verdict;
 use rows_read::inspect;
-use sqlite::{Connection, Error, ErrorCode, MemStore, params};
+use sqlite::{Alter, Connection, Error, ErrorCode, MemStore, params};
 use std::alloc::Global;
 use std::test::Fail;
 
@@ -895,22 +895,15 @@ const TABLES: &[Row] = &[
     ),
 ];
 
-fn batch(conn: &mut Connection<MemStore>, sql: &str) -> Result<(), Error> {
-    conn.execute_batch(sql)
-}
-
-fn all(conn: &mut Connection<MemStore>, statements: &[&str]) -> Result<(), Error> {
+/// Each statement, one behind the other.
+pub(crate) fn all<S: Alter + Drop>(
+    conn: &mut Connection<S>,
+    statements: &[&str],
+) -> Result<(), Error> {
     for sql in statements {
-        batch(conn, sql)?;
+        conn.execute_batch(sql)?;
     }
     Ok(())
-}
-
-fn write(conn: &mut Connection<MemStore>, content: &[u8]) -> Result<usize, Error> {
-    conn.execute(
-        "UPDATE nodes SET content = ?1 WHERE instance = 4",
-        params![content],
-    )
 }
 
 fn long(alloc: Global, conn: &mut Connection<MemStore>, count: usize) -> Result<(), Error> {
@@ -918,7 +911,10 @@ fn long(alloc: Global, conn: &mut Connection<MemStore>, count: usize) -> Result<
     let content = vec![in alloc; 0x61u8; count].map_err(|_| Error::SqliteFailure(
         ErrorCode::OutOfMemory,
     ))?;
-    write(conn, content.as_slice())?;
+    conn.execute(
+        "UPDATE nodes SET content = ?1 WHERE instance = 4",
+        params![content.as_slice()],
+    )?;
     Ok(())
 }
 
@@ -944,12 +940,18 @@ fn says(alloc: Global, conn: &mut Connection<MemStore>) -> Result<String, Fail> 
     Ok(verdict(alloc, &tested)?)
 }
 
-fn answer(alloc: Global, made: &Made) -> Result<String, Fail> {
-    let mut conn = Connection::open_in_memory(alloc)?;
-    match make(alloc, &mut conn, made) {
-        Ok(()) => says(alloc, &mut conn),
+fn answer_of(alloc: Global, conn: &mut Connection<MemStore>, made: &Made) -> Result<String, Fail> {
+    match make(alloc, conn, made) {
+        Ok(()) => says(alloc, conn),
         Err(_) => Ok(String::from_str(alloc, NO_STORE)?),
     }
+}
+
+fn answer(alloc: Global, made: &Made) -> Result<String, Fail> {
+    let mut conn = Connection::open_in_memory(alloc)?;
+    let answer = answer_of(alloc, &mut conn, made);
+    drop(conn);
+    answer
 }
 
 fn is_answered(alloc: Global, row: &Row) -> Result<bool, Fail> {
@@ -967,93 +969,27 @@ fn wrong(alloc: Global, rows: &[Row]) -> Result<&'static str, Fail> {
     Ok("")
 }
 
-#[test]
-fn stores_by_cells(rt: HostRuntime) -> Result<(), Fail> {
-    let name = wrong(rt.alloc(), CELLS)?;
-    assert!(rt; name == "", "at {name}");
-    Ok(())
-}
+const ALL: &[&[Row]] = &[
+    CELLS,
+    NUMBERS,
+    NAMES,
+    INSTANCES,
+    GENERATIONS,
+    CONTENTS,
+    CLIENTS,
+    HOLDERS,
+    HANDLES,
+    DELAYS,
+    COLUMNS,
+    KEYS,
+    TABLES,
+];
 
 #[test]
-fn stores_by_numbers(rt: HostRuntime) -> Result<(), Fail> {
-    let name = wrong(rt.alloc(), NUMBERS)?;
-    assert!(rt; name == "", "at {name}");
-    Ok(())
-}
-
-#[test]
-fn stores_by_names(rt: HostRuntime) -> Result<(), Fail> {
-    let name = wrong(rt.alloc(), NAMES)?;
-    assert!(rt; name == "", "at {name}");
-    Ok(())
-}
-
-#[test]
-fn stores_by_instances(rt: HostRuntime) -> Result<(), Fail> {
-    let name = wrong(rt.alloc(), INSTANCES)?;
-    assert!(rt; name == "", "at {name}");
-    Ok(())
-}
-
-#[test]
-fn stores_by_generations(rt: HostRuntime) -> Result<(), Fail> {
-    let name = wrong(rt.alloc(), GENERATIONS)?;
-    assert!(rt; name == "", "at {name}");
-    Ok(())
-}
-
-#[test]
-fn stores_by_contents(rt: HostRuntime) -> Result<(), Fail> {
-    let name = wrong(rt.alloc(), CONTENTS)?;
-    assert!(rt; name == "", "at {name}");
-    Ok(())
-}
-
-#[test]
-fn stores_by_clients(rt: HostRuntime) -> Result<(), Fail> {
-    let name = wrong(rt.alloc(), CLIENTS)?;
-    assert!(rt; name == "", "at {name}");
-    Ok(())
-}
-
-#[test]
-fn stores_by_holders(rt: HostRuntime) -> Result<(), Fail> {
-    let name = wrong(rt.alloc(), HOLDERS)?;
-    assert!(rt; name == "", "at {name}");
-    Ok(())
-}
-
-#[test]
-fn stores_by_handles(rt: HostRuntime) -> Result<(), Fail> {
-    let name = wrong(rt.alloc(), HANDLES)?;
-    assert!(rt; name == "", "at {name}");
-    Ok(())
-}
-
-#[test]
-fn stores_by_delays(rt: HostRuntime) -> Result<(), Fail> {
-    let name = wrong(rt.alloc(), DELAYS)?;
-    assert!(rt; name == "", "at {name}");
-    Ok(())
-}
-
-#[test]
-fn stores_by_columns(rt: HostRuntime) -> Result<(), Fail> {
-    let name = wrong(rt.alloc(), COLUMNS)?;
-    assert!(rt; name == "", "at {name}");
-    Ok(())
-}
-
-#[test]
-fn stores_by_keys(rt: HostRuntime) -> Result<(), Fail> {
-    let name = wrong(rt.alloc(), KEYS)?;
-    assert!(rt; name == "", "at {name}");
-    Ok(())
-}
-
-#[test]
-fn stores_by_tables(rt: HostRuntime) -> Result<(), Fail> {
-    let name = wrong(rt.alloc(), TABLES)?;
-    assert!(rt; name == "", "at {name}");
+fn stores(rt: HostRuntime) -> Result<(), Fail> {
+    for rows in ALL {
+        let name = wrong(rt.alloc(), rows)?;
+        assert!(rt; name == "", "at {name}");
+    }
     Ok(())
 }

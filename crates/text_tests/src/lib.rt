@@ -1,4 +1,4 @@
-//! Tests of the lowest crates: texts, the map, and each public call once on its happy path.
+//! Tests of what texts are read as and printed as, of the map, and of each public call of the lowest crates once on its happy path.
 #![tactic(auto)]
 
 ghost use Rattle.std.specs.Prelude.{◌≡◌, IfOk, string_bytes};
@@ -12,6 +12,12 @@ mod containers;
 mod lines;
 #[cfg(test)]
 mod names;
+#[cfg(test)]
+mod rows;
+#[cfg(test)]
+mod settings;
+#[cfg(test)]
+mod words;
 
 /// A text many times over, for words and names at their limits.
 pub fn run_of(alloc: Global, text: &str, count: usize) -> Result<String, AllocError>

@@ -1,10 +1,10 @@
 //! Files that hold a store, and what a test says of their bytes.
-use crate::stores::{LOCKS, META, NODES, OPENING, SESSIONS};
+use crate::stores::{LOCKS, META, NODES, OPENING, SESSIONS, all};
 use names_cell::Component;
 use rows_cell::{Counts, StoreFault};
 use rows_file::{inspect_file, verdict};
 use sqlite::{Connection, FileStore, Files, Options};
-use sqlite_disk::Memory;
+use sqlite_disk::{Disk, Memory};
 use std::alloc::Global;
 use std::test::Fail;
 
@@ -50,15 +50,19 @@ const FILES: &[(&str, Change, &str)] = &[
     ),
 ];
 
-fn batch(conn: &mut Connection<FileStore<Memory>>, sql: &str) -> Result<(), Fail> {
-    Ok(conn.execute_batch(sql)?)
-}
+pub(crate) type Store = FileStore<Memory>;
 
-fn opened(alloc: Global) -> Result<Connection<FileStore<Memory>>, Fail> {
-    let files = Files {
+pub(crate) fn no_files(alloc: Global) -> Files<Memory> {
+    Files {
         log: Memory::new(alloc),
         db: Memory::new(alloc),
-    };
+    }
+}
+
+pub(crate) fn opened(alloc: Global, files: Files<Memory>) -> Result<Connection<Store>, Fail> {
+    if !files.log.may_be_used() || !files.db.may_be_used() {
+        return Err(Fail::from("usable"));
+    }
     Ok(
         Connection::open_files(alloc, files, Options::new(7))
             .ok()
@@ -66,19 +70,25 @@ fn opened(alloc: Global) -> Result<Connection<FileStore<Memory>>, Fail> {
     )
 }
 
-fn closed(conn: Connection<FileStore<Memory>>) -> Result<Memory, Fail> {
-    let files = conn.close_files().ok().ok_or("closed")?;
-    Ok(files.db)
+pub(crate) fn closed(conn: Connection<Store>) -> Result<Files<Memory>, Fail> {
+    Ok(conn.close_files().ok().ok_or("closed")?)
+}
+
+fn new_files(alloc: Global) -> Result<Files<Memory>, Fail> {
+    let mut conn = opened(alloc, no_files(alloc))?;
+    let is_made = all(&mut conn, &[META, NODES, SESSIONS, LOCKS, OPENING]).is_ok();
+    let files = closed(conn)?;
+    if is_made {
+        Ok(files)
+    } else {
+        Err(Fail::from("made"))
+    }
 }
 
 // The bytes of a new store.
 fn new_store(alloc: Global) -> Result<Vec<u8>, Fail> {
-    let mut conn = opened(alloc)?;
-    for sql in [META, NODES, SESSIONS, LOCKS, OPENING] {
-        batch(&mut conn, sql)?;
-    }
-    let file = closed(conn)?;
-    Ok(file.bytes().to_vec(alloc)?)
+    let files = new_files(alloc)?;
+    Ok(files.db.bytes().to_vec(alloc)?)
 }
 
 fn changed(alloc: Global, bytes: &[u8], change: &Change) -> Result<Vec<u8>, Fail> {
@@ -96,19 +106,20 @@ fn changed(alloc: Global, bytes: &[u8], change: &Change) -> Result<Vec<u8>, Fail
     Ok(changed)
 }
 
-fn tested(alloc: Global, bytes: &[u8]) -> Result<Result<Counts, StoreFault>, Fail> {
-    let cell = Component::parse(alloc, "c")?;
-    Ok(inspect_file(alloc, bytes, &[], &cell))
+fn tested(alloc: Global, db: &[u8], log: &[u8]) -> Option<Result<Counts, StoreFault>> {
+    let cell = Component::parse(alloc, "c").ok()?;
+    Some(inspect_file(alloc, db, log, &cell))
 }
 
-fn says(alloc: Global, bytes: &[u8]) -> Result<String, Fail> {
-    let tested = tested(alloc, bytes)?;
-    Ok(verdict(alloc, &tested)?)
+/// What a test says of the bytes of a database and of its log; none where memory is missing.
+pub(crate) fn said(alloc: Global, db: &[u8], log: &[u8]) -> Option<String> {
+    let tested = tested(alloc, db, log)?;
+    verdict(alloc, &tested).ok()
 }
 
 fn is_answered(alloc: Global, bytes: &[u8], row: &(&str, Change, &str)) -> Result<bool, Fail> {
     let changed = changed(alloc, bytes, &row.1)?;
-    let answer = says(alloc, changed.as_slice())?;
+    let answer = said(alloc, changed.as_slice(), &[]).ok_or("said")?;
     Ok(answer.as_str() == row.2)
 }
 

@@ -191,30 +191,13 @@ fn wrong(alloc: Global, rows: &[Row]) -> Result<&'static str, Fail> {
     Ok("")
 }
 
-#[test]
-fn texts_by_leases(rt: HostRuntime) -> Result<(), Fail> {
-    let name = wrong(rt.alloc(), LEASES)?;
-    assert!(rt; name == "", "at {name}");
-    Ok(())
-}
+const TEXTS: &[&[Row]] = &[LEASES, CELLS, PRINCIPALS_AND_SECRETS, KEYS];
 
 #[test]
-fn texts_by_cells(rt: HostRuntime) -> Result<(), Fail> {
-    let name = wrong(rt.alloc(), CELLS)?;
-    assert!(rt; name == "", "at {name}");
-    Ok(())
-}
-
-#[test]
-fn texts_by_principals_and_secrets(rt: HostRuntime) -> Result<(), Fail> {
-    let name = wrong(rt.alloc(), PRINCIPALS_AND_SECRETS)?;
-    assert!(rt; name == "", "at {name}");
-    Ok(())
-}
-
-#[test]
-fn texts_by_keys(rt: HostRuntime) -> Result<(), Fail> {
-    let name = wrong(rt.alloc(), KEYS)?;
-    assert!(rt; name == "", "at {name}");
+fn settings_as_texts(rt: HostRuntime) -> Result<(), Fail> {
+    for rows in TEXTS {
+        let name = wrong(rt.alloc(), rows)?;
+        assert!(rt; name == "", "at {name}");
+    }
     Ok(())
 }

@@ -4,9 +4,8 @@ ghost use Rattle.sqlite_disk.specs.Memory.{memory_is_usable};
 ghost use Rattle.sqlite_disk.specs.Fuse.{inner_of, IsFresh};
 
 use crate::changes::{Do, commit, edits};
-use names_cell::Component;
+use crate::files::said;
 use rows_cell::LockState;
-use rows_file::{inspect_file, verdict};
 use rows_sql::SqlRecords;
 use settings_core::Settings;
 use sqlite::{Connection, FileStore, Files, Options};
@@ -102,16 +101,8 @@ fn ran(alloc: Global, stops: Stops, calls: u64) -> Result<(Came, Files<Disk>), F
     }
 }
 
-// What is then said of the files.
-fn said(alloc: Global, files: &Files<Disk>) -> Result<String, Fail> {
-    let cell = Component::parse(alloc, "c")?;
-    let tested = inspect_file(
-        alloc,
-        files.db.inner().bytes(),
-        files.log.inner().bytes(),
-        &cell,
-    );
-    Ok(verdict(alloc, &tested)?)
+fn said_of(alloc: Global, files: &Files<Disk>) -> Option<String> {
+    said(alloc, files.db.inner().bytes(), files.log.inner().bytes())
 }
 
 fn may_be(came: Came, answer: &str) -> bool {
@@ -125,7 +116,7 @@ fn may_be(came: Came, answer: &str) -> bool {
 // How far it came with so many calls; none where the files then hold something else than they may.
 fn tried(alloc: Global, stops: Stops, calls: u64) -> Result<Option<Came>, Fail> {
     let (came, files) = ran(alloc, stops, calls)?;
-    let answer = said(alloc, &files)?;
+    let answer = said_of(alloc, &files).ok_or("said")?;
     Ok(if may_be(came, answer.as_str()) {
         Some(came)
     } else {
@@ -148,17 +139,17 @@ fn stops_well(alloc: Global, stops: Stops) -> Result<(bool, bool), Fail> {
     Ok((false, adopted))
 }
 
-#[test]
-fn a_log_that_stops(rt: HostRuntime) -> Result<(), Fail> {
-    let (well, adopted) = stops_well(rt.alloc(), Stops::Log)?;
-    assert!(rt; well);
-    assert!(rt; adopted);
-    Ok(())
-}
+// What stops, and whether it has to stop in a commit too.
+const STOPS: &[(&str, Stops, bool)] = &[
+    ("a_log_that_stops", Stops::Log, true),
+    ("a_database_file_that_stops", Stops::Database, false),
+];
 
 #[test]
-fn a_database_file_that_stops(rt: HostRuntime) -> Result<(), Fail> {
-    let (well, _adopted) = stops_well(rt.alloc(), Stops::Database)?;
-    assert!(rt; well);
+fn disks_that_stop(rt: HostRuntime) -> Result<(), Fail> {
+    for (name, stops, in_a_commit) in STOPS {
+        let (well, adopted) = stops_well(rt.alloc(), *stops)?;
+        assert!(rt; well && (adopted || !*in_a_commit), "at {name}");
+    }
     Ok(())
 }

@@ -208,164 +208,166 @@ fn does(alloc: Global, sessions: &mut Sessions<u64>, step: Step) -> Result<u64, 
     }
 }
 
-fn runs(rt: &impl Abort, alloc: Global, table: &[(Step, Result<u64, Fault>)]) {
+fn runs(rt: &impl Abort, alloc: Global, name: &str, table: &[(Step, Result<u64, Fault>)]) {
     let mut sessions = Sessions::new(alloc, LEASE);
     for (row, (step, want)) in table.iter().enumerate() {
-        assert_eq!(rt; does(alloc, &mut sessions, *step), *want, "row {row}");
+        assert!(rt;
+            does(alloc, &mut sessions, *step) == *want,
+            "row {row} of {name}"
+        );
     }
 }
 
-// The timeout is near from 3,000 + 12,000 / 16 ms on.
-#[test]
-fn beats_fall_due(rt: HostRuntime) {
-    let table = [
-        (Step::Start(1, "ann", 0, 0), Ok(12_000)),
-        (Step::Start(2, "bob", 100, 1_000), Ok(12_900)),
-        (Step::Due(13_000), Ok(0)),
-        (Step::Beat(2, 2, 0, 0, 2_000), Ok(0)),
-        (Step::Beat(1, 2, 0, 0, 3_000), Ok(0)),
-        (Step::Due(8_249), Ok(0)),
-        (Step::Due(8_250), Ok(1)),
-        (Step::Offer(1, 8_250), Ok(17_250)),
-        (Step::Answer(1, 8_250), Ok(0)),
-        (Step::Offer(1, 8_250), Ok(0)),
-        (Step::Due(9_249), Ok(0)),
-        (Step::Due(9_250), Ok(2)),
-        (Step::Tell(1, 1), Ok(0)),
-        (Step::Beat(1, 3, 0, 0, 9_000), Ok(0)),
-        (Step::Due(9_250), Ok(1)),
-        (Step::Beat(1, 4, 0, 1, 9_000), Ok(0)),
-        (Step::Due(9_250), Ok(2)),
-        (Step::Expired(12_999), Ok(0)),
-        (Step::Expired(13_000), Ok(2)),
-        (Step::Expired(20_250), Ok(1)),
-    ];
-    runs(&rt, rt.alloc(), table.as_slice());
-}
+// Each begins without a session.
+const TABLES: &[(&str, &[(Step, Result<u64, Fault>)])] = &[
+    // The timeout is near from 3,000 + 12,000 / 16 ms on.
+    (
+        "beats_fall_due",
+        &[
+            (Step::Start(1, "ann", 0, 0), Ok(12_000)),
+            (Step::Start(2, "bob", 100, 1_000), Ok(12_900)),
+            (Step::Due(13_000), Ok(0)),
+            (Step::Beat(2, 2, 0, 0, 2_000), Ok(0)),
+            (Step::Beat(1, 2, 0, 0, 3_000), Ok(0)),
+            (Step::Due(8_249), Ok(0)),
+            (Step::Due(8_250), Ok(1)),
+            (Step::Offer(1, 8_250), Ok(17_250)),
+            (Step::Answer(1, 8_250), Ok(0)),
+            (Step::Offer(1, 8_250), Ok(0)),
+            (Step::Due(9_249), Ok(0)),
+            (Step::Due(9_250), Ok(2)),
+            (Step::Tell(1, 1), Ok(0)),
+            (Step::Beat(1, 3, 0, 0, 9_000), Ok(0)),
+            (Step::Due(9_250), Ok(1)),
+            (Step::Beat(1, 4, 0, 1, 9_000), Ok(0)),
+            (Step::Due(9_250), Ok(2)),
+            (Step::Expired(12_999), Ok(0)),
+            (Step::Expired(13_000), Ok(2)),
+            (Step::Expired(20_250), Ok(1)),
+        ],
+    ),
+    (
+        "acknowledgements",
+        &[
+            (Step::Beat(1, 1, 0, 0, 0), Err(Fault::NoSession)),
+            (Step::Start(1, "ann", 0, 0), Ok(12_000)),
+            (Step::Tell(1, 1), Ok(0)),
+            (Step::Beat(1, 2, 1, 0, 0), Err(Fault::BadAck(0))),
+            (Step::Beat(1, 2, 0, 5, 0), Err(Fault::BadAck(1))),
+            (Step::Beat(1, 2, 1, 5, 0), Err(Fault::BadAck(0))),
+            (Step::Beat(1, 2, 0, 1, 0), Ok(0)),
+            (Step::Beat(1, 2, 0, 1, 0), Err(Fault::Repeat)),
+            (Step::Beat(1, 1, 9, 9, 0), Err(Fault::Repeat)),
+            (Step::Beat(1, 3, 0, 0, 0), Ok(0)),
+            (Step::Due(0), Ok(0)),
+        ],
+    ),
+    (
+        "events_of_each_session",
+        &[
+            (Step::Tell(1, 1), Ok(0)),
+            (Step::Waiting(1), Ok(0)),
+            (Step::Start(1, "ann", 0, 0), Ok(12_000)),
+            (Step::Start(2, "bob", 0, 0), Ok(12_000)),
+            (Step::Waiting(1), Ok(0)),
+            (Step::Tell(1, 300), Ok(0)),
+            (Step::Tell(2, 2), Ok(0)),
+            (Step::Waiting(1), Ok(256)),
+            (Step::Waiting(2), Ok(2)),
+            (Step::IsLost(1), Ok(0)),
+            (Step::Beat(1, 2, 0, 257, 0), Err(Fault::BadAck(256))),
+            (Step::Beat(1, 2, 0, 1, 0), Ok(0)),
+            (Step::Waiting(1), Ok(256)),
+            (Step::Last(1), Ok(257)),
+            (Step::IsLost(1), Ok(1)),
+            (Step::Due(0), Ok(1)),
+            (Step::Beat(1, 3, 0, 257, 0), Ok(0)),
+            (Step::Waiting(1), Ok(0)),
+            (Step::Due(0), Ok(0)),
+            (Step::Issue(1), Ok(0)),
+            (Step::Due(0), Ok(1)),
+            (Step::Waiting(1), Ok(0)),
+            (Step::HasSpentEvents, Ok(0)),
+            (Step::Expire(2), Ok(0)),
+            (Step::Waiting(2), Ok(0)),
+            (Step::Tell(2, 1), Ok(0)),
+            (Step::Waiting(2), Ok(0)),
+        ],
+    ),
+    (
+        "starts_and_ends",
+        &[
+            (Step::Start(1, "ann", 0, 0), Ok(12_000)),
+            (Step::Start(1, "bob", 1, 1), Err(Fault::NoSession)),
+            (Step::Start(1, "ann", 500, 1_000), Ok(12_500)),
+            (Step::Expired(12_999), Ok(0)),
+            (Step::Expired(13_000), Ok(1)),
+            (Step::Expire(1), Ok(0)),
+            (Step::Expired(13_000), Ok(0)),
+            (Step::IsLive(1), Ok(0)),
+            (Step::Start(1, "ann", 13_000, 13_000), Err(Fault::NoSession)),
+            (Step::Beat(1, 9, 0, 0, 13_000), Err(Fault::NoSession)),
+            (Step::Start(2, "ann", 13_000, 13_000), Ok(12_000)),
+            (Step::TakeBack(2), Ok(0)),
+            (Step::IsLive(2), Ok(0)),
+            (Step::Start(2, "bob", 13_000, 13_000), Ok(12_000)),
+            (Step::IsLive(2), Ok(1)),
+        ],
+    ),
+    // Its time is 60,002 ms from the coming up on. The first event of a live one tells that the master is up. It is heard once
+    // that is acknowledged, and a parked Beat is answered at once until then.
+    (
+        "sessions_of_a_new_master",
+        &[
+            (Step::AllHeard, Ok(1)),
+            (Step::Recover(1, true, 1_000), Ok(0)),
+            (Step::Recover(2, false, 1_000), Ok(0)),
+            (Step::Recover(3, true, 1_000), Ok(0)),
+            (Step::AllHeard, Ok(0)),
+            (Step::Waiting(1), Ok(1)),
+            (Step::IsFailOver(1), Ok(1)),
+            (Step::Last(3), Ok(1)),
+            (Step::Waiting(2), Ok(0)),
+            (Step::Beat(2, 1, 0, 0, 1_500), Err(Fault::NoSession)),
+            (Step::Beat(1, 5, 0, 2, 1_500), Err(Fault::BadAck(1))),
+            (Step::Beat(1, 5, 1, 1, 1_500), Err(Fault::BadAck(0))),
+            (Step::Beat(1, 5, 0, 0, 1_500), Ok(0)),
+            (Step::Due(1_500), Ok(1)),
+            (Step::Answer(1, 1_500), Ok(0)),
+            (Step::Due(1_500), Ok(0)),
+            (Step::Beat(1, 7, 0, 1, 2_000), Ok(0)),
+            (Step::Due(2_000), Ok(0)),
+            (Step::AllHeard, Ok(0)),
+            (Step::Answer(1, 2_000), Ok(0)),
+            (Step::Expired(61_001), Ok(0)),
+            (Step::Expired(61_002), Ok(1)),
+            (Step::Expire(1), Ok(0)),
+            (Step::Expired(61_002), Ok(3)),
+            (Step::Expire(3), Ok(0)),
+            (Step::AllHeard, Ok(1)),
+            (Step::Expired(61_002), Ok(0)),
+        ],
+    ),
+    (
+        "last_call_is_kept",
+        &[
+            (Step::Start(1, "ann", 0, 0), Ok(12_000)),
+            (Step::Kept(1, 3), Ok(0)),
+            (Step::Keep(1, 3, None), Ok(0)),
+            (Step::Kept(1, 3), Ok(1)),
+            (Step::Kept(1, 4), Err(Fault::CallOutstanding)),
+            (Step::Kept(1, 2), Err(Fault::Repeat)),
+            (Step::Keep(1, 3, Some(30)), Ok(0)),
+            (Step::Kept(1, 3), Ok(30)),
+            (Step::Kept(1, 4), Ok(0)),
+            (Step::Kept(1, 2), Err(Fault::Repeat)),
+        ],
+    ),
+];
 
 #[test]
-fn acknowledgements(rt: HostRuntime) {
-    let table = [
-        (Step::Beat(1, 1, 0, 0, 0), Err(Fault::NoSession)),
-        (Step::Start(1, "ann", 0, 0), Ok(12_000)),
-        (Step::Tell(1, 1), Ok(0)),
-        (Step::Beat(1, 2, 1, 0, 0), Err(Fault::BadAck(0))),
-        (Step::Beat(1, 2, 0, 5, 0), Err(Fault::BadAck(1))),
-        (Step::Beat(1, 2, 1, 5, 0), Err(Fault::BadAck(0))),
-        (Step::Beat(1, 2, 0, 1, 0), Ok(0)),
-        (Step::Beat(1, 2, 0, 1, 0), Err(Fault::Repeat)),
-        (Step::Beat(1, 1, 9, 9, 0), Err(Fault::Repeat)),
-        (Step::Beat(1, 3, 0, 0, 0), Ok(0)),
-        (Step::Due(0), Ok(0)),
-    ];
-    runs(&rt, rt.alloc(), table.as_slice());
-}
-
-#[test]
-fn events_of_each_session(rt: HostRuntime) {
-    let table = [
-        (Step::Tell(1, 1), Ok(0)),
-        (Step::Waiting(1), Ok(0)),
-        (Step::Start(1, "ann", 0, 0), Ok(12_000)),
-        (Step::Start(2, "bob", 0, 0), Ok(12_000)),
-        (Step::Waiting(1), Ok(0)),
-        (Step::Tell(1, 300), Ok(0)),
-        (Step::Tell(2, 2), Ok(0)),
-        (Step::Waiting(1), Ok(256)),
-        (Step::Waiting(2), Ok(2)),
-        (Step::IsLost(1), Ok(0)),
-        (Step::Beat(1, 2, 0, 257, 0), Err(Fault::BadAck(256))),
-        (Step::Beat(1, 2, 0, 1, 0), Ok(0)),
-        (Step::Waiting(1), Ok(256)),
-        (Step::Last(1), Ok(257)),
-        (Step::IsLost(1), Ok(1)),
-        (Step::Due(0), Ok(1)),
-        (Step::Beat(1, 3, 0, 257, 0), Ok(0)),
-        (Step::Waiting(1), Ok(0)),
-        (Step::Due(0), Ok(0)),
-        (Step::Issue(1), Ok(0)),
-        (Step::Due(0), Ok(1)),
-        (Step::Waiting(1), Ok(0)),
-        (Step::HasSpentEvents, Ok(0)),
-        (Step::Expire(2), Ok(0)),
-        (Step::Waiting(2), Ok(0)),
-        (Step::Tell(2, 1), Ok(0)),
-        (Step::Waiting(2), Ok(0)),
-    ];
-    runs(&rt, rt.alloc(), table.as_slice());
-}
-
-#[test]
-fn starts_and_ends(rt: HostRuntime) {
-    let table = [
-        (Step::Start(1, "ann", 0, 0), Ok(12_000)),
-        (Step::Start(1, "bob", 1, 1), Err(Fault::NoSession)),
-        (Step::Start(1, "ann", 500, 1_000), Ok(12_500)),
-        (Step::Expired(12_999), Ok(0)),
-        (Step::Expired(13_000), Ok(1)),
-        (Step::Expire(1), Ok(0)),
-        (Step::Expired(13_000), Ok(0)),
-        (Step::IsLive(1), Ok(0)),
-        (Step::Start(1, "ann", 13_000, 13_000), Err(Fault::NoSession)),
-        (Step::Beat(1, 9, 0, 0, 13_000), Err(Fault::NoSession)),
-        (Step::Start(2, "ann", 13_000, 13_000), Ok(12_000)),
-        (Step::TakeBack(2), Ok(0)),
-        (Step::IsLive(2), Ok(0)),
-        (Step::Start(2, "bob", 13_000, 13_000), Ok(12_000)),
-        (Step::IsLive(2), Ok(1)),
-    ];
-    runs(&rt, rt.alloc(), table.as_slice());
-}
-
-// Its time is 60,002 ms from the coming up on. The first event of a live one tells that the master is up. It is heard once
-// that is acknowledged, and a parked Beat is answered at once until then.
-#[test]
-fn sessions_of_a_new_master(rt: HostRuntime) {
-    let table = [
-        (Step::AllHeard, Ok(1)),
-        (Step::Recover(1, true, 1_000), Ok(0)),
-        (Step::Recover(2, false, 1_000), Ok(0)),
-        (Step::Recover(3, true, 1_000), Ok(0)),
-        (Step::AllHeard, Ok(0)),
-        (Step::Waiting(1), Ok(1)),
-        (Step::IsFailOver(1), Ok(1)),
-        (Step::Last(3), Ok(1)),
-        (Step::Waiting(2), Ok(0)),
-        (Step::Beat(2, 1, 0, 0, 1_500), Err(Fault::NoSession)),
-        (Step::Beat(1, 5, 0, 2, 1_500), Err(Fault::BadAck(1))),
-        (Step::Beat(1, 5, 1, 1, 1_500), Err(Fault::BadAck(0))),
-        (Step::Beat(1, 5, 0, 0, 1_500), Ok(0)),
-        (Step::Due(1_500), Ok(1)),
-        (Step::Answer(1, 1_500), Ok(0)),
-        (Step::Due(1_500), Ok(0)),
-        (Step::Beat(1, 7, 0, 1, 2_000), Ok(0)),
-        (Step::Due(2_000), Ok(0)),
-        (Step::AllHeard, Ok(0)),
-        (Step::Answer(1, 2_000), Ok(0)),
-        (Step::Expired(61_001), Ok(0)),
-        (Step::Expired(61_002), Ok(1)),
-        (Step::Expire(1), Ok(0)),
-        (Step::Expired(61_002), Ok(3)),
-        (Step::Expire(3), Ok(0)),
-        (Step::AllHeard, Ok(1)),
-        (Step::Expired(61_002), Ok(0)),
-    ];
-    runs(&rt, rt.alloc(), table.as_slice());
-}
-
-#[test]
-fn last_call_is_kept(rt: HostRuntime) {
-    let table = [
-        (Step::Start(1, "ann", 0, 0), Ok(12_000)),
-        (Step::Kept(1, 3), Ok(0)),
-        (Step::Keep(1, 3, None), Ok(0)),
-        (Step::Kept(1, 3), Ok(1)),
-        (Step::Kept(1, 4), Err(Fault::CallOutstanding)),
-        (Step::Kept(1, 2), Err(Fault::Repeat)),
-        (Step::Keep(1, 3, Some(30)), Ok(0)),
-        (Step::Kept(1, 3), Ok(30)),
-        (Step::Kept(1, 4), Ok(0)),
-        (Step::Kept(1, 2), Err(Fault::Repeat)),
-    ];
-    runs(&rt, rt.alloc(), table.as_slice());
+fn sessions_step_by_step(rt: HostRuntime) {
+    for (name, table) in TABLES {
+        runs(&rt, rt.alloc(), name, table);
+    }
 }
