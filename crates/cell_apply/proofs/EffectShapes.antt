@@ -33,6 +33,7 @@ use Rattle.cell_update.specs.declared.updates.LockPut.{LockPut}
 use Rattle.cell_parts.specs.declared.handles.Note.{Note}
 use Rattle.cell_parts.specs.declared.handles.HandleState.TheVariants as states
 use Rattle.cell_parts.specs.Claims.{owner_of, claim_of}
+use Rattle.cell_state.specs.NameSpace.{name_space, caller}
 use Rattle.cell_state.specs.State.{MasterState}
 use Rattle.cell_state.specs.Lookups.{may, missing_right, is_of_cell, sequencer_fault, lock_under, holds_lock, node_of_handle, new_handle, open_present, plain_open, opened_answer, opened_note, answer_on}
 use Rattle.cell_parts.specs.Calls.{create_fault, bytes_of}
@@ -84,61 +85,61 @@ by_option (Some x) f y h k = h x
 module _ (s : MasterState) where
   -- ---- creates
 
-  of_opened : (opened : Result Handle Fault) → HasShape (opened_effect s opened)
-  of_opened opened = (Ends (opened_note s opened) (opened_answer s opened), refl)
+  of_opened : (opened : Result Handle Fault) → HasShape (opened_effect (name_space s) opened)
+  of_opened opened = (Ends (opened_note (name_space s) opened) (opened_answer (name_space s) opened), refl)
 
-  of_made : (opening : Open) (view : View) (opened : Result Handle Fault) → HasShape (create_made s opening view opened)
-  of_made opening view (Ok handle) = (Applies (opened_note s (Ok handle)) (record { change = Put opening.name view; next_instance = s.next_instance + 1 }) (opened_answer s (Ok handle)), refl)
+  of_made : (opening : Open) (view : View) (opened : Result Handle Fault) → HasShape (create_made (name_space s) opening view opened)
+  of_made opening view (Ok handle) = (Applies (opened_note (name_space s) (Ok handle)) (record { change = Put opening.name view; next_instance = s.next_instance + 1 }) (opened_answer (name_space s) (Ok handle)), refl)
   of_made opening view (Err fault) = of_fault fault
 
-  of_numbered : (client number : ℕ) (opening : Open) (view : View) → HasShape (create_numbered s client number opening view)
+  of_numbered : (client number : ℕ) (opening : Open) (view : View) → HasShape (create_numbered (name_space s) (caller s client) number opening view)
   of_numbered client number opening view =
-      let opened = new_handle s client number opening view in
-      either (is_last s.next_instance) (refused faults.Exhausted) (create_made s opening view opened) (of_fault faults.Exhausted) (of_made opening view opened)
+      let opened = new_handle (name_space s) (caller s client) number opening view in
+      either (is_last s.next_instance) (refused faults.Exhausted) (create_made (name_space s) opening view opened) (of_fault faults.Exhausted) (of_made opening view opened)
 
-  of_permitted : (client number : ℕ) (opening : Open) (view : View) → HasShape (create_permitted s client number opening view)
+  of_permitted : (client number : ℕ) (opening : Open) (view : View) → HasShape (create_permitted (name_space s) (caller s client) number opening view)
   of_permitted client number opening view =
-      by_option (missing_right s client opening.mode view) (λ right. refused (faults.Denied right)) (create_numbered s client number opening view) (λ right. of_fault (faults.Denied right))
+      by_option (missing_right (name_space s) (caller s client) opening.mode view) (λ right. refused (faults.Denied right)) (create_numbered (name_space s) (caller s client) number opening view) (λ right. of_fault (faults.Denied right))
       (of_numbered client number opening view)
 
-  of_kind : (client number : ℕ) (opening : Open) (create : Create) (above : View) (kind : Kind) → HasShape (create_in s client number opening create above kind)
+  of_kind : (client number : ℕ) (opening : Open) (create : Create) (above : View) (kind : Kind) → HasShape (create_in (name_space s) (caller s client) number opening create above kind)
   of_kind client number opening create above File = of_fault (faults.WrongKind File)
   of_kind client number opening create above Directory =
       let view : View = new_view s.next_instance create.node create.life (acls_of above create.acls) in
-      either (may s client above rights.Write) (create_permitted s client number opening view) (refused (faults.Denied rights.Write)) (of_permitted client number opening view)
+      either (may (name_space s) (caller s client) above rights.Write) (create_permitted (name_space s) (caller s client) number opening view) (refused (faults.Denied rights.Write)) (of_permitted client number opening view)
       (of_fault (faults.Denied rights.Write))
 
-  of_above : (client number : ℕ) (opening : Open) (create : Create) (o : Option View) → HasShape (create_under s client number opening create o)
+  of_above : (client number : ℕ) (opening : Open) (create : Create) (o : Option View) → HasShape (create_under (name_space s) (caller s client) number opening create o)
   of_above client number opening create None = of_fault faults.NotFound
   of_above client number opening create (Some above) = of_kind client number opening create above above.kind
 
-  of_new : (client number : ℕ) (opening : Open) (create : Create) → HasShape (create_new s client number opening create)
+  of_new : (client number : ℕ) (opening : Open) (create : Create) → HasShape (create_new (name_space s) (caller s client) number opening create)
   of_new client number opening create =
-      by_option (parent_of opening.name) (λ parent. create_under s client number opening create (get_node s.nodes parent)) (refused faults.NotFound)
+      by_option (parent_of opening.name) (λ parent. create_under (name_space s) (caller s client) number opening create (get_node s.nodes parent)) (refused faults.NotFound)
       (λ parent. of_above client number opening create (get_node s.nodes parent)) (of_fault faults.NotFound)
 
-  of_present : (client number : ℕ) (opening : Open) (disposition : Disposition) (view : View) → HasShape (create_over s client number opening disposition view)
+  of_present : (client number : ℕ) (opening : Open) (disposition : Disposition) (view : View) → HasShape (create_over (name_space s) (caller s client) number opening disposition view)
   of_present client number opening Must view = of_fault faults.Exists
-  of_present client number opening May view = of_opened (open_present s client number opening view)
+  of_present client number opening May view = of_opened (open_present (name_space s) (caller s client) number opening view)
 
-  of_create : (client number : ℕ) (opening : Open) (create : Create) → HasShape (create_effect s client number opening create)
+  of_create : (client number : ℕ) (opening : Open) (create : Create) → HasShape (create_effect (name_space s) (caller s client) number opening create)
   of_create client number opening create =
-      by_option (get_node s.nodes opening.name) (λ view. create_over s client number opening create.disposition view) (create_new s client number opening create)
+      by_option (get_node s.nodes opening.name) (λ view. create_over (name_space s) (caller s client) number opening create.disposition view) (create_new (name_space s) (caller s client) number opening create)
       (of_present client number opening create.disposition) (of_new client number opening create)
 
-  of_tested : (client number : ℕ) (opening : Open) (create : Create) → HasShape (create_tested s client number opening create)
+  of_tested : (client number : ℕ) (opening : Open) (create : Create) → HasShape (create_tested (name_space s) (caller s client) number opening create)
   of_tested client number opening create =
-      by_option (create_fault opening create.node) (λ answer. answered answer) (create_effect s client number opening create) of_answer (of_create client number opening create)
+      by_option (create_fault opening create.node) (λ answer. answered answer) (create_effect (name_space s) (caller s client) number opening create) of_answer (of_create client number opening create)
 
-  of_sequencer : (client number : ℕ) (opening : Open) (create : Create) (o : Option Fault) → HasShape (create_under_sequencer s client number opening create o)
+  of_sequencer : (client number : ℕ) (opening : Open) (create : Create) (o : Option Fault) → HasShape (create_under_sequencer (name_space s) (caller s client) number opening create o)
   of_sequencer client number opening create None = of_tested client number opening create
   of_sequencer client number opening create (Some fault) = of_fault fault
 
-  of_open : (client number : ℕ) (opening : Open) (sequencer : Option (List ℕ)) (o : Option Create) → HasShape (open_effect s client number opening sequencer o)
-  of_open client number opening sequencer None = of_opened (plain_open s client number opening)
+  of_open : (client number : ℕ) (opening : Open) (sequencer : Option (List ℕ)) (o : Option Create) → HasShape (open_effect (name_space s) (caller s client) number opening sequencer o)
+  of_open client number opening sequencer None = of_opened (plain_open (name_space s) (caller s client) number opening)
   of_open client number opening sequencer (Some create) =
-      let fault = sequencer_fault s sequencer in
-      either (is_of_cell s opening.name) (create_under_sequencer s client number opening create fault) (refused faults.OtherCell) (of_sequencer client number opening create fault)
+      let fault = sequencer_fault (name_space s) sequencer in
+      either (is_of_cell (name_space s) opening.name) (create_under_sequencer (name_space s) (caller s client) number opening create fault) (refused faults.OtherCell) (of_sequencer client number opening create fault)
       (of_fault faults.OtherCell)
 
   -- ---- locks
@@ -156,37 +157,37 @@ module _ (s : MasterState) where
   of_released handle (Ok turn) = (Leaves None (record { name = handle.name; instance = handle.instance; held = true; turn = turn }) results.Done, refl)
   of_released handle (Err fault) = of_fault fault
 
-  of_left : (handle : Handle) (note : Option Note) (o : Option Turn) → HasShape (record { note = note; change = None; locking = close_by s handle o; answer = Some results.Closed })
+  of_left : (handle : Handle) (note : Option Note) (o : Option Turn) → HasShape (record { note = note; change = None; locking = close_by (name_space s) handle o; answer = Some results.Closed })
   of_left handle note None = (Ends note results.Closed, refl)
-  of_left handle note (Some turn) = (Leaves note (record { name = handle.name; instance = handle.instance; held = holds_lock s handle; turn = turn }) results.Closed, refl)
+  of_left handle note (Some turn) = (Leaves note (record { name = handle.name; instance = handle.instance; held = holds_lock (name_space s) handle; turn = turn }) results.Closed, refl)
 
-  of_closed : (handle : Handle) (note : Option Note) (o : Option View) → HasShape (record { note = note; change = None; locking = close_under s handle o; answer = Some results.Closed })
+  of_closed : (handle : Handle) (note : Option Note) (o : Option View) → HasShape (record { note = note; change = None; locking = close_under (name_space s) handle o; answer = Some results.Closed })
   of_closed handle note None = (Ends note results.Closed, refl)
-  of_closed handle note (Some view) = of_left handle note (closed_by (lock_under s handle) (owner_of handle))
+  of_closed handle note (Some view) = of_left handle note (closed_by (lock_under (name_space s) handle) (owner_of handle))
 
   -- ---- a change of a node that stands
 
-  of_put : (handle : Handle) (present : ℕ) (wanted : Option ℕ) (view : View) → HasShape (put_at s handle present wanted view)
+  of_put : (handle : Handle) (present : ℕ) (wanted : Option ℕ) (view : View) → HasShape (put_at (name_space s) handle present wanted view)
   of_put handle present wanted view =
       let written : Effect = changes_to (Put handle.name view) s.next_instance results.Done in
       either (generation_fits wanted present) (cond (is_last present) (refused faults.Exhausted) written) (refused (faults.WrongGeneration present))
       (either (is_last present) (refused faults.Exhausted) written (of_fault faults.Exhausted) (of_change (Put handle.name view) s.next_instance results.Done))
       (of_fault (faults.WrongGeneration present))
 
-  of_deleted : (handle : Handle) → HasShape (deleted s handle)
-  of_deleted handle = (Deletes (record { change = Gone handle.name; next_instance = s.next_instance }) handle.instance (lock_under s handle).waiters results.Done, refl)
+  of_deleted : (handle : Handle) → HasShape (deleted (name_space s) handle)
+  of_deleted handle = (Deletes (record { change = Gone handle.name; next_instance = s.next_instance }) handle.instance (lock_under (name_space s) handle).waiters results.Done, refl)
 
-  of_delete : (handle : Handle) → HasShape (delete_at s handle)
+  of_delete : (handle : Handle) → HasShape (delete_at (name_space s) handle)
   of_delete handle =
-      either (has_children s.nodes handle.name || is_none (parent_of handle.name)) (refused faults.NotEmpty) (deleted s handle) (of_fault faults.NotEmpty) (of_deleted handle)
+      either (has_children s.nodes handle.name || is_none (parent_of handle.name)) (refused faults.NotEmpty) (deleted (name_space s) handle) (of_fault faults.NotEmpty) (of_deleted handle)
 
-  of_node : (handle : Handle) (call : Call) (view : View) → HasShape (change_at s handle call view)
+  of_node : (handle : Handle) (call : Call) (view : View) → HasShape (change_at (name_space s) s.clock handle call view)
   of_node handle (calls.Set bytes content generation) view = of_put handle view.content_generation generation (with_content view content)
   of_node handle (calls.SetAcl bytes acls generation) view = of_put handle view.acl_generation generation (with_acls view acls)
   of_node handle (calls.Delete bytes) view = of_delete handle
-  of_node handle (calls.Acquire bytes mode) view = of_acquired handle (claim_of handle mode) (acquired (lock_under s handle) (claim_of handle mode))
-  of_node handle (calls.TryAcquire bytes mode) view = of_tried handle (claim_of handle mode) (tried (lock_under s handle) (claim_of handle mode) s.clock)
-  of_node handle (calls.Release bytes) view = of_released handle (released (lock_under s handle) (owner_of handle))
+  of_node handle (calls.Acquire bytes mode) view = of_acquired handle (claim_of handle mode) (acquired (lock_under (name_space s) handle) (claim_of handle mode))
+  of_node handle (calls.TryAcquire bytes mode) view = of_tried handle (claim_of handle mode) (tried (lock_under (name_space s) handle) (claim_of handle mode) s.clock)
+  of_node handle (calls.Release bytes) view = of_released handle (released (lock_under (name_space s) handle) (owner_of handle))
   of_node handle (calls.Open opening) view = of_fault faults.BadHandle
   of_node handle (calls.Close bytes) view = of_fault faults.BadHandle
   of_node handle (calls.Read bytes) view = of_fault faults.BadHandle
@@ -198,20 +199,20 @@ module _ (s : MasterState) where
 
   -- ---- any call
 
-  of_application : (handle : Handle) (call : Call) (o : Option CallResult) → HasShape (option_map_or (λ answer. answered answer) o (change_on s handle call))
+  of_application : (handle : Handle) (call : Call) (o : Option CallResult) → HasShape (option_map_or (λ answer. answered answer) o (change_on (name_space s) s.clock handle call))
   of_application handle call o =
-      by_option o (λ answer. answered answer) (change_on s handle call) of_answer
-      (by_option (node_of_handle s handle) (λ view. change_at s handle call view) (refused faults.StaleInstance) (of_node handle call) (of_fault faults.StaleInstance))
+      by_option o (λ answer. answered answer) (change_on (name_space s) s.clock handle call) of_answer
+      (by_option (node_of_handle (name_space s) handle) (λ view. change_at (name_space s) s.clock handle call view) (refused faults.StaleInstance) (of_node handle call) (of_fault faults.StaleInstance))
 
-  of_call : (handle : Handle) (call : Call) (sequencer : Option (List ℕ)) → HasShape (effect_on s handle call sequencer)
-  of_call handle (calls.Close bytes) sequencer = of_closed handle (Some (record { key = key_of handle; state = states.Closed })) (node_of_handle s handle)
-  of_call handle call sequencer = of_application handle call (answer_on s handle call sequencer)
+  of_call : (handle : Handle) (call : Call) (sequencer : Option (List ℕ)) → HasShape (effect_on (name_space s) s.clock handle call sequencer)
+  of_call handle (calls.Close bytes) sequencer = of_closed handle (Some (record { key = key_of handle; state = states.Closed })) (node_of_handle (name_space s) handle)
+  of_call handle call sequencer = of_application handle call (answer_on (name_space s) handle call sequencer)
 
-  of_handle : (call : Call) (sequencer : Option (List ℕ)) (o : Option Handle) → HasShape (handle_effect s call sequencer o)
+  of_handle : (call : Call) (sequencer : Option (List ℕ)) (o : Option Handle) → HasShape (handle_effect (name_space s) s.clock call sequencer o)
   of_handle call sequencer None = of_fault faults.BadHandle
   of_handle call sequencer (Some handle) = of_call handle call sequencer
 
-  pub shape_of : (client number : ℕ) (call : Call) (sequencer : Option (List ℕ)) → HasShape (effect s client number call sequencer)
+  pub shape_of : (client number : ℕ) (call : Call) (sequencer : Option (List ℕ)) → HasShape (effect (name_space s) (caller s client) s.clock number call sequencer)
   unfolding effect
   shape_of client number (calls.Open opening) sequencer = of_open client number opening sequencer opening.create
   shape_of client number call sequencer = of_handle call sequencer (read_handle s.secret (bytes_of call))

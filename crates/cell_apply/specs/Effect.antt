@@ -33,7 +33,7 @@ use Rattle.lock_core.specs.Locks.{lock_at}
 use Rattle.lock_core.specs.Turns.{tried, acquired, released, closed_by}
 use Rattle.cell_update.specs.declared.updates.LockPut.{LockPut}
 use Rattle.cell_parts.specs.Claims.{owner_of, claim_of}
-use Rattle.cell_state.specs.State.{MasterState}
+use Rattle.cell_state.specs.NameSpace.{NameSpace, Caller}
 use Rattle.cell_state.specs.Lookups.{may, missing_right, is_of_cell, sequencer_fault, lock_under, holds_lock, node_of_handle, new_handle, open_present, plain_open, opened_answer, opened_note, answer_on}
 use Rattle.cell_parts.specs.Calls.{create_fault, bytes_of}
 use Rattle.cell_parts.specs.Keys.{key_of}
@@ -62,8 +62,8 @@ is_last n = nat_le number_limit n
 
 -- ---- creates
 
-abbrev pub opened_effect : MasterState → Result Handle Fault → Effect
-opened_effect s opened = record { note = opened_note s opened; change = None; locking = Nothing; answer = Some (opened_answer s opened) }
+abbrev pub opened_effect : NameSpace → Result Handle Fault → Effect
+opened_effect space opened = record { note = opened_note space opened; change = None; locking = Nothing; answer = Some (opened_answer space opened) }
 
 abbrev pub kind_of : NewNode → Kind
 kind_of (made.File content) = kinds.File
@@ -98,67 +98,67 @@ new_view instance node life acls = record {
 }
 
 -- the new node is put, and its handle is open
-abbrev pub create_made : MasterState → Open → View → Result Handle Fault → Effect
-create_made s opening view (Err fault) = refused fault
-create_made s opening view (Ok handle) = record {
-  note = opened_note s (Ok handle);
-  change = Some (record { change = Put opening.name view; next_instance = s.next_instance + 1 });
+abbrev pub create_made : NameSpace → Open → View → Result Handle Fault → Effect
+create_made space opening view (Err fault) = refused fault
+create_made space opening view (Ok handle) = record {
+  note = opened_note space (Ok handle);
+  change = Some (record { change = Put opening.name view; next_instance = space.next_instance + 1 });
   locking = Nothing;
-  answer = Some (opened_answer s (Ok handle));
+  answer = Some (opened_answer space (Ok handle));
 }
 
-abbrev pub create_numbered : MasterState → ℕ → ℕ → Open → View → Effect
-create_numbered s client number opening view =
-    if is_last s.next_instance then refused faults.Exhausted else create_made s opening view (new_handle s client number opening view)
+abbrev pub create_numbered : NameSpace → Caller → ℕ → Open → View → Effect
+create_numbered space caller number opening view =
+    if is_last space.next_instance then refused faults.Exhausted else create_made space opening view (new_handle space caller number opening view)
 
 -- the rights of the mode, on the ACLs of the new node
-abbrev pub create_permitted : MasterState → ℕ → ℕ → Open → View → Effect
-create_permitted s client number opening view =
-    option_map_or (λ right. refused (faults.Denied right)) (missing_right s client opening.mode view) (create_numbered s client number opening view)
+abbrev pub create_permitted : NameSpace → Caller → ℕ → Open → View → Effect
+create_permitted space caller number opening view =
+    option_map_or (λ right. refused (faults.Denied right)) (missing_right space caller opening.mode view) (create_numbered space caller number opening view)
 
 -- write on the directory above comes first
-abbrev pub create_in : MasterState → ℕ → ℕ → Open → Create → View → Kind → Effect
-create_in s client number opening create above kinds.File = refused (faults.WrongKind kinds.File)
-create_in s client number opening create above kinds.Directory =
-    if may s client above rights.Write
-    then create_permitted s client number opening (new_view s.next_instance create.node create.life (acls_of above create.acls))
+abbrev pub create_in : NameSpace → Caller → ℕ → Open → Create → View → Kind → Effect
+create_in space caller number opening create above kinds.File = refused (faults.WrongKind kinds.File)
+create_in space caller number opening create above kinds.Directory =
+    if may space caller above rights.Write
+    then create_permitted space caller number opening (new_view space.next_instance create.node create.life (acls_of above create.acls))
     else refused (faults.Denied rights.Write)
 
-abbrev pub create_under : MasterState → ℕ → ℕ → Open → Create → Option View → Effect
-create_under s client number opening create None = refused faults.NotFound
-create_under s client number opening create (Some above) = create_in s client number opening create above above.kind
+abbrev pub create_under : NameSpace → Caller → ℕ → Open → Create → Option View → Effect
+create_under space caller number opening create None = refused faults.NotFound
+create_under space caller number opening create (Some above) = create_in space caller number opening create above above.kind
 
-abbrev pub create_new : MasterState → ℕ → ℕ → Open → Create → Effect
-create_new s client number opening create =
-    option_map_or (λ parent. create_under s client number opening create (get_node s.nodes parent)) (parent_of opening.name) (refused faults.NotFound)
+abbrev pub create_new : NameSpace → Caller → ℕ → Open → Create → Effect
+create_new space caller number opening create =
+    option_map_or (λ parent. create_under space caller number opening create (get_node space.nodes parent)) (parent_of opening.name) (refused faults.NotFound)
 
 -- a node of the name is there: it is opened where it may be
-abbrev pub create_over : MasterState → ℕ → ℕ → Open → Disposition → View → Effect
-create_over s client number opening Must view = refused faults.Exists
-create_over s client number opening May view = opened_effect s (open_present s client number opening view)
+abbrev pub create_over : NameSpace → Caller → ℕ → Open → Disposition → View → Effect
+create_over space caller number opening Must view = refused faults.Exists
+create_over space caller number opening May view = opened_effect space (open_present space caller number opening view)
 
-abbrev pub create_effect : MasterState → ℕ → ℕ → Open → Create → Effect
-create_effect s client number opening create =
-    option_map_or (λ view. create_over s client number opening create.disposition view) (get_node s.nodes opening.name) (create_new s client number opening create)
+abbrev pub create_effect : NameSpace → Caller → ℕ → Open → Create → Effect
+create_effect space caller number opening create =
+    option_map_or (λ view. create_over space caller number opening create.disposition view) (get_node space.nodes opening.name) (create_new space caller number opening create)
 
 -- its content and its lock-delay are tested again
-abbrev pub create_tested : MasterState → ℕ → ℕ → Open → Create → Effect
-create_tested s client number opening create =
-    option_map_or (λ answer. answered answer) (create_fault opening create.node) (create_effect s client number opening create)
+abbrev pub create_tested : NameSpace → Caller → ℕ → Open → Create → Effect
+create_tested space caller number opening create =
+    option_map_or (λ answer. answered answer) (create_fault opening create.node) (create_effect space caller number opening create)
 
 -- its sequencer is tested first
-abbrev pub create_under_sequencer : MasterState → ℕ → ℕ → Open → Create → Option Fault → Effect
-create_under_sequencer s client number opening create (Some fault) = refused fault
-create_under_sequencer s client number opening create None = create_tested s client number opening create
+abbrev pub create_under_sequencer : NameSpace → Caller → ℕ → Open → Create → Option Fault → Effect
+create_under_sequencer space caller number opening create (Some fault) = refused fault
+create_under_sequencer space caller number opening create None = create_tested space caller number opening create
 
 -- the tests of a create that comes are made again
-abbrev pub create_here : MasterState → ℕ → ℕ → Open → Create → Option (List ℕ) → Effect
-create_here s client number opening create sequencer =
-    if is_of_cell s opening.name then create_under_sequencer s client number opening create (sequencer_fault s sequencer) else refused faults.OtherCell
+abbrev pub create_here : NameSpace → Caller → ℕ → Open → Create → Option (List ℕ) → Effect
+create_here space caller number opening create sequencer =
+    if is_of_cell space opening.name then create_under_sequencer space caller number opening create (sequencer_fault space sequencer) else refused faults.OtherCell
 
-abbrev pub open_effect : MasterState → ℕ → ℕ → Open → Option (List ℕ) → Option Create → Effect
-open_effect s client number opening sequencer None = opened_effect s (plain_open s client number opening)
-open_effect s client number opening sequencer (Some create) = create_here s client number opening create sequencer
+abbrev pub open_effect : NameSpace → Caller → ℕ → Open → Option (List ℕ) → Option Create → Effect
+open_effect space caller number opening sequencer None = opened_effect space (plain_open space caller number opening)
+open_effect space caller number opening sequencer (Some create) = create_here space caller number opening create sequencer
 
 -- ---- locks
 
@@ -191,31 +191,31 @@ abbrev pub release_by : Handle → Result Turn Fault → Effect
 release_by handle (Ok turn) = record { note = None; change = None; locking = leaving_by handle true turn; answer = Some results.Done }
 release_by handle (Err fault) = refused fault
 
-abbrev pub acquire_at : MasterState → Handle → LockMode → Effect
-acquire_at s handle mode = acquire_by handle (claim_of handle mode) (acquired (lock_under s handle) (claim_of handle mode))
+abbrev pub acquire_at : NameSpace → Handle → LockMode → Effect
+acquire_at space handle mode = acquire_by handle (claim_of handle mode) (acquired (lock_under space handle) (claim_of handle mode))
 
 -- by the moment that the master was told
-abbrev pub try_at : MasterState → Handle → LockMode → Effect
-try_at s handle mode = try_by handle (claim_of handle mode) (tried (lock_under s handle) (claim_of handle mode) s.clock)
+abbrev pub try_at : NameSpace → ℕ → Handle → LockMode → Effect
+try_at space now handle mode = try_by handle (claim_of handle mode) (tried (lock_under space handle) (claim_of handle mode) now)
 
-abbrev pub release_at : MasterState → Handle → Effect
-release_at s handle = release_by handle (released (lock_under s handle) (owner_of handle))
+abbrev pub release_at : NameSpace → Handle → Effect
+release_at space handle = release_by handle (released (lock_under space handle) (owner_of handle))
 
-abbrev pub close_by : MasterState → Handle → Option Turn → Locking
-close_by s handle None = Nothing
-close_by s handle (Some turn) = leaving_by handle (holds_lock s handle) turn
+abbrev pub close_by : NameSpace → Handle → Option Turn → Locking
+close_by space handle None = Nothing
+close_by space handle (Some turn) = leaving_by handle (holds_lock space handle) turn
 
 -- where its node is gone, so is the lock
-abbrev pub close_under : MasterState → Handle → Option View → Locking
-close_under s handle None = Nothing
-close_under s handle (Some view) = close_by s handle (closed_by (lock_under s handle) (owner_of handle))
+abbrev pub close_under : NameSpace → Handle → Option View → Locking
+close_under space handle None = Nothing
+close_under space handle (Some view) = close_by space handle (closed_by (lock_under space handle) (owner_of handle))
 
 -- a handle that is closed lets its lock go, or waits for it no longer
-abbrev pub close_at : MasterState → Handle → Effect
-close_at s handle = record {
+abbrev pub close_at : NameSpace → Handle → Effect
+close_at space handle = record {
   note = Some (record { key = key_of handle; state = states.Closed });
   change = None;
-  locking = close_under s handle (node_of_handle s handle);
+  locking = close_under space handle (node_of_handle space handle);
   answer = Some results.Closed;
 }
 
@@ -232,62 +232,62 @@ with_content view content = record view { content_generation = view.content_gene
 abbrev pub with_acls : View → AclNames → View
 with_acls view acls = record view { acl_generation = view.acl_generation + 1; read = acls.read; write = acls.write; change = acls.change }
 
-abbrev pub put_at : MasterState → Handle → ℕ → Option ℕ → View → Effect
-put_at s handle present wanted view =
+abbrev pub put_at : NameSpace → Handle → ℕ → Option ℕ → View → Effect
+put_at space handle present wanted view =
     if generation_fits wanted present
-    then (if is_last present then refused faults.Exhausted else changes_to (Put handle.name view) s.next_instance results.Done)
+    then (if is_last present then refused faults.Exhausted else changes_to (Put handle.name view) space.next_instance results.Done)
     else refused (faults.WrongGeneration present)
 
 -- the node goes, and its lock with it
-abbrev pub deleted : MasterState → Handle → Effect
-deleted s handle = record {
+abbrev pub deleted : NameSpace → Handle → Effect
+deleted space handle = record {
   note = None;
-  change = Some (record { change = Gone handle.name; next_instance = s.next_instance });
-  locking = Goes handle.instance (lock_under s handle).waiters;
+  change = Some (record { change = Gone handle.name; next_instance = space.next_instance });
+  locking = Goes handle.instance (lock_under space handle).waiters;
   answer = Some results.Done;
 }
 
 -- the root and a directory with children stay
-abbrev pub delete_at : MasterState → Handle → Effect
-delete_at s handle =
-    if has_children s.nodes handle.name || is_none (parent_of handle.name) then refused faults.NotEmpty
-    else deleted s handle
+abbrev pub delete_at : NameSpace → Handle → Effect
+delete_at space handle =
+    if has_children space.nodes handle.name || is_none (parent_of handle.name) then refused faults.NotEmpty
+    else deleted space handle
 
-abbrev pub change_at : MasterState → Handle → Call → View → Effect
-change_at s handle (calls.Set bytes content generation) view = put_at s handle view.content_generation generation (with_content view content)
-change_at s handle (calls.SetAcl bytes acls generation) view = put_at s handle view.acl_generation generation (with_acls view acls)
-change_at s handle (calls.Delete bytes) view = delete_at s handle
-change_at s handle (calls.Acquire bytes mode) view = acquire_at s handle mode
-change_at s handle (calls.TryAcquire bytes mode) view = try_at s handle mode
-change_at s handle (calls.Release bytes) view = release_at s handle
-change_at s handle _ view = refused faults.BadHandle
+abbrev pub change_at : NameSpace → ℕ → Handle → Call → View → Effect
+change_at space now handle (calls.Set bytes content generation) view = put_at space handle view.content_generation generation (with_content view content)
+change_at space now handle (calls.SetAcl bytes acls generation) view = put_at space handle view.acl_generation generation (with_acls view acls)
+change_at space now handle (calls.Delete bytes) view = delete_at space handle
+change_at space now handle (calls.Acquire bytes mode) view = acquire_at space handle mode
+change_at space now handle (calls.TryAcquire bytes mode) view = try_at space now handle mode
+change_at space now handle (calls.Release bytes) view = release_at space handle
+change_at space now handle _ view = refused faults.BadHandle
 
-abbrev pub change_on : MasterState → Handle → Call → Effect
-change_on s handle call = option_map_or (λ view. change_at s handle call view) (node_of_handle s handle) (refused faults.StaleInstance)
+abbrev pub change_on : NameSpace → ℕ → Handle → Call → Effect
+change_on space now handle call = option_map_or (λ view. change_at space now handle call view) (node_of_handle space handle) (refused faults.StaleInstance)
 
 -- ---- by the cell itself
 
 -- an ephemeral node that nobody holds open goes as one that is deleted, and nobody asked for it
-abbrev pub gone_by_itself : MasterState → Idle → Effect
-gone_by_itself s idle = record {
+abbrev pub gone_by_itself : NameSpace → Idle → Effect
+gone_by_itself space idle = record {
   note = None;
-  change = Some (record { change = Gone idle.name; next_instance = s.next_instance });
-  locking = Goes idle.instance (lock_at s.locks idle.instance).waiters;
+  change = Some (record { change = Gone idle.name; next_instance = space.next_instance });
+  locking = Goes idle.instance (lock_at space.locks idle.instance).waiters;
   answer = None;
 }
 
 -- ---- by the call
 
 -- what would be answered at once is answered now too: so its sequencer is tested again
-abbrev pub effect_on : MasterState → Handle → Call → Option (List ℕ) → Effect
-effect_on s handle (calls.Close bytes) sequencer = close_at s handle
-effect_on s handle call sequencer = option_map_or (λ answer. answered answer) (answer_on s handle call sequencer) (change_on s handle call)
+abbrev pub effect_on : NameSpace → ℕ → Handle → Call → Option (List ℕ) → Effect
+effect_on space now handle (calls.Close bytes) sequencer = close_at space handle
+effect_on space now handle call sequencer = option_map_or (λ answer. answered answer) (answer_on space handle call sequencer) (change_on space now handle call)
 
-abbrev pub handle_effect : MasterState → Call → Option (List ℕ) → Option Handle → Effect
-handle_effect s call sequencer None = refused faults.BadHandle
-handle_effect s call sequencer (Some handle) = effect_on s handle call sequencer
+abbrev pub handle_effect : NameSpace → ℕ → Call → Option (List ℕ) → Option Handle → Effect
+handle_effect space now call sequencer None = refused faults.BadHandle
+handle_effect space now call sequencer (Some handle) = effect_on space now handle call sequencer
 
 -- what is noted of a handle, the change of the map and the next instance after it, if there is one, what becomes of a lock, and the answer, if it has one yet
-unfoldable pub effect : MasterState → ℕ → ℕ → Call → Option (List ℕ) → Effect
-effect s client number (calls.Open opening) sequencer = open_effect s client number opening sequencer opening.create
-effect s client number call sequencer = handle_effect s call sequencer (read_handle s.secret (bytes_of call))
+unfoldable pub effect : NameSpace → Caller → ℕ → ℕ → Call → Option (List ℕ) → Effect
+effect space caller now number (calls.Open opening) sequencer = open_effect space caller number opening sequencer opening.create
+effect space caller now number call sequencer = handle_effect space now call sequencer (read_handle space.secret (bytes_of call))

@@ -1,6 +1,7 @@
 //! What an Open that may make a node does when its turn comes.
 ghost use Rattle.std.specs.Prelude.{◌≡◌, ◌<◌, ◌+◌, ◌-◌, ◌^◌, None, Ok, IfOk};
 ghost use Rattle.node_core.specs.declared.views.Mod.TheVariants.{Put};
+ghost use Rattle.cell_state.specs.NameSpace.{name_space, caller};
 ghost use Rattle.cell_apply.specs.Effect.{create_effect, create_over, create_new, create_in, create_permitted, create_numbered, create_made, new_view, kind_of, first_generation, content_of, acls_of};
 ghost use Rattle.cell_state.specs.Lookups.{may};
 
@@ -21,7 +22,7 @@ pub(crate) fn create_effect(
     opening: &Open,
     create: &Create,
 ) -> Result<Effect, AllocError>
-    ensures { IfOk result (λ done. done ≡ create_effect master.now client number opening.now create.now) }
+    ensures { IfOk result (λ done. done ≡ create_effect (name_space master.now) (caller master.now client) number opening.now create.now) }
 {
     match master.map().get(&opening.name) {
         None => create_new(master, client, number, opening, create),
@@ -38,7 +39,7 @@ fn create_over(
     disposition: Disposition,
     view: &View,
 ) -> Result<Effect, AllocError>
-    ensures { IfOk result (λ done. done ≡ create_over master.now client number opening.now disposition view.now) }
+    ensures { IfOk result (λ done. done ≡ create_over (name_space master.now) (caller master.now client) number opening.now disposition view.now) }
 {
     match disposition {
         Disposition::Must => Ok(Effect::refused(Fault::Exists)),
@@ -56,7 +57,7 @@ fn create_new(
     opening: &Open,
     create: &Create,
 ) -> Result<Effect, AllocError>
-    ensures { IfOk result (λ done. done ≡ create_new master.now client number opening.now create.now) }
+    ensures { IfOk result (λ done. done ≡ create_new (name_space master.now) (caller master.now client) number opening.now create.now) }
 {
     let Some(parent) = opening.name.parent()? else {
         return Ok(Effect::refused(Fault::NotFound));
@@ -69,7 +70,7 @@ fn create_new(
 
 // A node is added by clients that may write the directory above.
 fn may_add(master: &Master, client: ClientNumber, above: &View) -> Result<bool, AllocError>
-    ensures { IfOk result (λ allowed. allowed ≡ may master.now client above.now Right.Write) }
+    ensures { IfOk result (λ allowed. allowed ≡ may (name_space master.now) (caller master.now client) above.now Right.Write) }
 {
     master.may(client, above, Right::Write)
 }
@@ -83,7 +84,7 @@ fn create_in(
     create: &Create,
     above: &View,
 ) -> Result<Effect, AllocError>
-    ensures { IfOk result (λ done. done ≡ create_in master.now client number opening.now create.now above.now above.now.kind) }
+    ensures { IfOk result (λ done. done ≡ create_in (name_space master.now) (caller master.now client) number opening.now create.now above.now above.now.kind) }
 {
     match above.kind {
         Kind::File => Ok(Effect::refused(Fault::WrongKind(Kind::File))),
@@ -105,7 +106,7 @@ fn create_permitted(
     opening: &Open,
     view: View,
 ) -> Result<Effect, AllocError>
-    ensures { IfOk result (λ done. done ≡ create_permitted master.now client number opening.now view) }
+    ensures { IfOk result (λ done. done ≡ create_permitted (name_space master.now) (caller master.now client) number opening.now view) }
 {
     if let Some(right) = master.missing_right(client, opening.mode, &view)? {
         return Ok(Effect::refused(Fault::Denied(right)));
@@ -120,7 +121,7 @@ fn create_numbered(
     opening: &Open,
     view: View,
 ) -> Result<Effect, AllocError>
-    ensures { IfOk result (λ done. done ≡ create_numbered master.now client number opening.now view) }
+    ensures { IfOk result (λ done. done ≡ create_numbered (name_space master.now) (caller master.now client) number opening.now view) }
 {
     if master.next_instance() >= NUMBER_LIMIT {
         return Ok(Effect::refused(Fault::Exhausted));
@@ -139,7 +140,7 @@ fn create_made(
     handle: Handle,
 ) -> Result<Effect, AllocError>
     requires { master.now.next_instance < 2 ^ 63 - 1 }
-    ensures { IfOk result (λ done. done ≡ create_made master.now opening.now view (Ok handle)) }
+    ensures { IfOk result (λ done. done ≡ create_made (name_space master.now) opening.now view (Ok handle)) }
 {
     let name = opening.name.clone()?;
     let change = made_change(master, name, view);

@@ -1,5 +1,6 @@
 //! What a change does when its turn comes.
 ghost use Rattle.std.specs.Prelude.{◌≡◌, Some, None, IfOk};
+ghost use Rattle.cell_state.specs.NameSpace.{name_space, caller};
 ghost use Rattle.cell_apply.specs.Effect.{answered, refused, changes_to, opened_effect, effect, effect_on, create_tested, create_here, open_effect};
 
 use crate::creates::create_effect;
@@ -96,7 +97,7 @@ pub fn effect_of(
     call: &Call,
     sequencer: &Option<Bytes>,
 ) -> Result<Effect, AllocError>
-    ensures { IfOk result (λ done. done ≡ effect master.now client number call.now sequencer.now) }
+    ensures { IfOk result (λ done. done ≡ effect (name_space master.now) (caller master.now client) master.now.clock number call.now sequencer.now) }
 {
     match call {
         Call::Open(opening) => open_effect(master, client, number, opening, sequencer),
@@ -114,7 +115,7 @@ fn effect_on(
     call: &Call,
     sequencer: &Option<Bytes>,
 ) -> Result<Effect, AllocError>
-    ensures { IfOk result (λ done. done ≡ effect_on master.now handle.now call.now sequencer.now) }
+    ensures { IfOk result (λ done. done ≡ effect_on (name_space master.now) master.now.clock handle.now call.now sequencer.now) }
 {
     match call {
         Call::Close(_) => close_at(master, handle),
@@ -132,7 +133,7 @@ fn open_effect(
     opening: &Open,
     sequencer: &Option<Bytes>,
 ) -> Result<Effect, AllocError>
-    ensures { IfOk result (λ done. done ≡ open_effect master.now client number opening.now sequencer.now opening.now.create) }
+    ensures { IfOk result (λ done. done ≡ open_effect (name_space master.now) (caller master.now client) number opening.now sequencer.now opening.now.create) }
 {
     match &opening.create {
         None => {
@@ -152,7 +153,7 @@ fn create_here(
     create: &Create,
     sequencer: &Option<Bytes>,
 ) -> Result<Effect, AllocError>
-    ensures { IfOk result (λ done. done ≡ create_here master.now client number opening.now create.now sequencer.now) }
+    ensures { IfOk result (λ done. done ≡ create_here (name_space master.now) (caller master.now client) number opening.now create.now sequencer.now) }
 {
     if !master.is_of_cell(&opening.name) {
         return Ok(Effect::refused(Fault::OtherCell));
@@ -171,7 +172,7 @@ fn create_tested(
     opening: &Open,
     create: &Create,
 ) -> Result<Effect, AllocError>
-    ensures { IfOk result (λ done. done ≡ create_tested master.now client number opening.now create.now) }
+    ensures { IfOk result (λ done. done ≡ create_tested (name_space master.now) (caller master.now client) number opening.now create.now) }
 {
     match create_fault(opening, &create.node) {
         Some(answer) => Ok(Effect::answered(answer)),
@@ -184,7 +185,7 @@ pub(crate) fn opened_effect(
     master: &Master,
     opened: Result<Handle, Fault>,
 ) -> Result<Effect, AllocError>
-    ensures { IfOk result (λ done. done ≡ opened_effect master.now opened) }
+    ensures { IfOk result (λ done. done ≡ opened_effect (name_space master.now) opened) }
 {
     let (note, answer) = master.opened(opened)?;
     Ok(Effect {

@@ -1,6 +1,7 @@
 //! What a call does to a lock when its turn comes.
 ghost use Rattle.std.specs.Prelude.{◌≡◌, Some, None, IfOk};
 ghost use Rattle.lock_core.specs.Locks.{lock_at};
+ghost use Rattle.cell_state.specs.NameSpace.{name_space};
 ghost use Rattle.cell_state.specs.Lookups.{node_of_handle};
 ghost use Rattle.cell_apply.specs.Effect.{lock_put, lock_taken, lock_awaited, leaving_by, acquire_at, try_at, release_at, close_under, close_at, deleted, gone_by_itself};
 
@@ -20,7 +21,7 @@ pub(crate) fn acquire_at(
     handle: &Handle,
     mode: LockMode,
 ) -> Result<Effect, AllocError>
-    ensures { IfOk result (λ done. done ≡ acquire_at master.now handle.now mode) }
+    ensures { IfOk result (λ done. done ≡ acquire_at (name_space master.now) handle.now mode) }
 {
     let claim = claim_of(handle, mode);
     match master.locks().acquire(handle.instance.get(), claim) {
@@ -33,7 +34,7 @@ pub(crate) fn acquire_at(
 
 // By the moment that the master was told.
 pub(crate) fn try_at(master: &Master, handle: &Handle, mode: LockMode) -> Result<Effect, AllocError>
-    ensures { IfOk result (λ done. done ≡ try_at master.now handle.now mode) }
+    ensures { IfOk result (λ done. done ≡ try_at (name_space master.now) master.now.clock handle.now mode) }
 {
     let claim = claim_of(handle, mode);
     match master
@@ -47,7 +48,7 @@ pub(crate) fn try_at(master: &Master, handle: &Handle, mode: LockMode) -> Result
 }
 
 pub(crate) fn release_at(master: &Master, handle: &Handle) -> Result<Effect, AllocError>
-    ensures { IfOk result (λ done. done ≡ release_at master.now handle.now) }
+    ensures { IfOk result (λ done. done ≡ release_at (name_space master.now) handle.now) }
 {
     match master
         .locks()
@@ -66,7 +67,7 @@ pub(crate) fn release_at(master: &Master, handle: &Handle) -> Result<Effect, All
 
 // A handle that is closed lets its lock go, or waits for it no longer.
 pub(crate) fn close_at(master: &Master, handle: &Handle) -> Result<Effect, AllocError>
-    ensures { IfOk result (λ done. done ≡ close_at master.now handle.now) }
+    ensures { IfOk result (λ done. done ≡ close_at (name_space master.now) handle.now) }
 {
     let locking = close_by(master, handle)?;
     Ok(Effect {
@@ -81,7 +82,7 @@ pub(crate) fn close_at(master: &Master, handle: &Handle) -> Result<Effect, Alloc
 }
 
 fn close_by(master: &Master, handle: &Handle) -> Result<Locking, AllocError>
-    ensures { IfOk result (λ locking. locking ≡ close_under master.now handle.now (node_of_handle master.now handle.now)) }
+    ensures { IfOk result (λ locking. locking ≡ close_under (name_space master.now) handle.now (node_of_handle (name_space master.now) handle.now)) }
 {
     if master.node_of(handle).is_none() {
         return Ok(Locking::Nothing);
@@ -97,7 +98,7 @@ fn close_by(master: &Master, handle: &Handle) -> Result<Locking, AllocError>
 
 // The node goes, and its lock with it.
 pub(crate) fn deleted(master: &Master, handle: &Handle) -> Result<Effect, AllocError>
-    ensures { IfOk result (λ done. done ≡ deleted master.now handle.now) }
+    ensures { IfOk result (λ done. done ≡ deleted (name_space master.now) handle.now) }
 {
     let waiters = waiters_of(master, handle.instance.get())?;
     let change = Mod::Gone(handle.name.clone()?);
@@ -114,7 +115,7 @@ pub(crate) fn deleted(master: &Master, handle: &Handle) -> Result<Effect, AllocE
 
 /// An ephemeral node that nobody holds open goes as one that is deleted, and nobody asked for it.
 pub fn gone_by_itself(master: &Master, idle: &Idle) -> Result<Effect, AllocError>
-    ensures { IfOk result (λ done. done ≡ gone_by_itself master.now idle.now) }
+    ensures { IfOk result (λ done. done ≡ gone_by_itself (name_space master.now) idle.now) }
 {
     let waiters = waiters_of(master, idle.instance)?;
     let change = Mod::Gone(idle.name.clone()?);

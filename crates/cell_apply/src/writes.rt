@@ -1,5 +1,6 @@
 //! What a write does when its turn comes.
 ghost use Rattle.std.specs.Prelude.{◌≡◌, ◌<◌, ◌-◌, ◌^◌, IfOk};
+ghost use Rattle.cell_state.specs.NameSpace.{name_space};
 ghost use Rattle.cell_apply.specs.Effect.{changes_to, put_at, delete_at, change_at, change_on, generation_fits, with_content, with_acls};
 
 use crate::effects::Effect;
@@ -12,7 +13,7 @@ use std::alloc::AllocError;
 use tags_cell::Handle;
 
 pub(crate) fn change_on(master: &Master, handle: &Handle, call: &Call) -> Result<Effect, AllocError>
-    ensures { IfOk result (λ done. done ≡ change_on master.now handle.now call.now) }
+    ensures { IfOk result (λ done. done ≡ change_on (name_space master.now) master.now.clock handle.now call.now) }
 {
     match master.node_of(handle) {
         None => Ok(Effect::refused(Fault::StaleInstance)),
@@ -26,7 +27,7 @@ fn change_at(
     call: &Call,
     view: &View,
 ) -> Result<Effect, AllocError>
-    ensures { IfOk result (λ done. done ≡ change_at master.now handle.now call.now view.now) }
+    ensures { IfOk result (λ done. done ≡ change_at (name_space master.now) master.now.clock handle.now call.now view.now) }
 {
     match call {
         Call::Set {
@@ -54,7 +55,7 @@ fn set_at(
     content: &Bytes,
     generation: Option<u64>,
 ) -> Result<Effect, AllocError>
-    ensures { IfOk result (λ done. done ≡ put_at master.now handle.now view.now.content_generation generation (with_content view.now content.now)) }
+    ensures { IfOk result (λ done. done ≡ put_at (name_space master.now) handle.now view.now.content_generation generation (with_content view.now content.now)) }
 {
     let present = view.content_generation;
     if !generation_fits(generation, present) {
@@ -73,7 +74,7 @@ fn set_acl_at(
     acls: &AclNames,
     generation: Option<u64>,
 ) -> Result<Effect, AllocError>
-    ensures { IfOk result (λ done. done ≡ put_at master.now handle.now view.now.acl_generation generation (with_acls view.now acls.now)) }
+    ensures { IfOk result (λ done. done ≡ put_at (name_space master.now) handle.now view.now.acl_generation generation (with_acls view.now acls.now)) }
 {
     let present = view.acl_generation;
     if !generation_fits(generation, present) {
@@ -87,7 +88,7 @@ fn set_acl_at(
 
 // The root and a directory with children stay.
 fn delete_at(master: &Master, handle: &Handle) -> Result<Effect, AllocError>
-    ensures { IfOk result (λ done. done ≡ delete_at master.now handle.now) }
+    ensures { IfOk result (λ done. done ≡ delete_at (name_space master.now) handle.now) }
 {
     if master.map().has_children(&handle.name)? || handle.name.is_root() {
         return Ok(Effect::refused(Fault::NotEmpty));

@@ -14,6 +14,8 @@ use Rattle.node_core.specs.Nodes.{get_node}
 use Rattle.tags_cell.specs.Modes.{has_right}
 use Rattle.tags_cell.specs.Handles.{read_handle, is_ordinal}
 use Rattle.tags_cell.specs.declared.handles.Handle.{Handle}
+use Rattle.messages_cell.specs.declared.requests.CallMessage.{CallMessage}
+use Rattle.cell_parts.specs.declared.pending.Task.TheVariants as tasks
 use Rattle.messages_cell.specs.declared.calls.Open.{Open}
 use Rattle.messages_cell.specs.declared.calls.Create.{Create}
 use Rattle.messages_cell.specs.declared.calls.Call.{Call}
@@ -21,16 +23,17 @@ use Rattle.messages_cell.specs.declared.calls.Call.TheVariants as calls
 use Rattle.messages_cell.specs.declared.outs.CallResult.{CallResult}
 use Rattle.messages_cell.specs.declared.outs.CallResult.TheVariants as results
 use Rattle.cell_core.specs.declared.admissions.Admission.{Admission}
+use Rattle.cell_state.specs.NameSpace.{name_space, caller}
 use Rattle.cell_state.specs.State.{MasterState}
 use Rattle.cell_state.specs.Lookups.{own_handle, shown_handle, node_of_handle, is_usable, handle_state_of, list_answer, answer_on, answer_on_node, answer_under, missing_right, open_present, plain_open, opened_answer, is_of_cell, sequencer_fault, sequencer_result, release_fault, lock_under}
 use Rattle.cell_parts.specs.Calls.{needing, write_fault, is_too_long}
 use Rattle.cell_parts.specs.Keys.{key_of}
-use Rattle.cell_core.specs.Step.{touched_by, viewed_name, told_by_open, handle_admission, admission_of_open, admission_of, admission_under, check_admission, answering}
+use Rattle.cell_core.specs.Step.{names_of, task_of, admission_for, touched_by, viewed_name, told_by_open, handle_admission, admission_of_open, admission_of, admission_under, check_admission, answering}
 use Rattle.tags_cell.specs.declared.sequencers.Sequencer.{Sequencer}
 use Rattle.lock_core.specs.State.{hold_of}
 use Rattle.lock_core.specs.Locks.{sequencer_of}
 use Rattle.cell_parts.specs.Claims.{owner_of}
-use Rattle.cell_core.specs.Names.{name_changed, name_asked, shown_by}
+use Rattle.cell_core.specs.Names.{name_changed, names_touched, name_asked, shown_by}
 
 -- a handle that is shown is the one whose bytes are shown
 shown_read : (s : MasterState) (client : ℕ) (o : Option Handle) (handle : Handle) → option_map_or (λ h. own_handle s client h) o None ≡ Some handle → o ≡ Some handle
@@ -66,9 +69,9 @@ check_waits_never s bytes (Some fault) h = cc
 -- a call that waits touches the name that it may change
 pub touched_is_changed : (s : MasterState) (client number : ℕ) (call : Call) (sequencer : Option (List ℕ)) → (admission_of s client number call sequencer).answer ≡ None → (admission_of s client number call sequencer).touched ≡ name_changed s.secret call
 touched_is_changed s client number (calls.Open opening) sequencer h =
-    let under : Admission = admission_under s client number opening (sequencer_fault s sequencer) in
-    named_touched (option_map (λ create. opening.name) opening.create) (is_of_cell s opening.name) under (results.Refused faults.OtherCell) h (under_touched s client number opening (sequencer_fault s sequencer))
-touched_is_changed s client number (calls.CheckSequencer bytes) sequencer h = absurd (check_waits_never s bytes (sequencer_fault s sequencer) h)
+    let under : Admission = admission_under s client number opening (sequencer_fault (name_space s) sequencer) in
+    named_touched (option_map (λ create. opening.name) opening.create) (is_of_cell (name_space s) opening.name) under (results.Refused faults.OtherCell) h (under_touched s client number opening (sequencer_fault (name_space s) sequencer))
+touched_is_changed s client number (calls.CheckSequencer bytes) sequencer h = absurd (check_waits_never s bytes (sequencer_fault (name_space s) sequencer) h)
 touched_is_changed s client number (calls.Close bytes) sequencer h = read_touched s client (calls.Close bytes) sequencer bytes (shown_handle s client bytes) refl h
 touched_is_changed s client number (calls.Read bytes) sequencer h = read_touched s client (calls.Read bytes) sequencer bytes (shown_handle s client bytes) refl h
 touched_is_changed s client number (calls.Stat bytes) sequencer h = read_touched s client (calls.Stat bytes) sequencer bytes (shown_handle s client bytes) refl h
@@ -81,6 +84,10 @@ touched_is_changed s client number (calls.TryAcquire bytes mode) sequencer h = r
 touched_is_changed s client number (calls.Release bytes) sequencer h = read_touched s client (calls.Release bytes) sequencer bytes (shown_handle s client bytes) refl h
 touched_is_changed s client number (calls.GetSequencer bytes) sequencer h = read_touched s client (calls.GetSequencer bytes) sequencer bytes (shown_handle s client bytes) refl h
 touched_is_changed s client number (calls.SetSequencer bytes) sequencer h = read_touched s client (calls.SetSequencer bytes) sequencer bytes (shown_handle s client bytes) refl h
+
+-- so it is queued with the names that it touches
+pub call_touches : (s : MasterState) (message : CallMessage) → (admission_for s message).answer ≡ None → names_of (admission_for s message).touched ≡ names_touched s.secret (tasks.Asked (task_of message))
+call_touches s message h = ap names_of (touched_is_changed s message.client message.number message.call message.sequencer h)
 
 -- ---- what an answer tells of a name
 
@@ -103,22 +110,22 @@ view_tells s own name answer view here told is =
     let shown : results.Viewed view ≡ answer = cc in
     (same, sym (ap shown_by shown) ∙ sym here ∙ ap (get_node s.nodes) same)
 
-under_tells : (s : MasterState) (handle : Handle) (bytes name : List ℕ) (answer : CallResult) (view : View) → get_node s.nodes handle.name ≡ Some view → (o : Option Fault) → Tells s handle.name name answer (answer_under s handle (calls.Read bytes) view o)
+under_tells : (s : MasterState) (handle : Handle) (bytes name : List ℕ) (answer : CallResult) (view : View) → get_node s.nodes handle.name ≡ Some view → (o : Option Fault) → Tells s handle.name name answer (answer_under (name_space s) handle (calls.Read bytes) view o)
 under_tells s handle bytes name answer view here (Some fault) = λ told is. cc
 under_tells s handle bytes name answer view here None =
     either_result (has_right handle.mode rights.Read) (λ given. Tells s handle.name name answer given) (Some (results.Viewed view)) (Some (results.Refused (faults.Denied rights.Read))) (view_tells s handle.name name answer view here) (λ told is. cc)
 
-read_tells : (s : MasterState) (handle : Handle) (bytes name : List ℕ) (answer : CallResult) (sequencer : Option (List ℕ)) → Tells s handle.name name answer (answer_on s handle (calls.Read bytes) sequencer)
+read_tells : (s : MasterState) (handle : Handle) (bytes name : List ℕ) (answer : CallResult) (sequencer : Option (List ℕ)) → Tells s handle.name name answer (answer_on (name_space s) handle (calls.Read bytes) sequencer)
 read_tells s handle bytes name answer sequencer =
-    at_node (λ view. answer_under s handle (calls.Read bytes) view (sequencer_fault s sequencer)) (Some (results.Refused faults.StaleInstance)) (get_node s.nodes handle.name) handle.instance (λ given. Tells s handle.name name answer given)
-    (λ view here. under_tells s handle bytes name answer view here (sequencer_fault s sequencer))
+    at_node (λ view. answer_under (name_space s) handle (calls.Read bytes) view (sequencer_fault (name_space s) sequencer)) (Some (results.Refused faults.StaleInstance)) (get_node s.nodes handle.name) handle.instance (λ given. Tells s handle.name name answer given)
+    (λ view here. under_tells s handle bytes name answer view here (sequencer_fault (name_space s) sequencer))
     (λ told is. cc)
 
 -- an answer that tells nothing of a handle's name
 abbrev IsSilent : List ℕ → Option CallResult → Type 0
 IsSilent own given = option_and_then (viewed_name own) given ≡ None
 
-silent_list : (s : MasterState) (own : List ℕ) (kind : Kind) → IsSilent own (Some (list_answer s own kind))
+silent_list : (s : MasterState) (own : List ℕ) (kind : Kind) → IsSilent own (Some (list_answer (name_space s) own kind))
 silent_list s own kinds.Directory = refl
 silent_list s own kinds.File = refl
 
@@ -130,27 +137,27 @@ silent_write own content kinds.File = either_result (nat_lt content_limit (lengt
 silent_without : (own : List ℕ) (handle : Handle) (right : Right) (given : Option CallResult) → IsSilent own given → IsSilent own (needing handle right given)
 silent_without own handle right given h = either_result (has_right handle.mode right) (λ o. IsSilent own o) given (Some (results.Refused (faults.Denied right))) h refl
 
-silent_under : (s : MasterState) (handle : Handle) (call : Call) (view : View) (o : Option Fault) → IsSilent handle.name (answer_on_node s handle call view) → IsSilent handle.name (answer_under s handle call view o)
+silent_under : (s : MasterState) (handle : Handle) (call : Call) (view : View) (o : Option Fault) → IsSilent handle.name (answer_on_node (name_space s) handle call view) → IsSilent handle.name (answer_under (name_space s) handle call view o)
 silent_under s handle call view None h = h
 silent_under s handle call view (Some fault) h = refl
 
-silent_release : (s : MasterState) (own : List ℕ) (handle : Handle) → IsSilent own (release_fault s handle)
-silent_release s own handle = either_result (is_none (hold_of (lock_under s handle) (owner_of handle))) (λ o. IsSilent own o) (Some (results.Refused faults.NotHolder)) None refl refl
+silent_release : (s : MasterState) (own : List ℕ) (handle : Handle) → IsSilent own (release_fault (name_space s) handle)
+silent_release s own handle = either_result (is_none (hold_of (lock_under (name_space s) handle) (owner_of handle))) (λ o. IsSilent own o) (Some (results.Refused faults.NotHolder)) None refl refl
 
 silent_result : (own : List ℕ) (given : Result Sequencer Fault) → IsSilent own (Some (sequencer_result given))
 silent_result own (Ok sequencer) = refl
 silent_result own (Err fault) = refl
 
-silent_on : (s : MasterState) (handle : Handle) (call : Call) (sequencer : Option (List ℕ)) → ((view : View) → IsSilent handle.name (answer_on_node s handle call view)) → IsSilent handle.name (option_map_or (λ view. answer_under s handle call view (sequencer_fault s sequencer)) (node_of_handle s handle) (Some (results.Refused faults.StaleInstance)))
+silent_on : (s : MasterState) (handle : Handle) (call : Call) (sequencer : Option (List ℕ)) → ((view : View) → IsSilent handle.name (answer_on_node (name_space s) handle call view)) → IsSilent handle.name (option_map_or (λ view. answer_under (name_space s) handle call view (sequencer_fault (name_space s) sequencer)) (node_of_handle (name_space s) handle) (Some (results.Refused faults.StaleInstance)))
 silent_on s handle call sequencer h =
-    at_node (λ view. answer_under s handle call view (sequencer_fault s sequencer)) (Some (results.Refused faults.StaleInstance)) (get_node s.nodes handle.name) handle.instance (λ given. IsSilent handle.name given)
-    (λ view here. silent_under s handle call view (sequencer_fault s sequencer) (h view)) refl
+    at_node (λ view. answer_under (name_space s) handle call view (sequencer_fault (name_space s) sequencer)) (Some (results.Refused faults.StaleInstance)) (get_node s.nodes handle.name) handle.instance (λ given. IsSilent handle.name given)
+    (λ view here. silent_under s handle call view (sequencer_fault (name_space s) sequencer) (h view)) refl
 
 -- the goal, by what a call asks
 abbrev IsShown : MasterState → Call → List ℕ → CallResult → Type 0
 IsShown s call name answer = (name_asked s.secret call ≡ Some name) × (shown_by answer ≡ get_node s.nodes name)
 
-silent_shown : (s : MasterState) (call : Call) (sequencer : Option (List ℕ)) (name : List ℕ) (answer : CallResult) (o : Option Handle) → ((handle : Handle) → IsSilent handle.name (answer_on s handle call sequencer)) → (handle_admission s call sequencer o).told ≡ Some name → IsShown s call name answer
+silent_shown : (s : MasterState) (call : Call) (sequencer : Option (List ℕ)) (name : List ℕ) (answer : CallResult) (o : Option Handle) → ((handle : Handle) → IsSilent handle.name (answer_on (name_space s) handle call sequencer)) → (handle_admission s call sequencer o).told ≡ Some name → IsShown s call name answer
 silent_shown s call sequencer name answer None h told = cc
 silent_shown s call sequencer name answer (Some handle) h told = let none = h handle in cc
 
@@ -164,7 +171,7 @@ read_shown s client sequencer bytes name answer (Some handle) is told answers =
 
 -- only of a node that is absent does it tell
 abbrev TellsAbsence : MasterState → Open → List ℕ → CallResult → Result Handle Fault → Type 0
-TellsAbsence s opening name answer opened = told_by_open opening.name opened ≡ Some name → opened_answer s opened ≡ answer → (opening.name ≡ name) × (shown_by answer ≡ get_node s.nodes name)
+TellsAbsence s opening name answer opened = told_by_open opening.name opened ≡ Some name → opened_answer (name_space s) opened ≡ answer → (opening.name ≡ name) × (shown_by answer ≡ get_node s.nodes name)
 
 present_tells : (s : MasterState) (opening : Open) (name : List ℕ) (answer : CallResult) (missing : Option Right) (long numbered : Bool) (handle : Handle) → TellsAbsence s opening name answer (option_map_or (λ right. Err (faults.Denied right)) missing (cond long (Err faults.DelayTooLong) (cond numbered (Ok handle) (Err faults.Exhausted))))
 present_tells s opening name answer (Some right) long numbered handle told is = cc
@@ -175,17 +182,17 @@ present_tells s opening name answer None false false handle told is = cc
 inner : {A : Type 0} (x y : A) → Some x ≡ Some y → x ≡ y
 inner x y h = cc
 
-open_tells : (s : MasterState) (client number : ℕ) (opening : Open) (name : List ℕ) (answer : CallResult) (o : Option View) → get_node s.nodes opening.name ≡ o → TellsAbsence s opening name answer (option_map_or (λ view. open_present s client number opening view) o (Err faults.NotFound))
+open_tells : (s : MasterState) (client number : ℕ) (opening : Open) (name : List ℕ) (answer : CallResult) (o : Option View) → get_node s.nodes opening.name ≡ o → TellsAbsence s opening name answer (option_map_or (λ view. open_present (name_space s) (caller s client) number opening view) o (Err faults.NotFound))
 open_tells s client number opening name answer None here told is =
     let same : opening.name ≡ name = cc in
     (same, ap shown_by (sym is) ∙ sym here ∙ ap (get_node s.nodes) same)
 open_tells s client number opening name answer (Some view) here told is =
-    present_tells s opening name answer (missing_right s client opening.mode view) (is_too_long opening.delay) (is_ordinal s.epoch && is_ordinal view.instance) _ told is
+    present_tells s opening name answer (missing_right (name_space s) (caller s client) opening.mode view) (is_too_long opening.delay) (is_ordinal s.epoch && is_ordinal view.instance) _ told is
 
 absence_shown : (s : MasterState) (client number : ℕ) (opening : Open) (name : List ℕ) (answer : CallResult) (o : Option Create) → opening.create ≡ o → (admission_of_open s client number opening o).told ≡ Some name → (admission_of_open s client number opening o).answer ≡ Some answer → IsShown s (calls.Open opening) name answer
 absence_shown s client number opening name answer (Some create) is told answers = cc
 absence_shown s client number opening name answer None is told answers =
-    let tells = open_tells s client number opening name answer (get_node s.nodes opening.name) refl told (inner (opened_answer s (plain_open s client number opening)) answer answers) in
+    let tells = open_tells s client number opening name answer (get_node s.nodes opening.name) refl told (inner (opened_answer (name_space s) (plain_open (name_space s) (caller s client) number opening)) answer answers) in
     (ap (λ (create : Option Create). cond (is_none create) (Some opening.name) None) is ∙ ap Some tells.0, tells.1)
 
 under_shown : (s : MasterState) (client number : ℕ) (opening : Open) (name : List ℕ) (answer : CallResult) (o : Option Fault) → (admission_under s client number opening o).told ≡ Some name → (admission_under s client number opening o).answer ≡ Some answer → IsShown s (calls.Open opening) name answer
@@ -205,16 +212,16 @@ check_tells_nothing s bytes name (Some fault) told = cc
 -- an answer that tells of a name answers a call that asks for it, and tells what it shows
 pub told_is_shown : (s : MasterState) (client number : ℕ) (call : Call) (sequencer : Option (List ℕ)) (name : List ℕ) (answer : CallResult) → (admission_of s client number call sequencer).told ≡ Some name → (admission_of s client number call sequencer).answer ≡ Some answer → (name_asked s.secret call ≡ Some name) × (shown_by answer ≡ get_node s.nodes name)
 told_is_shown s client number (calls.Open opening) sequencer name answer told answers =
-    let under : Admission = admission_under s client number opening (sequencer_fault s sequencer) in
-    open_shown (IsShown s (calls.Open opening) name answer) (is_of_cell s opening.name) under name answer (results.Refused faults.OtherCell) (under_shown s client number opening name answer (sequencer_fault s sequencer)) told answers
+    let under : Admission = admission_under s client number opening (sequencer_fault (name_space s) sequencer) in
+    open_shown (IsShown s (calls.Open opening) name answer) (is_of_cell (name_space s) opening.name) under name answer (results.Refused faults.OtherCell) (under_shown s client number opening name answer (sequencer_fault (name_space s) sequencer)) told answers
 told_is_shown s client number (calls.Read bytes) sequencer name answer told answers = read_shown s client sequencer bytes name answer (shown_handle s client bytes) refl told answers
-told_is_shown s client number (calls.CheckSequencer bytes) sequencer name answer told answers = absurd (check_tells_nothing s bytes name (sequencer_fault s sequencer) told)
+told_is_shown s client number (calls.CheckSequencer bytes) sequencer name answer told answers = absurd (check_tells_nothing s bytes name (sequencer_fault (name_space s) sequencer) told)
 told_is_shown s client number (calls.Close bytes) sequencer name answer told answers =
     silent_shown s (calls.Close bytes) sequencer name answer (shown_handle s client bytes) (λ handle. refl) told
 told_is_shown s client number (calls.Stat bytes) sequencer name answer told answers =
     silent_shown s (calls.Stat bytes) sequencer name answer (shown_handle s client bytes) (λ handle. silent_on s handle (calls.Stat bytes) sequencer (λ view. refl)) told
 told_is_shown s client number (calls.List bytes) sequencer name answer told answers =
-    silent_shown s (calls.List bytes) sequencer name answer (shown_handle s client bytes) (λ handle. silent_on s handle (calls.List bytes) sequencer (λ view. silent_without handle.name handle rights.Read (Some (list_answer s handle.name view.kind)) (silent_list s handle.name view.kind))) told
+    silent_shown s (calls.List bytes) sequencer name answer (shown_handle s client bytes) (λ handle. silent_on s handle (calls.List bytes) sequencer (λ view. silent_without handle.name handle rights.Read (Some (list_answer (name_space s) handle.name view.kind)) (silent_list s handle.name view.kind))) told
 told_is_shown s client number (calls.Set bytes content generation) sequencer name answer told answers =
     silent_shown s (calls.Set bytes content generation) sequencer name answer (shown_handle s client bytes) (λ handle. silent_on s handle (calls.Set bytes content generation) sequencer (λ view. silent_without handle.name handle rights.Write (write_fault view.kind content) (silent_write handle.name content view.kind))) told
 told_is_shown s client number (calls.SetAcl bytes acls generation) sequencer name answer told answers =
@@ -226,8 +233,8 @@ told_is_shown s client number (calls.Acquire bytes mode) sequencer name answer t
 told_is_shown s client number (calls.TryAcquire bytes mode) sequencer name answer told answers =
     silent_shown s (calls.TryAcquire bytes mode) sequencer name answer (shown_handle s client bytes) (λ handle. silent_on s handle (calls.TryAcquire bytes mode) sequencer (λ view. silent_without handle.name handle rights.Write None refl)) told
 told_is_shown s client number (calls.Release bytes) sequencer name answer told answers =
-    silent_shown s (calls.Release bytes) sequencer name answer (shown_handle s client bytes) (λ handle. silent_on s handle (calls.Release bytes) sequencer (λ view. silent_without handle.name handle rights.Write (release_fault s handle) (silent_release s handle.name handle))) told
+    silent_shown s (calls.Release bytes) sequencer name answer (shown_handle s client bytes) (λ handle. silent_on s handle (calls.Release bytes) sequencer (λ view. silent_without handle.name handle rights.Write (release_fault (name_space s) handle) (silent_release s handle.name handle))) told
 told_is_shown s client number (calls.GetSequencer bytes) sequencer name answer told answers =
-    silent_shown s (calls.GetSequencer bytes) sequencer name answer (shown_handle s client bytes) (λ handle. silent_on s handle (calls.GetSequencer bytes) sequencer (λ view. silent_result handle.name (sequencer_of (lock_under s handle) handle.instance handle.name (owner_of handle)))) told
+    silent_shown s (calls.GetSequencer bytes) sequencer name answer (shown_handle s client bytes) (λ handle. silent_on s handle (calls.GetSequencer bytes) sequencer (λ view. silent_result handle.name (sequencer_of (lock_under (name_space s) handle) handle.instance handle.name (owner_of handle)))) told
 told_is_shown s client number (calls.SetSequencer bytes) sequencer name answer told answers =
     silent_shown s (calls.SetSequencer bytes) sequencer name answer (shown_handle s client bytes) (λ handle. silent_on s handle (calls.SetSequencer bytes) sequencer (λ view. refl)) told

@@ -1,19 +1,41 @@
--- Of which name a call speaks, by what stands in it alone.
-use Rattle.std.specs.Prelude.{ℕ, List, Option, Some, None, if◌then◌else◌, is_none}
+-- Of which name a call speaks, by what stands in it alone; and which names a change touches while it waits.
+use Rattle.std.specs.Prelude.{◌≡◌, ℕ, List, [], ◌∷◌, Option, Some, None, if◌then◌else◌, is_none}
 use Rattle.std.specs.Option.{option_map, option_and_then}
 use Rattle.node_core.specs.declared.views.View.{View}
 use Rattle.tags_cell.specs.Handles.{read_handle}
 use Rattle.messages_cell.specs.declared.calls.Call.{Call}
+use Rattle.messages_cell.specs.declared.requests.CallMessage.{CallMessage}
 use Rattle.messages_cell.specs.declared.outs.CallResult.{CallResult}
-use Rattle.cell_core.specs.Step.{touched_by}
+use Rattle.cell_parts.specs.declared.pending.Task.{Task}
+use Rattle.cell_parts.specs.declared.pending.Work.{Work}
+use Rattle.cell_state.specs.State.{MasterState}
+use Rattle.cell_core.specs.Step.{touched_by, names_of, task_of, admission_for}
 use Rattle.cell_parts.specs.Calls.{bytes_of}
 use Rattle.messages_cell.specs.declared.calls.Call.TheVariants as calls
 use Rattle.messages_cell.specs.declared.outs.CallResult.TheVariants as results
+use Rattle.cell_parts.specs.declared.pending.Task.TheVariants as tasks
+use Rattle.cell_parts.specs.declared.pending.Work.TheVariants as works
 
 -- the name whose view it may change
 abbrev pub name_changed : List ℕ → Call → Option (List ℕ)
 name_changed secret (calls.Open opening) = option_map (λ create. opening.name) opening.create
 name_changed secret call = option_and_then (λ handle. touched_by handle call) (read_handle secret (bytes_of call))
+
+-- a Start touches no name
+abbrev pub names_touched_by : List ℕ → Work → List (List ℕ)
+names_touched_by secret (works.Starts principal received) = []
+names_touched_by secret (works.Calls call sequencer) = names_of (name_changed secret call)
+
+-- the names that a change touches while it waits: a call that whose view it may change, and the cell's own deletion of a node its name
+abbrev pub names_touched : List ℕ → Task → List (List ℕ)
+names_touched secret (tasks.Asked asked) = names_touched_by secret asked.work
+names_touched secret (tasks.Tidies idle) = idle.name ∷ []
+
+-- a call that waits is queued with the names that it touches
+abbrev pub QueuesWhatItTouches : Type 0
+QueuesWhatItTouches =
+    (s : MasterState) (message : CallMessage) → (admission_for s message).answer ≡ None
+    → names_of (admission_for s message).touched ≡ names_touched s.secret (tasks.Asked (task_of message))
 
 -- the name of which it asks what it shows
 abbrev pub name_asked : List ℕ → Call → Option (List ℕ)

@@ -24,6 +24,7 @@ use Rattle.cell_parts.specs.declared.pending.Task.{Task}
 use Rattle.cell_parts.specs.declared.handles.Note.{Note}
 use Rattle.cell_core.specs.declared.admissions.Admission.{Admission}
 use Rattle.cell_parts.specs.Keys.{key_of}
+use Rattle.cell_state.specs.NameSpace.{name_space, caller}
 use Rattle.cell_state.specs.State.{MasterState}
 use Rattle.cell_state.specs.Lookups.{session_of, kept_of, is_live, may_start, is_full, nothing, turned_away, refusal, reply_of, stamped_reply, sends, repeated, granted_lines, acknowledgement, handle_state_of, shown_handle, is_of_cell, plain_open, opened_answer, opened_note, sequencer_fault, check_answer, answer_on, noted, is_spent}
 use Rattle.cell_parts.specs.Calls.{create_fault, bytes_of}
@@ -135,10 +136,10 @@ abbrev pub admission_of_open : MasterState → ℕ → ℕ → Open → Option C
 admission_of_open s client number opening (Some create) =
     record { note = None; touched = Some opening.name; told = None; answer = create_fault opening create.node }
 admission_of_open s client number opening None = record {
-  note = opened_note s (plain_open s client number opening);
+  note = opened_note (name_space s) (plain_open (name_space s) (caller s client) number opening);
   touched = None;
-  told = told_by_open opening.name (plain_open s client number opening);
-  answer = Some (opened_answer s (plain_open s client number opening));
+  told = told_by_open opening.name (plain_open (name_space s) (caller s client) number opening);
+  answer = Some (opened_answer (name_space s) (plain_open (name_space s) (caller s client) number opening));
 }
 
 -- a call that changes nothing, notes nothing, and tells of no name
@@ -152,12 +153,12 @@ admission_under s client number opening None = admission_of_open s client number
 
 abbrev pub open_admission : MasterState → ℕ → ℕ → Open → Option (List ℕ) → Admission
 open_admission s client number opening sequencer =
-    if is_of_cell s opening.name then admission_under s client number opening (sequencer_fault s sequencer) else answering (results.Refused faults.OtherCell)
+    if is_of_cell (name_space s) opening.name then admission_under s client number opening (sequencer_fault (name_space s) sequencer) else answering (results.Refused faults.OtherCell)
 
 -- the sequencer that it asks about is tested behind the one that it stands under
 abbrev pub check_admission : MasterState → List ℕ → Option Fault → Admission
 check_admission s bytes (Some fault) = answering (results.Refused fault)
-check_admission s bytes None = answering (check_answer s bytes)
+check_admission s bytes None = answering (check_answer (name_space s) bytes)
 
 -- the name that a call on a node touches: whose view it may change
 abbrev pub touched_by : Handle → Call → Option (List ℕ)
@@ -176,14 +177,14 @@ handle_admission s call sequencer None = answering (results.Refused faults.BadHa
 handle_admission s call sequencer (Some handle) = record {
   note = shown_note s handle (bytes_of call);
   touched = touched_by handle call;
-  told = option_and_then (viewed_name handle.name) (answer_on s handle call sequencer);
-  answer = answer_on s handle call sequencer;
+  told = option_and_then (viewed_name handle.name) (answer_on (name_space s) handle call sequencer);
+  answer = answer_on (name_space s) handle call sequencer;
 }
 
 -- with the bytes of the sequencer that the message carries, if it carries one
 abbrev pub admission_of : MasterState → ℕ → ℕ → Call → Option (List ℕ) → Admission
 admission_of s client number (calls.Open opening) sequencer = open_admission s client number opening sequencer
-admission_of s client number (calls.CheckSequencer bytes) sequencer = check_admission s bytes (sequencer_fault s sequencer)
+admission_of s client number (calls.CheckSequencer bytes) sequencer = check_admission s bytes (sequencer_fault (name_space s) sequencer)
 admission_of s client number call sequencer = handle_admission s call sequencer (shown_handle s client (bytes_of call))
 
 abbrev pub admission_for : MasterState → CallMessage → Admission

@@ -3,6 +3,7 @@ ghost use Rattle.std.specs.Prelude.{◌≡◌, Some, None, IfOk};
 ghost use Rattle.std.specs.Option.{option_and_then};
 ghost use Rattle.tags_cell.specs.Handles.{read_handle};
 ghost use Rattle.cell_core.specs.Step.{admission_for, admission_of_open, open_admission, handle_admission, check_admission, answering, shown_note, touched_by, viewed_name, told_by_open};
+ghost use Rattle.cell_state.specs.NameSpace.{name_space};
 ghost use Rattle.cell_state.specs.Lookups.{sequencer_fault, is_of_cell};
 ghost use Rattle.cell_parts.specs.Calls.{bytes_of};
 
@@ -89,7 +90,7 @@ fn check_admission(
     bytes: &Bytes,
     sequencer: &Option<Bytes>,
 ) -> Result<Admission, AllocError>
-    ensures { IfOk result (λ admission. admission ≡ check_admission master.now bytes.now (sequencer_fault master.now sequencer.now)) }
+    ensures { IfOk result (λ admission. admission ≡ check_admission master.now bytes.now (sequencer_fault (name_space master.now) sequencer.now)) }
 {
     match master.sequencer_fault(sequencer)? {
         Some(fault) => Ok(Admission::refused(fault)),

@@ -4,8 +4,10 @@
 mod admissions;
 mod cells;
 mod ephemerals;
+mod laws;
 mod stored;
 mod takes;
 
 pub use cells::Cell;
 pub use ephemerals::SPARED_FOR;
+pub use laws::queues_what_it_touches;

@@ -11,6 +11,7 @@ pub use Rattle.cell_parts.specs.OpenHandles
 pub use Rattle.cell_parts.specs.Calls
 pub use Rattle.cell_parts.specs.Events
 pub mod State
+pub mod NameSpace
 pub mod Lookups
 pub mod Notices
 pub mod Concerned

@@ -1,4 +1,4 @@
--- What is looked up in a master.
+-- What is looked up in a master, and in its name space.
 use Rattle.std.specs.Prelude.{ℕ, Bool, false, not, ◌&&◌, ◌||◌, ◌==◌, nat_lt, nat_le, max, List, [], ◌∷◌, length, Option, Some, None, Result, Ok, Err, if◌then◌else◌, is_none, is_some}
 use Rattle.std.specs.List.{list_any}
 use Rattle.std.specs.Option.{option_map, option_map_or}
@@ -40,6 +40,7 @@ use Rattle.cell_parts.specs.declared.handles.Note.{Note}
 use Rattle.cell_parts.specs.Keys.{handle_order, key_of}
 use Rattle.cell_parts.specs.Claims.{owner_of}
 use Rattle.cell_state.specs.State.{MasterState}
+use Rattle.cell_state.specs.NameSpace.{NameSpace, Caller}
 use Rattle.cell_parts.specs.Notes.{open_note}
 use Rattle.cell_parts.specs.Calls.{is_too_long, write_fault, needing}
 use Rattle.node_core.specs.declared.refusals.Fault.TheVariants as faults
@@ -128,19 +129,19 @@ acknowledgement beat = endings.Acknowledgement beat.invalidations
 
 -- ---- access
 
--- the client's principal is permitted the right to a node with this view
-abbrev pub may : MasterState → ℕ → View → Right → Bool
-may s client view right = option_map_or (λ session. permitted s.nodes session.principal view right) (session_of s client) false
+-- the caller's principal is permitted the right to a node with this view; without a session it isn't
+abbrev pub may : NameSpace → Caller → View → Right → Bool
+may space caller view right = option_map_or (λ principal. permitted space.nodes principal view right) caller.principal false
 
-abbrev pub lacks : MasterState → ℕ → Rights → View → Right → Bool
-lacks s client mode view right = has_right mode right && not (may s client view right)
+abbrev pub lacks : NameSpace → Caller → Rights → View → Right → Bool
+lacks space caller mode view right = has_right mode right && not (may space caller view right)
 
 -- the first right of the mode that isn't permitted
-abbrev pub missing_right : MasterState → ℕ → Rights → View → Option Right
-missing_right s client mode view =
-    if lacks s client mode view rights.Read then Some rights.Read
-    else if lacks s client mode view rights.Write then Some rights.Write
-    else if lacks s client mode view rights.Change then Some rights.Change
+abbrev pub missing_right : NameSpace → Caller → Rights → View → Option Right
+missing_right space caller mode view =
+    if lacks space caller mode view rights.Read then Some rights.Read
+    else if lacks space caller mode view rights.Write then Some rights.Write
+    else if lacks space caller mode view rights.Change then Some rights.Change
     else None
 
 -- ---- handles
@@ -163,22 +164,22 @@ abbrev pub shown_handle : MasterState → ℕ → List ℕ → Option Handle
 shown_handle s client bytes = option_map_or (λ handle. own_handle s client handle) (read_handle s.secret bytes) None
 
 -- the node of a handle, where its instance is there
-abbrev pub node_of_handle : MasterState → Handle → Option View
-node_of_handle s handle =
-    option_map_or (λ view. if view.instance == handle.instance then Some view else None) (get_node s.nodes handle.name) None
+abbrev pub node_of_handle : NameSpace → Handle → Option View
+node_of_handle space handle =
+    option_map_or (λ view. if view.instance == handle.instance then Some view else None) (get_node space.nodes handle.name) None
 
 -- ---- Opens
 
-abbrev pub is_of_cell : MasterState → List ℕ → Bool
-is_of_cell s name = bytes_eq (cell_of name) s.name
+abbrev pub is_of_cell : NameSpace → List ℕ → Bool
+is_of_cell space name = bytes_eq (cell_of name) space.name
 
 -- a handle of a node; its numbers have to be ones that a handle can carry
-abbrev pub numbered_handle : MasterState → ℕ → ℕ → Open → View → Result Handle Fault
-numbered_handle s client number opening view =
-    if is_ordinal s.epoch && is_ordinal view.instance
+abbrev pub numbered_handle : NameSpace → Caller → ℕ → Open → View → Result Handle Fault
+numbered_handle space caller number opening view =
+    if is_ordinal space.epoch && is_ordinal view.instance
     then Ok (record {
-      epoch = s.epoch;
-      client = client;
+      epoch = space.epoch;
+      client = caller.client;
       number = number;
       instance = view.instance;
       mode = opening.mode;
@@ -190,41 +191,41 @@ numbered_handle s client number opening view =
     else Err faults.Exhausted
 
 -- and so has its lock-delay
-abbrev pub new_handle : MasterState → ℕ → ℕ → Open → View → Result Handle Fault
-new_handle s client number opening view = if is_too_long opening.delay then Err faults.DelayTooLong else numbered_handle s client number opening view
+abbrev pub new_handle : NameSpace → Caller → ℕ → Open → View → Result Handle Fault
+new_handle space caller number opening view = if is_too_long opening.delay then Err faults.DelayTooLong else numbered_handle space caller number opening view
 
 -- an Open of a present node: the rights of the mode are looked up on the node itself
-abbrev pub open_present : MasterState → ℕ → ℕ → Open → View → Result Handle Fault
-open_present s client number opening view =
-    option_map_or (λ right. Err (faults.Denied right)) (missing_right s client opening.mode view) (new_handle s client number opening view)
+abbrev pub open_present : NameSpace → Caller → ℕ → Open → View → Result Handle Fault
+open_present space caller number opening view =
+    option_map_or (λ right. Err (faults.Denied right)) (missing_right space caller opening.mode view) (new_handle space caller number opening view)
 
 -- an Open that makes nothing
-abbrev pub plain_open : MasterState → ℕ → ℕ → Open → Result Handle Fault
-plain_open s client number opening = option_map_or (λ view. open_present s client number opening view) (get_node s.nodes opening.name) (Err faults.NotFound)
+abbrev pub plain_open : NameSpace → Caller → ℕ → Open → Result Handle Fault
+plain_open space caller number opening = option_map_or (λ view. open_present space caller number opening view) (get_node space.nodes opening.name) (Err faults.NotFound)
 
-abbrev pub opened_answer : MasterState → Result Handle Fault → CallResult
-opened_answer s (Ok handle) = results.Opened (record { bytes = handle_bytes s.secret handle; instance = handle.instance; life = handle.life })
-opened_answer s (Err fault) = results.Refused fault
+abbrev pub opened_answer : NameSpace → Result Handle Fault → CallResult
+opened_answer space (Ok handle) = results.Opened (record { bytes = handle_bytes space.secret handle; instance = handle.instance; life = handle.life })
+opened_answer space (Err fault) = results.Refused fault
 
 -- a new handle is open
-abbrev pub opened_note : MasterState → Result Handle Fault → Option Note
-opened_note s (Ok handle) = Some (open_note handle (handle_bytes s.secret handle))
-opened_note s (Err fault) = None
+abbrev pub opened_note : NameSpace → Result Handle Fault → Option Note
+opened_note space (Ok handle) = Some (open_note handle (handle_bytes space.secret handle))
+opened_note space (Err fault) = None
 
 -- ---- what is answered at once
 
 -- only a directory is listed
-abbrev pub list_answer : MasterState → List ℕ → Kind → CallResult
-list_answer s name kinds.Directory = results.Names (children s.nodes name)
-list_answer s name kinds.File = results.Refused (faults.WrongKind kinds.File)
+abbrev pub list_answer : NameSpace → List ℕ → Kind → CallResult
+list_answer space name kinds.Directory = results.Names (children space.nodes name)
+list_answer space name kinds.File = results.Refused (faults.WrongKind kinds.File)
 
-abbrev pub stat_of : MasterState → View → Stat
-stat_of s view = record {
+abbrev pub stat_of : NameSpace → View → Stat
+stat_of space view = record {
   kind = view.kind;
   instance = view.instance;
   content_generation = view.content_generation;
   acl_generation = view.acl_generation;
-  lock_generation = (lock_at s.locks view.instance).generation;
+  lock_generation = (lock_at space.locks view.instance).generation;
   read = view.read;
   write = view.write;
   change = view.change;
@@ -235,75 +236,75 @@ stat_of s view = record {
 -- ---- sequencers
 
 -- the instance that stands at a name now
-abbrev pub instance_at : MasterState → List ℕ → Option ℕ
-instance_at s name = option_map (λ view. view.instance) (get_node s.nodes name)
+abbrev pub instance_at : NameSpace → List ℕ → Option ℕ
+instance_at space name = option_map (λ view. view.instance) (get_node space.nodes name)
 
 abbrev pub fault_of : Result (Unit {0}) Fault → Option Fault
 fault_of (Ok done) = None
 fault_of (Err fault) = Some fault
 
-abbrev pub sequencer_test : MasterState → Option Sequencer → Option Fault
-sequencer_test s None = Some faults.BadSequencer
-sequencer_test s (Some sequencer) = fault_of (checked s.locks (instance_at s sequencer.name) sequencer)
+abbrev pub sequencer_test : NameSpace → Option Sequencer → Option Fault
+sequencer_test space None = Some faults.BadSequencer
+sequencer_test space (Some sequencer) = fault_of (checked space.locks (instance_at space sequencer.name) sequencer)
 
 -- why a call that carries these bytes of a sequencer isn't done; without any it stands under none
-abbrev pub sequencer_fault : MasterState → Option (List ℕ) → Option Fault
-sequencer_fault s None = None
-sequencer_fault s (Some bytes) = sequencer_test s (read_sequencer bytes)
+abbrev pub sequencer_fault : NameSpace → Option (List ℕ) → Option Fault
+sequencer_fault space None = None
+sequencer_fault space (Some bytes) = sequencer_test space (read_sequencer bytes)
 
 -- what a CheckSequencer is answered
-abbrev pub check_answer : MasterState → List ℕ → CallResult
-check_answer s bytes = option_map_or (λ fault. results.Refused fault) (sequencer_fault s (Some bytes)) results.Done
+abbrev pub check_answer : NameSpace → List ℕ → CallResult
+check_answer space bytes = option_map_or (λ fault. results.Refused fault) (sequencer_fault space (Some bytes)) results.Done
 
 -- ---- locks
 
 -- the lock of a handle's node
-abbrev pub lock_under : MasterState → Handle → LockState
-lock_under s handle = lock_at s.locks handle.instance
+abbrev pub lock_under : NameSpace → Handle → LockState
+lock_under space handle = lock_at space.locks handle.instance
 
 -- whether it holds that lock
-abbrev pub holds_lock : MasterState → Handle → Bool
-holds_lock s handle = is_some (hold_of (lock_under s handle) (owner_of handle))
+abbrev pub holds_lock : NameSpace → Handle → Bool
+holds_lock space handle = is_some (hold_of (lock_under space handle) (owner_of handle))
 
 -- only a holder releases its lock
-abbrev pub release_fault : MasterState → Handle → Option CallResult
-release_fault s handle = if is_none (hold_of (lock_under s handle) (owner_of handle)) then Some (results.Refused faults.NotHolder) else None
+abbrev pub release_fault : NameSpace → Handle → Option CallResult
+release_fault space handle = if is_none (hold_of (lock_under space handle) (owner_of handle)) then Some (results.Refused faults.NotHolder) else None
 
 abbrev pub sequencer_result : Result Sequencer Fault → CallResult
 sequencer_result (Ok sequencer) = results.Sequencer (sequencer_bytes sequencer)
 sequencer_result (Err fault) = results.Refused fault
 
 -- what a GetSequencer is answered
-abbrev pub sequencer_answer : MasterState → Handle → CallResult
-sequencer_answer s handle = sequencer_result (sequencer_of (lock_under s handle) handle.instance handle.name (owner_of handle))
+abbrev pub sequencer_answer : NameSpace → Handle → CallResult
+sequencer_answer space handle = sequencer_result (sequencer_of (lock_under space handle) handle.instance handle.name (owner_of handle))
 
 -- ---- calls on a node
 
 -- what a call on a present node is answered at once; none where it waits for its turn
-abbrev pub answer_on_node : MasterState → Handle → Call → View → Option CallResult
-answer_on_node s handle (calls.Read bytes) view = needing handle rights.Read (Some (results.Viewed view))
-answer_on_node s handle (calls.Stat bytes) view = Some (results.Stated (stat_of s view))
-answer_on_node s handle (calls.List bytes) view = needing handle rights.Read (Some (list_answer s handle.name view.kind))
-answer_on_node s handle (calls.Set bytes content generation) view = needing handle rights.Write (write_fault view.kind content)
-answer_on_node s handle (calls.SetAcl bytes acls generation) view = needing handle rights.Change None
-answer_on_node s handle (calls.Delete bytes) view = needing handle rights.Write None
-answer_on_node s handle (calls.Acquire bytes mode) view = needing handle rights.Write None
-answer_on_node s handle (calls.TryAcquire bytes mode) view = needing handle rights.Write None
-answer_on_node s handle (calls.Release bytes) view = needing handle rights.Write (release_fault s handle)
-answer_on_node s handle (calls.GetSequencer bytes) view = Some (sequencer_answer s handle)
-answer_on_node s handle (calls.SetSequencer bytes) view = Some results.Done
-answer_on_node s handle _ view = None
+abbrev pub answer_on_node : NameSpace → Handle → Call → View → Option CallResult
+answer_on_node space handle (calls.Read bytes) view = needing handle rights.Read (Some (results.Viewed view))
+answer_on_node space handle (calls.Stat bytes) view = Some (results.Stated (stat_of space view))
+answer_on_node space handle (calls.List bytes) view = needing handle rights.Read (Some (list_answer space handle.name view.kind))
+answer_on_node space handle (calls.Set bytes content generation) view = needing handle rights.Write (write_fault view.kind content)
+answer_on_node space handle (calls.SetAcl bytes acls generation) view = needing handle rights.Change None
+answer_on_node space handle (calls.Delete bytes) view = needing handle rights.Write None
+answer_on_node space handle (calls.Acquire bytes mode) view = needing handle rights.Write None
+answer_on_node space handle (calls.TryAcquire bytes mode) view = needing handle rights.Write None
+answer_on_node space handle (calls.Release bytes) view = needing handle rights.Write (release_fault space handle)
+answer_on_node space handle (calls.GetSequencer bytes) view = Some (sequencer_answer space handle)
+answer_on_node space handle (calls.SetSequencer bytes) view = Some results.Done
+answer_on_node space handle _ view = None
 
 -- its sequencer is tested first
-abbrev pub answer_under : MasterState → Handle → Call → View → Option Fault → Option CallResult
-answer_under s handle call view (Some fault) = Some (results.Refused fault)
-answer_under s handle call view None = answer_on_node s handle call view
+abbrev pub answer_under : NameSpace → Handle → Call → View → Option Fault → Option CallResult
+answer_under space handle call view (Some fault) = Some (results.Refused fault)
+answer_under space handle call view None = answer_on_node space handle call view
 
 -- a Close waits for its turn also where the node is gone, and whatever sequencer it carries
-abbrev pub answer_on : MasterState → Handle → Call → Option (List ℕ) → Option CallResult
-answer_on s handle (calls.Close bytes) sequencer = None
-answer_on s handle call sequencer =
-    option_map_or (λ view. answer_under s handle call view (sequencer_fault s sequencer)) (node_of_handle s handle) (Some (results.Refused faults.StaleInstance))
+abbrev pub answer_on : NameSpace → Handle → Call → Option (List ℕ) → Option CallResult
+answer_on space handle (calls.Close bytes) sequencer = None
+answer_on space handle call sequencer =
+    option_map_or (λ view. answer_under space handle call view (sequencer_fault space sequencer)) (node_of_handle space handle) (Some (results.Refused faults.StaleInstance))
 
 -- ---- who holds a node open
 

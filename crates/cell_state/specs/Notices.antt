@@ -11,6 +11,7 @@ use Rattle.cell_parts.specs.declared.handles.HandleState.{HandleState}
 use Rattle.cell_parts.specs.declared.handles.Note.{Note}
 use Rattle.cell_parts.specs.declared.notices.Notice.{Notice}
 use Rattle.cell_parts.specs.declared.notices.Telling.{Telling}
+use Rattle.cell_state.specs.NameSpace.{name_space}
 use Rattle.cell_state.specs.State.{MasterState}
 use Rattle.cell_state.specs.Lookups.{holds_lock}
 use Rattle.cell_parts.specs.Keys.{is_key}
@@ -33,7 +34,7 @@ event_here s handle (notices.ChildRemoved instance name) = event_if handle.event
 event_here s handle (notices.ChildModified instance name) = event_if handle.events.children (events.ChildModified handle.number name)
 event_here s handle (notices.Invalid instance) = Some (events.Invalid handle.number)
 event_here s handle (notices.Locked instance) = event_if handle.events.lock (events.Locked handle.number)
-event_here s handle (notices.Conflict instance) = event_if (handle.events.conflict && holds_lock s handle) (events.Conflict handle.number)
+event_here s handle (notices.Conflict instance) = event_if (handle.events.conflict && holds_lock (name_space s) handle) (events.Conflict handle.number)
 
 abbrev pub event_on : MasterState → Handle → Notice → Option Event
 event_on s handle notice = if instance_of notice == handle.instance then event_here s handle notice else None

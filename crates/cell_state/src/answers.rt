@@ -1,5 +1,6 @@
 //! What a master answers to a call at once.
 ghost use Rattle.std.specs.Prelude.{◌≡◌, Some, None, IfOk};
+ghost use Rattle.cell_state.specs.NameSpace.{name_space};
 ghost use Rattle.cell_state.specs.Lookups.{answer_on, answer_under, answer_on_node, sequencer_fault, list_answer, stat_of};
 ghost use Rattle.cell_parts.specs.Calls.{needing};
 
@@ -19,7 +20,7 @@ impl Master {
         call: &Call,
         sequencer: &Option<Bytes>,
     ) -> Result<Option<CallResult>, AllocError>
-        ensures { IfOk result (λ answer. answer ≡ answer_on self.now handle.now call.now sequencer.now) }
+        ensures { IfOk result (λ answer. answer ≡ answer_on (name_space self.now) handle.now call.now sequencer.now) }
     {
         match call {
             Call::Close(_) => Ok(None),
@@ -38,7 +39,7 @@ impl Master {
         view: &View,
         sequencer: &Option<Bytes>,
     ) -> Result<Option<CallResult>, AllocError>
-        ensures { IfOk result (λ answer. answer ≡ answer_under self.now handle.now call.now view.now (sequencer_fault self.now sequencer.now)) }
+        ensures { IfOk result (λ answer. answer ≡ answer_under (name_space self.now) handle.now call.now view.now (sequencer_fault (name_space self.now) sequencer.now)) }
     {
         match self.sequencer_fault(sequencer)? {
             Some(fault) => Ok(Some(CallResult::Refused(fault))),
@@ -52,7 +53,7 @@ impl Master {
         call: &Call,
         view: &View,
     ) -> Result<Option<CallResult>, AllocError>
-        ensures { IfOk result (λ answer. answer ≡ answer_on_node self.now handle.now call.now view.now) }
+        ensures { IfOk result (λ answer. answer ≡ answer_on_node (name_space self.now) handle.now call.now view.now) }
     {
         match call {
             Call::Read(_) => Ok(Some(read_answer(handle, view)?)),
@@ -72,7 +73,7 @@ impl Master {
 
     // Only a directory is listed.
     fn names_answer(&self, handle: &Handle, view: &View) -> Result<CallResult, AllocError>
-        ensures { IfOk result (λ answer. Some answer ≡ needing handle.now Right.Read (Some (list_answer self.now handle.now.name view.now.kind))) }
+        ensures { IfOk result (λ answer. Some answer ≡ needing handle.now Right.Read (Some (list_answer (name_space self.now) handle.now.name view.now.kind))) }
     {
         if !handle.mode.has(Right::Read) {
             return Ok(denied(Right::Read));
@@ -84,7 +85,7 @@ impl Master {
     }
 
     fn stat_of(&self, view: &View) -> Result<Stat, AllocError>
-        ensures { IfOk result (λ stat. stat ≡ stat_of self.now view.now) }
+        ensures { IfOk result (λ stat. stat ≡ stat_of (name_space self.now) view.now) }
     {
         Ok(Stat {
             kind: view.kind,

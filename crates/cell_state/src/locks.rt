@@ -1,6 +1,7 @@
 //! What a master answers by the locks of its nodes.
 ghost use Rattle.std.specs.Prelude.{◌≡◌, Some, None, IfOk};
 ghost use Rattle.tags_cell.specs.Sequencers.{read_sequencer};
+ghost use Rattle.cell_state.specs.NameSpace.{name_space};
 ghost use Rattle.cell_state.specs.Lookups.{instance_at, sequencer_test, sequencer_fault, check_answer, release_fault, sequencer_answer, holds_lock};
 ghost use Rattle.cell_parts.specs.Calls.{needing};
 
@@ -16,7 +17,7 @@ use tags_cell::{Handle, Sequencer, SequencerFault};
 impl Master {
     /// Why a call that carries these bytes of a sequencer isn't done. Without any it stands under none.
     pub fn sequencer_fault(&self, sequencer: &Option<Bytes>) -> Result<Option<Fault>, AllocError>
-        ensures { IfOk result (λ fault. fault ≡ sequencer_fault self.now sequencer.now) }
+        ensures { IfOk result (λ fault. fault ≡ sequencer_fault (name_space self.now) sequencer.now) }
     {
         match sequencer {
             None => Ok(None),
@@ -25,7 +26,7 @@ impl Master {
     }
 
     fn bytes_fault(&self, bytes: &Bytes) -> Result<Option<Fault>, AllocError>
-        ensures { IfOk result (λ fault. fault ≡ sequencer_test self.now (read_sequencer bytes.now)) }
+        ensures { IfOk result (λ fault. fault ≡ sequencer_test (name_space self.now) (read_sequencer bytes.now)) }
     {
         match Sequencer::read(self.alloc, bytes.as_slice()) {
             Ok(sequencer) => Ok(self.sequencer_test(&sequencer)),
@@ -35,7 +36,7 @@ impl Master {
     }
 
     fn sequencer_test(&self, sequencer: &Sequencer) -> Option<Fault>
-        ensures { result ≡ sequencer_test self.now (Some sequencer.now) }
+        ensures { result ≡ sequencer_test (name_space self.now) (Some sequencer.now) }
     {
         match self
             .locks
@@ -48,14 +49,14 @@ impl Master {
 
     // The instance that stands at a name now.
     fn instance_at(&self, name: &Name) -> Option<u64>
-        ensures { result ≡ instance_at self.now name.now }
+        ensures { result ≡ instance_at (name_space self.now) name.now }
     {
         let view = self.map().get(name)?;
         Some(view.instance)
     }
 
     pub fn check_answer(&self, bytes: &Bytes) -> Result<CallResult, AllocError>
-        ensures { IfOk result (λ answer. answer ≡ check_answer self.now bytes.now) }
+        ensures { IfOk result (λ answer. answer ≡ check_answer (name_space self.now) bytes.now) }
     {
         match self.bytes_fault(bytes)? {
             Some(fault) => Ok(CallResult::Refused(fault)),
@@ -65,7 +66,7 @@ impl Master {
 
     /// Why a Release is refused at once.
     pub fn release_answer(&self, handle: &Handle) -> Option<CallResult>
-        ensures { result ≡ needing handle.now Right.Write (release_fault self.now handle.now) }
+        ensures { result ≡ needing handle.now Right.Write (release_fault (name_space self.now) handle.now) }
     {
         if !handle.mode.has(Right::Write) {
             return Some(CallResult::Refused(Fault::Denied(Right::Write)));
@@ -79,7 +80,7 @@ impl Master {
 
     /// Whether a handle holds the lock of its node.
     pub fn holds_lock(&self, handle: &Handle) -> bool
-        ensures { result ≡ holds_lock self.now handle.now }
+        ensures { result ≡ holds_lock (name_space self.now) handle.now }
     {
         match self.locks.get(handle.instance.get()) {
             Some(lock) => lock.holders().get(&owner_of(handle)).is_some(),
@@ -88,7 +89,7 @@ impl Master {
     }
 
     pub fn sequencer_answer(&self, handle: &Handle) -> Result<CallResult, AllocError>
-        ensures { IfOk result (λ answer. answer ≡ sequencer_answer self.now handle.now) }
+        ensures { IfOk result (λ answer. answer ≡ sequencer_answer (name_space self.now) handle.now) }
     {
         let owner = owner_of(handle);
         match self.locks.sequencer(handle.instance, &handle.name, owner) {

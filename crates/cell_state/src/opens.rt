@@ -1,5 +1,6 @@
 //! What an Open of a present node gives.
 ghost use Rattle.std.specs.Prelude.{◌≡◌, Ok, IfOk};
+ghost use Rattle.cell_state.specs.NameSpace.{name_space, caller};
 ghost use Rattle.cell_state.specs.Lookups.{is_of_cell, new_handle, open_present, plain_open, opened_answer, opened_note};
 
 use crate::masters::Master;
@@ -13,7 +14,7 @@ use tags_cell::{ClientNumber, Handle, MessageNumber, Ordinal};
 impl Master {
     /// Whether the name is one of the cell.
     pub fn is_of_cell(&self, name: &Name) -> bool
-        ensures { result ≡ is_of_cell self.now name.now }
+        ensures { result ≡ is_of_cell (name_space self.now) name.now }
     {
         name.in_cell(self.name.as_str())
     }
@@ -26,7 +27,7 @@ impl Master {
         opening: &Open,
         view: &View,
     ) -> Result<Result<Handle, Fault>, AllocError>
-        ensures { IfOk result (λ opened. opened ≡ new_handle self.now client number opening.now view.now) }
+        ensures { IfOk result (λ opened. opened ≡ new_handle (name_space self.now) (caller self.now client) number opening.now view.now) }
     {
         let Some(delay) = delay_of(opening.delay) else {
             return Ok(Err(Fault::DelayTooLong));
@@ -56,7 +57,7 @@ impl Master {
         opening: &Open,
         view: &View,
     ) -> Result<Result<Handle, Fault>, AllocError>
-        ensures { IfOk result (λ opened. opened ≡ open_present self.now client number opening.now view.now) }
+        ensures { IfOk result (λ opened. opened ≡ open_present (name_space self.now) (caller self.now client) number opening.now view.now) }
     {
         match self.missing_right(client, opening.mode, view)? {
             Some(right) => Ok(Err(Fault::Denied(right))),
@@ -71,7 +72,7 @@ impl Master {
         number: MessageNumber,
         opening: &Open,
     ) -> Result<Result<Handle, Fault>, AllocError>
-        ensures { IfOk result (λ opened. opened ≡ plain_open self.now client number opening.now) }
+        ensures { IfOk result (λ opened. opened ≡ plain_open (name_space self.now) (caller self.now client) number opening.now) }
     {
         match self.map().get(&opening.name) {
             None => Ok(Err(Fault::NotFound)),
@@ -84,8 +85,8 @@ impl Master {
         &self,
         opened: Result<Handle, Fault>,
     ) -> Result<(Option<Note>, CallResult), AllocError>
-        ensures note { IfOk result (λ told. told.0 ≡ opened_note self.now opened) }
-        ensures answer { IfOk result (λ told. told.1 ≡ opened_answer self.now opened) }
+        ensures note { IfOk result (λ told. told.0 ≡ opened_note (name_space self.now) opened) }
+        ensures answer { IfOk result (λ told. told.1 ≡ opened_answer (name_space self.now) opened) }
     {
         match opened {
             Ok(handle) => self.given(handle),
@@ -95,8 +96,8 @@ impl Master {
 
     // A new handle is open. Its check digits are made here.
     fn given(&self, handle: Handle) -> Result<(Option<Note>, CallResult), AllocError>
-        ensures note { IfOk result (λ told. told.0 ≡ opened_note self.now (Ok handle)) }
-        ensures answer { IfOk result (λ told. told.1 ≡ opened_answer self.now (Ok handle)) }
+        ensures note { IfOk result (λ told. told.0 ≡ opened_note (name_space self.now) (Ok handle)) }
+        ensures answer { IfOk result (λ told. told.1 ≡ opened_answer (name_space self.now) (Ok handle)) }
     {
         let instance = handle.instance;
         let life = handle.life;

@@ -1,5 +1,6 @@
 //! Which rights a client has.
 ghost use Rattle.std.specs.Prelude.{◌≡◌, IfOk};
+ghost use Rattle.cell_state.specs.NameSpace.{name_space, caller};
 ghost use Rattle.cell_state.specs.Lookups.{may, lacks, missing_right};
 
 use crate::masters::Master;
@@ -10,7 +11,7 @@ use tags_cell::{ClientNumber, Mode};
 impl Master {
     /// Whether the client's principal is permitted the right to a node with this view.
     pub fn may(&self, client: ClientNumber, view: &View, right: Right) -> Result<bool, AllocError>
-        ensures { IfOk result (λ allowed. allowed ≡ may self.now client view.now right) }
+        ensures { IfOk result (λ allowed. allowed ≡ may (name_space self.now) (caller self.now client) view.now right) }
     {
         match self.sessions.get(client.get()) {
             None => Ok(false),
@@ -25,7 +26,7 @@ impl Master {
         view: &View,
         right: Right,
     ) -> Result<bool, AllocError>
-        ensures { IfOk result (λ lacking. lacking ≡ lacks self.now client mode view.now right) }
+        ensures { IfOk result (λ lacking. lacking ≡ lacks (name_space self.now) (caller self.now client) mode view.now right) }
     {
         if !mode.has(right) {
             return Ok(false);
@@ -40,7 +41,7 @@ impl Master {
         mode: Mode,
         view: &View,
     ) -> Result<Option<Right>, AllocError>
-        ensures { IfOk result (λ missing. missing ≡ missing_right self.now client mode view.now) }
+        ensures { IfOk result (λ missing. missing ≡ missing_right (name_space self.now) (caller self.now client) mode view.now) }
     {
         if self.lacks(client, mode, view, Right::Read)? {
             return Ok(Some(Right::Read));

@@ -3,6 +3,7 @@ ghost use Rattle.std.specs.Prelude.{◌≡◌, Some, IfOk};
 ghost use Rattle.std.specs.Option.{option_copied};
 ghost use Rattle.tags_cell.specs.Handles.{read_handle};
 ghost use Rattle.tags_cell.specs.declared.handles.Handle.{Handle as HandleValue};
+ghost use Rattle.cell_state.specs.NameSpace.{name_space};
 ghost use Rattle.cell_state.specs.Lookups.{handle_state_of, is_usable, own_handle, shown_handle, node_of_handle, has_open, has_to_stay};
 ghost use Rattle.cell_parts.specs.Keys.{key_of};
 
@@ -121,7 +122,7 @@ impl Master {
 
     /// The node of a handle, where its instance is there.
     pub fn node_of(&self, handle: &Handle) -> Option<&View>
-        ensures { option_copied result ≡ node_of_handle self.now handle.now }
+        ensures { option_copied result ≡ node_of_handle (name_space self.now) handle.now }
     {
         let view = self.map().get(&handle.name)?;
         if view.instance == handle.instance.get() {

@@ -1,5 +1,5 @@
 //! The locks of all nodes.
-ghost use Rattle.std.specs.Prelude.{◌≡◌, ◌<◌, [], IfOk, OnOk, OnErr};
+ghost use Rattle.std.specs.Prelude.{◌≡◌, ◌<◌, [], Err, IfOk, OnOk, OnErr};
 ghost use Rattle.std.specs.Option.{option_copied};
 ghost use Rattle.std.specs.Map.{lookup, remove_entry, set_value};
 ghost use Rattle.std.specs.BTreeMap.{is_at};
@@ -95,7 +95,9 @@ impl Locks {
 
     /// Release: the lock without this handle, its waiters served. Refused where the handle holds no lock.
     pub fn release(&self, instance: u64, owner: Owner) -> Result<Turn, Fault>
-        ensures { Gives Fault.NoMemory result (released (lock_at self.now instance) owner) }
+        ensures turn { Gives Fault.NoMemory result (released (lock_at self.now instance) owner) }
+        // To refuse takes no memory.
+        ensures refused { released (lock_at self.now instance) owner ≡ Err Fault.NotHolder → result ≡ Err Fault.NotHolder }
     {
         match self.locks.get(&instance) {
             Some(lock) => lock.release(owner),
@@ -156,7 +158,9 @@ impl Locks {
         name: &Name,
         owner: Owner,
     ) -> Result<Sequencer, Fault>
-        ensures { Gives Fault.NoMemory result (sequencer_of (lock_at self.now instance) instance name.now owner) }
+        ensures sequencer { Gives Fault.NoMemory result (sequencer_of (lock_at self.now instance) instance name.now owner) }
+        // To refuse takes no memory.
+        ensures refused { sequencer_of (lock_at self.now instance) instance name.now owner ≡ Err Fault.NotHolder → result ≡ Err Fault.NotHolder }
     {
         match self.locks.get(&instance.get()) {
             Some(lock) => lock.sequencer(instance, name, owner),

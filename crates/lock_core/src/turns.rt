@@ -1,5 +1,5 @@
 //! What becomes of one lock.
-ghost use Rattle.std.specs.Prelude.{◌≡◌, true, IfOk};
+ghost use Rattle.std.specs.Prelude.{◌≡◌, true, Err, IfOk};
 ghost use Rattle.plain.specs.Results.{Gives};
 ghost use Rattle.lock_core.specs.State.{nobody_holds};
 ghost use Rattle.lock_core.specs.Turns.{served, settled, turned_away, tried, acquired, released, closed_by, reopened, lapsed, concerns, claims_of, greatest_delay, closed_for};
@@ -76,7 +76,8 @@ impl Lock {
     }
 
     pub(crate) fn release(&self, owner: Owner) -> Result<Turn, Fault>
-        ensures { Gives Fault.NoMemory result (released self.now owner) }
+        ensures turn { Gives Fault.NoMemory result (released self.now owner) }
+        ensures refused { released self.now owner ≡ Err Fault.NotHolder → result ≡ Err Fault.NotHolder }
     {
         if self.hold_of(owner).is_none() {
             return Err(Fault::NotHolder);

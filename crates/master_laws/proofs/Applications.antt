@@ -4,6 +4,7 @@ use Rattle.std.specs.Option.{option_map_or}
 use Rattle.messages_cell.specs.declared.calls.Call.{Call}
 use Rattle.cell_parts.specs.declared.pending.Asked.{Asked}
 use Rattle.cell_parts.specs.declared.pending.Task.{Task}
+use Rattle.cell_state.specs.NameSpace.{name_space, caller}
 use Rattle.cell_state.specs.State.{MasterState}
 use Rattle.cell_apply.specs.declared.effects.Effect.{Effect}
 use Rattle.sweep_plan.specs.declared.plans.Plan.{Plan}
@@ -23,13 +24,13 @@ abbrev pub done_as : MasterState → Plan → MasterState × Swept
 done_as s plan = telling (tellings_of s plan) (swept_by_plan s plan false)
 
 module _ (s : MasterState) (number : ℕ) (asked : Asked) (call : Call) (sequencer : Option (List ℕ)) (turn : IsBeingApplied s number asked call sequencer) where
-  pub planned : plan_of s (first_action s) ≡ plan_for s number asked call (effect s asked.client asked.number call sequencer)
+  pub planned : plan_of s (first_action s) ≡ plan_for s number asked call (effect (name_space s) (caller s asked.client) s.clock asked.number call sequencer)
   planned =
       let client : ℕ = asked.client in
       ap (plan_of s) turn.is_first
       ∙ ap (λ o. option_map_or (λ (task : Task). leaving number (plan_task s task)) o no_plan) turn.waits
       ∙ ap (λ work. leaving number (plan_work s client asked.number work)) turn.work
-      ∙ ap (λ b. leaving number (cond b (plan_asked s client asked.number call (effect s client asked.number call sequencer)) no_plan)) turn.live
+      ∙ ap (λ b. leaving number (cond b (plan_asked s client asked.number call (effect (name_space s) (caller s client) s.clock asked.number call sequencer)) no_plan)) turn.live
 
-  pub done_so : swept s (first_action s) ≡ done_as s (plan_for s number asked call (effect s asked.client asked.number call sequencer))
+  pub done_so : swept s (first_action s) ≡ done_as s (plan_for s number asked call (effect (name_space s) (caller s asked.client) s.clock asked.number call sequencer))
   done_so = ap (swept s) turn.is_first ∙ ap (done_as s) (ap (plan_of s) (sym turn.is_first) ∙ planned)

@@ -24,6 +24,7 @@ use Rattle.cell_update.specs.Updates.{left, done}
 use Rattle.cell_parts.specs.Keys.{handle_order}
 use Rattle.cell_update.specs.declared.updates.SessionUpdate.TheVariants.{Begins, Prolongs, Answers}
 use Rattle.cell_core.specs.Ephemerals.{is_still_idle}
+use Rattle.cell_state.specs.NameSpace.{name_space, caller}
 use Rattle.cell_state.specs.State.{MasterState, task_at}
 use Rattle.cell_state.specs.Lookups.{session_of, is_live, may_start, turned_away, noted}
 use Rattle.cell_update.specs.Updates.{with_note}
@@ -77,8 +78,8 @@ module _ (s : MasterState) (key : HandleKey) (closed : IsClosed s key) where
   -- what a call notes
   by_call : (client number : ℕ) (call : Call) (sequencer : Option (List ℕ)) → work_opens key client number (works.Calls call sequencer) ≡ false → IsClosed (with_note s (plan_call s client number call sequencer).update.note) key
   by_call client number call sequencer other =
-      elim (is_live s client) as (λ b. IsClosed (with_note s (cond b (plan_asked s client number call (effect s client number call sequencer)) no_plan).update.note) key) [
-        | true ↦ stays_closed s client number call key (effect s client number call sequencer).note closed other (tame s client number call sequencer).notes
+      elim (is_live s client) as (λ b. IsClosed (with_note s (cond b (plan_asked s client number call (effect (name_space s) (caller s client) s.clock number call sequencer)) no_plan).update.note) key) [
+        | true ↦ stays_closed s client number call key (effect (name_space s) (caller s client) s.clock number call sequencer).note closed other (tame s client number call sequencer).notes
         | false ↦ closed
       ]
 
@@ -96,7 +97,7 @@ module _ (s : MasterState) (key : HandleKey) (closed : IsClosed s key) where
         | works.Calls call sequencer ↦ (λ h. by_call asked.client asked.number call sequencer h)
       ]) other
   by_task (tasks.Tidies idle) other =
-      elim (is_still_idle s idle) as (λ b. IsClosed (with_note s (cond b (plan_effect s 0 0 (gone_by_itself s idle)) no_plan).update.note) key) [ true ↦ closed | false ↦ closed ]
+      elim (is_still_idle s idle) as (λ b. IsClosed (with_note s (cond b (plan_effect s 0 0 (gone_by_itself (name_space s) idle)) no_plan).update.note) key) [ true ↦ closed | false ↦ closed ]
 
   module _ (unasked : waits_to_open key s ≡ false) where
     by_number : (number : ℕ) → IsClosed (with_note s (plan_of s (actions.Apply number)).update.note) key

@@ -17,6 +17,7 @@ use Rattle.cell_parts.specs.declared.handles.HandleKey.{HandleKey}
 use Rattle.cell_parts.specs.declared.handles.HandleState.{HandleState}
 use Rattle.cell_parts.specs.declared.handles.HandleState.TheVariants as states
 use Rattle.cell_parts.specs.declared.pending.Asked.{Asked}
+use Rattle.cell_state.specs.NameSpace.{name_space, caller}
 use Rattle.cell_state.specs.State.{MasterState}
 use Rattle.cell_parts.specs.Keys.{key_of}
 use Rattle.cell_state.specs.Lookups.{noted, reply_of}
@@ -37,16 +38,16 @@ use Rattle.master_laws.proofs.Applications.{plan_for, done_as, done_so}
 pub known_note : (s : MasterState) (key : HandleKey) (state : HandleState) → lookup (is_at (handle_order key)) (insert_entry handle_order s.handles key state) ≡ Some state
 known_note s key state = lookup_put handle_order exact_handle same_handle s.handles key state key ∙ rw (same_handle key) refl
 
-closing : (s : MasterState) (client number : ℕ) (bytes : List ℕ) (sequencer : Option (List ℕ)) (handle : Handle) → read_handle s.secret bytes ≡ Some handle → effect s client number (calls.Close bytes) sequencer ≡ close_at s handle
+closing : (s : MasterState) (client number : ℕ) (bytes : List ℕ) (sequencer : Option (List ℕ)) (handle : Handle) → read_handle s.secret bytes ≡ Some handle → effect (name_space s) (caller s client) s.clock number (calls.Close bytes) sequencer ≡ close_at (name_space s) handle
 unfolding effect
-closing s client number bytes sequencer handle reads = ap (handle_effect s (calls.Close bytes) sequencer) reads
+closing s client number bytes sequencer handle reads = ap (handle_effect (name_space s) s.clock (calls.Close bytes) sequencer) reads
 
 has_first : (x : Out) (rest : List Out) → Contains (x ∷ rest) x
 has_first x rest = Contains-append_left (x ∷ []) rest x (Contains-push [] x)
 
 -- what is planned for the Close
 abbrev pub close_plan : MasterState → ℕ → Asked → List ℕ → Handle → Plan
-close_plan s number asked bytes handle = plan_for s number asked (calls.Close bytes) (close_at s handle)
+close_plan s number asked bytes handle = plan_for s number asked (calls.Close bytes) (close_at (name_space s) handle)
 
 pub closed_so : (s new : MasterState) (now number : ℕ) (told : Swept) (asked : Asked) (bytes : List ℕ) (sequencer : Option (List ℕ)) (handle : Handle) → sweep_step s now ≡ Ok (new, told) → IsBeingApplied (noted s now) number asked (calls.Close bytes) sequencer → read_handle s.secret bytes ≡ Some handle → (new, told) ≡ done_as (noted s now) (close_plan (noted s now) number asked bytes handle)
 closed_so s new now number told asked bytes sequencer handle h turn reads =
@@ -63,5 +64,5 @@ close_closes s new now number told asked bytes sequencer handle h turn reads =
       ap (λ p. lookup (is_at (handle_order (key_of handle))) p.0.handles) is
           ∙ ap (λ entries. lookup (is_at (handle_order (key_of handle))) entries) (done_handles there (close_plan there number asked bytes handle).update)
           ∙ known_note there (key_of handle) states.Closed,
-      subst (λ p. Contains p.1.outs (outs.Reply own)) (sym is) (has_first (outs.Reply own) (sent (locking_replies there (close_at there handle).locking))),
+      subst (λ p. Contains p.1.outs (outs.Reply own)) (sym is) (has_first (outs.Reply own) (sent (locking_replies there (close_at (name_space there) handle).locking))),
     )

@@ -23,6 +23,7 @@ use Rattle.tags_cell.specs.declared.handles.Handle.{Handle}
 use Rattle.messages_cell.specs.declared.outs.CallResult.{CallResult}
 use Rattle.messages_cell.specs.declared.outs.CallResult.TheVariants as results
 use Rattle.messages_cell.specs.declared.outs.NewHandle.{NewHandle}
+use Rattle.cell_state.specs.NameSpace.{name_space, caller}
 use Rattle.cell_state.specs.State.{MasterState}
 use Rattle.cell_state.specs.Lookups.{may, missing_right, is_of_cell, sequencer_fault, new_handle, open_present, plain_open}
 use Rattle.cell_parts.specs.Calls.{is_too_long, create_fault}
@@ -92,12 +93,12 @@ module _ (s : MasterState) (client number : ℕ) (opening : Open) (create : Crea
   -- ---- none of the name is there
 
   module _ (absent : get_node s.nodes opening.name ≡ None) (parent : List ℕ) (is_parent : parent_of opening.name ≡ Some parent) (above : View) (there : get_node s.nodes parent ≡ Some above) where
-    by_rights : above.kind ≡ Directory → may s client above rights.Write ≡ true → Gives Q (create_permitted s client number opening (new_view s.next_instance create.node create.life (acls_of above create.acls)))
+    by_rights : above.kind ≡ Directory → may (name_space s) (caller s client) above rights.Write ≡ true → Gives Q (create_permitted (name_space s) (caller s client) number opening (new_view s.next_instance create.node create.life (acls_of above create.acls)))
     by_rights directory write =
         let view : View = new_view s.next_instance create.node create.life (acls_of above create.acls) in
-        by_option Q (missing_right s client opening.mode view) (λ right. refused (faults.Denied right)) (create_numbered s client number opening view) (λ right is. of_fault Q (faults.Denied right))
+        by_option Q (missing_right (name_space s) (caller s client) opening.mode view) (λ right. refused (faults.Denied right)) (create_numbered (name_space s) (caller s client) number opening view) (λ right is. of_fault Q (faults.Denied right))
         (λ none.
-        either Q (is_last s.next_instance) (refused faults.Exhausted) (create_made s opening view (new_handle s client number opening view)) (λ last. of_fault Q faults.Exhausted)
+        either Q (is_last s.next_instance) (refused faults.Exhausted) (create_made (name_space s) opening view (new_handle (name_space s) (caller s client) number opening view)) (λ last. of_fault Q faults.Exhausted)
         (λ left handle h.
         inl (record {
           absent = absent;
@@ -111,59 +112,59 @@ module _ (s : MasterState) (client number : ℕ) (opening : Open) (create : Crea
           left = not_last number_limit s.next_instance left;
         })))
 
-    by_kind : (kind : Kind) → above.kind ≡ kind → Gives Q (create_in s client number opening create above kind)
+    by_kind : (kind : Kind) → above.kind ≡ kind → Gives Q (create_in (name_space s) (caller s client) number opening create above kind)
     by_kind File is = of_fault Q (faults.WrongKind File)
     by_kind Directory is =
         let view : View = new_view s.next_instance create.node create.life (acls_of above create.acls) in
-        either Q (may s client above rights.Write) (create_permitted s client number opening view) (refused (faults.Denied rights.Write)) (by_rights is) (λ denied. of_fault Q (faults.Denied rights.Write))
+        either Q (may (name_space s) (caller s client) above rights.Write) (create_permitted (name_space s) (caller s client) number opening view) (refused (faults.Denied rights.Write)) (by_rights is) (λ denied. of_fault Q (faults.Denied rights.Write))
 
-  by_above : get_node s.nodes opening.name ≡ None → (parent : List ℕ) → parent_of opening.name ≡ Some parent → (o : Option View) → get_node s.nodes parent ≡ o → Gives Q (create_under s client number opening create o)
+  by_above : get_node s.nodes opening.name ≡ None → (parent : List ℕ) → parent_of opening.name ≡ Some parent → (o : Option View) → get_node s.nodes parent ≡ o → Gives Q (create_under (name_space s) (caller s client) number opening create o)
   by_above absent parent is_parent None is = of_fault Q faults.NotFound
   by_above absent parent is_parent (Some above) is = by_kind absent parent is_parent above is above.kind refl
 
-  by_parent : get_node s.nodes opening.name ≡ None → Gives Q (create_new s client number opening create)
+  by_parent : get_node s.nodes opening.name ≡ None → Gives Q (create_new (name_space s) (caller s client) number opening create)
   by_parent absent =
-      by_option Q (parent_of opening.name) (λ parent. create_under s client number opening create (get_node s.nodes parent)) (refused faults.NotFound)
+      by_option Q (parent_of opening.name) (λ parent. create_under (name_space s) (caller s client) number opening create (get_node s.nodes parent)) (refused faults.NotFound)
       (λ parent is. by_above absent parent is (get_node s.nodes parent) refl) (λ none. of_fault Q faults.NotFound)
 
   -- ---- one is there
 
-  by_found : (view : View) → get_node s.nodes opening.name ≡ Some view → create.disposition ≡ May → Gives Q (opened_effect s (open_present s client number opening view))
+  by_found : (view : View) → get_node s.nodes opening.name ≡ Some view → create.disposition ≡ May → Gives Q (opened_effect (name_space s) (open_present (name_space s) (caller s client) number opening view))
   by_found view is disposition handle h =
-      let same : plain_open s client number opening ≡ open_present s client number opening view = ap (λ o. option_map_or (λ v. open_present s client number opening v) o (Err faults.NotFound)) is in
-      let t = opened s (open_present s client number opening view) handle (let e = sym h in cc) in
+      let same : plain_open (name_space s) (caller s client) number opening ≡ open_present (name_space s) (caller s client) number opening view = ap (λ o. option_map_or (λ v. open_present (name_space s) (caller s client) number opening v) o (Err faults.NotFound)) is in
+      let t = opened s (open_present (name_space s) (caller s client) number opening view) handle (let e = sym h in cc) in
       inr (record { disposition = disposition; may_open = opened_where s client number opening t.0 (cc) })
 
-  by_disposition : (view : View) → get_node s.nodes opening.name ≡ Some view → (disposition : Disposition) → create.disposition ≡ disposition → Gives Q (create_over s client number opening disposition view)
+  by_disposition : (view : View) → get_node s.nodes opening.name ≡ Some view → (disposition : Disposition) → create.disposition ≡ disposition → Gives Q (create_over (name_space s) (caller s client) number opening disposition view)
   by_disposition view there Must is = of_fault Q faults.Exists
   by_disposition view there May is = by_found view there is
 
   -- ---- the tests before
 
-  by_tests : Gives (MayMakeOrFind s client opening create) (create_tested s client number opening create)
+  by_tests : Gives (MayMakeOrFind s client opening create) (create_tested (name_space s) (caller s client) number opening create)
   by_tests =
-      by_option (MayMakeOrFind s client opening create) (create_fault opening create.node) (λ answer. answered answer) (create_effect s client number opening create)
+      by_option (MayMakeOrFind s client opening create) (create_fault opening create.node) (λ answer. answered answer) (create_effect (name_space s) (caller s client) number opening create)
       (λ answer is handle h. absurd (faulted opening create.node handle (cc)))
       (λ none handle h.
       let found =
-      by_option Q (get_node s.nodes opening.name) (λ view. create_over s client number opening create.disposition view) (create_new s client number opening create)
+      by_option Q (get_node s.nodes opening.name) (λ view. create_over (name_space s) (caller s client) number opening create.disposition view) (create_new (name_space s) (caller s client) number opening create)
       (λ view is. by_disposition view is create.disposition refl) by_parent in
       record { within = is_within opening create create.node refl none; may = found handle h })
 
-  by_sequencer : (o : Option Fault) → Gives (MayMakeOrFind s client opening create) (create_under_sequencer s client number opening create o)
+  by_sequencer : (o : Option Fault) → Gives (MayMakeOrFind s client opening create) (create_under_sequencer (name_space s) (caller s client) number opening create o)
   by_sequencer None = by_tests
   by_sequencer (Some fault) = of_fault (MayMakeOrFind s client opening create) fault
 
-  by_cell : (sequencer : Option (List ℕ)) → Gives (MayMakeOrFind s client opening create) (create_here s client number opening create sequencer)
+  by_cell : (sequencer : Option (List ℕ)) → Gives (MayMakeOrFind s client opening create) (create_here (name_space s) (caller s client) number opening create sequencer)
   by_cell sequencer =
-      let fault = sequencer_fault s sequencer in
-      either (MayMakeOrFind s client opening create) (is_of_cell s opening.name) (create_under_sequencer s client number opening create fault) (refused faults.OtherCell) (λ own. by_sequencer fault)
+      let fault = sequencer_fault (name_space s) sequencer in
+      either (MayMakeOrFind s client opening create) (is_of_cell (name_space s) opening.name) (create_under_sequencer (name_space s) (caller s client) number opening create fault) (refused faults.OtherCell) (λ own. by_sequencer fault)
       (λ other. of_fault (MayMakeOrFind s client opening create) faults.OtherCell)
 
 pub makes_only_where_permitted : MakesOnlyWherePermitted
 unfolding effect
 makes_only_where_permitted s client number opening create sequencer makes given =
-    by_cell s client number opening create sequencer given.0 (subst (λ o. (open_effect s client number opening sequencer o).answer ≡ Some (results.Opened given.0)) makes given.1)
+    by_cell s client number opening create sequencer given.0 (subst (λ o. (open_effect (name_space s) (caller s client) number opening sequencer o).answer ≡ Some (results.Opened given.0)) makes given.1)
 
 -- ---- where the client may make the node, or find it
 
@@ -183,23 +184,23 @@ module _ (s : MasterState) (client number : ℕ) (opening : Open) (create : Crea
   abbrev given_of : View → NewHandle
   given_of view = record { bytes = handle_bytes s.secret (handle_of view); instance = view.instance; life = view.life }
 
-  makes : MayMake s client opening create → IsGiven (create_tested s client number opening create)
+  makes : MayMake s client opening create → IsGiven (create_tested (name_space s) (caller s client) number opening create)
   makes m =
       let view : View = new_view s.next_instance create.node create.life (acls_of m.above create.acls) in
-      let none : missing_right s client opening.mode view ≡ None = none_missing s client opening.mode view m.permitted in
+      let none : missing_right (name_space s) (caller s client) opening.mode view ≡ None = none_missing s client opening.mode view m.permitted in
       let left : is_last s.next_instance ≡ false = below_last number_limit s.next_instance m.left in
       (given_of view, rw (fits, m.absent, m.is_parent, m.there, m.directory, m.write, none, left, short, carried.epoch, ordinal) refl)
 
-  finds : MayFind s client opening create → IsGiven (create_tested s client number opening create)
+  finds : MayFind s client opening create → IsGiven (create_tested (name_space s) (caller s client) number opening create)
   finds m =
       let view : View = m.may_open.view in
-      let none : missing_right s client opening.mode view ≡ None = none_missing s client opening.mode view m.may_open.permitted in
+      let none : missing_right (name_space s) (caller s client) opening.mode view ≡ None = none_missing s client opening.mode view m.may_open.permitted in
       (given_of view, rw (fits, m.may_open.there, m.disposition, none, short, carried.epoch, carried.instance view m.may_open.there) refl)
 
 pub makes_where_permitted : MakesWherePermitted
 unfolding effect
 makes_where_permitted s client number opening create makes_node own carried ordinal h =
     let given = ⊎_elim (makes s client number opening create h.within carried ordinal) (finds s client number opening create h.within carried ordinal) h.may in
-    let same : open_effect s client number opening None opening.create ≡ create_tested s client number opening create =
-    ap (open_effect s client number opening None) makes_node ∙ ap (λ b. cond b (create_tested s client number opening create) (refused faults.OtherCell)) own in
+    let same : open_effect (name_space s) (caller s client) number opening None opening.create ≡ create_tested (name_space s) (caller s client) number opening create =
+    ap (open_effect (name_space s) (caller s client) number opening None) makes_node ∙ ap (λ b. cond b (create_tested (name_space s) (caller s client) number opening create) (refused faults.OtherCell)) own in
     (given.0, ap (λ effected. effected.answer) same ∙ given.1)

@@ -18,6 +18,7 @@ use Rattle.messages_cell.specs.declared.requests.CallMessage.{CallMessage}
 use Rattle.cell_parts.specs.Keys.{handle_order}
 use Rattle.cell_parts.specs.declared.handles.HandleState.TheVariants as states
 use Rattle.cell_parts.specs.declared.pending.Taken.{Taken}
+use Rattle.cell_state.specs.NameSpace.{name_space, caller}
 use Rattle.cell_state.specs.State.{MasterState}
 use Rattle.cell_state.specs.Lookups.{noted, missing_right, numbered_handle, open_present, plain_open, opened_answer, opened_note}
 use Rattle.cell_parts.specs.Keys.{key_of}
@@ -40,14 +41,14 @@ pub record IsOn (s : MasterState) (message : CallMessage) (opening : Open) (hand
   pub there : get_node s.nodes opening.name ≡ Some view
   pub same : handle_for s message opening view ≡ handle
 
-is_on : (s : MasterState) (message : CallMessage) (opening : Open) (handle : Handle) → plain_open s message.client message.number opening ≡ Ok handle → IsOn s message opening handle
+is_on : (s : MasterState) (message : CallMessage) (opening : Open) (handle : Handle) → plain_open (name_space s) (caller s message.client) message.number opening ≡ Ok handle → IsOn s message opening handle
 is_on s message opening handle =
     let client : ℕ = message.client in
     let number : ℕ = message.number in
-    (elim (get_node s.nodes opening.name) as (λ o. get_node s.nodes opening.name ≡ o → option_map_or (λ view. open_present s client number opening view) o (Err faults.NotFound) ≡ Ok handle → IsOn s message opening handle) [
+    (elim (get_node s.nodes opening.name) as (λ o. get_node s.nodes opening.name ≡ o → option_map_or (λ view. open_present (name_space s) (caller s client) number opening view) o (Err faults.NotFound) ≡ Ok handle → IsOn s message opening handle) [
       | None ↦ (λ is h. absurd cc)
       | Some view ↦ (λ is h.
-          let t = unless_missing (missing_right s client opening.mode view) (is_too_long opening.delay) (numbered_handle s client number opening view) handle h in
+          let t = unless_missing (missing_right (name_space s) (caller s client) opening.mode view) (is_too_long opening.delay) (numbered_handle (name_space s) (caller s client) number opening view) handle h in
           record { view = view; there = is; same = if_so (is_ordinal s.epoch && is_ordinal view.instance) (handle_for s message opening view) handle t.2 })
     ]) refl
 
@@ -69,20 +70,20 @@ same_given h = cc
 pub given_handle_is_open : GivenHandleIsOpen
 given_handle_is_open s new now message opening taken given takes plain answered =
     let there : MasterState = noted s now in
-    let result : Result Handle Fault = plain_open s message.client message.number opening in
+    let result : Result Handle Fault = plain_open (name_space s) (caller s message.client) message.number opening in
     let admitted = tested there message opening (record { is_open = plain.is_open; makes_nothing = plain.makes_nothing; under_none = plain.under_none; of_cell = plain.of_cell }) in
-    let at_once : (admission_for there message).answer ≡ Some (opened_answer there result) = ap (λ a. a.answer) admitted in
-    let notes : (admission_for there message).note ≡ opened_note there result = ap (λ a. a.note) admitted in
+    let at_once : (admission_for there message).answer ≡ Some (opened_answer (name_space there) result) = ap (λ a. a.answer) admitted in
+    let notes : (admission_for there message).note ≡ opened_note (name_space there) result = ap (λ a. a.note) admitted in
     let case = new_case s new now message taken takes.step takes.is_new in
-    let sent : IsSent taken message (opened_answer there result) = sent_at_once there message new taken (opened_answer there result) takes.serving at_once case in
-    let is : results.Opened given ≡ opened_answer there result = same_answer taken message (opened_answer there result) (results.Opened given) sent answered in
+    let sent : IsSent taken message (opened_answer (name_space there) result) = sent_at_once there message new taken (opened_answer (name_space there) result) takes.serving at_once case in
+    let is : results.Opened given ≡ opened_answer (name_space there) result = same_answer taken message (opened_answer (name_space there) result) (results.Opened given) sent answered in
     let t = opened there result given is in
     let on = is_on s message opening t.0 t.1 in
     let handle : Handle = handle_for s message opening on.view in
     let opens : result ≡ Ok handle = t.1 ∙ ap (λ h. Ok h) (sym on.same) in
-    let same : given ≡ record { bytes = handle_bytes s.secret handle; instance = handle.instance; life = handle.life } = same_given (is ∙ ap (opened_answer there) opens) in
+    let same : given ≡ record { bytes = handle_bytes s.secret handle; instance = handle.instance; life = handle.life } = same_given (is ∙ ap (opened_answer (name_space there)) opens) in
     let entries : new.handles ≡ (with_note there (Some (open_note handle (handle_bytes s.secret handle)))).handles =
-    noted_as there message new taken (opened_answer there result) takes.serving at_once case.0 case.1 ∙ ap (λ n. (with_note there n).handles) (notes ∙ ap (opened_note there) opens) in
+    noted_as there message new taken (opened_answer (name_space there) result) takes.serving at_once case.0 case.1 ∙ ap (λ n. (with_note there n).handles) (notes ∙ ap (opened_note (name_space there)) opens) in
     record {
       view = on.view;
       there = on.there;

@@ -11,6 +11,7 @@ use Rattle.tags_cell.specs.Handles.{is_ordinal}
 use Rattle.messages_cell.specs.declared.calls.Open.{Open}
 use Rattle.tags_cell.specs.declared.handles.Handle.{Handle}
 use Rattle.cell_parts.specs.Keys.{is_key}
+use Rattle.cell_state.specs.NameSpace.{name_space, caller}
 use Rattle.cell_state.specs.State.{MasterState}
 use Rattle.cell_parts.specs.Keys.{key_of}
 use Rattle.cell_state.specs.Lookups.{missing_right, numbered_handle, new_handle, open_present, plain_open}
@@ -33,23 +34,23 @@ unless_long true r handle h = absurd cc
 unless_long false r handle h = h
 
 module _ (s : MasterState) (client number : ℕ) (opening : Open) (handle : Handle) where
-  pub numbered_key : (view : View) → numbered_handle s client number opening view ≡ Ok handle → IsOfCall client number handle
+  pub numbered_key : (view : View) → numbered_handle (name_space s) (caller s client) number opening view ≡ Ok handle → IsOfCall client number handle
   numbered_key view h =
       let given : Handle = record { epoch = s.epoch; client = client; number = number; instance = view.instance; mode = opening.mode; life = view.life; events = opening.events; delay = opening.delay; name = opening.name } in
       let same : given ≡ handle = if_so (is_ordinal s.epoch && is_ordinal view.instance) given handle h in
       subst (IsOfCall client number) same (rw (itself client, itself number) refl)
 
-  pub new_key : (view : View) → new_handle s client number opening view ≡ Ok handle → IsOfCall client number handle
-  new_key view h = numbered_key view (unless_long (is_too_long opening.delay) (numbered_handle s client number opening view) handle h)
+  pub new_key : (view : View) → new_handle (name_space s) (caller s client) number opening view ≡ Ok handle → IsOfCall client number handle
+  new_key view h = numbered_key view (unless_long (is_too_long opening.delay) (numbered_handle (name_space s) (caller s client) number opening view) handle h)
 
-  pub present_key : (view : View) → open_present s client number opening view ≡ Ok handle → IsOfCall client number handle
+  pub present_key : (view : View) → open_present (name_space s) (caller s client) number opening view ≡ Ok handle → IsOfCall client number handle
   present_key view h =
-      let t = unless_missing (missing_right s client opening.mode view) (is_too_long opening.delay) (numbered_handle s client number opening view) handle h in
+      let t = unless_missing (missing_right (name_space s) (caller s client) opening.mode view) (is_too_long opening.delay) (numbered_handle (name_space s) (caller s client) number opening view) handle h in
       numbered_key view t.2
 
-  pub plain_key : plain_open s client number opening ≡ Ok handle → IsOfCall client number handle
+  pub plain_key : plain_open (name_space s) (caller s client) number opening ≡ Ok handle → IsOfCall client number handle
   plain_key h =
-      (elim (get_node s.nodes opening.name) as (λ o. option_map_or (λ view. open_present s client number opening view) o (Err faults.NotFound) ≡ Ok handle → IsOfCall client number handle) [
+      (elim (get_node s.nodes opening.name) as (λ o. option_map_or (λ view. open_present (name_space s) (caller s client) number opening view) o (Err faults.NotFound) ≡ Ok handle → IsOfCall client number handle) [
         | None ↦ (λ k. absurd cc)
         | Some view ↦ (λ k. present_key view k)
       ]) h

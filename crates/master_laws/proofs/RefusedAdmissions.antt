@@ -13,6 +13,7 @@ use Rattle.messages_cell.specs.declared.outs.CallResult.TheVariants as results
 use Rattle.messages_cell.specs.declared.outs.NewHandle.{NewHandle}
 use Rattle.messages_cell.specs.declared.requests.CallMessage.{CallMessage}
 use Rattle.cell_parts.specs.declared.handles.Note.{Note}
+use Rattle.cell_state.specs.NameSpace.{name_space, caller}
 use Rattle.cell_state.specs.State.{MasterState}
 use Rattle.cell_state.specs.Lookups.{plain_open, opened_note, opened_answer, shown_handle, answer_on, is_of_cell, sequencer_fault}
 use Rattle.cell_parts.specs.Calls.{bytes_of}
@@ -31,12 +32,12 @@ shown_first s client call = option_and_then (λ bytes. option_and_then (λ handl
 -- ---- what is noted
 
 module _ (s : MasterState) (client number : ℕ) where
-  of_opened : (opening : Open) (r : Result Handle Fault) → GivesNone (Some (opened_answer s r)) → opened_note s r ≡ None
+  of_opened : (opening : Open) (r : Result Handle Fault) → GivesNone (Some (opened_answer (name_space s) r)) → opened_note (name_space s) r ≡ None
   of_opened opening (Ok handle) h = absurd (h _ refl)
   of_opened opening (Err fault) h = refl
 
   of_create : (opening : Open) (o : Option Create) → GivesNone (admission_of_open s client number opening o).answer → (admission_of_open s client number opening o).note ≡ None
-  of_create opening None h = of_opened opening (plain_open s client number opening) h
+  of_create opening None h = of_opened opening (plain_open (name_space s) (caller s client) number opening) h
   of_create opening (Some create) h = refl
 
   of_sequencer : (opening : Open) (o : Option Fault) → GivesNone (admission_under s client number opening o).answer → (admission_under s client number opening o).note ≡ None
@@ -45,8 +46,8 @@ module _ (s : MasterState) (client number : ℕ) where
 
   of_open : (opening : Open) (sequencer : Option (List ℕ)) → GivesNone (open_admission s client number opening sequencer).answer → (open_admission s client number opening sequencer).note ≡ None
   of_open opening sequencer h =
-      let fault = sequencer_fault s sequencer in
-      (elim (is_of_cell s opening.name) as (λ b. GivesNone (cond b (admission_under s client number opening fault) (answering (results.Refused faults.OtherCell))).answer → (cond b (admission_under s client number opening fault) (answering (results.Refused faults.OtherCell))).note ≡ None) [
+      let fault = sequencer_fault (name_space s) sequencer in
+      (elim (is_of_cell (name_space s) opening.name) as (λ b. GivesNone (cond b (admission_under s client number opening fault) (answering (results.Refused faults.OtherCell))).answer → (cond b (admission_under s client number opening fault) (answering (results.Refused faults.OtherCell))).note ≡ None) [
         | true ↦ (λ k. of_sequencer opening fault k)
         | false ↦ (λ k. refl)
       ]) h
@@ -61,7 +62,7 @@ module _ (s : MasterState) (client number : ℕ) where
 
   of_call : (call : Call) (sequencer : Option (List ℕ)) → GivesNone (admission_of s client number call sequencer).answer → (admission_of s client number call sequencer).note ≡ shown_first s client call
   of_call (calls.Open opening) sequencer h = of_open opening sequencer h
-  of_call (calls.CheckSequencer bytes) sequencer h = of_check bytes (sequencer_fault s sequencer)
+  of_call (calls.CheckSequencer bytes) sequencer h = of_check bytes (sequencer_fault (name_space s) sequencer)
   of_call call sequencer h = of_handle call sequencer (bytes_of call) (shown_handle s client (bytes_of call)) refl
 
 pub notes_shown : (s : MasterState) (message : CallMessage) → s.recovering ≡ false → GivesNone (admission_for s message).answer → (admission_for s message).note ≡ first_shown s message
@@ -93,15 +94,15 @@ module _ (s : MasterState) (client number : ℕ) where
   tells_nothing : (call : Call) (answer : Option CallResult) → TellsSo call answer None
   tells_nothing call answer fault name h k = absurd cc
 
-  told_opened : (opening : Open) (r : Result Handle Fault) → TellsSo (calls.Open opening) (Some (opened_answer s r)) (told_by_open opening.name r)
-  told_opened opening (Ok handle) = tells_nothing (calls.Open opening) (Some (opened_answer s (Ok handle)))
+  told_opened : (opening : Open) (r : Result Handle Fault) → TellsSo (calls.Open opening) (Some (opened_answer (name_space s) r)) (told_by_open opening.name r)
+  told_opened opening (Ok handle) = tells_nothing (calls.Open opening) (Some (opened_answer (name_space s) (Ok handle)))
   told_opened opening (Err fault) = λ other name h k.
       let same : fault ≡ other = of_fault (of_result h) in
       let t = absent opening fault name k in
       record { opening = opening; is_open = refl; not_found = sym same ∙ t.0; is_name = t.1 }
 
   told_create : (opening : Open) (o : Option Create) → TellsSo (calls.Open opening) (admission_of_open s client number opening o).answer (admission_of_open s client number opening o).told
-  told_create opening None = told_opened opening (plain_open s client number opening)
+  told_create opening None = told_opened opening (plain_open (name_space s) (caller s client) number opening)
   told_create opening (Some create) = tells_nothing (calls.Open opening) (admission_of_open s client number opening (Some create)).answer
 
   told_sequencer : (opening : Open) (o : Option Fault) → TellsSo (calls.Open opening) (admission_under s client number opening o).answer (admission_under s client number opening o).told
@@ -110,8 +111,8 @@ module _ (s : MasterState) (client number : ℕ) where
 
   told_open : (opening : Open) (sequencer : Option (List ℕ)) → TellsSo (calls.Open opening) (open_admission s client number opening sequencer).answer (open_admission s client number opening sequencer).told
   told_open opening sequencer =
-      let fault = sequencer_fault s sequencer in
-      elim (is_of_cell s opening.name) as (λ b. TellsSo (calls.Open opening) (cond b (admission_under s client number opening fault) (answering (results.Refused faults.OtherCell))).answer (cond b (admission_under s client number opening fault) (answering (results.Refused faults.OtherCell))).told) [
+      let fault = sequencer_fault (name_space s) sequencer in
+      elim (is_of_cell (name_space s) opening.name) as (λ b. TellsSo (calls.Open opening) (cond b (admission_under s client number opening fault) (answering (results.Refused faults.OtherCell))).answer (cond b (admission_under s client number opening fault) (answering (results.Refused faults.OtherCell))).told) [
         | true ↦ told_sequencer opening fault
         | false ↦ tells_nothing (calls.Open opening) (Some (results.Refused faults.OtherCell))
       ]
@@ -127,11 +128,11 @@ module _ (s : MasterState) (client number : ℕ) where
 
   told_handle : (call : Call) (sequencer : Option (List ℕ)) (o : Option Handle) → TellsSo call (handle_admission s call sequencer o).answer (handle_admission s call sequencer o).told
   told_handle call sequencer None = tells_nothing call (Some (results.Refused faults.BadHandle))
-  told_handle call sequencer (Some handle) = told_viewed call handle.name (answer_on s handle call sequencer)
+  told_handle call sequencer (Some handle) = told_viewed call handle.name (answer_on (name_space s) handle call sequencer)
 
   told_call : (call : Call) (sequencer : Option (List ℕ)) → TellsSo call (admission_of s client number call sequencer).answer (admission_of s client number call sequencer).told
   told_call (calls.Open opening) sequencer = told_open opening sequencer
-  told_call (calls.CheckSequencer bytes) sequencer = told_check bytes (sequencer_fault s sequencer)
+  told_call (calls.CheckSequencer bytes) sequencer = told_check bytes (sequencer_fault (name_space s) sequencer)
   told_call call sequencer = told_handle call sequencer (shown_handle s client (bytes_of call))
 
 pub tells_absence : (s : MasterState) (message : CallMessage) (fault : Fault) (name : List ℕ) → (admission_for s message).answer ≡ Some (results.Refused fault) → (admission_for s message).told ≡ Some name → TellsAbsence message.call fault name

@@ -21,6 +21,7 @@ use Rattle.session_core.proofs.OneClient.{own_session, other_session, kept_sessi
 use Rattle.cell_parts.specs.declared.notices.Telling.{Telling}
 use Rattle.cell_parts.specs.declared.pending.Asked.{Asked}
 use Rattle.cell_update.specs.Updates.{edits_of}
+use Rattle.cell_state.specs.NameSpace.{name_space, caller}
 use Rattle.cell_state.specs.Notices.{with_telling}
 use Rattle.cell_state.specs.State.{MasterState}
 use Rattle.cell_state.specs.Lookups.{reply_of, noted}
@@ -96,8 +97,8 @@ same_lease table client kept tellings = lease_told tellings (with_session table 
 
 -- ---- the plan
 
-module _ (s : MasterState) (number : ℕ) (asked : Asked) (call : Call) (sequencer : Option (List ℕ)) (fault : Fault) (turn : IsBeingApplied s number asked call sequencer) (refusal : (effect s asked.client asked.number call sequencer).answer ≡ Some (results.Refused fault)) where
-  alone : plan_for s number asked call (effect s asked.client asked.number call sequencer) ≡ plan_for s number asked call (refused fault)
+module _ (s : MasterState) (number : ℕ) (asked : Asked) (call : Call) (sequencer : Option (List ℕ)) (fault : Fault) (turn : IsBeingApplied s number asked call sequencer) (refusal : (effect (name_space s) (caller s asked.client) s.clock asked.number call sequencer).answer ≡ Some (results.Refused fault)) where
+  alone : plan_for s number asked call (effect (name_space s) (caller s asked.client) s.clock asked.number call sequencer) ≡ plan_for s number asked call (refused fault)
   alone = ap (plan_for s number asked call) ((tame s asked.client asked.number call sequencer).refuses fault refusal)
 
   refused_so : swept s (first_action s) ≡ done_as s (plan_for s number asked call (refused fault))

@@ -12,6 +12,7 @@ use Rattle.tags_cell.specs.declared.handles.Handle.{Handle}
 use Rattle.messages_cell.specs.declared.outs.CallResult.TheVariants as results
 use Rattle.messages_cell.specs.declared.requests.CallMessage.{CallMessage}
 use Rattle.cell_parts.specs.declared.handles.HandleState.{HandleState}
+use Rattle.cell_state.specs.NameSpace.{name_space, caller}
 use Rattle.cell_state.specs.State.{MasterState}
 use Rattle.cell_state.specs.Lookups.{handle_state_of, plain_open, opened_note, shown_handle, is_of_cell, sequencer_fault}
 use Rattle.cell_parts.specs.Keys.{key_of}
@@ -28,14 +29,14 @@ no_value (Some state) h = absurd cc
 module _ (s : MasterState) (client number : ℕ) where
   -- ---- an Open
 
-  of_opened : (opening : Open) (r : Result Handle Fault) → plain_open s client number opening ≡ r → AreFair s client number (calls.Open opening) (opened_note s r)
+  of_opened : (opening : Open) (r : Result Handle Fault) → plain_open (name_space s) (caller s client) number opening ≡ r → AreFair s client number (calls.Open opening) (opened_note (name_space s) r)
   of_opened opening (Ok handle) h =
       one_fair s client number (calls.Open opening) (open_note handle (handle_bytes s.secret handle))
       (is_by_open s client number (calls.Open opening) (open_note handle (handle_bytes s.secret handle)) (plain_key s client number opening handle h))
   of_opened opening (Err fault) h = none_fair s client number (calls.Open opening)
 
   of_create : (opening : Open) (o : Option Create) → AreFair s client number (calls.Open opening) (admission_of_open s client number opening o).note
-  of_create opening None = of_opened opening (plain_open s client number opening) refl
+  of_create opening None = of_opened opening (plain_open (name_space s) (caller s client) number opening) refl
   of_create opening (Some create) = none_fair s client number (calls.Open opening)
 
   of_sequencer : (opening : Open) (o : Option Fault) → AreFair s client number (calls.Open opening) (admission_under s client number opening o).note
@@ -44,8 +45,8 @@ module _ (s : MasterState) (client number : ℕ) where
 
   of_open : (opening : Open) (sequencer : Option (List ℕ)) → AreFair s client number (calls.Open opening) (open_admission s client number opening sequencer).note
   of_open opening sequencer =
-      let fault = sequencer_fault s sequencer in
-      elim (is_of_cell s opening.name) as (λ b. AreFair s client number (calls.Open opening) (cond b (admission_under s client number opening fault) (answering (results.Refused faults.OtherCell))).note) [
+      let fault = sequencer_fault (name_space s) sequencer in
+      elim (is_of_cell (name_space s) opening.name) as (λ b. AreFair s client number (calls.Open opening) (cond b (admission_under s client number opening fault) (answering (results.Refused faults.OtherCell))).note) [
         | true ↦ of_sequencer opening fault
         | false ↦ none_fair s client number (calls.Open opening)
       ]
@@ -69,7 +70,7 @@ module _ (s : MasterState) (client number : ℕ) where
 
   of_call : (call : Call) (sequencer : Option (List ℕ)) → AreFair s client number call (admission_of s client number call sequencer).note
   of_call (calls.Open opening) sequencer = of_open opening sequencer
-  of_call (calls.CheckSequencer bytes) sequencer = of_check bytes (sequencer_fault s sequencer)
+  of_call (calls.CheckSequencer bytes) sequencer = of_check bytes (sequencer_fault (name_space s) sequencer)
   of_call call sequencer = of_handle call sequencer (shown_handle s client (bytes_of call))
 
 pub taken_fair : (s : MasterState) (message : CallMessage) → AreFair s message.client message.number message.call (admission_for s message).note

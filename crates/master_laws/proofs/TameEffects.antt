@@ -30,6 +30,7 @@ use Rattle.lock_core.specs.State.{LockState}
 use Rattle.lock_core.specs.Turns.{tried, acquired, released}
 use Rattle.cell_parts.specs.declared.handles.HandleState.TheVariants as states
 use Rattle.cell_parts.specs.Claims.{owner_of, claim_of}
+use Rattle.cell_state.specs.NameSpace.{name_space, caller}
 use Rattle.cell_state.specs.State.{MasterState}
 use Rattle.cell_state.specs.Lookups.{may, missing_right, is_of_cell, sequencer_fault, lock_under, node_of_handle, new_handle, open_present, plain_open, answer_on}
 use Rattle.cell_parts.specs.Calls.{create_fault, bytes_of}
@@ -93,39 +94,39 @@ module _ (s : MasterState) (client number : ℕ) (call : Call) where
 
   -- ---- a change of a node that stands
 
-  of_put : (handle : Handle) (present : ℕ) (wanted : Option ℕ) (view : View) → Tame (put_at s handle present wanted view)
+  of_put : (handle : Handle) (present : ℕ) (wanted : Option ℕ) (view : View) → Tame (put_at (name_space s) handle present wanted view)
   of_put handle present wanted view =
       let written : Effect = changes_to (Put handle.name view) s.next_instance results.Done in
       either (generation_fits wanted present) (cond (is_last present) (refused faults.Exhausted) written) (refused (faults.WrongGeneration present))
       (either (is_last present) (refused faults.Exhausted) written (of_fault faults.Exhausted) (of_change (Put handle.name view) s.next_instance))
       (of_fault (faults.WrongGeneration present))
 
-  of_deleted : (handle : Handle) → Tame (deleted s handle)
+  of_deleted : (handle : Handle) → Tame (deleted (name_space s) handle)
   of_deleted handle = record { refuses = λ fault h. absurd cc; notes = none_fair s client number call }
 
-  of_delete : (handle : Handle) → Tame (delete_at s handle)
+  of_delete : (handle : Handle) → Tame (delete_at (name_space s) handle)
   of_delete handle =
-      either (has_children s.nodes handle.name || is_none (parent_of handle.name)) (refused faults.NotEmpty) (deleted s handle) (of_fault faults.NotEmpty) (of_deleted handle)
+      either (has_children s.nodes handle.name || is_none (parent_of handle.name)) (refused faults.NotEmpty) (deleted (name_space s) handle) (of_fault faults.NotEmpty) (of_deleted handle)
 
-  of_node : (handle : Handle) (on : Call) (view : View) → Tame (change_at s handle on view)
+  of_node : (handle : Handle) (on : Call) (view : View) → Tame (change_at (name_space s) s.clock handle on view)
   of_node handle (calls.Set bytes content generation) view = of_put handle view.content_generation generation (with_content view content)
   of_node handle (calls.SetAcl bytes acls generation) view = of_put handle view.acl_generation generation (with_acls view acls)
   of_node handle (calls.Delete bytes) view = of_delete handle
-  of_node handle (calls.Acquire bytes mode) view = of_acquired handle (claim_of handle mode) (acquired (lock_under s handle) (claim_of handle mode))
-  of_node handle (calls.TryAcquire bytes mode) view = of_tried handle (claim_of handle mode) (tried (lock_under s handle) (claim_of handle mode) s.clock)
-  of_node handle (calls.Release bytes) view = of_released handle (released (lock_under s handle) (owner_of handle))
+  of_node handle (calls.Acquire bytes mode) view = of_acquired handle (claim_of handle mode) (acquired (lock_under (name_space s) handle) (claim_of handle mode))
+  of_node handle (calls.TryAcquire bytes mode) view = of_tried handle (claim_of handle mode) (tried (lock_under (name_space s) handle) (claim_of handle mode) s.clock)
+  of_node handle (calls.Release bytes) view = of_released handle (released (lock_under (name_space s) handle) (owner_of handle))
   of_node handle _ view = of_fault faults.BadHandle
 
-  of_application : (handle : Handle) (on : Call) (o : Option CallResult) → Tame (option_map_or (λ answer. answered answer) o (change_on s handle on))
+  of_application : (handle : Handle) (on : Call) (o : Option CallResult) → Tame (option_map_or (λ answer. answered answer) o (change_on (name_space s) s.clock handle on))
   of_application handle on o =
-      by_option o (λ answer. answered answer) (change_on s handle on) of_answer
-      (by_option (node_of_handle s handle) (λ view. change_at s handle on view) (refused faults.StaleInstance) (of_node handle on) (of_fault faults.StaleInstance))
+      by_option o (λ answer. answered answer) (change_on (name_space s) s.clock handle on) of_answer
+      (by_option (node_of_handle (name_space s) handle) (λ view. change_at (name_space s) s.clock handle on view) (refused faults.StaleInstance) (of_node handle on) (of_fault faults.StaleInstance))
 
-  of_call : (handle : Handle) (on : Call) (sequencer : Option (List ℕ)) → Tame (effect_on s handle on sequencer)
-  of_call handle (calls.Close bytes) sequencer = of_closed handle (close_under s handle (node_of_handle s handle))
-  of_call handle on sequencer = of_application handle on (answer_on s handle on sequencer)
+  of_call : (handle : Handle) (on : Call) (sequencer : Option (List ℕ)) → Tame (effect_on (name_space s) s.clock handle on sequencer)
+  of_call handle (calls.Close bytes) sequencer = of_closed handle (close_under (name_space s) handle (node_of_handle (name_space s) handle))
+  of_call handle on sequencer = of_application handle on (answer_on (name_space s) handle on sequencer)
 
-  of_handle : (on : Call) (sequencer : Option (List ℕ)) (o : Option Handle) → Tame (handle_effect s on sequencer o)
+  of_handle : (on : Call) (sequencer : Option (List ℕ)) (o : Option Handle) → Tame (handle_effect (name_space s) s.clock on sequencer o)
   of_handle on sequencer None = of_fault faults.BadHandle
   of_handle on sequencer (Some handle) = of_call handle on sequencer
 
@@ -144,68 +145,68 @@ module _ (s : MasterState) (client number : ℕ) (opening : Open) where
       one_fair s client number (calls.Open opening) (open_note handle (handle_bytes s.secret handle))
       (is_by_open s client number (calls.Open opening) (open_note handle (handle_bytes s.secret handle)) own)
 
-  of_opened : (opened : Result Handle Fault) → ((handle : Handle) → opened ≡ Ok handle → IsOfCall client number handle) → Tamed (opened_effect s opened)
+  of_opened : (opened : Result Handle Fault) → ((handle : Handle) → opened ≡ Ok handle → IsOfCall client number handle) → Tamed (opened_effect (name_space s) opened)
   of_opened (Ok handle) own = record { refuses = λ fault h. absurd cc; notes = fair_handle handle (own handle refl) }
   of_opened (Err fault) own = fault_of fault
 
-  of_made : (view : View) (opened : Result Handle Fault) → ((handle : Handle) → opened ≡ Ok handle → IsOfCall client number handle) → Tamed (create_made s opening view opened)
+  of_made : (view : View) (opened : Result Handle Fault) → ((handle : Handle) → opened ≡ Ok handle → IsOfCall client number handle) → Tamed (create_made (name_space s) opening view opened)
   of_made view (Ok handle) own = record { refuses = λ fault h. absurd cc; notes = fair_handle handle (own handle refl) }
   of_made view (Err fault) own = fault_of fault
 
-  of_numbered : (view : View) → Tamed (create_numbered s client number opening view)
+  of_numbered : (view : View) → Tamed (create_numbered (name_space s) (caller s client) number opening view)
   of_numbered view =
-      let opened = new_handle s client number opening view in
-      either s client number (calls.Open opening) (is_last s.next_instance) (refused faults.Exhausted) (create_made s opening view opened) (fault_of faults.Exhausted)
+      let opened = new_handle (name_space s) (caller s client) number opening view in
+      either s client number (calls.Open opening) (is_last s.next_instance) (refused faults.Exhausted) (create_made (name_space s) opening view opened) (fault_of faults.Exhausted)
       (of_made view opened (λ handle h. new_key s client number opening handle view h))
 
-  of_permitted : (view : View) → Tamed (create_permitted s client number opening view)
+  of_permitted : (view : View) → Tamed (create_permitted (name_space s) (caller s client) number opening view)
   of_permitted view =
-      by_option s client number (calls.Open opening) (missing_right s client opening.mode view) (λ right. refused (faults.Denied right)) (create_numbered s client number opening view) (λ right. fault_of (faults.Denied right))
+      by_option s client number (calls.Open opening) (missing_right (name_space s) (caller s client) opening.mode view) (λ right. refused (faults.Denied right)) (create_numbered (name_space s) (caller s client) number opening view) (λ right. fault_of (faults.Denied right))
       (of_numbered view)
 
-  of_kind : (create : Create) (above : View) (kind : Kind) → Tamed (create_in s client number opening create above kind)
+  of_kind : (create : Create) (above : View) (kind : Kind) → Tamed (create_in (name_space s) (caller s client) number opening create above kind)
   of_kind create above File = fault_of (faults.WrongKind File)
   of_kind create above Directory =
       let view : View = new_view s.next_instance create.node create.life (acls_of above create.acls) in
-      either s client number (calls.Open opening) (may s client above rights.Write) (create_permitted s client number opening view) (refused (faults.Denied rights.Write)) (of_permitted view)
+      either s client number (calls.Open opening) (may (name_space s) (caller s client) above rights.Write) (create_permitted (name_space s) (caller s client) number opening view) (refused (faults.Denied rights.Write)) (of_permitted view)
       (fault_of (faults.Denied rights.Write))
 
-  of_above : (create : Create) (o : Option View) → Tamed (create_under s client number opening create o)
+  of_above : (create : Create) (o : Option View) → Tamed (create_under (name_space s) (caller s client) number opening create o)
   of_above create None = fault_of faults.NotFound
   of_above create (Some above) = of_kind create above above.kind
 
-  of_new : (create : Create) → Tamed (create_new s client number opening create)
+  of_new : (create : Create) → Tamed (create_new (name_space s) (caller s client) number opening create)
   of_new create =
-      by_option s client number (calls.Open opening) (parent_of opening.name) (λ parent. create_under s client number opening create (get_node s.nodes parent)) (refused faults.NotFound)
+      by_option s client number (calls.Open opening) (parent_of opening.name) (λ parent. create_under (name_space s) (caller s client) number opening create (get_node s.nodes parent)) (refused faults.NotFound)
       (λ parent. of_above create (get_node s.nodes parent)) (fault_of faults.NotFound)
 
-  of_present : (disposition : Disposition) (view : View) → Tamed (create_over s client number opening disposition view)
+  of_present : (disposition : Disposition) (view : View) → Tamed (create_over (name_space s) (caller s client) number opening disposition view)
   of_present Must view = fault_of faults.Exists
-  of_present May view = of_opened (open_present s client number opening view) (λ handle h. present_key s client number opening handle view h)
+  of_present May view = of_opened (open_present (name_space s) (caller s client) number opening view) (λ handle h. present_key s client number opening handle view h)
 
-  of_create : (create : Create) → Tamed (create_effect s client number opening create)
+  of_create : (create : Create) → Tamed (create_effect (name_space s) (caller s client) number opening create)
   of_create create =
-      by_option s client number (calls.Open opening) (get_node s.nodes opening.name) (λ view. create_over s client number opening create.disposition view) (create_new s client number opening create)
+      by_option s client number (calls.Open opening) (get_node s.nodes opening.name) (λ view. create_over (name_space s) (caller s client) number opening create.disposition view) (create_new (name_space s) (caller s client) number opening create)
       (of_present create.disposition) (of_new create)
 
-  of_tested : (create : Create) → Tamed (create_tested s client number opening create)
+  of_tested : (create : Create) → Tamed (create_tested (name_space s) (caller s client) number opening create)
   of_tested create =
-      by_option s client number (calls.Open opening) (create_fault opening create.node) (λ answer. answered answer) (create_effect s client number opening create) (of_answer s client number (calls.Open opening)) (of_create create)
+      by_option s client number (calls.Open opening) (create_fault opening create.node) (λ answer. answered answer) (create_effect (name_space s) (caller s client) number opening create) (of_answer s client number (calls.Open opening)) (of_create create)
 
-  of_sequencer : (create : Create) (o : Option Fault) → Tamed (create_under_sequencer s client number opening create o)
+  of_sequencer : (create : Create) (o : Option Fault) → Tamed (create_under_sequencer (name_space s) (caller s client) number opening create o)
   of_sequencer create None = of_tested create
   of_sequencer create (Some fault) = fault_of fault
 
-  of_open : (sequencer : Option (List ℕ)) (o : Option Create) → Tamed (open_effect s client number opening sequencer o)
-  of_open sequencer None = of_opened (plain_open s client number opening) (λ handle h. plain_key s client number opening handle h)
+  of_open : (sequencer : Option (List ℕ)) (o : Option Create) → Tamed (open_effect (name_space s) (caller s client) number opening sequencer o)
+  of_open sequencer None = of_opened (plain_open (name_space s) (caller s client) number opening) (λ handle h. plain_key s client number opening handle h)
   of_open sequencer (Some create) =
-      let fault = sequencer_fault s sequencer in
-      either s client number (calls.Open opening) (is_of_cell s opening.name) (create_under_sequencer s client number opening create fault) (refused faults.OtherCell) (of_sequencer create fault)
+      let fault = sequencer_fault (name_space s) sequencer in
+      either s client number (calls.Open opening) (is_of_cell (name_space s) opening.name) (create_under_sequencer (name_space s) (caller s client) number opening create fault) (refused faults.OtherCell) (of_sequencer create fault)
       (fault_of faults.OtherCell)
 
 -- ---- any call
 
-pub tame : (s : MasterState) (client number : ℕ) (call : Call) (sequencer : Option (List ℕ)) → IsTame s client number call (effect s client number call sequencer)
+pub tame : (s : MasterState) (client number : ℕ) (call : Call) (sequencer : Option (List ℕ)) → IsTame s client number call (effect (name_space s) (caller s client) s.clock number call sequencer)
 unfolding effect
 tame s client number (calls.Open opening) sequencer = of_open s client number opening sequencer opening.create
 tame s client number call sequencer = of_handle s client number call call sequencer (read_handle s.secret (bytes_of call))

@@ -14,6 +14,7 @@ use Rattle.messages_cell.specs.declared.calls.Disposition.TheVariants as disposi
 use Rattle.messages_cell.specs.declared.calls.Open.{Open}
 use Rattle.messages_cell.specs.declared.outs.CallResult.TheVariants as results
 use Rattle.messages_cell.specs.declared.outs.NewHandle.{NewHandle}
+use Rattle.cell_state.specs.NameSpace.{name_space, caller}
 use Rattle.cell_state.specs.State.{MasterState}
 use Rattle.cell_state.specs.Lookups.{may, is_of_cell}
 use Rattle.cell_apply.specs.Effect.{new_view, acls_of, content_of, effect}
@@ -34,7 +35,7 @@ pub record MayMake (s : MasterState) (client : ℕ) (opening : Open) (create : C
   pub above : View
   pub there : get_node s.nodes parent ≡ Some above
   pub directory : above.kind ≡ kinds.Directory
-  pub write : may s client above rights.Write ≡ true
+  pub write : may (name_space s) (caller s client) above rights.Write ≡ true
   pub permitted : ArePermitted s client opening.mode (new_view s.next_instance create.node create.life (acls_of above create.acls))
   pub left : s.next_instance < number_limit
 
@@ -50,7 +51,7 @@ pub record MayMakeOrFind (s : MasterState) (client : ℕ) (opening : Open) (crea
 
 -- when its turn comes an Open gives a handle
 abbrev pub GivesHandle : MasterState → ℕ → ℕ → Open → Option (List ℕ) → Type 0
-GivesHandle s client number opening sequencer = (handle : NewHandle) × ((effect s client number (calls.Open opening) sequencer).answer ≡ Some (results.Opened handle))
+GivesHandle s client number opening sequencer = (handle : NewHandle) × ((effect (name_space s) (caller s client) s.clock number (calls.Open opening) sequencer).answer ≡ Some (results.Opened handle))
 
 -- when its turn comes an Open that makes a node gives a handle only where the client may make it, or may find it there
 abbrev pub MakesOnlyWherePermitted : Type 0
@@ -61,7 +62,7 @@ MakesOnlyWherePermitted =
 -- and wherever that is so it gives one, under no sequencer and of a name of this cell
 abbrev pub MakesWherePermitted : Type 0
 MakesWherePermitted =
-    (s : MasterState) (client number : ℕ) (opening : Open) (create : Create) → opening.create ≡ Some create → is_of_cell s opening.name ≡ true → AreCarried s opening.name → is_ordinal s.next_instance ≡ true
+    (s : MasterState) (client number : ℕ) (opening : Open) (create : Create) → opening.create ≡ Some create → is_of_cell (name_space s) opening.name ≡ true → AreCarried s opening.name → is_ordinal s.next_instance ≡ true
     → MayMakeOrFind s client opening create → GivesHandle s client number opening None
 
 -- a handle can carry the numbers of a master that is kept beside its rows, as each master is, from epoch 1 on, which is the first that a master can come up with

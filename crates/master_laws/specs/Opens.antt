@@ -14,6 +14,7 @@ use Rattle.messages_cell.specs.declared.outs.NewHandle.{NewHandle}
 use Rattle.messages_cell.specs.declared.requests.CallMessage.{CallMessage}
 use Rattle.cell_parts.specs.declared.handles.HandleState.TheVariants as states
 use Rattle.cell_parts.specs.declared.pending.Taken.{Taken}
+use Rattle.cell_state.specs.NameSpace.{name_space, caller}
 use Rattle.cell_state.specs.State.{MasterState}
 use Rattle.cell_state.specs.Lookups.{may, is_of_cell, handle_state_of}
 use Rattle.cell_parts.specs.Keys.{key_of}
@@ -23,7 +24,7 @@ use Rattle.master_laws.specs.Steps.{TakesCall, IsAnsweredBy}
 
 -- each right of the mode is permitted to the client's principal, by the ACL files that this view names
 abbrev pub ArePermitted : MasterState → ℕ → Rights → View → Type 0
-ArePermitted s client mode view = (right : Right) → has_right mode right ≡ true → may s client view right ≡ true
+ArePermitted s client mode view = (right : Right) → has_right mode right ≡ true → may (name_space s) (caller s client) view right ≡ true
 
 -- the node is there, each right of the mode is permitted on it, and the lock-delay is within the limit
 pub record MayOpen (s : MasterState) (client : ℕ) (opening : Open) : Type 0 where
@@ -39,7 +40,7 @@ pub record IsPlainOpen (s : MasterState) (message : CallMessage) (opening : Open
   pub is_open : message.call ≡ calls.Open opening
   pub makes_nothing : opening.create ≡ None
   pub under_none : message.sequencer ≡ None
-  pub of_cell : is_of_cell s opening.name ≡ true
+  pub of_cell : is_of_cell (name_space s) opening.name ≡ true
 
 -- a handle can carry the master's epoch, and the instance of the node of this name, where it is there
 pub record AreCarried (s : MasterState) (name : List ℕ) : Type 0 where

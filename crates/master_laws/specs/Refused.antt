@@ -19,6 +19,7 @@ use Rattle.cell_parts.specs.declared.handles.Note.{Note}
 use Rattle.cell_parts.specs.declared.pending.Asked.{Asked}
 use Rattle.cell_parts.specs.declared.pending.Taken.{Taken}
 use Rattle.cell_core.specs.Cases.{IsNew}
+use Rattle.cell_state.specs.NameSpace.{name_space, caller}
 use Rattle.cell_state.specs.State.{MasterState}
 use Rattle.cell_state.specs.Lookups.{session_of, kept_of, sends, reply_of, shown_handle, noted}
 use Rattle.cell_parts.specs.Answered.{answered_by}
@@ -96,5 +97,5 @@ pub record IsRefusedAlone (s : MasterState) (now number : ℕ) (new : MasterStat
 abbrev pub RefusedApplicationChangesNothing : Type 0
 RefusedApplicationChangesNothing =
     (s new : MasterState) (now number : ℕ) (told : Swept) (asked : Asked) (call : Call) (sequencer : Option (List ℕ)) (fault : Fault) → sweep_step s now ≡ Ok (new, told) → IsBeingApplied (noted s now) number asked call sequencer
-    → (effect (noted s now) asked.client asked.number call sequencer).answer ≡ Some (results.Refused fault)
+    → (effect (name_space (noted s now)) (caller (noted s now) asked.client) (noted s now).clock asked.number call sequencer).answer ≡ Some (results.Refused fault)
     → IsRefusedAlone s now number new told (reply_of s asked.client asked.number (results.Refused fault))

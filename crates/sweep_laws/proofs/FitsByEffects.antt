@@ -43,6 +43,7 @@ use Rattle.lock_core.specs.Locks.{lock_at}
 use Rattle.cell_parts.specs.declared.pending.Idle.{Idle}
 use Rattle.cell_parts.specs.declared.pending.Work.TheVariants as works
 use Rattle.cell_apply.specs.declared.effects.Effect.{Effect}
+use Rattle.cell_state.specs.NameSpace.{name_space, caller}
 use Rattle.cell_state.specs.State.{MasterState}
 use Rattle.cell_state.specs.Lookups.{is_live, may, missing_right, is_of_cell, node_of_handle, new_handle, sequencer_fault, answer_on_node, answer_under, has_open, has_to_stay}
 use Rattle.cell_parts.specs.Calls.{content_fault, node_fault, delay_fault, create_fault, write_fault, needing}
@@ -210,7 +211,7 @@ module _ (cell : List ℕ) (rows : Rows) (s : MasterState) (k : IsKept cell rows
   abbrev Fits : Effect → Type 0
   Fits effected = EffectFits rows s client effected
 
-  of_cell : (name : List ℕ) → is_of_cell s name ≡ true → bytes_eq (cell_of name) rows.cell ≡ true
+  of_cell : (name : List ℕ) → is_of_cell (name_space s) name ≡ true → bytes_eq (cell_of name) rows.cell ≡ true
   of_cell name h = let same = k.name in rw same at h
 
   of_cell_named : (name : List ℕ) → bytes_eq (cell_of name) cell ≡ true → bytes_eq (cell_of name) rows.cell ≡ true
@@ -221,7 +222,7 @@ module _ (cell : List ℕ) (rows : Rows) (s : MasterState) (k : IsKept cell rows
 
   -- ---- a new node under a directory
 
-  node_put_fits : (name parent : List ℕ) (node : NewNode) (life : Life) (acls : AclNames) (w : Node) → is_of_cell s name ≡ true → node_fault node ≡ None → stored_node rows.nodes name ≡ None → parent_of name ≡ Some parent → stored_node rows.nodes parent ≡ Some w → w.view.kind ≡ Directory → is_last s.next_instance ≡ false → PutFits rows name (new_view s.next_instance node life acls) (s.next_instance + 1)
+  node_put_fits : (name parent : List ℕ) (node : NewNode) (life : Life) (acls : AclNames) (w : Node) → is_of_cell (name_space s) name ≡ true → node_fault node ≡ None → stored_node rows.nodes name ≡ None → parent_of name ≡ Some parent → stored_node rows.nodes parent ≡ Some w → w.view.kind ≡ Directory → is_last s.next_instance ≡ false → PutFits rows name (new_view s.next_instance node life acls) (s.next_instance + 1)
   node_put_fits name parent node life acls w named short absent p found kind room =
       let parts = parts_of_node cell rows parent w k.sound_rows found in
       record {
@@ -238,56 +239,56 @@ module _ (cell : List ℕ) (rows : Rows) (s : MasterState) (k : IsKept cell rows
         own = rw absent (not_given rows.next_instance s.next_instance k.next_instance);
       }
 
-  made_fits : (opening : Open) (view : View) (r : Result Handle Fault) → PutFits rows opening.name view (s.next_instance + 1) → Fits (create_made s opening view r)
+  made_fits : (opening : Open) (view : View) (r : Result Handle Fault) → PutFits rows opening.name view (s.next_instance + 1) → Fits (create_made (name_space s) opening view r)
   made_fits opening view (Err fault) h = tt
   made_fits opening view (Ok handle) h = record { name = opening.name; view = view; is = refl; fits = h }
 
-  permitted_fits : (number : ℕ) (opening : Open) (view : View) → (is_last s.next_instance ≡ false → PutFits rows opening.name view (s.next_instance + 1)) → Fits (create_permitted s client number opening view)
+  permitted_fits : (number : ℕ) (opening : Open) (view : View) → (is_last s.next_instance ≡ false → PutFits rows opening.name view (s.next_instance + 1)) → Fits (create_permitted (name_space s) (caller s client) number opening view)
   permitted_fits number opening view h =
-      unless_fits rows s client (missing_right s client opening.mode view) (λ right. refused (faults.Denied right)) (create_numbered s client number opening view) (λ right. tt)
-      (λ none. else_fits rows s client (is_last s.next_instance) (refused faults.Exhausted) (create_made s opening view (new_handle s client number opening view)) tt
-      (λ room. made_fits opening view (new_handle s client number opening view) (h room)))
+      unless_fits rows s client (missing_right (name_space s) (caller s client) opening.mode view) (λ right. refused (faults.Denied right)) (create_numbered (name_space s) (caller s client) number opening view) (λ right. tt)
+      (λ none. else_fits rows s client (is_last s.next_instance) (refused faults.Exhausted) (create_made (name_space s) opening view (new_handle (name_space s) (caller s client) number opening view)) tt
+      (λ room. made_fits opening view (new_handle (name_space s) (caller s client) number opening view) (h room)))
 
-  in_fits : (number : ℕ) (opening : Open) (create : Create) (parent : List ℕ) (w : Node) (kind : Kind) → is_of_cell s opening.name ≡ true → node_fault create.node ≡ None → stored_node rows.nodes opening.name ≡ None → parent_of opening.name ≡ Some parent → stored_node rows.nodes parent ≡ Some w → w.view.kind ≡ kind → Fits (create_in s client number opening create w.view kind)
+  in_fits : (number : ℕ) (opening : Open) (create : Create) (parent : List ℕ) (w : Node) (kind : Kind) → is_of_cell (name_space s) opening.name ≡ true → node_fault create.node ≡ None → stored_node rows.nodes opening.name ≡ None → parent_of opening.name ≡ Some parent → stored_node rows.nodes parent ≡ Some w → w.view.kind ≡ kind → Fits (create_in (name_space s) (caller s client) number opening create w.view kind)
   in_fits number opening create parent w File named short absent p found kind = tt
   in_fits number opening create parent w Directory named short absent p found kind =
       let view : View = new_view s.next_instance create.node create.life (acls_of w.view create.acls) in
-      then_fits rows s client (may s client w.view rights.Write) (create_permitted s client number opening view) (refused (faults.Denied rights.Write))
+      then_fits rows s client (may (name_space s) (caller s client) w.view rights.Write) (create_permitted (name_space s) (caller s client) number opening view) (refused (faults.Denied rights.Write))
       (λ allowed. permitted_fits number opening view (λ room. node_put_fits opening.name parent create.node create.life (acls_of w.view create.acls) w named short absent p found kind room)) tt
 
-  under_fits : (number : ℕ) (opening : Open) (create : Create) (parent : List ℕ) (o : Option View) → is_of_cell s opening.name ≡ true → node_fault create.node ≡ None → stored_node rows.nodes opening.name ≡ None → parent_of opening.name ≡ Some parent → get_node s.nodes parent ≡ o → Fits (create_under s client number opening create o)
+  under_fits : (number : ℕ) (opening : Open) (create : Create) (parent : List ℕ) (o : Option View) → is_of_cell (name_space s) opening.name ≡ true → node_fault create.node ≡ None → stored_node rows.nodes opening.name ≡ None → parent_of opening.name ≡ Some parent → get_node s.nodes parent ≡ o → Fits (create_under (name_space s) (caller s client) number opening create o)
   under_fits number opening create parent None named short absent p found = tt
   under_fits number opening create parent (Some above) named short absent p found =
       let t = some_node (stored_node rows.nodes parent) above (stored cell rows s k parent (Some above) found) in
-      let P : View → Type 0 = λ view. Fits (create_in s client number opening create view view.kind) in
+      let P : View → Type 0 = λ view. Fits (create_in (name_space s) (caller s client) number opening create view view.kind) in
       subst P t.2 (in_fits number opening create parent t.0 t.0.view.kind named short absent p t.1 refl)
 
-  new_fits : (number : ℕ) (opening : Open) (create : Create) (o : Option (List ℕ)) → is_of_cell s opening.name ≡ true → node_fault create.node ≡ None → stored_node rows.nodes opening.name ≡ None → parent_of opening.name ≡ o → Fits (option_map_or (λ parent. create_under s client number opening create (get_node s.nodes parent)) o (refused faults.NotFound))
+  new_fits : (number : ℕ) (opening : Open) (create : Create) (o : Option (List ℕ)) → is_of_cell (name_space s) opening.name ≡ true → node_fault create.node ≡ None → stored_node rows.nodes opening.name ≡ None → parent_of opening.name ≡ o → Fits (option_map_or (λ parent. create_under (name_space s) (caller s client) number opening create (get_node s.nodes parent)) o (refused faults.NotFound))
   new_fits number opening create None named short absent p = tt
   new_fits number opening create (Some parent) named short absent p =
       under_fits number opening create parent (get_node s.nodes parent) named short absent p refl
 
-  over_fits : (number : ℕ) (opening : Open) (disposition : Disposition) (view : View) → Fits (create_over s client number opening disposition view)
+  over_fits : (number : ℕ) (opening : Open) (disposition : Disposition) (view : View) → Fits (create_over (name_space s) (caller s client) number opening disposition view)
   over_fits number opening Must view = tt
   over_fits number opening May view = tt
 
-  create_fits : (number : ℕ) (opening : Open) (create : Create) (o : Option View) → is_of_cell s opening.name ≡ true → node_fault create.node ≡ None → get_node s.nodes opening.name ≡ o → Fits (option_map_or (λ view. create_over s client number opening create.disposition view) o (create_new s client number opening create))
+  create_fits : (number : ℕ) (opening : Open) (create : Create) (o : Option View) → is_of_cell (name_space s) opening.name ≡ true → node_fault create.node ≡ None → get_node s.nodes opening.name ≡ o → Fits (option_map_or (λ view. create_over (name_space s) (caller s client) number opening create.disposition view) o (create_new (name_space s) (caller s client) number opening create))
   create_fits number opening create None named short found =
       let absent = no_node (stored_node rows.nodes opening.name) (stored cell rows s k opening.name None found) in
       new_fits number opening create (parent_of opening.name) named short absent refl
   create_fits number opening create (Some view) named short found = over_fits number opening create.disposition view
 
-  under_sequencer_fits : (number : ℕ) (opening : Open) (create : Create) (f : Option Fault) → is_of_cell s opening.name ≡ true → Fits (create_under_sequencer s client number opening create f)
+  under_sequencer_fits : (number : ℕ) (opening : Open) (create : Create) (f : Option Fault) → is_of_cell (name_space s) opening.name ≡ true → Fits (create_under_sequencer (name_space s) (caller s client) number opening create f)
   under_sequencer_fits number opening create (Some fault) named = tt
   under_sequencer_fits number opening create None named =
-      unless_fits rows s client (create_fault opening create.node) (λ answer. answered answer) (create_effect s client number opening create) (λ answer. tt)
+      unless_fits rows s client (create_fault opening create.node) (λ answer. answered answer) (create_effect (name_space s) (caller s client) number opening create) (λ answer. tt)
       (λ none. create_fits number opening create (get_node s.nodes opening.name) named (no_fault (node_fault create.node) (delay_fault opening.delay) none) refl)
 
-  open_fits : (number : ℕ) (opening : Open) (sequencer : Option (List ℕ)) (o : Option Create) → Fits (open_effect s client number opening sequencer o)
+  open_fits : (number : ℕ) (opening : Open) (sequencer : Option (List ℕ)) (o : Option Create) → Fits (open_effect (name_space s) (caller s client) number opening sequencer o)
   open_fits number opening sequencer None = tt
   open_fits number opening sequencer (Some create) =
-      then_fits rows s client (is_of_cell s opening.name) (create_under_sequencer s client number opening create (sequencer_fault s sequencer)) (refused faults.OtherCell)
-      (under_sequencer_fits number opening create (sequencer_fault s sequencer)) tt
+      then_fits rows s client (is_of_cell (name_space s) opening.name) (create_under_sequencer (name_space s) (caller s client) number opening create (sequencer_fault (name_space s) sequencer)) (refused faults.OtherCell)
+      (under_sequencer_fits number opening create (sequencer_fault (name_space s) sequencer)) tt
 
   -- ---- a node that stands
 
@@ -310,31 +311,31 @@ module _ (cell : List ℕ) (rows : Rows) (s : MasterState) (k : IsKept cell rows
         own = rw found same;
       }
 
-  put_fits : (handle : Handle) (present : ℕ) (wanted : Option ℕ) (view : View) → (is_last present ≡ false → PutFits rows handle.name view s.next_instance) → Fits (put_at s handle present wanted view)
+  put_fits : (handle : Handle) (present : ℕ) (wanted : Option ℕ) (view : View) → (is_last present ≡ false → PutFits rows handle.name view s.next_instance) → Fits (put_at (name_space s) handle present wanted view)
   put_fits handle present wanted view h =
       let written : Effect = changes_to (Put handle.name view) s.next_instance results.Done in
       then_fits rows s client (generation_fits wanted present) (cond (is_last present) (refused faults.Exhausted) written) (refused (faults.WrongGeneration present))
       (λ fits. else_fits rows s client (is_last present) (refused faults.Exhausted) written tt (λ room. record { name = handle.name; view = view; is = refl; fits = h room })) tt
 
-  set_fits : (handle : Handle) (content : List ℕ) (generation : Option ℕ) (w : Node) → stored_node rows.nodes handle.name ≡ Some w → write_fault w.view.kind content ≡ None → Fits (put_at s handle w.view.content_generation generation (with_content w.view content))
+  set_fits : (handle : Handle) (content : List ℕ) (generation : Option ℕ) (w : Node) → stored_node rows.nodes handle.name ≡ Some w → write_fault w.view.kind content ≡ None → Fits (put_at (name_space s) handle w.view.content_generation generation (with_content w.view content))
   set_fits handle content generation w found h =
       let parts = parts_of_node cell rows handle.name w k.sound_rows found in
       put_fits handle w.view.content_generation generation (with_content w.view content)
       (λ room. again_fits handle.name w (with_content w.view content) found refl refl (next_number w.view.content_generation room) parts.acl (written_content w.view.kind w.view content h))
 
-  acl_fits : (handle : Handle) (acls : AclNames) (generation : Option ℕ) (w : Node) → stored_node rows.nodes handle.name ≡ Some w → Fits (put_at s handle w.view.acl_generation generation (with_acls w.view acls))
+  acl_fits : (handle : Handle) (acls : AclNames) (generation : Option ℕ) (w : Node) → stored_node rows.nodes handle.name ≡ Some w → Fits (put_at (name_space s) handle w.view.acl_generation generation (with_acls w.view acls))
   acl_fits handle acls generation w found =
       let parts = parts_of_node cell rows handle.name w k.sound_rows found in
       put_fits handle w.view.acl_generation generation (with_acls w.view acls)
       (λ room. again_fits handle.name w (with_acls w.view acls) found refl refl parts.written (next_number w.view.acl_generation room) (acl_content w.view.kind w.view acls parts.content))
 
   -- its lock goes with it
-  delete_fits : (handle : Handle) (w : Node) → stored_node rows.nodes handle.name ≡ Some w → w.view.instance ≡ handle.instance → Fits (delete_at s handle)
+  delete_fits : (handle : Handle) (w : Node) → stored_node rows.nodes handle.name ≡ Some w → w.view.instance ≡ handle.instance → Fits (delete_at (name_space s) handle)
   delete_fits handle w found present =
-      else_fits rows s client (has_children s.nodes handle.name || is_none (parent_of handle.name)) (refused faults.NotEmpty) (deleted s handle) tt
+      else_fits rows s client (has_children s.nodes handle.name || is_none (parent_of handle.name)) (refused faults.NotEmpty) (deleted (name_space s) handle) tt
       (λ free. goes_fits cell rows s k handle.name handle.instance w found present free)
 
-  change_fits : (handle : Handle) (call : Call) (w : Node) → IsOwnHandle client handle → stored_node rows.nodes handle.name ≡ Some w → w.view.instance ≡ handle.instance → answer_on_node s handle call w.view ≡ None → Fits (change_at s handle call w.view)
+  change_fits : (handle : Handle) (call : Call) (w : Node) → IsOwnHandle client handle → stored_node rows.nodes handle.name ≡ Some w → w.view.instance ≡ handle.instance → answer_on_node (name_space s) handle call w.view ≡ None → Fits (change_at (name_space s) s.clock handle call w.view)
   change_fits handle (calls.Set bytes content generation) w shown found present h =
       set_fits handle content generation w found (needed handle rights.Write (write_fault w.view.kind content) h)
   change_fits handle (calls.SetAcl bytes acls generation) w shown found present h = acl_fits handle acls generation w found
@@ -352,17 +353,17 @@ module _ (cell : List ℕ) (rows : Rows) (s : MasterState) (k : IsKept cell rows
   change_fits handle (calls.CheckSequencer bytes) w shown found present h = tt
 
   -- what would be answered at once is answered, and else the change is made
-  view_fits : (handle : Handle) (call : Call) (view : View) (f : Option Fault) → IsOwnHandle client handle → get_node s.nodes handle.name ≡ Some view → view.instance ≡ handle.instance → Fits (option_map_or (λ answer. answered answer) (answer_under s handle call view f) (change_at s handle call view))
+  view_fits : (handle : Handle) (call : Call) (view : View) (f : Option Fault) → IsOwnHandle client handle → get_node s.nodes handle.name ≡ Some view → view.instance ≡ handle.instance → Fits (option_map_or (λ answer. answered answer) (answer_under (name_space s) handle call view f) (change_at (name_space s) s.clock handle call view))
   view_fits handle call view (Some fault) shown found present = tt
   view_fits handle call view None shown found present =
       let t = some_node (stored_node rows.nodes handle.name) view (stored cell rows s k handle.name (Some view) found) in
-      let P : View → Type 0 = λ v. Fits (option_map_or (λ answer. answered answer) (answer_on_node s handle call v) (change_at s handle call v)) in
+      let P : View → Type 0 = λ v. Fits (option_map_or (λ answer. answered answer) (answer_on_node (name_space s) handle call v) (change_at (name_space s) s.clock handle call v)) in
       subst P t.2
-      (unless_fits rows s client (answer_on_node s handle call t.0.view) (λ answer. answered answer) (change_at s handle call t.0.view) (λ answer. tt)
+      (unless_fits rows s client (answer_on_node (name_space s) handle call t.0.view) (λ answer. answered answer) (change_at (name_space s) s.clock handle call t.0.view) (λ answer. tt)
       (λ none. change_fits handle call t.0 shown t.1 (ap (λ (v : View). v.instance) t.2 ∙ present) none))
 
   present_fits : (handle : Handle) (call : Call) (f : Option Fault) (o p : Option View) → IsOwnHandle client handle → get_node s.nodes handle.name ≡ p → option_map_or (λ (view : View). cond (view.instance == handle.instance) (Some view) None) p None ≡ o
-      → Fits (option_map_or (λ answer. answered answer) (option_map_or (λ view. answer_under s handle call view f) o (Some (results.Refused faults.StaleInstance))) (option_map_or (λ view. change_at s handle call view) o (refused faults.StaleInstance)))
+      → Fits (option_map_or (λ answer. answered answer) (option_map_or (λ view. answer_under (name_space s) handle call view f) o (Some (results.Refused faults.StaleInstance))) (option_map_or (λ view. change_at (name_space s) s.clock handle call view) o (refused faults.StaleInstance)))
   present_fits handle call f None p shown found is = tt
   present_fits handle call f (Some view) None shown found is = cc
   present_fits handle call f (Some view) (Some there) shown found is =
@@ -370,7 +371,7 @@ module _ (cell : List ℕ) (rows : Rows) (s : MasterState) (k : IsKept cell rows
       view_fits handle call view f shown (found ∙ ap (λ v. Some v) t.0) t.1
 
   -- a handle that is closed leaves the lock of its node, where that is there
-  close_here : (handle : Handle) (o p : Option View) → IsOwnHandle client handle → get_node s.nodes handle.name ≡ p → option_map_or (λ (view : View). cond (view.instance == handle.instance) (Some view) None) p None ≡ o → ApplicationFits rows s client None (close_under s handle o)
+  close_here : (handle : Handle) (o p : Option View) → IsOwnHandle client handle → get_node s.nodes handle.name ≡ p → option_map_or (λ (view : View). cond (view.instance == handle.instance) (Some view) None) p None ≡ o → ApplicationFits rows s client None (close_under (name_space s) handle o)
   close_here handle None p shown found is = tt
   close_here handle (Some view) None shown found is = cc
   close_here handle (Some view) (Some there) shown found is =
@@ -378,28 +379,28 @@ module _ (cell : List ℕ) (rows : Rows) (s : MasterState) (k : IsKept cell rows
       let u = some_node (stored_node rows.nodes handle.name) view (stored cell rows s k handle.name (Some view) (found ∙ ap (λ v. Some v) t.0)) in
       close_fits cell rows s k client live numbered handle shown u.0 u.1 (ap (λ (v : View). v.instance) u.2 ∙ t.1)
 
-  call_fits : (handle : Handle) (call : Call) (sequencer : Option (List ℕ)) → IsOwnHandle client handle → Fits (effect_on s handle call sequencer)
-  call_fits handle (calls.Close bytes) sequencer shown = close_here handle (node_of_handle s handle) (get_node s.nodes handle.name) shown refl refl
-  call_fits handle (calls.Open opening) sequencer shown = present_fits handle (calls.Open opening) (sequencer_fault s sequencer) (node_of_handle s handle) (get_node s.nodes handle.name) shown refl refl
-  call_fits handle (calls.Read bytes) sequencer shown = present_fits handle (calls.Read bytes) (sequencer_fault s sequencer) (node_of_handle s handle) (get_node s.nodes handle.name) shown refl refl
-  call_fits handle (calls.Stat bytes) sequencer shown = present_fits handle (calls.Stat bytes) (sequencer_fault s sequencer) (node_of_handle s handle) (get_node s.nodes handle.name) shown refl refl
-  call_fits handle (calls.List bytes) sequencer shown = present_fits handle (calls.List bytes) (sequencer_fault s sequencer) (node_of_handle s handle) (get_node s.nodes handle.name) shown refl refl
-  call_fits handle (calls.Set bytes content generation) sequencer shown = present_fits handle (calls.Set bytes content generation) (sequencer_fault s sequencer) (node_of_handle s handle) (get_node s.nodes handle.name) shown refl refl
-  call_fits handle (calls.SetAcl bytes acls generation) sequencer shown = present_fits handle (calls.SetAcl bytes acls generation) (sequencer_fault s sequencer) (node_of_handle s handle) (get_node s.nodes handle.name) shown refl refl
-  call_fits handle (calls.Delete bytes) sequencer shown = present_fits handle (calls.Delete bytes) (sequencer_fault s sequencer) (node_of_handle s handle) (get_node s.nodes handle.name) shown refl refl
-  call_fits handle (calls.Acquire bytes mode) sequencer shown = present_fits handle (calls.Acquire bytes mode) (sequencer_fault s sequencer) (node_of_handle s handle) (get_node s.nodes handle.name) shown refl refl
-  call_fits handle (calls.TryAcquire bytes mode) sequencer shown = present_fits handle (calls.TryAcquire bytes mode) (sequencer_fault s sequencer) (node_of_handle s handle) (get_node s.nodes handle.name) shown refl refl
-  call_fits handle (calls.Release bytes) sequencer shown = present_fits handle (calls.Release bytes) (sequencer_fault s sequencer) (node_of_handle s handle) (get_node s.nodes handle.name) shown refl refl
-  call_fits handle (calls.GetSequencer bytes) sequencer shown = present_fits handle (calls.GetSequencer bytes) (sequencer_fault s sequencer) (node_of_handle s handle) (get_node s.nodes handle.name) shown refl refl
-  call_fits handle (calls.SetSequencer bytes) sequencer shown = present_fits handle (calls.SetSequencer bytes) (sequencer_fault s sequencer) (node_of_handle s handle) (get_node s.nodes handle.name) shown refl refl
-  call_fits handle (calls.CheckSequencer bytes) sequencer shown = present_fits handle (calls.CheckSequencer bytes) (sequencer_fault s sequencer) (node_of_handle s handle) (get_node s.nodes handle.name) shown refl refl
+  call_fits : (handle : Handle) (call : Call) (sequencer : Option (List ℕ)) → IsOwnHandle client handle → Fits (effect_on (name_space s) s.clock handle call sequencer)
+  call_fits handle (calls.Close bytes) sequencer shown = close_here handle (node_of_handle (name_space s) handle) (get_node s.nodes handle.name) shown refl refl
+  call_fits handle (calls.Open opening) sequencer shown = present_fits handle (calls.Open opening) (sequencer_fault (name_space s) sequencer) (node_of_handle (name_space s) handle) (get_node s.nodes handle.name) shown refl refl
+  call_fits handle (calls.Read bytes) sequencer shown = present_fits handle (calls.Read bytes) (sequencer_fault (name_space s) sequencer) (node_of_handle (name_space s) handle) (get_node s.nodes handle.name) shown refl refl
+  call_fits handle (calls.Stat bytes) sequencer shown = present_fits handle (calls.Stat bytes) (sequencer_fault (name_space s) sequencer) (node_of_handle (name_space s) handle) (get_node s.nodes handle.name) shown refl refl
+  call_fits handle (calls.List bytes) sequencer shown = present_fits handle (calls.List bytes) (sequencer_fault (name_space s) sequencer) (node_of_handle (name_space s) handle) (get_node s.nodes handle.name) shown refl refl
+  call_fits handle (calls.Set bytes content generation) sequencer shown = present_fits handle (calls.Set bytes content generation) (sequencer_fault (name_space s) sequencer) (node_of_handle (name_space s) handle) (get_node s.nodes handle.name) shown refl refl
+  call_fits handle (calls.SetAcl bytes acls generation) sequencer shown = present_fits handle (calls.SetAcl bytes acls generation) (sequencer_fault (name_space s) sequencer) (node_of_handle (name_space s) handle) (get_node s.nodes handle.name) shown refl refl
+  call_fits handle (calls.Delete bytes) sequencer shown = present_fits handle (calls.Delete bytes) (sequencer_fault (name_space s) sequencer) (node_of_handle (name_space s) handle) (get_node s.nodes handle.name) shown refl refl
+  call_fits handle (calls.Acquire bytes mode) sequencer shown = present_fits handle (calls.Acquire bytes mode) (sequencer_fault (name_space s) sequencer) (node_of_handle (name_space s) handle) (get_node s.nodes handle.name) shown refl refl
+  call_fits handle (calls.TryAcquire bytes mode) sequencer shown = present_fits handle (calls.TryAcquire bytes mode) (sequencer_fault (name_space s) sequencer) (node_of_handle (name_space s) handle) (get_node s.nodes handle.name) shown refl refl
+  call_fits handle (calls.Release bytes) sequencer shown = present_fits handle (calls.Release bytes) (sequencer_fault (name_space s) sequencer) (node_of_handle (name_space s) handle) (get_node s.nodes handle.name) shown refl refl
+  call_fits handle (calls.GetSequencer bytes) sequencer shown = present_fits handle (calls.GetSequencer bytes) (sequencer_fault (name_space s) sequencer) (node_of_handle (name_space s) handle) (get_node s.nodes handle.name) shown refl refl
+  call_fits handle (calls.SetSequencer bytes) sequencer shown = present_fits handle (calls.SetSequencer bytes) (sequencer_fault (name_space s) sequencer) (node_of_handle (name_space s) handle) (get_node s.nodes handle.name) shown refl refl
+  call_fits handle (calls.CheckSequencer bytes) sequencer shown = present_fits handle (calls.CheckSequencer bytes) (sequencer_fault (name_space s) sequencer) (node_of_handle (name_space s) handle) (get_node s.nodes handle.name) shown refl refl
 
-  handle_fits : (call : Call) (sequencer : Option (List ℕ)) (bytes : List ℕ) (o : Option Handle) → read_handle s.secret bytes ≡ o → ((handle : Handle) → read_handle s.secret bytes ≡ Some handle → handle.client ≡ client) → Fits (handle_effect s call sequencer o)
+  handle_fits : (call : Call) (sequencer : Option (List ℕ)) (bytes : List ℕ) (o : Option Handle) → read_handle s.secret bytes ≡ o → ((handle : Handle) → read_handle s.secret bytes ≡ Some handle → handle.client ≡ client) → Fits (handle_effect (name_space s) s.clock call sequencer o)
   handle_fits call sequencer bytes None is own = tt
   handle_fits call sequencer bytes (Some handle) is own = call_fits handle call sequencer (own_handle_read s.secret bytes client handle is (own handle is))
 
 -- what a call does fits
-pub effect_fits : (cell : List ℕ) (rows : Rows) (s : MasterState) → IsKept cell rows s → (client number : ℕ) (call : Call) (sequencer : Option (List ℕ)) → is_live s client ≡ true → is_client_number client ≡ true → IsOwnCall s.secret client (works.Calls call sequencer) → EffectFits rows s client (effect s client number call sequencer)
+pub effect_fits : (cell : List ℕ) (rows : Rows) (s : MasterState) → IsKept cell rows s → (client number : ℕ) (call : Call) (sequencer : Option (List ℕ)) → is_live s client ≡ true → is_client_number client ≡ true → IsOwnCall s.secret client (works.Calls call sequencer) → EffectFits rows s client (effect (name_space s) (caller s client) s.clock number call sequencer)
 unfolding effect
 effect_fits cell rows s k client number (calls.Open opening) sequencer live numbered own = open_fits cell rows s k client live numbered number opening sequencer opening.create
 effect_fits cell rows s k client number (calls.Close bytes) sequencer live numbered own = handle_fits cell rows s k client live numbered (calls.Close bytes) sequencer bytes (read_handle s.secret bytes) refl own

@@ -50,7 +50,8 @@ use Rattle.cell_core.specs.Step.{recorded}
 use Rattle.cell_update.specs.Updates.{with_note, edit_of, with_locks, without_lock}
 use Rattle.cell_core.specs.Ephemerals.{is_still_idle}
 use Rattle.cell_apply.specs.declared.effects.Leave.{Leave}
-use Rattle.sweep_laws.specs.Kept.{IsKept, AreTouching, AreOwnCalls, IsOwnCall, IsOwnTask, HaveOneCall, task_fits, names_touched_by, waiting_fits, is_call, call_count, claim_count, waits_count, outstanding, unanswered, is_unanswered}
+use Rattle.cell_core.specs.Names.{names_touched}
+use Rattle.sweep_laws.specs.Kept.{IsKept, AreTouching, AreOwnCalls, IsOwnCall, IsOwnTask, HaveOneCall, task_fits, waiting_fits, is_call, call_count, claim_count, waits_count, outstanding, unanswered, is_unanswered}
 use Rattle.cell_update.specs.Replies.{replies_to, turn_replies}
 use Rattle.cell_apply.specs.Outcomes.{left_put}
 use Rattle.sweep_laws.specs.SweepCase.{IsNextApplied, rest, ended, mapped, told, relocking, gone_change, gone_replies}
@@ -229,7 +230,7 @@ module _ (cell : List ℕ) (rows : Rows) (s : MasterState) (k : IsKept cell rows
         issued = k.issued;
         owned = k.owned;
         orderly = orderly_less s.gate.waiting front here back s.gate.pushed turn.waited k.orderly;
-        touching = all_less (λ (x : Waiting Task). x.change.touched ≡ names_touched_by s.secret x.change.body) front here back (subst Q turn.waited k.touching);
+        touching = all_less (λ (x : Waiting Task). x.change.touched ≡ names_touched s.secret x.change.body) front here back (subst Q turn.waited k.touching);
         own = all_less (λ (x : Waiting Task). IsOwnTask s.secret x.change.body) front here back (subst R turn.waited k.own);
       })
 

@@ -35,6 +35,7 @@ use Rattle.session_core.specs.Session.{session_until, prolonged, answered}
 use Rattle.session_core.specs.Sessions.{with_new, is_live}
 use Rattle.session_core.proofs.RowsOfSessions.{rows_of-insert_entry}
 use Rattle.cell_parts.specs.declared.notices.Telling.{Telling}
+use Rattle.cell_state.specs.NameSpace.{name_space, caller}
 use Rattle.cell_state.specs.Notices.{with_tellings}
 use Rattle.cell_parts.specs.declared.pending.Asked.{Asked}
 use Rattle.cell_parts.specs.declared.pending.Idle.{Idle}
@@ -163,7 +164,7 @@ module _ (cell : List ℕ) (rows : Rows) where
   -- ---- every arm
 
   -- what a call that waited does fits
-  application_fits : (s : MasterState) → IsKept cell rows s → (front back : List (Waiting Task)) (asked : Asked) (call : Call) (sequencer : Option (List ℕ)) (effected : Effect) → IsNextApplied s front (tasks.Asked asked) back → asked.work ≡ works.Calls call sequencer → is_live s.sessions asked.client ≡ true → effect s asked.client asked.number call sequencer ≡ effected → EffectFits rows s asked.client effected
+  application_fits : (s : MasterState) → IsKept cell rows s → (front back : List (Waiting Task)) (asked : Asked) (call : Call) (sequencer : Option (List ℕ)) (effected : Effect) → IsNextApplied s front (tasks.Asked asked) back → asked.work ≡ works.Calls call sequencer → is_live s.sessions asked.client ≡ true → effect (name_space s) (caller s asked.client) s.clock asked.number call sequencer ≡ effected → EffectFits rows s asked.client effected
   application_fits s k front back asked call sequencer effected turn work live made =
       let P : Effect → Type 0 = EffectFits rows s asked.client in
       let Q : Work → Type 0 = IsOwnCall s.secret asked.client in

@@ -50,12 +50,12 @@ use Rattle.cell_state.specs.Lookups.{is_full, acknowledgement, stamped_reply, no
 use Rattle.cell_core.specs.Step.{queued, parked, recorded, with_right, granting, asking, asking_for, names_of, task_of, with_call, waits, take_step}
 use Rattle.cell_update.specs.Updates.{with_note}
 use Rattle.cell_parts.specs.Answered.{answered_by}
-use Rattle.cell_core.specs.Names.{name_changed}
+use Rattle.cell_core.specs.Names.{name_changed, names_touched}
 use Rattle.cell_core.specs.Cases.{IsBehind, IsNew, IsAdmitted, TakeCase, taken_by}
 use Rattle.cell_core.specs.Cases.TakeCase.{StartRefused, StartRecovering, StartFull, StartQueued, OldBeat, BeatRefused, BeatParked, OldEpoch, NoSession, Repeated, OlderCall, Outstanding, Recovering, Answered, Granted, Waits}
 use Rattle.cell_core.proofs.TakeCases.{taken_case, taken_unspent}
 use Rattle.cell_core.proofs.Told.{touched_is_changed}
-use Rattle.sweep_laws.specs.Kept.{IsKept, AreByBeats, AreIssued, AreOwned, AreTouching, AreOwnCalls, IsOwnCall, IsOwnTask, HaveOneCall, is_of, task_fits, names_touched_by, outstanding, unanswered, waiting_fits}
+use Rattle.sweep_laws.specs.Kept.{IsKept, AreByBeats, AreIssued, AreOwned, AreTouching, AreOwnCalls, IsOwnCall, IsOwnTask, HaveOneCall, is_of, task_fits, outstanding, unanswered, waiting_fits}
 use Rattle.sweep_laws.proofs.EachSession.{step_each, step_without, issued_each, issued_without}
 use Rattle.sweep_laws.proofs.LocksKept.{locks_stay}
 use Rattle.sweep_laws.proofs.OneCall.{none_counts, one_same, one_recorded, one_started, one_called}
@@ -286,7 +286,7 @@ module _ (cell : List ℕ) (rows : Rows) where
     own = k.own;
   })
 
-  pub queued_kept : (s : MasterState) (touched : List (List ℕ)) (task : Task) → s.recovering ≡ false → is_full s ≡ false → nat_le number_limit s.gate.pushed ≡ false → touched ≡ names_touched_by s.secret task → IsOwnTask s.secret task → task_fits task ≡ true → HaveOneCall (queued s touched task) → IsKept cell rows s → IsKept cell rows (queued s touched task)
+  pub queued_kept : (s : MasterState) (touched : List (List ℕ)) (task : Task) → s.recovering ≡ false → is_full s ≡ false → nat_le number_limit s.gate.pushed ≡ false → touched ≡ names_touched s.secret task → IsOwnTask s.secret task → task_fits task ≡ true → HaveOneCall (queued s touched task) → IsKept cell rows s → IsKept cell rows (queued s touched task)
   queued_kept s touched task serving room spare names own in_range one k =
       let change : Pending Task = record { touched = touched; body = task } in
       let w : Waiting Task = record { number = s.gate.pushed + 1; change = change } in
@@ -307,7 +307,7 @@ module _ (cell : List ℕ) (rows : Rows) where
         issued = k.issued;
         owned = k.owned;
         orderly = orderly_more s.gate change room spare k.orderly;
-        touching = All-push (λ (x : Waiting Task). x.change.touched ≡ names_touched_by s.secret x.change.body) s.gate.waiting w k.touching names;
+        touching = All-push (λ (x : Waiting Task). x.change.touched ≡ names_touched s.secret x.change.body) s.gate.waiting w k.touching names;
         own = All-push (λ (x : Waiting Task). IsOwnTask s.secret x.change.body) s.gate.waiting w k.own own;
       })
 

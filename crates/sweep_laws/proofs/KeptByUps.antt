@@ -27,7 +27,8 @@ use Rattle.cell_parts.specs.declared.pending.Task.{Task}
 use Rattle.cell_parts.specs.Locks.{locks_of}
 use Rattle.cell_state.specs.State.{MasterState, master_of}
 use Rattle.cell_parts.specs.StoredSessions.{taken_over, sessions_of, row_of}
-use Rattle.sweep_laws.specs.Kept.{IsKept, IsOwnTask, names_touched_by, waits_count, unanswered}
+use Rattle.cell_core.specs.Names.{names_touched}
+use Rattle.sweep_laws.specs.Kept.{IsKept, IsOwnTask, waits_count, unanswered}
 use Rattle.sweep_laws.specs.Up.{up_edits}
 use Rattle.sweep_laws.proofs.LocksRebuilt.{nobody_outstanding, locks_rebuilt}
 
@@ -79,7 +80,7 @@ up_kept cell rows lease now h sessions locks names = record {
   issued = λ client session found. none_counted (λ x. x.invalidations.issued) now (λ e. refl) rows.sessions client session found;
   owned = λ client none. refl;
   orderly = record { rising = omega arith; counted = omega arith; few = omega arith };
-  touching = All-nil (λ (w : Waiting Task). w.change.touched ≡ names_touched_by rows.secret w.change.body);
+  touching = All-nil (λ (w : Waiting Task). w.change.touched ≡ names_touched rows.secret w.change.body);
   own = All-nil (λ (w : Waiting Task). IsOwnTask rows.secret w.change.body);
 }
 

@@ -27,6 +27,7 @@ use Rattle.lock_core.specs.State.{LockState, hold_of, fits, is_exhausted}
 use Rattle.lock_core.specs.Turns.{is_nobody, held_by, waited_by, may_hold, acquired_by, tried, settled, without, is_owner, any_waits, closed_by}
 use Rattle.lock_core.proofs.Generations.{try_succeeds}
 use Rattle.cell_parts.specs.Claims.{owner_of, claim_of}
+use Rattle.cell_state.specs.NameSpace.{name_space}
 use Rattle.cell_state.specs.State.{MasterState}
 use Rattle.cell_state.specs.Lookups.{is_live, lock_under, holds_lock}
 use Rattle.cell_apply.specs.Effect.{lock_put, leaving_by, acquire_by, acquire_at, try_by, try_at, release_by, release_at, close_by}
@@ -105,66 +106,66 @@ module _ (cell : List ℕ) (rows : Rows) (s : MasterState) (k : IsKept cell rows
       let P : ℕ → Type 0 = λ c. is_client_number c ≡ true in
       and_from (is_client_number handle.client) (claim_fits s.sessions (owner_of handle) (claim_of handle mode).hold) (subst P (sym shown.own) numbered) (own_fits mode)
 
-  fit_under : IsFit (claim_fits s.sessions) (waiter_fits s.sessions) (lock_under s handle)
-  fit_under = fit_of s.nodes s.sessions handle.instance (lock_under s handle) (k.locks.each handle.instance)
+  fit_under : IsFit (claim_fits s.sessions) (waiter_fits s.sessions) (lock_under (name_space s) handle)
+  fit_under = fit_of s.nodes s.sessions handle.instance (lock_under (name_space s) handle) (k.locks.each handle.instance)
 
   waiter_holds : (claim : Claim) → waiter_fits s.sessions claim ≡ true → claim_fits s.sessions claim.owner claim.hold ≡ true
   waiter_holds claim h = (and_parts (is_client_number claim.owner.client) (claim_fits s.sessions claim.owner claim.hold) h).1
 
   module _ (w : Node) (found : stored_node rows.nodes handle.name ≡ Some w) (present : w.view.instance ≡ handle.instance) where
-    is_put : (lock : LockState) → IsFit (claim_fits s.sessions) (waiter_fits s.sessions) lock → (lock_under s handle).generation ≤ lock.generation → IsPut rows s.locks s.sessions (lock_put handle lock)
+    is_put : (lock : LockState) → IsFit (claim_fits s.sessions) (waiter_fits s.sessions) lock → (lock_under (name_space s) handle).generation ≤ lock.generation → IsPut rows s.locks s.sessions (lock_put handle lock)
     is_put lock fit higher = record { node = w; found = found; instance = present; fit = fit; higher = higher }
 
     -- ---- who asks for it
 
-    held_put : (mode : LockMode) → may_hold (lock_under s handle) (claim_of handle mode) ≡ true → IsPut rows s.locks s.sessions (lock_put handle (held_by (lock_under s handle) (claim_of handle mode)))
+    held_put : (mode : LockMode) → may_hold (lock_under (name_space s) handle) (claim_of handle mode) ≡ true → IsPut rows s.locks s.sessions (lock_put handle (held_by (lock_under (name_space s) handle) (claim_of handle mode)))
     held_put mode may =
-        let lock : LockState = lock_under s handle in
+        let lock : LockState = lock_under (name_space s) handle in
         let claim : Claim = claim_of handle mode in
         let fit = and_parts (fits lock claim) (is_nobody lock.waiters) may in
         is_put (held_by lock claim) (held_fit (claim_fits s.sessions) (waiter_fits s.sessions) lock claim fit.0 (own_fits mode) fit_under) (held_higher lock claim)
 
-    waited_put : (mode : LockMode) → IsPut rows s.locks s.sessions (lock_put handle (waited_by (lock_under s handle) (claim_of handle mode)))
+    waited_put : (mode : LockMode) → IsPut rows s.locks s.sessions (lock_put handle (waited_by (lock_under (name_space s) handle) (claim_of handle mode)))
     waited_put mode =
-        let lock : LockState = lock_under s handle in
+        let lock : LockState = lock_under (name_space s) handle in
         let claim : Claim = claim_of handle mode in
         is_put (waited_by lock claim) (waited_fit (claim_fits s.sessions) (waiter_fits s.sessions) lock claim (own_waits mode) fit_under) (at_most_all lock.generation lock.generation refl)
 
-    asked_fits : (mode : LockMode) (b : Bool) → may_hold (lock_under s handle) (claim_of handle mode) ≡ b
-        → EffectFits rows s client (acquire_by handle (claim_of handle mode) (cond b (Ok (asked.Held (held_by (lock_under s handle) (claim_of handle mode)))) (Ok (asked.Waits (waited_by (lock_under s handle) (claim_of handle mode))))))
+    asked_fits : (mode : LockMode) (b : Bool) → may_hold (lock_under (name_space s) handle) (claim_of handle mode) ≡ b
+        → EffectFits rows s client (acquire_by handle (claim_of handle mode) (cond b (Ok (asked.Held (held_by (lock_under (name_space s) handle) (claim_of handle mode)))) (Ok (asked.Waits (waited_by (lock_under (name_space s) handle) (claim_of handle mode))))))
     asked_fits mode true may = record { is_put = held_put mode may; same = refl }
     asked_fits mode false may = record { is_put = waited_put mode; claim = claim_of handle mode; own = shown.own; more = refl }
 
     left_asked_fits : (mode : LockMode) (b : Bool)
         → EffectFits rows s client
-        (acquire_by handle (claim_of handle mode) (cond b (Err faults.Exhausted) (cond (may_hold (lock_under s handle) (claim_of handle mode)) (Ok (asked.Held (held_by (lock_under s handle) (claim_of handle mode)))) (Ok (asked.Waits (waited_by (lock_under s handle) (claim_of handle mode)))))))
+        (acquire_by handle (claim_of handle mode) (cond b (Err faults.Exhausted) (cond (may_hold (lock_under (name_space s) handle) (claim_of handle mode)) (Ok (asked.Held (held_by (lock_under (name_space s) handle) (claim_of handle mode)))) (Ok (asked.Waits (waited_by (lock_under (name_space s) handle) (claim_of handle mode)))))))
     left_asked_fits mode true = tt
-    left_asked_fits mode false = asked_fits mode (may_hold (lock_under s handle) (claim_of handle mode)) refl
+    left_asked_fits mode false = asked_fits mode (may_hold (lock_under (name_space s) handle) (claim_of handle mode)) refl
 
-    acquired_fits : (mode : LockMode) (o : Option Hold) → EffectFits rows s client (acquire_by handle (claim_of handle mode) (acquired_by (lock_under s handle) (claim_of handle mode) o))
+    acquired_fits : (mode : LockMode) (o : Option Hold) → EffectFits rows s client (acquire_by handle (claim_of handle mode) (acquired_by (lock_under (name_space s) handle) (claim_of handle mode) o))
     acquired_fits mode (Some hold) = tt
-    acquired_fits mode None = left_asked_fits mode (is_exhausted (lock_under s handle))
+    acquired_fits mode None = left_asked_fits mode (is_exhausted (lock_under (name_space s) handle))
 
-    pub acquire_fits : (mode : LockMode) → EffectFits rows s client (acquire_at s handle mode)
-    acquire_fits mode = acquired_fits mode (hold_of (lock_under s handle) (owner_of handle))
+    pub acquire_fits : (mode : LockMode) → EffectFits rows s client (acquire_at (name_space s) handle mode)
+    acquire_fits mode = acquired_fits mode (hold_of (lock_under (name_space s) handle) (owner_of handle))
 
-    tried_fits : (mode : LockMode) (r : Result LockState Fault) → tried (lock_under s handle) (claim_of handle mode) s.clock ≡ r → EffectFits rows s client (try_by handle (claim_of handle mode) r)
+    tried_fits : (mode : LockMode) (r : Result LockState Fault) → tried (lock_under (name_space s) handle) (claim_of handle mode) s.clock ≡ r → EffectFits rows s client (try_by handle (claim_of handle mode) r)
     tried_fits mode (Err fault) is = tt
     tried_fits mode (Ok new) is =
-        let lock : LockState = lock_under s handle in
+        let lock : LockState = lock_under (name_space s) handle in
         let claim : Claim = claim_of handle mode in
         let t = (try_succeeds lock new claim s.clock fit_under.legal).0 is in
         let P : LockState → Type 0 = λ x. EffectFits rows s client (try_by handle claim (Ok x)) in
         subst P (sym t.1) (record { is_put = held_put mode t.0; same = refl })
 
-    pub try_fits : (mode : LockMode) → EffectFits rows s client (try_at s handle mode)
-    try_fits mode = tried_fits mode (tried (lock_under s handle) (claim_of handle mode) s.clock) refl
+    pub try_fits : (mode : LockMode) → EffectFits rows s client (try_at (name_space s) s.clock handle mode)
+    try_fits mode = tried_fits mode (tried (lock_under (name_space s) handle) (claim_of handle mode) s.clock) refl
 
     -- ---- who leaves it
 
-    left_fits : (held : Bool) → ApplicationFits rows s client None (leaving_by handle held (settled (without (is_owner (owner_of handle)) (lock_under s handle))))
+    left_fits : (held : Bool) → ApplicationFits rows s client None (leaving_by handle held (settled (without (is_owner (owner_of handle)) (lock_under (name_space s) handle))))
     left_fits held =
-        let lock : LockState = lock_under s handle in
+        let lock : LockState = lock_under (name_space s) handle in
         let leaves : Owner → Bool = is_owner (owner_of handle) in
         let left : LockState = without leaves lock in
         let holds : Owner → Hold → Bool = claim_fits s.sessions in
@@ -174,16 +175,16 @@ module _ (cell : List ℕ) (rows : Rows) (s : MasterState) (k : IsKept cell rows
           waited = λ q. left_waited q leaves lock;
         }
 
-    released_fits : (b : Bool) → EffectFits rows s client (release_by handle (cond b (Ok (settled (without (is_owner (owner_of handle)) (lock_under s handle)))) (Err faults.NotHolder)))
+    released_fits : (b : Bool) → EffectFits rows s client (release_by handle (cond b (Ok (settled (without (is_owner (owner_of handle)) (lock_under (name_space s) handle)))) (Err faults.NotHolder)))
     released_fits true = left_fits true
     released_fits false = tt
 
-    pub release_fits : EffectFits rows s client (release_at s handle)
-    release_fits = released_fits (is_some (hold_of (lock_under s handle) (owner_of handle)))
+    pub release_fits : EffectFits rows s client (release_at (name_space s) handle)
+    release_fits = released_fits (is_some (hold_of (lock_under (name_space s) handle) (owner_of handle)))
 
-    closed_fits : (b : Bool) → ApplicationFits rows s client None (close_by s handle (cond b (Some (settled (without (is_owner (owner_of handle)) (lock_under s handle)))) None))
-    closed_fits true = left_fits (holds_lock s handle)
+    closed_fits : (b : Bool) → ApplicationFits rows s client None (close_by (name_space s) handle (cond b (Some (settled (without (is_owner (owner_of handle)) (lock_under (name_space s) handle)))) None))
+    closed_fits true = left_fits (holds_lock (name_space s) handle)
     closed_fits false = tt
 
-    pub close_fits : ApplicationFits rows s client None (close_by s handle (closed_by (lock_under s handle) (owner_of handle)))
-    close_fits = closed_fits (is_some (hold_of (lock_under s handle) (owner_of handle)) || any_waits (is_owner (owner_of handle)) (lock_under s handle))
+    pub close_fits : ApplicationFits rows s client None (close_by (name_space s) handle (closed_by (lock_under (name_space s) handle) (owner_of handle)))
+    close_fits = closed_fits (is_some (hold_of (lock_under (name_space s) handle) (owner_of handle)) || any_waits (is_owner (owner_of handle)) (lock_under (name_space s) handle))

@@ -9,6 +9,7 @@ use Rattle.messages_cell.specs.declared.calls.Call.TheVariants as calls
 use Rattle.tags_cell.specs.declared.handles.Handle.{Handle}
 use Rattle.tags_cell.specs.Handles.{read_handle, is_handle, fields_of, number_at}
 use Rattle.cell_parts.specs.declared.pending.Work.TheVariants as works
+use Rattle.cell_state.specs.NameSpace.{name_space}
 use Rattle.cell_state.specs.State.{MasterState}
 use Rattle.cell_state.specs.Lookups.{own_handle, shown_handle, is_usable, handle_state_of, sequencer_fault}
 use Rattle.cell_parts.specs.Keys.{key_of}
@@ -44,7 +45,7 @@ checked_waits_never s bytes (Some fault) h = cc
 
 pub own_call : (s : MasterState) (client number : ℕ) (call : Call) (sequencer : Option (List ℕ)) → (admission_of s client number call sequencer).answer ≡ None → IsOwnCall s.secret client (works.Calls call sequencer)
 own_call s client number (calls.Open opening) sequencer h = shows_none s.secret client
-own_call s client number (calls.CheckSequencer bytes) sequencer h = absurd (checked_waits_never s bytes (sequencer_fault s sequencer) h)
+own_call s client number (calls.CheckSequencer bytes) sequencer h = absurd (checked_waits_never s bytes (sequencer_fault (name_space s) sequencer) h)
 own_call s client number (calls.Close bytes) sequencer h = handle_own s client (calls.Close bytes) sequencer bytes (shown_handle s client bytes) refl h
 own_call s client number (calls.Read bytes) sequencer h = handle_own s client (calls.Read bytes) sequencer bytes (shown_handle s client bytes) refl h
 own_call s client number (calls.Stat bytes) sequencer h = handle_own s client (calls.Stat bytes) sequencer bytes (shown_handle s client bytes) refl h

@@ -38,6 +38,7 @@ use Rattle.cell_parts.specs.declared.pending.Task.{Task}
 use Rattle.cell_parts.specs.declared.pending.Task.TheVariants as tasks
 use Rattle.cell_parts.specs.declared.pending.Work.{Work}
 use Rattle.cell_parts.specs.declared.pending.Work.TheVariants as works
+use Rattle.cell_state.specs.NameSpace.{name_space, caller}
 use Rattle.cell_state.specs.State.{MasterState, next_change, task_at}
 use Rattle.cell_state.specs.Lookups.{session_of, is_live, may_start, turned_away, noted}
 use Rattle.cell_update.specs.Updates.{edits_of}
@@ -145,7 +146,7 @@ module _ (s : MasterState) (front : List (Waiting Task)) (w : Waiting Task) (bac
   spared_case : (idle : Idle) → w.change.body ≡ tasks.Tidies idle → is_still_idle s idle ≡ false → IsPlan s w.number no_plan
   spared_case idle body held = (Spared front back idle (turn_of (tasks.Tidies idle) body) held, rw left_behind refl, refl)
 
-  tidied_case : (idle : Idle) → w.change.body ≡ tasks.Tidies idle → is_still_idle s idle ≡ true → IsPlan s w.number (plan_effect s 0 0 (gone_by_itself s idle))
+  tidied_case : (idle : Idle) → w.change.body ≡ tasks.Tidies idle → is_still_idle s idle ≡ true → IsPlan s w.number (plan_effect s 0 0 (gone_by_itself (name_space s) idle))
   tidied_case idle body still = (Tidied front back idle (turn_of (tasks.Tidies idle) body) still, rw left_behind refl, refl)
 
 module _ (s : MasterState) (front : List (Waiting Task)) (w : Waiting Task) (back : List (Waiting Task)) (stands : s.gate.waiting ≡ front ++ w ∷ back) (free : is_free s.rights w ≡ true) (orderly : IsOrderly s.gate) (asked : Asked) (body : w.change.body ≡ tasks.Asked asked) where
@@ -177,7 +178,7 @@ module _ (s : MasterState) (front : List (Waiting Task)) (w : Waiting Task) (bac
   -- what the plan for a call of this shape does
   abbrev IsDoneBy : Call → Option (List ℕ) → Shape → Type 0
   IsDoneBy call sequencer shape =
-      asked.work ≡ works.Calls call sequencer → is_live s asked.client ≡ true → effect s asked.client asked.number call sequencer ≡ effect_by shape
+      asked.work ≡ works.Calls call sequencer → is_live s asked.client ≡ true → effect (name_space s) (caller s asked.client) s.clock asked.number call sequencer ≡ effect_by shape
       → IsPlan s w.number (plan_effect s asked.client asked.number (effect_by shape))
 
   ended_case : (call : Call) (sequencer : Option (List ℕ)) (note : Option Note) (answer : CallResult) → IsDoneBy call sequencer (Ends note answer)
@@ -212,7 +213,7 @@ module _ (s : MasterState) (front : List (Waiting Task)) (w : Waiting Task) (bac
   shape_case call sequencer (Awaits put) = awaited_case call sequencer put
   shape_case call sequencer (Leaves note leave answer) = left_case call sequencer note leave answer
 
-  effect_case : (call : Call) (sequencer : Option (List ℕ)) → asked.work ≡ works.Calls call sequencer → is_live s asked.client ≡ true → IsPlan s w.number (plan_effect s asked.client asked.number (effect s asked.client asked.number call sequencer))
+  effect_case : (call : Call) (sequencer : Option (List ℕ)) → asked.work ≡ works.Calls call sequencer → is_live s asked.client ≡ true → IsPlan s w.number (plan_effect s asked.client asked.number (effect (name_space s) (caller s asked.client) s.clock asked.number call sequencer))
   effect_case call sequencer work live =
       let t = shape_of s asked.client asked.number call sequencer in
       let P : Effect → Type 0 = λ effected. IsPlan s w.number (plan_effect s asked.client asked.number effected) in
@@ -221,7 +222,7 @@ module _ (s : MasterState) (front : List (Waiting Task)) (w : Waiting Task) (bac
   call_case : (call : Call) (sequencer : Option (List ℕ)) → asked.work ≡ works.Calls call sequencer → IsPlan s w.number (plan_call s asked.client asked.number call sequencer)
   call_case call sequencer work =
       let client = asked.client in
-      either s w.number (is_live s client) (plan_asked s client asked.number call (effect s client asked.number call sequencer)) no_plan (effect_case call sequencer work)
+      either s w.number (is_live s client) (plan_asked s client asked.number call (effect (name_space s) (caller s client) s.clock asked.number call sequencer)) no_plan (effect_case call sequencer work)
       (λ gone. (OfEnded front back asked call sequencer turn work gone, rw behind refl, refl))
 
   work_case : (work : Work) → asked.work ≡ work → IsPlan s w.number (plan_work s asked.client asked.number work)
@@ -232,7 +233,7 @@ module _ (s : MasterState) (front : List (Waiting Task)) (w : Waiting Task) (bac
   task_case : (task : Task) → w.change.body ≡ task → IsPlan s w.number (plan_task s task)
   task_case (tasks.Asked asked) body = work_case s front w back stands free orderly asked body asked.work refl
   task_case (tasks.Tidies idle) body =
-      either s w.number (is_still_idle s idle) (plan_effect s 0 0 (gone_by_itself s idle)) no_plan (tidied_case s front w back stands free orderly idle body)
+      either s w.number (is_still_idle s idle) (plan_effect s 0 0 (gone_by_itself (name_space s) idle)) no_plan (tidied_case s front w back stands free orderly idle body)
       (spared_case s front w back stands free orderly idle body)
 
   apply_case : IsSwept s (acted s (actions.Apply w.number)) (action_edits s (actions.Apply w.number))

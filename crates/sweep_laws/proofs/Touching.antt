@@ -29,6 +29,7 @@ use Rattle.lock_core.specs.State.{LockState}
 use Rattle.lock_core.specs.Turns.{tried, acquired, released}
 use Rattle.cell_update.specs.declared.updates.Change.{Change}
 use Rattle.cell_parts.specs.Claims.{owner_of, claim_of}
+use Rattle.cell_state.specs.NameSpace.{name_space, caller}
 use Rattle.cell_state.specs.State.{MasterState}
 use Rattle.cell_state.specs.Lookups.{may, missing_right, is_of_cell, sequencer_fault, lock_under, node_of_handle, new_handle, answer_on}
 use Rattle.cell_parts.specs.Calls.{create_fault, bytes_of}
@@ -56,65 +57,65 @@ by_option name (Some x) f y h k = h x
 module _ (s : MasterState) where
   -- ---- a create
 
-  made_touches : (opening : Open) (view : View) (r : Result Handle Fault) → Touches (Some opening.name) (create_made s opening view r)
+  made_touches : (opening : Open) (view : View) (r : Result Handle Fault) → Touches (Some opening.name) (create_made (name_space s) opening view r)
   made_touches opening view (Ok handle) = refl
   made_touches opening view (Err fault) = tt
 
-  numbered_touches : (client number : ℕ) (opening : Open) (view : View) → Touches (Some opening.name) (create_numbered s client number opening view)
+  numbered_touches : (client number : ℕ) (opening : Open) (view : View) → Touches (Some opening.name) (create_numbered (name_space s) (caller s client) number opening view)
   numbered_touches client number opening view =
-      either (Some opening.name) (is_last s.next_instance) (refused faults.Exhausted) (create_made s opening view (new_handle s client number opening view)) tt (made_touches opening view (new_handle s client number opening view))
+      either (Some opening.name) (is_last s.next_instance) (refused faults.Exhausted) (create_made (name_space s) opening view (new_handle (name_space s) (caller s client) number opening view)) tt (made_touches opening view (new_handle (name_space s) (caller s client) number opening view))
 
-  permitted_touches : (client number : ℕ) (opening : Open) (view : View) → Touches (Some opening.name) (create_permitted s client number opening view)
+  permitted_touches : (client number : ℕ) (opening : Open) (view : View) → Touches (Some opening.name) (create_permitted (name_space s) (caller s client) number opening view)
   permitted_touches client number opening view =
-      by_option (Some opening.name) (missing_right s client opening.mode view) (λ right. refused (faults.Denied right)) (create_numbered s client number opening view) (λ right. tt) (numbered_touches client number opening view)
+      by_option (Some opening.name) (missing_right (name_space s) (caller s client) opening.mode view) (λ right. refused (faults.Denied right)) (create_numbered (name_space s) (caller s client) number opening view) (λ right. tt) (numbered_touches client number opening view)
 
-  in_touches : (client number : ℕ) (opening : Open) (create : Create) (above : View) (kind : Kind) → Touches (Some opening.name) (create_in s client number opening create above kind)
+  in_touches : (client number : ℕ) (opening : Open) (create : Create) (above : View) (kind : Kind) → Touches (Some opening.name) (create_in (name_space s) (caller s client) number opening create above kind)
   in_touches client number opening create above File = tt
   in_touches client number opening create above Directory =
       let view : View = new_view s.next_instance create.node create.life (acls_of above create.acls) in
-      either (Some opening.name) (may s client above rights.Write) (create_permitted s client number opening view) (refused (faults.Denied rights.Write)) (permitted_touches client number opening view) tt
+      either (Some opening.name) (may (name_space s) (caller s client) above rights.Write) (create_permitted (name_space s) (caller s client) number opening view) (refused (faults.Denied rights.Write)) (permitted_touches client number opening view) tt
 
-  under_touches : (client number : ℕ) (opening : Open) (create : Create) (o : Option View) → Touches (Some opening.name) (create_under s client number opening create o)
+  under_touches : (client number : ℕ) (opening : Open) (create : Create) (o : Option View) → Touches (Some opening.name) (create_under (name_space s) (caller s client) number opening create o)
   under_touches client number opening create None = tt
   under_touches client number opening create (Some above) = in_touches client number opening create above above.kind
 
-  new_touches : (client number : ℕ) (opening : Open) (create : Create) → Touches (Some opening.name) (create_new s client number opening create)
+  new_touches : (client number : ℕ) (opening : Open) (create : Create) → Touches (Some opening.name) (create_new (name_space s) (caller s client) number opening create)
   new_touches client number opening create =
-      by_option (Some opening.name) (parent_of opening.name) (λ parent. create_under s client number opening create (get_node s.nodes parent)) (refused faults.NotFound)
+      by_option (Some opening.name) (parent_of opening.name) (λ parent. create_under (name_space s) (caller s client) number opening create (get_node s.nodes parent)) (refused faults.NotFound)
       (λ parent. under_touches client number opening create (get_node s.nodes parent)) tt
 
-  over_touches : (client number : ℕ) (opening : Open) (disposition : Disposition) (view : View) → Touches (Some opening.name) (create_over s client number opening disposition view)
+  over_touches : (client number : ℕ) (opening : Open) (disposition : Disposition) (view : View) → Touches (Some opening.name) (create_over (name_space s) (caller s client) number opening disposition view)
   over_touches client number opening Must view = tt
   over_touches client number opening May view = tt
 
-  tested_touches : (client number : ℕ) (opening : Open) (create : Create) → Touches (Some opening.name) (create_tested s client number opening create)
+  tested_touches : (client number : ℕ) (opening : Open) (create : Create) → Touches (Some opening.name) (create_tested (name_space s) (caller s client) number opening create)
   tested_touches client number opening create =
       let name = Some opening.name in
-      by_option name (create_fault opening create.node) (λ answer. answered answer) (create_effect s client number opening create) (λ answer. tt)
-      (by_option name (get_node s.nodes opening.name) (λ view. create_over s client number opening create.disposition view) (create_new s client number opening create) (over_touches client number opening create.disposition) (new_touches client number opening create))
+      by_option name (create_fault opening create.node) (λ answer. answered answer) (create_effect (name_space s) (caller s client) number opening create) (λ answer. tt)
+      (by_option name (get_node s.nodes opening.name) (λ view. create_over (name_space s) (caller s client) number opening create.disposition view) (create_new (name_space s) (caller s client) number opening create) (over_touches client number opening create.disposition) (new_touches client number opening create))
 
-  sequencer_touches : (client number : ℕ) (opening : Open) (create : Create) (o : Option Fault) → Touches (Some opening.name) (create_under_sequencer s client number opening create o)
+  sequencer_touches : (client number : ℕ) (opening : Open) (create : Create) (o : Option Fault) → Touches (Some opening.name) (create_under_sequencer (name_space s) (caller s client) number opening create o)
   sequencer_touches client number opening create None = tested_touches client number opening create
   sequencer_touches client number opening create (Some fault) = tt
 
-  open_touches : (client number : ℕ) (opening : Open) (sequencer : Option (List ℕ)) (o : Option Create) → Touches (option_map (λ create. opening.name) o) (open_effect s client number opening sequencer o)
+  open_touches : (client number : ℕ) (opening : Open) (sequencer : Option (List ℕ)) (o : Option Create) → Touches (option_map (λ create. opening.name) o) (open_effect (name_space s) (caller s client) number opening sequencer o)
   open_touches client number opening sequencer None = tt
   open_touches client number opening sequencer (Some create) =
-      let fault = sequencer_fault s sequencer in
-      either (Some opening.name) (is_of_cell s opening.name) (create_under_sequencer s client number opening create fault) (refused faults.OtherCell)
+      let fault = sequencer_fault (name_space s) sequencer in
+      either (Some opening.name) (is_of_cell (name_space s) opening.name) (create_under_sequencer (name_space s) (caller s client) number opening create fault) (refused faults.OtherCell)
       (sequencer_touches client number opening create fault) tt
 
   -- ---- a change of a node that stands
 
-  put_touches : (handle : Handle) (present : ℕ) (wanted : Option ℕ) (view : View) → Touches (Some handle.name) (put_at s handle present wanted view)
+  put_touches : (handle : Handle) (present : ℕ) (wanted : Option ℕ) (view : View) → Touches (Some handle.name) (put_at (name_space s) handle present wanted view)
   put_touches handle present wanted view =
       let written : Effect = changes_to (Put handle.name view) s.next_instance results.Done in
       either (Some handle.name) (generation_fits wanted present) (cond (is_last present) (refused faults.Exhausted) written) (refused (faults.WrongGeneration present))
       (either (Some handle.name) (is_last present) (refused faults.Exhausted) written tt refl) tt
 
-  delete_touches : (handle : Handle) → Touches (Some handle.name) (delete_at s handle)
+  delete_touches : (handle : Handle) → Touches (Some handle.name) (delete_at (name_space s) handle)
   delete_touches handle =
-      either (Some handle.name) (has_children s.nodes handle.name || is_none (parent_of handle.name)) (refused faults.NotEmpty) (deleted s handle) tt refl
+      either (Some handle.name) (has_children s.nodes handle.name || is_none (parent_of handle.name)) (refused faults.NotEmpty) (deleted (name_space s) handle) tt refl
 
   -- ---- a lock
 
@@ -133,13 +134,13 @@ module _ (s : MasterState) where
 
   -- ---- any call
 
-  node_touches : (handle : Handle) (call : Call) (view : View) → Touches (touched_by handle call) (change_at s handle call view)
+  node_touches : (handle : Handle) (call : Call) (view : View) → Touches (touched_by handle call) (change_at (name_space s) s.clock handle call view)
   node_touches handle (calls.Set bytes content generation) view = put_touches handle view.content_generation generation (with_content view content)
   node_touches handle (calls.SetAcl bytes acls generation) view = put_touches handle view.acl_generation generation (with_acls view acls)
   node_touches handle (calls.Delete bytes) view = delete_touches handle
-  node_touches handle (calls.Acquire bytes mode) view = acquired_touches None handle (claim_of handle mode) (acquired (lock_under s handle) (claim_of handle mode))
-  node_touches handle (calls.TryAcquire bytes mode) view = tried_touches None handle (claim_of handle mode) (tried (lock_under s handle) (claim_of handle mode) s.clock)
-  node_touches handle (calls.Release bytes) view = released_touches None handle (released (lock_under s handle) (owner_of handle))
+  node_touches handle (calls.Acquire bytes mode) view = acquired_touches None handle (claim_of handle mode) (acquired (lock_under (name_space s) handle) (claim_of handle mode))
+  node_touches handle (calls.TryAcquire bytes mode) view = tried_touches None handle (claim_of handle mode) (tried (lock_under (name_space s) handle) (claim_of handle mode) s.clock)
+  node_touches handle (calls.Release bytes) view = released_touches None handle (released (lock_under (name_space s) handle) (owner_of handle))
   node_touches handle (calls.Open opening) view = tt
   node_touches handle (calls.Close bytes) view = tt
   node_touches handle (calls.Read bytes) view = tt
@@ -150,26 +151,26 @@ module _ (s : MasterState) where
   node_touches handle (calls.CheckSequencer bytes) view = tt
 
   -- what would be answered at once changes nothing
-  answered_touches : (handle : Handle) (call : Call) (o : Option CallResult) → Touches (touched_by handle call) (option_map_or (λ answer. answered answer) o (change_on s handle call))
+  answered_touches : (handle : Handle) (call : Call) (o : Option CallResult) → Touches (touched_by handle call) (option_map_or (λ answer. answered answer) o (change_on (name_space s) s.clock handle call))
   answered_touches handle call o =
-      by_option (touched_by handle call) o (λ answer. answered answer) (change_on s handle call) (λ answer. tt)
-      (by_option (touched_by handle call) (node_of_handle s handle) (λ view. change_at s handle call view) (refused faults.StaleInstance) (node_touches handle call) tt)
+      by_option (touched_by handle call) o (λ answer. answered answer) (change_on (name_space s) s.clock handle call) (λ answer. tt)
+      (by_option (touched_by handle call) (node_of_handle (name_space s) handle) (λ view. change_at (name_space s) s.clock handle call view) (refused faults.StaleInstance) (node_touches handle call) tt)
 
-  call_touches : (handle : Handle) (call : Call) (sequencer : Option (List ℕ)) → Touches (touched_by handle call) (effect_on s handle call sequencer)
+  call_touches : (handle : Handle) (call : Call) (sequencer : Option (List ℕ)) → Touches (touched_by handle call) (effect_on (name_space s) s.clock handle call sequencer)
   call_touches handle (calls.Close bytes) sequencer = tt
-  call_touches handle call sequencer = answered_touches handle call (answer_on s handle call sequencer)
+  call_touches handle call sequencer = answered_touches handle call (answer_on (name_space s) handle call sequencer)
 
-  handle_touches : (call : Call) (sequencer : Option (List ℕ)) (o : Option Handle) → Touches (option_and_then (λ handle. touched_by handle call) o) (handle_effect s call sequencer o)
+  handle_touches : (call : Call) (sequencer : Option (List ℕ)) (o : Option Handle) → Touches (option_and_then (λ handle. touched_by handle call) o) (handle_effect (name_space s) s.clock call sequencer o)
   handle_touches call sequencer None = tt
   handle_touches call sequencer (Some handle) = call_touches handle call sequencer
 
-  effect_touches : (client number : ℕ) (call : Call) (sequencer : Option (List ℕ)) → Touches (name_changed s.secret call) (effect s client number call sequencer)
+  effect_touches : (client number : ℕ) (call : Call) (sequencer : Option (List ℕ)) → Touches (name_changed s.secret call) (effect (name_space s) (caller s client) s.clock number call sequencer)
   unfolding effect
   effect_touches client number (calls.Open opening) sequencer = open_touches client number opening sequencer opening.create
   effect_touches client number call sequencer = handle_touches call sequencer (read_handle s.secret (bytes_of call))
 
 -- a change that a call makes is of the name that it may change
-pub change_is_named : (s : MasterState) (client number : ℕ) (call : Call) (sequencer : Option (List ℕ)) (change : Change) → (effect s client number call sequencer).change ≡ Some change → name_changed s.secret call ≡ Some (name_of change.change)
+pub change_is_named : (s : MasterState) (client number : ℕ) (call : Call) (sequencer : Option (List ℕ)) (change : Change) → (effect (name_space s) (caller s client) s.clock number call sequencer).change ≡ Some change → name_changed s.secret call ≡ Some (name_of change.change)
 change_is_named s client number call sequencer change made =
     let P : Option Change → Type 0 = IsOn (name_changed s.secret call) in
     subst P made (effect_touches s client number call sequencer)

@@ -20,9 +20,8 @@ use Rattle.gate_core.specs.declared.pending.Waiting.{Waiting}
 use Rattle.gate_core.specs.Gate.{IsOrderly}
 use Rattle.cell_parts.specs.declared.pending.Task.{Task}
 use Rattle.cell_parts.specs.declared.pending.Work.{Work}
-use Rattle.cell_core.specs.Step.{names_of}
 use Rattle.cell_parts.specs.Calls.{bytes_of}
-use Rattle.cell_core.specs.Names.{name_changed}
+use Rattle.cell_core.specs.Names.{names_touched}
 use Rattle.messages_cell.specs.declared.outs.Reply.{Reply}
 use Rattle.session_core.specs.declared.records.Session.{Session}
 use Rattle.session_core.specs.declared.records.Kept.{Kept}
@@ -72,18 +71,9 @@ is_of client right = client == right.client
 abbrev pub AreOwned : SessionTable Reply → List CacheRight → Type 0
 AreOwned table rights = (client : ℕ) → session_of table client ≡ None → list_any (is_of client) rights ≡ false
 
--- the names that a change touches while it waits: a Start none
-abbrev pub names_touched : List ℕ → Work → List (List ℕ)
-names_touched secret (works.Starts principal received) = []
-names_touched secret (works.Calls call sequencer) = names_of (name_changed secret call)
-
-abbrev pub names_touched_by : List ℕ → Task → List (List ℕ)
-names_touched_by secret (tasks.Asked asked) = names_touched secret asked.work
-names_touched_by secret (tasks.Tidies idle) = idle.name ∷ []
-
--- each change that waits touches the name that it may change
+-- each change that waits is in the way of the names that it touches
 abbrev pub AreTouching : List ℕ → List (Waiting Task) → Type 0
-AreTouching secret waiting = All (λ w. w.change.touched ≡ names_touched_by secret w.change.body) waiting
+AreTouching secret waiting = All (λ w. w.change.touched ≡ names_touched secret w.change.body) waiting
 
 -- a call that waits shows a handle of its client
 abbrev pub IsOwnCall : List ℕ → ℕ → Work → Type 0

@@ -22,6 +22,7 @@ use Rattle.lock_core.specs.Turns.{reopened}
 use Rattle.lock_core.specs.Locks.{lock_at, due}
 use Rattle.cell_update.specs.declared.updates.LockPut.{LockPut}
 use Rattle.cell_apply.specs.declared.effects.Leave.{Leave}
+use Rattle.cell_state.specs.NameSpace.{name_space, caller}
 use Rattle.cell_state.specs.State.{MasterState}
 use Rattle.cell_core.specs.Ephemerals.{next_idle, tidied, is_still_idle}
 use Rattle.session_core.specs.declared.records.Parked.{Parked}
@@ -97,12 +98,12 @@ pub data SweepCase (s : MasterState) : Type 0 where
   Tidied : (front back : List (Waiting Task)) (idle : Idle) → IsNextApplied s front (tasks.Tidies idle) back → is_still_idle s idle ≡ true → SweepCase s
   -- A CALL'S TURN
   OfEnded : (front back : List (Waiting Task)) (asked : Asked) (call : Call) (sequencer : Option (List ℕ)) → IsNextApplied s front (tasks.Asked asked) back → asked.work ≡ works.Calls call sequencer → is_live s asked.client ≡ false → SweepCase s
-  Ended : (front back : List (Waiting Task)) (asked : Asked) (call : Call) (sequencer : Option (List ℕ)) (note : Option Note) (answer : CallResult) → IsNextApplied s front (tasks.Asked asked) back → asked.work ≡ works.Calls call sequencer → is_live s asked.client ≡ true → effect s asked.client asked.number call sequencer ≡ record { note = note; change = None; locking = lockings.Nothing; answer = Some answer } → SweepCase s
-  Applied : (front back : List (Waiting Task)) (asked : Asked) (call : Call) (sequencer : Option (List ℕ)) (note : Option Note) (change : Change) (answer : CallResult) → IsNextApplied s front (tasks.Asked asked) back → asked.work ≡ works.Calls call sequencer → is_live s asked.client ≡ true → effect s asked.client asked.number call sequencer ≡ record { note = note; change = Some change; locking = lockings.Nothing; answer = Some answer } → SweepCase s
-  Deleted : (front back : List (Waiting Task)) (asked : Asked) (call : Call) (sequencer : Option (List ℕ)) (change : Change) (instance : ℕ) (waiters : List Claim) (answer : CallResult) → IsNextApplied s front (tasks.Asked asked) back → asked.work ≡ works.Calls call sequencer → is_live s asked.client ≡ true → effect s asked.client asked.number call sequencer ≡ record { note = None; change = Some change; locking = lockings.Goes instance waiters; answer = Some answer } → SweepCase s
-  Locked : (front back : List (Waiting Task)) (asked : Asked) (call : Call) (sequencer : Option (List ℕ)) (put : LockPut) (claim : Claim) (answer : CallResult) → IsNextApplied s front (tasks.Asked asked) back → asked.work ≡ works.Calls call sequencer → is_live s asked.client ≡ true → effect s asked.client asked.number call sequencer ≡ record { note = None; change = None; locking = lockings.Takes put claim; answer = Some answer } → SweepCase s
-  Awaited : (front back : List (Waiting Task)) (asked : Asked) (call : Call) (sequencer : Option (List ℕ)) (put : LockPut) → IsNextApplied s front (tasks.Asked asked) back → asked.work ≡ works.Calls call sequencer → is_live s asked.client ≡ true → effect s asked.client asked.number call sequencer ≡ record { note = None; change = None; locking = lockings.Waits put; answer = None } → SweepCase s
-  Left : (front back : List (Waiting Task)) (asked : Asked) (call : Call) (sequencer : Option (List ℕ)) (note : Option Note) (leave : Leave) (answer : CallResult) → IsNextApplied s front (tasks.Asked asked) back → asked.work ≡ works.Calls call sequencer → is_live s asked.client ≡ true → effect s asked.client asked.number call sequencer ≡ record { note = note; change = None; locking = lockings.Leaves leave; answer = Some answer } → SweepCase s
+  Ended : (front back : List (Waiting Task)) (asked : Asked) (call : Call) (sequencer : Option (List ℕ)) (note : Option Note) (answer : CallResult) → IsNextApplied s front (tasks.Asked asked) back → asked.work ≡ works.Calls call sequencer → is_live s asked.client ≡ true → effect (name_space s) (caller s asked.client) s.clock asked.number call sequencer ≡ record { note = note; change = None; locking = lockings.Nothing; answer = Some answer } → SweepCase s
+  Applied : (front back : List (Waiting Task)) (asked : Asked) (call : Call) (sequencer : Option (List ℕ)) (note : Option Note) (change : Change) (answer : CallResult) → IsNextApplied s front (tasks.Asked asked) back → asked.work ≡ works.Calls call sequencer → is_live s asked.client ≡ true → effect (name_space s) (caller s asked.client) s.clock asked.number call sequencer ≡ record { note = note; change = Some change; locking = lockings.Nothing; answer = Some answer } → SweepCase s
+  Deleted : (front back : List (Waiting Task)) (asked : Asked) (call : Call) (sequencer : Option (List ℕ)) (change : Change) (instance : ℕ) (waiters : List Claim) (answer : CallResult) → IsNextApplied s front (tasks.Asked asked) back → asked.work ≡ works.Calls call sequencer → is_live s asked.client ≡ true → effect (name_space s) (caller s asked.client) s.clock asked.number call sequencer ≡ record { note = None; change = Some change; locking = lockings.Goes instance waiters; answer = Some answer } → SweepCase s
+  Locked : (front back : List (Waiting Task)) (asked : Asked) (call : Call) (sequencer : Option (List ℕ)) (put : LockPut) (claim : Claim) (answer : CallResult) → IsNextApplied s front (tasks.Asked asked) back → asked.work ≡ works.Calls call sequencer → is_live s asked.client ≡ true → effect (name_space s) (caller s asked.client) s.clock asked.number call sequencer ≡ record { note = None; change = None; locking = lockings.Takes put claim; answer = Some answer } → SweepCase s
+  Awaited : (front back : List (Waiting Task)) (asked : Asked) (call : Call) (sequencer : Option (List ℕ)) (put : LockPut) → IsNextApplied s front (tasks.Asked asked) back → asked.work ≡ works.Calls call sequencer → is_live s asked.client ≡ true → effect (name_space s) (caller s asked.client) s.clock asked.number call sequencer ≡ record { note = None; change = None; locking = lockings.Waits put; answer = None } → SweepCase s
+  Left : (front back : List (Waiting Task)) (asked : Asked) (call : Call) (sequencer : Option (List ℕ)) (note : Option Note) (leave : Leave) (answer : CallResult) → IsNextApplied s front (tasks.Asked asked) back → asked.work ≡ works.Calls call sequencer → is_live s asked.client ≡ true → effect (name_space s) (caller s asked.client) s.clock asked.number call sequencer ≡ record { note = note; change = None; locking = lockings.Leaves leave; answer = Some answer } → SweepCase s
 
 -- a change has left the gate; the others keep their order
 abbrev pub rest : MasterState → List (Waiting Task) → List (Waiting Task) → MasterState

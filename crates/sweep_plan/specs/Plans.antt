@@ -2,6 +2,7 @@
 use Rattle.std.specs.Prelude.{List, ◌++◌, ℕ, true, false, ◌&&◌, [], ◌∷◌, map, Option, Some, None, if◌then◌else◌}
 use Rattle.cell_parts.specs.declared.notices.Notice.{Notice}
 use Rattle.cell_parts.specs.declared.notices.Telling.{Telling}
+use Rattle.cell_state.specs.NameSpace.{name_space, caller}
 use Rattle.cell_state.specs.Notices.{tellings_to}
 use Rattle.cell_state.specs.State.{MasterState, next_change, task_at}
 use Rattle.sweep_plan.specs.declared.plans.Plan.{Plan}
@@ -135,7 +136,7 @@ plan_asked s client number call effected = contesting s call effected (plan_effe
 -- a call of a session that has ended changes nothing, and sends nothing
 abbrev pub plan_call : MasterState → ℕ → ℕ → Call → Option (List ℕ) → Plan
 plan_call s client number call sequencer =
-    if is_live s client then plan_asked s client number call (effect s client number call sequencer) else no_plan
+    if is_live s client then plan_asked s client number call (effect (name_space s) (caller s client) s.clock number call sequencer) else no_plan
 
 abbrev pub plan_work : MasterState → ℕ → ℕ → Work → Plan
 plan_work s client number (works.Starts principal received) = plan_start s client number principal received
@@ -143,7 +144,7 @@ plan_work s client number (works.Calls call sequencer) = plan_call s client numb
 
 -- an ephemeral node goes, unless somebody holds it open again
 abbrev pub plan_tidied : MasterState → Idle → Plan
-plan_tidied s idle = if is_still_idle s idle then plan_effect s 0 0 (gone_by_itself s idle) else no_plan
+plan_tidied s idle = if is_still_idle s idle then plan_effect s 0 0 (gone_by_itself (name_space s) idle) else no_plan
 
 -- what a client asked for, or what the cell does by itself, of client 0 and number 0
 abbrev pub plan_task : MasterState → Task → Plan

@@ -2,6 +2,7 @@
 ghost use Rattle.std.specs.Prelude.{◌≡◌, [], ◌∷◌, Some, None, map, IfOk};
 ghost use Rattle.node_core.specs.declared.lines.Line.TheVariants as lines;
 ghost use Rattle.sweep_plan.specs.declared.actions.Action.TheVariants as actions;
+ghost use Rattle.cell_state.specs.NameSpace.{name_space};
 ghost use Rattle.cell_apply.specs.Effect.{gone_by_itself};
 ghost use Rattle.sweep_plan.specs.Plans.{no_update, started_out, alive_out, plan_session, plan_start, plan_effect, plan_call, plan_asked, plan_work, plan_tidied, plan_task, plan_expiry, invalidation_of, plan_answer, plan_of};
 ghost use Rattle.cell_apply.specs.Outcomes.{lock_ended, locking_puts};
@@ -162,7 +163,7 @@ fn plan_tidied(cell: &Cell, idle: &Idle) -> Result<Plan, AllocError>
 }
 
 fn plan_gone(master: &Master, idle: &Idle) -> Result<Plan, AllocError>
-    ensures { IfOk result (λ plan. plan ≡ plan_effect master.now 0 0 (gone_by_itself master.now idle.now)) }
+    ensures { IfOk result (λ plan. plan ≡ plan_effect master.now 0 0 (gone_by_itself (name_space master.now) idle.now)) }
 {
     let effect = gone_by_itself(master, idle)?;
     match unasked_told(master, &effect) {

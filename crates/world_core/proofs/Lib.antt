@@ -1,5 +1,6 @@
 pub mod OneMessage
 pub mod TickOutcomes
+pub mod JoinOutcomes
 pub mod AsRead
 pub mod RefusedUp
 pub mod CutUps

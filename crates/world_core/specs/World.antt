@@ -359,13 +359,16 @@ abbrev pub IsOutsideRead : Option MasterState → ℕ → Fault → WorldView �
 IsOutsideRead None now fault old new = IsWant fault old.refusals new.refusals ⊎ ((is_past_end now ≡ false) × IsUnread fault (store_in old) (store_in new))
 IsOutsideRead (Some master) now fault old new = IsWant fault old.refusals new.refusals
 
--- what the table doesn't decide: the store may refuse a master that comes up, and the commit of a sweep; any other step is refused for want of memory alone
+-- what the table doesn't decide: the store may refuse a master that comes up, and the commit of a sweep; a tick and a join under a number that is taken take no memory; any other step
+-- is refused for want of memory alone
 abbrev pub IsOutside : Step → Fault → WorldView → WorldView → Type 0
 IsOutside (steps.Up now) fault old new = IsOutsideUp old.world.master now fault old new
 IsOutside steps.Sweep fault old new = MayRefuse (step_edits old.world steps.Sweep) fault old.refusals new.refusals
 IsOutside (steps.CutUp now Kept) fault old new = IsOutsideUp old.world.master now fault old new
 IsOutside (steps.CutUp now Lost) fault old new = IsOutsideRead old.world.master now fault old new
 IsOutside (steps.CutSweep commit) fault old new = MayRefuse (step_edits old.world (steps.CutSweep commit)) fault old.refusals new.refusals
+IsOutside (steps.Join number principal) fault old new = (member_of old.world number ≡ None) × IsWant fault old.refusals new.refusals
+IsOutside (steps.Tick ticks) fault old new = ⊥
 IsOutside _ fault old new = IsWant fault old.refusals new.refusals
 
 -- why a step is refused: the table refuses it, or want of memory or the store does

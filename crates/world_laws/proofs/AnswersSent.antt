@@ -8,6 +8,7 @@ use Rattle.messages_cell.specs.declared.outs.Out.{Out}
 use Rattle.messages_cell.specs.declared.outs.Out.TheVariants as outs
 use Rattle.messages_cell.specs.declared.outs.Reply.{Reply}
 use Rattle.cell_parts.specs.declared.handles.Note.{Note}
+use Rattle.cell_state.specs.NameSpace.{name_space, caller}
 use Rattle.cell_state.specs.State.{MasterState}
 use Rattle.cell_core.specs.Names.{name_asked}
 use Rattle.cell_core.specs.Cases.{IsAnswered}
@@ -66,7 +67,7 @@ answered_opens s message _ answer h = elim h.is_answer [
 ]
 
 -- and what a call comes to when its turn comes
-pub applied_opens : (s : MasterState) (client number : ℕ) (call : Call) (sequencer : Option (List ℕ)) (effected : Effect) (answer : CallResult) → effect s client number call sequencer ≡ effected → effected.answer ≡ Some answer → OpensAs call answer
+pub applied_opens : (s : MasterState) (client number : ℕ) (call : Call) (sequencer : Option (List ℕ)) (effected : Effect) (answer : CallResult) → effect (name_space s) (caller s client) s.clock number call sequencer ≡ effected → effected.answer ≡ Some answer → OpensAs call answer
 applied_opens s client number call sequencer effected answer is answered = effect_opens s client number call sequencer answer (ap (λ (e : Effect). e.answer) is ∙ answered)
 
 -- ---- several messages

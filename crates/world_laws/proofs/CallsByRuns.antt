@@ -39,6 +39,7 @@ use Rattle.cell_parts.specs.declared.pending.Task.{Task}
 use Rattle.cell_parts.specs.declared.pending.Task.TheVariants as tasks
 use Rattle.cell_parts.specs.declared.pending.Work.{Work}
 use Rattle.cell_parts.specs.declared.pending.Work.TheVariants as works
+use Rattle.cell_state.specs.NameSpace.{name_space, caller}
 use Rattle.cell_state.specs.State.{MasterState}
 use Rattle.cell_core.specs.Ephemerals.{is_idle_node, is_still_idle}
 use Rattle.cell_core.specs.Step.{names_of, task_of, with_call, asking_for}
@@ -354,30 +355,30 @@ tried_change : (handle : Handle) (claim : Claim) (r : Result LockState Fault) �
 tried_change handle claim (Ok lock) = refl
 tried_change handle claim (Err fault) = refl
 
-tried_then : (s : MasterState) (now : ℕ) (handle : Handle) (mode : LockMode) → change_of (try_at (noted s now) handle mode) ≡ change_of (try_at s handle mode)
+tried_then : (s : MasterState) (now : ℕ) (handle : Handle) (mode : LockMode) → change_of (try_at (name_space (noted s now)) (noted s now).clock handle mode) ≡ change_of (try_at (name_space s) s.clock handle mode)
 tried_then s now handle mode =
     let claim = claim_of handle mode in
-    tried_change handle claim (tried (lock_under s handle) claim (noted s now).clock) ∙ sym (tried_change handle claim (tried (lock_under s handle) claim s.clock))
+    tried_change handle claim (tried (lock_under (name_space s) handle) claim (noted s now).clock) ∙ sym (tried_change handle claim (tried (lock_under (name_space s) handle) claim s.clock))
 
 -- by what the tests answer
 either_then : (o : Option CallResult) (x y : Effect) → change_of x ≡ change_of y → change_of (option_map_or (λ answer. answered answer) o x) ≡ change_of (option_map_or (λ answer. answered answer) o y)
 either_then None x y h = h
 either_then (Some answer) x y h = refl
 
-there_then : (s : MasterState) (now : ℕ) (handle : Handle) (bytes : List ℕ) (mode : LockMode) → change_of (change_on (noted s now) handle (calls.TryAcquire bytes mode)) ≡ change_of (change_on s handle (calls.TryAcquire bytes mode))
+there_then : (s : MasterState) (now : ℕ) (handle : Handle) (bytes : List ℕ) (mode : LockMode) → change_of (change_on (name_space (noted s now)) (noted s now).clock handle (calls.TryAcquire bytes mode)) ≡ change_of (change_on (name_space s) s.clock handle (calls.TryAcquire bytes mode))
 there_then s now handle bytes mode =
-    elim (node_of_handle s handle) as (λ o. change_of (option_map_or (λ view. change_at (noted s now) handle (calls.TryAcquire bytes mode) view) o (refused faults.StaleInstance)) ≡ change_of (option_map_or (λ view. change_at s handle (calls.TryAcquire bytes mode) view) o (refused faults.StaleInstance))) [
+    elim (node_of_handle (name_space s) handle) as (λ o. change_of (option_map_or (λ view. change_at (name_space (noted s now)) (noted s now).clock handle (calls.TryAcquire bytes mode) view) o (refused faults.StaleInstance)) ≡ change_of (option_map_or (λ view. change_at (name_space s) s.clock handle (calls.TryAcquire bytes mode) view) o (refused faults.StaleInstance))) [
       | None ↦ refl
       | Some view ↦ tried_then s now handle mode
     ]
 
-shown_then : (s : MasterState) (now : ℕ) (bytes : List ℕ) (mode : LockMode) (sequencer : Option (List ℕ)) (o : Option Handle) → change_of (handle_effect (noted s now) (calls.TryAcquire bytes mode) sequencer o) ≡ change_of (handle_effect s (calls.TryAcquire bytes mode) sequencer o)
+shown_then : (s : MasterState) (now : ℕ) (bytes : List ℕ) (mode : LockMode) (sequencer : Option (List ℕ)) (o : Option Handle) → change_of (handle_effect (name_space (noted s now)) (noted s now).clock (calls.TryAcquire bytes mode) sequencer o) ≡ change_of (handle_effect (name_space s) s.clock (calls.TryAcquire bytes mode) sequencer o)
 shown_then s now bytes mode sequencer None = refl
 shown_then s now bytes mode sequencer (Some handle) =
-    either_then (answer_on s handle (calls.TryAcquire bytes mode) sequencer) (change_on (noted s now) handle (calls.TryAcquire bytes mode)) (change_on s handle (calls.TryAcquire bytes mode)) (there_then s now handle bytes mode)
+    either_then (answer_on (name_space s) handle (calls.TryAcquire bytes mode) sequencer) (change_on (name_space (noted s now)) (noted s now).clock handle (calls.TryAcquire bytes mode)) (change_on (name_space s) s.clock handle (calls.TryAcquire bytes mode)) (there_then s now handle bytes mode)
 
 -- the moment doesn't matter to what a call changes
-noted_change : (s : MasterState) (now client number : ℕ) (call : Call) (sequencer : Option (List ℕ)) → change_of (effect (noted s now) client number call sequencer) ≡ change_of (effect s client number call sequencer)
+noted_change : (s : MasterState) (now client number : ℕ) (call : Call) (sequencer : Option (List ℕ)) → change_of (effect (name_space (noted s now)) (caller (noted s now) client) (noted s now).clock number call sequencer) ≡ change_of (effect (name_space s) (caller s client) s.clock number call sequencer)
 unfolding effect
 noted_change s now client number (calls.Open opening) sequencer = refl
 noted_change s now client number (calls.Close bytes) sequencer = refl
@@ -408,7 +409,7 @@ record IsByCall (s : MasterState) (client number : ℕ) (change : Mod) : Type 0 
   work : asked.work ≡ works.Calls call sequencer
   own : asked.client ≡ client
   same : asked.number ≡ number
-  is_effect : change_of (effect s client number call sequencer) ≡ Some change
+  is_effect : change_of (effect (name_space s) (caller s client) s.clock number call sequencer) ≡ Some change
 
 -- what the cell does by itself
 record IsByItself (s : MasterState) (client number : ℕ) (change : Mod) : Type 0 where
@@ -423,7 +424,7 @@ record IsOfApplication (s : MasterState) (before : List Line) (client number : �
   first : before ≡ []
   does : IsByCall s client number change ⊎ IsByItself s client number change
 
-of_call : (s : MasterState) (front back : List (Waiting Task)) (asked : Asked) (call : Call) (sequencer : Option (List ℕ)) (made : Mod) (before told : List Line) (client number : ℕ) (change : Mod) → IsNextApplied s front (tasks.Asked asked) back → asked.work ≡ works.Calls call sequencer → change_of (effect s asked.client asked.number call sequencer) ≡ Some made → lines.Applied asked.client asked.number made ∷ [] ≡ before ++ lines.Applied client number change ∷ told → IsOfApplication s before client number change
+of_call : (s : MasterState) (front back : List (Waiting Task)) (asked : Asked) (call : Call) (sequencer : Option (List ℕ)) (made : Mod) (before told : List Line) (client number : ℕ) (change : Mod) → IsNextApplied s front (tasks.Asked asked) back → asked.work ≡ works.Calls call sequencer → change_of (effect (name_space s) (caller s asked.client) s.clock asked.number call sequencer) ≡ Some made → lines.Applied asked.client asked.number made ∷ [] ≡ before ++ lines.Applied client number change ∷ told → IsOfApplication s before client number change
 of_call s front back asked call sequencer made before told client number change turn work does e =
     let t = one_split (lines.Applied asked.client asked.number made) before told (lines.Applied client number change) e in
     let line : lines.Applied asked.client asked.number made ≡ lines.Applied client number change = t.1 in

@@ -34,6 +34,7 @@ use Rattle.session_core.specs.Session.{events_of, first_events, session_until, b
 use Rattle.session_core.specs.Sessions.{SessionTable, with_session, with_new, issued_by, unacked_events, session_of as session_in}
 use Rattle.cell_parts.specs.declared.handles.Note.{Note}
 use Rattle.cell_parts.specs.declared.notices.Telling.{Telling}
+use Rattle.cell_state.specs.NameSpace.{name_space, caller}
 use Rattle.cell_state.specs.Notices.{with_telling}
 use Rattle.cell_state.specs.State.{MasterState}
 use Rattle.cell_parts.specs.StoredSessions.{taken_over}
@@ -263,7 +264,7 @@ module _ (R : Reply → Type 0) (E : Event → Type 0) where
     lapses_hold [] = tt
     lapses_hold (lapse ∷ rest) = both_hold R (turn_replies s lapse.turn) (lapses_replies s rest) (turn_hold lapse.turn) (lapses_hold rest)
 
-    own_holds : (client number : ℕ) (call : Call) (sequencer : Option (List ℕ)) (made : Effect) (answer : CallResult) → effect s client number call sequencer ≡ made → made.answer ≡ Some answer → R (reply_of s client number answer)
+    own_holds : (client number : ℕ) (call : Call) (sequencer : Option (List ℕ)) (made : Effect) (answer : CallResult) → effect (name_space s) (caller s client) s.clock number call sequencer ≡ made → made.answer ≡ Some answer → R (reply_of s client number answer)
     own_holds client number call sequencer made answer is answered =
         shows (reply_of s client number answer) (subst (IsShownIf s.nodes) (ap (λ (e : Effect). e.answer) is ∙ answered) (effect_faithful s client number call sequencer).1)
 

@@ -37,6 +37,7 @@ use Rattle.lock_core.specs.Turns.{tried, acquired, released}
 use Rattle.lock_core.specs.Locks.{sequencer_of}
 use Rattle.cell_update.specs.declared.updates.Change.{Change}
 use Rattle.cell_parts.specs.Claims.{owner_of, claim_of}
+use Rattle.cell_state.specs.NameSpace.{name_space, caller}
 use Rattle.cell_state.specs.State.{MasterState}
 use Rattle.cell_state.specs.Lookups.{missing_right, node_of_handle, new_handle, open_present, plain_open, opened_answer, list_answer, sequencer_fault, release_fault, lock_under, sequencer_result, answer_on_node, answer_under, answer_on, shown_handle, is_of_cell, may}
 use Rattle.cell_parts.specs.Calls.{is_too_long, content_fault, node_fault, delay_fault, create_fault, write_fault, needing}
@@ -99,7 +100,7 @@ module _ (s : MasterState) where
 
   -- ---- what is answered at once
 
-  opened_shown : (opened : Result Handle Fault) → IsShown s.nodes (opened_answer s opened)
+  opened_shown : (opened : Result Handle Fault) → IsShown s.nodes (opened_answer (name_space s) opened)
   opened_shown (Ok handle) = tt
   opened_shown (Err fault) = tt
 
@@ -124,46 +125,46 @@ module _ (s : MasterState) where
   write_shown kinds.Directory content = tt
   write_shown kinds.File content = content_shown content
 
-  list_shown : (name : List ℕ) (kind : Kind) → IsShown s.nodes (list_answer s name kind)
+  list_shown : (name : List ℕ) (kind : Kind) → IsShown s.nodes (list_answer (name_space s) name kind)
   list_shown name kinds.Directory = tt
   list_shown name kinds.File = tt
 
   needing_shown : (handle : Handle) (right : Right) (answer : Option CallResult) → IsShownIf s.nodes answer → IsShownIf s.nodes (needing handle right answer)
   needing_shown handle right answer h = either (IsShownIf s.nodes) (has_right handle.mode right) answer (Some (results.Refused (faults.Denied right))) h tt
 
-  release_shown : (handle : Handle) → IsShownIf s.nodes (release_fault s handle)
-  release_shown handle = either (IsShownIf s.nodes) (is_none (hold_of (lock_under s handle) (owner_of handle))) (Some (results.Refused faults.NotHolder)) None tt tt
+  release_shown : (handle : Handle) → IsShownIf s.nodes (release_fault (name_space s) handle)
+  release_shown handle = either (IsShownIf s.nodes) (is_none (hold_of (lock_under (name_space s) handle) (owner_of handle))) (Some (results.Refused faults.NotHolder)) None tt tt
 
   sequencer_shown : (found : Result Sequencer Fault) → IsShown s.nodes (sequencer_result found)
   sequencer_shown (Ok sequencer) = tt
   sequencer_shown (Err fault) = tt
 
-  on_node_shown : (handle : Handle) (call : Call) (view : View) → get_node s.nodes handle.name ≡ Some view → IsShownIf s.nodes (answer_on_node s handle call view)
+  on_node_shown : (handle : Handle) (call : Call) (view : View) → get_node s.nodes handle.name ≡ Some view → IsShownIf s.nodes (answer_on_node (name_space s) handle call view)
   on_node_shown handle (calls.Open opening) view found = tt
   on_node_shown handle (calls.Close bytes) view found = tt
   on_node_shown handle (calls.Read bytes) view found = needing_shown handle rights.Read (Some (results.Viewed view)) (handle.name, found)
   on_node_shown handle (calls.Stat bytes) view found = (handle.name, view, found, refl, refl)
-  on_node_shown handle (calls.List bytes) view found = needing_shown handle rights.Read (Some (list_answer s handle.name view.kind)) (list_shown handle.name view.kind)
+  on_node_shown handle (calls.List bytes) view found = needing_shown handle rights.Read (Some (list_answer (name_space s) handle.name view.kind)) (list_shown handle.name view.kind)
   on_node_shown handle (calls.Set bytes content generation) view found = needing_shown handle rights.Write (write_fault view.kind content) (write_shown view.kind content)
   on_node_shown handle (calls.SetAcl bytes acls generation) view found = needing_shown handle rights.Change None tt
   on_node_shown handle (calls.Delete bytes) view found = needing_shown handle rights.Write None tt
   on_node_shown handle (calls.Acquire bytes mode) view found = needing_shown handle rights.Write None tt
   on_node_shown handle (calls.TryAcquire bytes mode) view found = needing_shown handle rights.Write None tt
-  on_node_shown handle (calls.Release bytes) view found = needing_shown handle rights.Write (release_fault s handle) (release_shown handle)
-  on_node_shown handle (calls.GetSequencer bytes) view found = sequencer_shown (sequencer_of (lock_under s handle) handle.instance handle.name (owner_of handle))
+  on_node_shown handle (calls.Release bytes) view found = needing_shown handle rights.Write (release_fault (name_space s) handle) (release_shown handle)
+  on_node_shown handle (calls.GetSequencer bytes) view found = sequencer_shown (sequencer_of (lock_under (name_space s) handle) handle.instance handle.name (owner_of handle))
   on_node_shown handle (calls.SetSequencer bytes) view found = tt
   on_node_shown handle (calls.CheckSequencer bytes) view found = tt
 
-  on_node_under_shown : (handle : Handle) (call : Call) (view : View) (o : Option Fault) → get_node s.nodes handle.name ≡ Some view → IsShownIf s.nodes (answer_under s handle call view o)
+  on_node_under_shown : (handle : Handle) (call : Call) (view : View) (o : Option Fault) → get_node s.nodes handle.name ≡ Some view → IsShownIf s.nodes (answer_under (name_space s) handle call view o)
   on_node_under_shown handle call view (Some fault) found = tt
   on_node_under_shown handle call view None found = on_node_shown handle call view found
 
-  at_node_shown : (handle : Handle) (call : Call) (sequencer : Option (List ℕ)) → IsShownIf s.nodes (option_map_or (λ view. answer_under s handle call view (sequencer_fault s sequencer)) (node_of_handle s handle) (Some (results.Refused faults.StaleInstance)))
+  at_node_shown : (handle : Handle) (call : Call) (sequencer : Option (List ℕ)) → IsShownIf s.nodes (option_map_or (λ view. answer_under (name_space s) handle call view (sequencer_fault (name_space s) sequencer)) (node_of_handle (name_space s) handle) (Some (results.Refused faults.StaleInstance)))
   at_node_shown handle call sequencer =
-      found_or (IsShownIf s.nodes) (λ view. answer_under s handle call view (sequencer_fault s sequencer)) (node_of_handle s handle) (Some (results.Refused faults.StaleInstance))
-      (λ view is. on_node_under_shown handle call view (sequencer_fault s sequencer) (node_shown handle (get_node s.nodes handle.name) view refl is)) tt
+      found_or (IsShownIf s.nodes) (λ view. answer_under (name_space s) handle call view (sequencer_fault (name_space s) sequencer)) (node_of_handle (name_space s) handle) (Some (results.Refused faults.StaleInstance))
+      (λ view is. on_node_under_shown handle call view (sequencer_fault (name_space s) sequencer) (node_shown handle (get_node s.nodes handle.name) view refl is)) tt
 
-  on_shown : (handle : Handle) (call : Call) (sequencer : Option (List ℕ)) → IsShownIf s.nodes (answer_on s handle call sequencer)
+  on_shown : (handle : Handle) (call : Call) (sequencer : Option (List ℕ)) → IsShownIf s.nodes (answer_on (name_space s) handle call sequencer)
   on_shown handle (calls.Open opening) sequencer = at_node_shown handle (calls.Open opening) sequencer
   on_shown handle (calls.Close bytes) sequencer = tt
   on_shown handle (calls.Read bytes) sequencer = at_node_shown handle (calls.Read bytes) sequencer
@@ -185,7 +186,7 @@ module _ (s : MasterState) where
 
   open_shown : (client number : ℕ) (opening : Open) (o : Option Create) → IsShownIf s.nodes (admission_of_open s client number opening o).answer
   open_shown client number opening (Some create) = making_shown opening create.node
-  open_shown client number opening None = opened_shown (plain_open s client number opening)
+  open_shown client number opening None = opened_shown (plain_open (name_space s) (caller s client) number opening)
 
   sequenced_shown : (client number : ℕ) (opening : Open) (o : Option Fault) → IsShownIf s.nodes (admission_under s client number opening o).answer
   sequenced_shown client number opening (Some fault) = tt
@@ -193,16 +194,16 @@ module _ (s : MasterState) where
 
   check_shown : (bytes : List ℕ) (o : Option Fault) → IsShownIf s.nodes (check_admission s bytes o).answer
   check_shown bytes (Some fault) = tt
-  check_shown bytes None = found_or (IsShown s.nodes) (λ (fault : Fault). results.Refused fault) (sequencer_fault s (Some bytes)) results.Done (λ fault is. tt) tt
+  check_shown bytes None = found_or (IsShown s.nodes) (λ (fault : Fault). results.Refused fault) (sequencer_fault (name_space s) (Some bytes)) results.Done (λ fault is. tt) tt
 
   -- by the tests of a call
   admission_shown : (client number : ℕ) (call : Call) (sequencer : Option (List ℕ)) → IsShownIf s.nodes (admission_of s client number call sequencer).answer
   admission_shown client number (calls.Open opening) sequencer =
-      elim (is_of_cell s opening.name) as (λ b. IsShownIf s.nodes (cond b (admission_under s client number opening (sequencer_fault s sequencer)) (answering (results.Refused faults.OtherCell))).answer) [
-        | true ↦ sequenced_shown client number opening (sequencer_fault s sequencer)
+      elim (is_of_cell (name_space s) opening.name) as (λ b. IsShownIf s.nodes (cond b (admission_under s client number opening (sequencer_fault (name_space s) sequencer)) (answering (results.Refused faults.OtherCell))).answer) [
+        | true ↦ sequenced_shown client number opening (sequencer_fault (name_space s) sequencer)
         | false ↦ tt
       ]
-  admission_shown client number (calls.CheckSequencer bytes) sequencer = check_shown bytes (sequencer_fault s sequencer)
+  admission_shown client number (calls.CheckSequencer bytes) sequencer = check_shown bytes (sequencer_fault (name_space s) sequencer)
   admission_shown client number (calls.Close bytes) sequencer = handle_shown (calls.Close bytes) sequencer (shown_handle s client bytes)
   admission_shown client number (calls.Read bytes) sequencer = handle_shown (calls.Read bytes) sequencer (shown_handle s client bytes)
   admission_shown client number (calls.Stat bytes) sequencer = handle_shown (calls.Stat bytes) sequencer (shown_handle s client bytes)
@@ -223,52 +224,52 @@ module _ (s : MasterState) where
 
   -- a node is made
 
-  made_faithful : (opening : Open) (view : View) (made : Result Handle Fault) → s.next_instance ≤ view.instance → IsFaithful s (create_made s opening view made)
+  made_faithful : (opening : Open) (view : View) (made : Result Handle Fault) → s.next_instance ≤ view.instance → IsFaithful s (create_made (name_space s) opening view made)
   made_faithful opening view (Ok handle) new = (inl new, tt)
   made_faithful opening view (Err fault) new = (tt, tt)
 
   module _ (client number : ℕ) (opening : Open) where
-    numbered_faithful : (view : View) → s.next_instance ≤ view.instance → IsFaithful s (create_numbered s client number opening view)
+    numbered_faithful : (view : View) → s.next_instance ≤ view.instance → IsFaithful s (create_numbered (name_space s) (caller s client) number opening view)
     numbered_faithful view new =
-        either (IsFaithful s) (is_last s.next_instance) (refused faults.Exhausted) (create_made s opening view (new_handle s client number opening view)) (tt, tt) (made_faithful opening view (new_handle s client number opening view) new)
+        either (IsFaithful s) (is_last s.next_instance) (refused faults.Exhausted) (create_made (name_space s) opening view (new_handle (name_space s) (caller s client) number opening view)) (tt, tt) (made_faithful opening view (new_handle (name_space s) (caller s client) number opening view) new)
 
-    permitted_faithful : (view : View) → s.next_instance ≤ view.instance → IsFaithful s (create_permitted s client number opening view)
+    permitted_faithful : (view : View) → s.next_instance ≤ view.instance → IsFaithful s (create_permitted (name_space s) (caller s client) number opening view)
     permitted_faithful view new =
-        found_or (IsFaithful s) (λ (right : Right). refused (faults.Denied right)) (missing_right s client opening.mode view) (create_numbered s client number opening view) (λ right is. (tt, tt)) (numbered_faithful view new)
+        found_or (IsFaithful s) (λ (right : Right). refused (faults.Denied right)) (missing_right (name_space s) (caller s client) opening.mode view) (create_numbered (name_space s) (caller s client) number opening view) (λ right is. (tt, tt)) (numbered_faithful view new)
 
-    in_faithful : (create : Create) (above : View) (kind : Kind) → IsFaithful s (create_in s client number opening create above kind)
+    in_faithful : (create : Create) (above : View) (kind : Kind) → IsFaithful s (create_in (name_space s) (caller s client) number opening create above kind)
     in_faithful create above kinds.File = (tt, tt)
     in_faithful create above kinds.Directory =
-        either (IsFaithful s) (may s client above rights.Write) _ (refused (faults.Denied rights.Write)) (permitted_faithful (new_view s.next_instance create.node create.life (acls_of above create.acls)) (least s.next_instance)) (tt, tt)
+        either (IsFaithful s) (may (name_space s) (caller s client) above rights.Write) _ (refused (faults.Denied rights.Write)) (permitted_faithful (new_view s.next_instance create.node create.life (acls_of above create.acls)) (least s.next_instance)) (tt, tt)
 
-    under_faithful : (create : Create) (o : Option View) → IsFaithful s (create_under s client number opening create o)
+    under_faithful : (create : Create) (o : Option View) → IsFaithful s (create_under (name_space s) (caller s client) number opening create o)
     under_faithful create None = (tt, tt)
     under_faithful create (Some above) = in_faithful create above above.kind
 
-    over_faithful : (disposition : Disposition) (view : View) → IsFaithful s (create_over s client number opening disposition view)
+    over_faithful : (disposition : Disposition) (view : View) → IsFaithful s (create_over (name_space s) (caller s client) number opening disposition view)
     over_faithful Must view = (tt, tt)
-    over_faithful May view = (tt, opened_shown (open_present s client number opening view))
+    over_faithful May view = (tt, opened_shown (open_present (name_space s) (caller s client) number opening view))
 
-    create_faithful : (create : Create) → IsFaithful s (create_effect s client number opening create)
+    create_faithful : (create : Create) → IsFaithful s (create_effect (name_space s) (caller s client) number opening create)
     create_faithful create =
-        found_or (IsFaithful s) (λ view. create_over s client number opening create.disposition view) (get_node s.nodes opening.name) (create_new s client number opening create) (λ view is. over_faithful create.disposition view)
-        (found_or (IsFaithful s) (λ parent. create_under s client number opening create (get_node s.nodes parent)) (parent_of opening.name) (refused faults.NotFound) (λ parent is. under_faithful create (get_node s.nodes parent)) (tt, tt))
+        found_or (IsFaithful s) (λ view. create_over (name_space s) (caller s client) number opening create.disposition view) (get_node s.nodes opening.name) (create_new (name_space s) (caller s client) number opening create) (λ view is. over_faithful create.disposition view)
+        (found_or (IsFaithful s) (λ parent. create_under (name_space s) (caller s client) number opening create (get_node s.nodes parent)) (parent_of opening.name) (refused faults.NotFound) (λ parent is. under_faithful create (get_node s.nodes parent)) (tt, tt))
 
-    tested_faithful : (create : Create) (o : Option CallResult) → IsShownIf s.nodes o → IsFaithful s (option_map_or (λ answer. answered answer) o (create_effect s client number opening create))
+    tested_faithful : (create : Create) (o : Option CallResult) → IsShownIf s.nodes o → IsFaithful s (option_map_or (λ answer. answered answer) o (create_effect (name_space s) (caller s client) number opening create))
     tested_faithful create None h = create_faithful create
     tested_faithful create (Some answer) h = (tt, h)
 
-    sequenced_faithful : (create : Create) (o : Option Fault) → IsFaithful s (create_under_sequencer s client number opening create o)
+    sequenced_faithful : (create : Create) (o : Option Fault) → IsFaithful s (create_under_sequencer (name_space s) (caller s client) number opening create o)
     sequenced_faithful create (Some fault) = (tt, tt)
     sequenced_faithful create None = tested_faithful create (create_fault opening create.node) (making_shown opening create.node)
 
-    open_faithful : (sequencer : Option (List ℕ)) (o : Option Create) → IsFaithful s (open_effect s client number opening sequencer o)
-    open_faithful sequencer None = (tt, opened_shown (plain_open s client number opening))
-    open_faithful sequencer (Some create) = either (IsFaithful s) (is_of_cell s opening.name) _ (refused faults.OtherCell) (sequenced_faithful create (sequencer_fault s sequencer)) (tt, tt)
+    open_faithful : (sequencer : Option (List ℕ)) (o : Option Create) → IsFaithful s (open_effect (name_space s) (caller s client) number opening sequencer o)
+    open_faithful sequencer None = (tt, opened_shown (plain_open (name_space s) (caller s client) number opening))
+    open_faithful sequencer (Some create) = either (IsFaithful s) (is_of_cell (name_space s) opening.name) _ (refused faults.OtherCell) (sequenced_faithful create (sequencer_fault (name_space s) sequencer)) (tt, tt)
 
   -- a node that stands
 
-  put_faithful : (handle : Handle) (present : ℕ) (wanted : Option ℕ) (view : View) → IsRenewed s view → IsFaithful s (put_at s handle present wanted view)
+  put_faithful : (handle : Handle) (present : ℕ) (wanted : Option ℕ) (view : View) → IsRenewed s view → IsFaithful s (put_at (name_space s) handle present wanted view)
   put_faithful handle present wanted view renewed =
       either (IsFaithful s) (generation_fits wanted present) _ (refused (faults.WrongGeneration present)) (either (IsFaithful s) (is_last present) (refused faults.Exhausted) _ (tt, tt) (renewed, tt)) (tt, tt)
 
@@ -285,7 +286,7 @@ module _ (s : MasterState) where
   released_faithful handle (Ok turn) = (tt, tt)
   released_faithful handle (Err fault) = (tt, tt)
 
-  change_faithful : (handle : Handle) (call : Call) (view : View) → get_node s.nodes handle.name ≡ Some view → IsFaithful s (change_at s handle call view)
+  change_faithful : (handle : Handle) (call : Call) (view : View) → get_node s.nodes handle.name ≡ Some view → IsFaithful s (change_at (name_space s) s.clock handle call view)
   change_faithful handle (calls.Open opening) view found = (tt, tt)
   change_faithful handle (calls.Close bytes) view found = (tt, tt)
   change_faithful handle (calls.Read bytes) view found = (tt, tt)
@@ -293,44 +294,44 @@ module _ (s : MasterState) where
   change_faithful handle (calls.List bytes) view found = (tt, tt)
   change_faithful handle (calls.Set bytes content generation) view found = put_faithful handle view.content_generation generation (with_content view content) (inr (handle.name, view, found, refl, one_more view.content_generation))
   change_faithful handle (calls.SetAcl bytes acls generation) view found = put_faithful handle view.acl_generation generation (with_acls view acls) (inr (handle.name, view, found, refl, least view.content_generation))
-  change_faithful handle (calls.Delete bytes) view found = either (IsFaithful s) (has_children s.nodes handle.name || is_none (parent_of handle.name)) (refused faults.NotEmpty) (deleted s handle) (tt, tt) (tt, tt)
-  change_faithful handle (calls.Acquire bytes mode) view found = acquired_faithful handle (claim_of handle mode) (acquired (lock_under s handle) (claim_of handle mode))
-  change_faithful handle (calls.TryAcquire bytes mode) view found = tried_faithful handle (claim_of handle mode) (tried (lock_under s handle) (claim_of handle mode) s.clock)
-  change_faithful handle (calls.Release bytes) view found = released_faithful handle (released (lock_under s handle) (owner_of handle))
+  change_faithful handle (calls.Delete bytes) view found = either (IsFaithful s) (has_children s.nodes handle.name || is_none (parent_of handle.name)) (refused faults.NotEmpty) (deleted (name_space s) handle) (tt, tt) (tt, tt)
+  change_faithful handle (calls.Acquire bytes mode) view found = acquired_faithful handle (claim_of handle mode) (acquired (lock_under (name_space s) handle) (claim_of handle mode))
+  change_faithful handle (calls.TryAcquire bytes mode) view found = tried_faithful handle (claim_of handle mode) (tried (lock_under (name_space s) handle) (claim_of handle mode) s.clock)
+  change_faithful handle (calls.Release bytes) view found = released_faithful handle (released (lock_under (name_space s) handle) (owner_of handle))
   change_faithful handle (calls.GetSequencer bytes) view found = (tt, tt)
   change_faithful handle (calls.SetSequencer bytes) view found = (tt, tt)
   change_faithful handle (calls.CheckSequencer bytes) view found = (tt, tt)
 
-  change_on_faithful : (handle : Handle) (call : Call) → IsFaithful s (change_on s handle call)
+  change_on_faithful : (handle : Handle) (call : Call) → IsFaithful s (change_on (name_space s) s.clock handle call)
   change_on_faithful handle call =
-      found_or (IsFaithful s) (λ view. change_at s handle call view) (node_of_handle s handle) (refused faults.StaleInstance)
+      found_or (IsFaithful s) (λ view. change_at (name_space s) s.clock handle call view) (node_of_handle (name_space s) handle) (refused faults.StaleInstance)
       (λ view is. change_faithful handle call view (node_shown handle (get_node s.nodes handle.name) view refl is)) (tt, tt)
 
-  first_faithful : (handle : Handle) (call : Call) (o : Option CallResult) → IsShownIf s.nodes o → IsFaithful s (option_map_or (λ answer. answered answer) o (change_on s handle call))
+  first_faithful : (handle : Handle) (call : Call) (o : Option CallResult) → IsShownIf s.nodes o → IsFaithful s (option_map_or (λ answer. answered answer) o (change_on (name_space s) s.clock handle call))
   first_faithful handle call None h = change_on_faithful handle call
   first_faithful handle call (Some answer) h = (tt, h)
 
-  on_faithful : (handle : Handle) (call : Call) (sequencer : Option (List ℕ)) → IsFaithful s (effect_on s handle call sequencer)
-  on_faithful handle (calls.Open opening) sequencer = first_faithful handle (calls.Open opening) (answer_on s handle (calls.Open opening) sequencer) (on_shown handle (calls.Open opening) sequencer)
+  on_faithful : (handle : Handle) (call : Call) (sequencer : Option (List ℕ)) → IsFaithful s (effect_on (name_space s) s.clock handle call sequencer)
+  on_faithful handle (calls.Open opening) sequencer = first_faithful handle (calls.Open opening) (answer_on (name_space s) handle (calls.Open opening) sequencer) (on_shown handle (calls.Open opening) sequencer)
   on_faithful handle (calls.Close bytes) sequencer = (tt, tt)
-  on_faithful handle (calls.Read bytes) sequencer = first_faithful handle (calls.Read bytes) (answer_on s handle (calls.Read bytes) sequencer) (on_shown handle (calls.Read bytes) sequencer)
-  on_faithful handle (calls.Stat bytes) sequencer = first_faithful handle (calls.Stat bytes) (answer_on s handle (calls.Stat bytes) sequencer) (on_shown handle (calls.Stat bytes) sequencer)
-  on_faithful handle (calls.List bytes) sequencer = first_faithful handle (calls.List bytes) (answer_on s handle (calls.List bytes) sequencer) (on_shown handle (calls.List bytes) sequencer)
-  on_faithful handle (calls.Set bytes content generation) sequencer = first_faithful handle (calls.Set bytes content generation) (answer_on s handle (calls.Set bytes content generation) sequencer) (on_shown handle (calls.Set bytes content generation) sequencer)
-  on_faithful handle (calls.SetAcl bytes acls generation) sequencer = first_faithful handle (calls.SetAcl bytes acls generation) (answer_on s handle (calls.SetAcl bytes acls generation) sequencer) (on_shown handle (calls.SetAcl bytes acls generation) sequencer)
-  on_faithful handle (calls.Delete bytes) sequencer = first_faithful handle (calls.Delete bytes) (answer_on s handle (calls.Delete bytes) sequencer) (on_shown handle (calls.Delete bytes) sequencer)
-  on_faithful handle (calls.Acquire bytes mode) sequencer = first_faithful handle (calls.Acquire bytes mode) (answer_on s handle (calls.Acquire bytes mode) sequencer) (on_shown handle (calls.Acquire bytes mode) sequencer)
-  on_faithful handle (calls.TryAcquire bytes mode) sequencer = first_faithful handle (calls.TryAcquire bytes mode) (answer_on s handle (calls.TryAcquire bytes mode) sequencer) (on_shown handle (calls.TryAcquire bytes mode) sequencer)
-  on_faithful handle (calls.Release bytes) sequencer = first_faithful handle (calls.Release bytes) (answer_on s handle (calls.Release bytes) sequencer) (on_shown handle (calls.Release bytes) sequencer)
-  on_faithful handle (calls.GetSequencer bytes) sequencer = first_faithful handle (calls.GetSequencer bytes) (answer_on s handle (calls.GetSequencer bytes) sequencer) (on_shown handle (calls.GetSequencer bytes) sequencer)
-  on_faithful handle (calls.SetSequencer bytes) sequencer = first_faithful handle (calls.SetSequencer bytes) (answer_on s handle (calls.SetSequencer bytes) sequencer) (on_shown handle (calls.SetSequencer bytes) sequencer)
-  on_faithful handle (calls.CheckSequencer bytes) sequencer = first_faithful handle (calls.CheckSequencer bytes) (answer_on s handle (calls.CheckSequencer bytes) sequencer) (on_shown handle (calls.CheckSequencer bytes) sequencer)
+  on_faithful handle (calls.Read bytes) sequencer = first_faithful handle (calls.Read bytes) (answer_on (name_space s) handle (calls.Read bytes) sequencer) (on_shown handle (calls.Read bytes) sequencer)
+  on_faithful handle (calls.Stat bytes) sequencer = first_faithful handle (calls.Stat bytes) (answer_on (name_space s) handle (calls.Stat bytes) sequencer) (on_shown handle (calls.Stat bytes) sequencer)
+  on_faithful handle (calls.List bytes) sequencer = first_faithful handle (calls.List bytes) (answer_on (name_space s) handle (calls.List bytes) sequencer) (on_shown handle (calls.List bytes) sequencer)
+  on_faithful handle (calls.Set bytes content generation) sequencer = first_faithful handle (calls.Set bytes content generation) (answer_on (name_space s) handle (calls.Set bytes content generation) sequencer) (on_shown handle (calls.Set bytes content generation) sequencer)
+  on_faithful handle (calls.SetAcl bytes acls generation) sequencer = first_faithful handle (calls.SetAcl bytes acls generation) (answer_on (name_space s) handle (calls.SetAcl bytes acls generation) sequencer) (on_shown handle (calls.SetAcl bytes acls generation) sequencer)
+  on_faithful handle (calls.Delete bytes) sequencer = first_faithful handle (calls.Delete bytes) (answer_on (name_space s) handle (calls.Delete bytes) sequencer) (on_shown handle (calls.Delete bytes) sequencer)
+  on_faithful handle (calls.Acquire bytes mode) sequencer = first_faithful handle (calls.Acquire bytes mode) (answer_on (name_space s) handle (calls.Acquire bytes mode) sequencer) (on_shown handle (calls.Acquire bytes mode) sequencer)
+  on_faithful handle (calls.TryAcquire bytes mode) sequencer = first_faithful handle (calls.TryAcquire bytes mode) (answer_on (name_space s) handle (calls.TryAcquire bytes mode) sequencer) (on_shown handle (calls.TryAcquire bytes mode) sequencer)
+  on_faithful handle (calls.Release bytes) sequencer = first_faithful handle (calls.Release bytes) (answer_on (name_space s) handle (calls.Release bytes) sequencer) (on_shown handle (calls.Release bytes) sequencer)
+  on_faithful handle (calls.GetSequencer bytes) sequencer = first_faithful handle (calls.GetSequencer bytes) (answer_on (name_space s) handle (calls.GetSequencer bytes) sequencer) (on_shown handle (calls.GetSequencer bytes) sequencer)
+  on_faithful handle (calls.SetSequencer bytes) sequencer = first_faithful handle (calls.SetSequencer bytes) (answer_on (name_space s) handle (calls.SetSequencer bytes) sequencer) (on_shown handle (calls.SetSequencer bytes) sequencer)
+  on_faithful handle (calls.CheckSequencer bytes) sequencer = first_faithful handle (calls.CheckSequencer bytes) (answer_on (name_space s) handle (calls.CheckSequencer bytes) sequencer) (on_shown handle (calls.CheckSequencer bytes) sequencer)
 
-  shown_faithful : (call : Call) (sequencer : Option (List ℕ)) (o : Option Handle) → IsFaithful s (handle_effect s call sequencer o)
+  shown_faithful : (call : Call) (sequencer : Option (List ℕ)) (o : Option Handle) → IsFaithful s (handle_effect (name_space s) s.clock call sequencer o)
   shown_faithful call sequencer None = (tt, tt)
   shown_faithful call sequencer (Some handle) = on_faithful handle call sequencer
 
-  pub effect_faithful : (client number : ℕ) (call : Call) (sequencer : Option (List ℕ)) → IsFaithful s (effect s client number call sequencer)
+  pub effect_faithful : (client number : ℕ) (call : Call) (sequencer : Option (List ℕ)) → IsFaithful s (effect (name_space s) (caller s client) s.clock number call sequencer)
   unfolding effect
   effect_faithful client number (calls.Open opening) sequencer = open_faithful client number opening sequencer opening.create
   effect_faithful client number (calls.Close bytes) sequencer = shown_faithful (calls.Close bytes) sequencer (read_handle s.secret bytes)

@@ -35,6 +35,7 @@ use Rattle.lock_core.specs.State.{LockState}
 use Rattle.lock_core.specs.Turns.{tried, acquired, released}
 use Rattle.cell_update.specs.declared.updates.Change.{Change}
 use Rattle.cell_parts.specs.Claims.{owner_of, claim_of}
+use Rattle.cell_state.specs.NameSpace.{name_space, caller}
 use Rattle.cell_state.specs.State.{MasterState}
 use Rattle.cell_state.specs.Lookups.{missing_right, node_of_handle, new_handle, sequencer_fault, lock_under, answer_on, is_of_cell, may}
 use Rattle.cell_parts.specs.Calls.{create_fault}
@@ -77,40 +78,40 @@ same_number n = grind (arith, nat_tests)
 
 -- ---- a create
 
-made_gives : (s : MasterState) (opening : Open) (view : View) (made : Result Handle Fault) → s.next_instance ≤ view.instance → GivesBy s (create_made s opening view made)
+made_gives : (s : MasterState) (opening : Open) (view : View) (made : Result Handle Fault) → s.next_instance ≤ view.instance → GivesBy s (create_made (name_space s) opening view made)
 made_gives s opening view (Ok handle) new = record { given = inr new; next = one_more s.next_instance }
 made_gives s opening view (Err fault) new = tt
 
 module _ (s : MasterState) (client number : ℕ) (opening : Open) where
-  numbered_gives : (view : View) → s.next_instance ≤ view.instance → GivesBy s (create_numbered s client number opening view)
-  numbered_gives view new = either s (is_last s.next_instance) (refused faults.Exhausted) (create_made s opening view (new_handle s client number opening view)) tt (made_gives s opening view (new_handle s client number opening view) new)
+  numbered_gives : (view : View) → s.next_instance ≤ view.instance → GivesBy s (create_numbered (name_space s) (caller s client) number opening view)
+  numbered_gives view new = either s (is_last s.next_instance) (refused faults.Exhausted) (create_made (name_space s) opening view (new_handle (name_space s) (caller s client) number opening view)) tt (made_gives s opening view (new_handle (name_space s) (caller s client) number opening view) new)
 
-  permitted_gives : (view : View) → s.next_instance ≤ view.instance → GivesBy s (create_permitted s client number opening view)
-  permitted_gives view new = found_or s (λ (right : Right). refused (faults.Denied right)) (missing_right s client opening.mode view) (create_numbered s client number opening view) (λ right is. tt) (numbered_gives view new)
+  permitted_gives : (view : View) → s.next_instance ≤ view.instance → GivesBy s (create_permitted (name_space s) (caller s client) number opening view)
+  permitted_gives view new = found_or s (λ (right : Right). refused (faults.Denied right)) (missing_right (name_space s) (caller s client) opening.mode view) (create_numbered (name_space s) (caller s client) number opening view) (λ right is. tt) (numbered_gives view new)
 
-  in_gives : (create : Create) (above : View) (kind : Kind) → GivesBy s (create_in s client number opening create above kind)
+  in_gives : (create : Create) (above : View) (kind : Kind) → GivesBy s (create_in (name_space s) (caller s client) number opening create above kind)
   in_gives create above kinds.File = tt
-  in_gives create above kinds.Directory = either s (may s client above rights.Write) _ (refused (faults.Denied rights.Write)) (permitted_gives (new_view s.next_instance create.node create.life (acls_of above create.acls)) (itself s.next_instance)) tt
+  in_gives create above kinds.Directory = either s (may (name_space s) (caller s client) above rights.Write) _ (refused (faults.Denied rights.Write)) (permitted_gives (new_view s.next_instance create.node create.life (acls_of above create.acls)) (itself s.next_instance)) tt
 
-  under_gives : (create : Create) (o : Option View) → GivesBy s (create_under s client number opening create o)
+  under_gives : (create : Create) (o : Option View) → GivesBy s (create_under (name_space s) (caller s client) number opening create o)
   under_gives create None = tt
   under_gives create (Some above) = in_gives create above above.kind
 
-  over_gives : (disposition : Disposition) (view : View) → GivesBy s (create_over s client number opening disposition view)
+  over_gives : (disposition : Disposition) (view : View) → GivesBy s (create_over (name_space s) (caller s client) number opening disposition view)
   over_gives Must view = tt
   over_gives May view = tt
 
-  create_gives : (create : Create) → GivesBy s (create_effect s client number opening create)
-  create_gives create = found_or s (λ view. create_over s client number opening create.disposition view) (get_node s.nodes opening.name) (create_new s client number opening create) (λ view is. over_gives create.disposition view)
-      (found_or s (λ parent. create_under s client number opening create (get_node s.nodes parent)) (parent_of opening.name) (refused faults.NotFound) (λ parent is. under_gives create (get_node s.nodes parent)) tt)
+  create_gives : (create : Create) → GivesBy s (create_effect (name_space s) (caller s client) number opening create)
+  create_gives create = found_or s (λ view. create_over (name_space s) (caller s client) number opening create.disposition view) (get_node s.nodes opening.name) (create_new (name_space s) (caller s client) number opening create) (λ view is. over_gives create.disposition view)
+      (found_or s (λ parent. create_under (name_space s) (caller s client) number opening create (get_node s.nodes parent)) (parent_of opening.name) (refused faults.NotFound) (λ parent is. under_gives create (get_node s.nodes parent)) tt)
 
-  sequenced_gives : (create : Create) (o : Option Fault) → GivesBy s (create_under_sequencer s client number opening create o)
+  sequenced_gives : (create : Create) (o : Option Fault) → GivesBy s (create_under_sequencer (name_space s) (caller s client) number opening create o)
   sequenced_gives create (Some fault) = tt
-  sequenced_gives create None = found_or s (λ (answer : CallResult). answered answer) (create_fault opening create.node) (create_effect s client number opening create) (λ answer is. tt) (create_gives create)
+  sequenced_gives create None = found_or s (λ (answer : CallResult). answered answer) (create_fault opening create.node) (create_effect (name_space s) (caller s client) number opening create) (λ answer is. tt) (create_gives create)
 
-  open_gives : (sequencer : Option (List ℕ)) (o : Option Create) → GivesBy s (open_effect s client number opening sequencer o)
+  open_gives : (sequencer : Option (List ℕ)) (o : Option Create) → GivesBy s (open_effect (name_space s) (caller s client) number opening sequencer o)
   open_gives sequencer None = tt
-  open_gives sequencer (Some create) = either s (is_of_cell s opening.name) _ (refused faults.OtherCell) (sequenced_gives create (sequencer_fault s sequencer)) tt
+  open_gives sequencer (Some create) = either s (is_of_cell (name_space s) opening.name) _ (refused faults.OtherCell) (sequenced_gives create (sequencer_fault (name_space s) sequencer)) tt
 
 -- ---- a node that stands
 
@@ -126,7 +127,7 @@ shown_there nodes name instance (Some v) view found is =
       | false ↦ (λ k. absurd cc)
     ]) is
 
-put_gives : (s : MasterState) (handle : Handle) (present : ℕ) (wanted : Option ℕ) (view : View) → is_there s.nodes view.instance ≡ true → GivesBy s (put_at s handle present wanted view)
+put_gives : (s : MasterState) (handle : Handle) (present : ℕ) (wanted : Option ℕ) (view : View) → is_there s.nodes view.instance ≡ true → GivesBy s (put_at (name_space s) handle present wanted view)
 put_gives s handle present wanted view there =
     either s (generation_fits wanted present) _ (refused (faults.WrongGeneration present)) (either s (is_last present) (refused faults.Exhausted) _ tt (record { given = inl there; next = itself s.next_instance })) tt
 
@@ -143,7 +144,7 @@ released_gives : (s : MasterState) (handle : Handle) (o : Result Turn Fault) →
 released_gives s handle (Ok turn) = tt
 released_gives s handle (Err fault) = tt
 
-change_gives : (s : MasterState) (handle : Handle) (call : Call) (view : View) → is_there s.nodes view.instance ≡ true → GivesBy s (change_at s handle call view)
+change_gives : (s : MasterState) (handle : Handle) (call : Call) (view : View) → is_there s.nodes view.instance ≡ true → GivesBy s (change_at (name_space s) s.clock handle call view)
 change_gives s handle (calls.Open opening) view there = tt
 change_gives s handle (calls.Close bytes) view there = tt
 change_gives s handle (calls.Read bytes) view there = tt
@@ -152,40 +153,40 @@ change_gives s handle (calls.List bytes) view there = tt
 change_gives s handle (calls.Set bytes content generation) view there = put_gives s handle view.content_generation generation (with_content view content) there
 change_gives s handle (calls.SetAcl bytes acls generation) view there = put_gives s handle view.acl_generation generation (with_acls view acls) there
 change_gives s handle (calls.Delete bytes) view there =
-    either s (has_children s.nodes handle.name || is_none (parent_of handle.name)) (refused faults.NotEmpty) (deleted s handle) tt (record { given = tt; next = itself s.next_instance })
-change_gives s handle (calls.Acquire bytes mode) view there = acquired_gives s handle (claim_of handle mode) (acquired (lock_under s handle) (claim_of handle mode))
-change_gives s handle (calls.TryAcquire bytes mode) view there = tried_gives s handle (claim_of handle mode) (tried (lock_under s handle) (claim_of handle mode) s.clock)
-change_gives s handle (calls.Release bytes) view there = released_gives s handle (released (lock_under s handle) (owner_of handle))
+    either s (has_children s.nodes handle.name || is_none (parent_of handle.name)) (refused faults.NotEmpty) (deleted (name_space s) handle) tt (record { given = tt; next = itself s.next_instance })
+change_gives s handle (calls.Acquire bytes mode) view there = acquired_gives s handle (claim_of handle mode) (acquired (lock_under (name_space s) handle) (claim_of handle mode))
+change_gives s handle (calls.TryAcquire bytes mode) view there = tried_gives s handle (claim_of handle mode) (tried (lock_under (name_space s) handle) (claim_of handle mode) s.clock)
+change_gives s handle (calls.Release bytes) view there = released_gives s handle (released (lock_under (name_space s) handle) (owner_of handle))
 change_gives s handle (calls.GetSequencer bytes) view there = tt
 change_gives s handle (calls.SetSequencer bytes) view there = tt
 change_gives s handle (calls.CheckSequencer bytes) view there = tt
 
-first_gives : (s : MasterState) (handle : Handle) (call : Call) (o : Option CallResult) → GivesBy s (option_map_or (λ answer. answered answer) o (change_on s handle call))
-first_gives s handle call o = found_or s (λ (answer : CallResult). answered answer) o (change_on s handle call) (λ answer is. tt)
-    (found_or s (λ view. change_at s handle call view) (node_of_handle s handle) (refused faults.StaleInstance)
+first_gives : (s : MasterState) (handle : Handle) (call : Call) (o : Option CallResult) → GivesBy s (option_map_or (λ answer. answered answer) o (change_on (name_space s) s.clock handle call))
+first_gives s handle call o = found_or s (λ (answer : CallResult). answered answer) o (change_on (name_space s) s.clock handle call) (λ answer is. tt)
+    (found_or s (λ view. change_at (name_space s) s.clock handle call view) (node_of_handle (name_space s) handle) (refused faults.StaleInstance)
     (λ view is. change_gives s handle call view (shown_there s.nodes handle.name handle.instance (get_node s.nodes handle.name) view refl is)) tt)
 
-on_gives : (s : MasterState) (handle : Handle) (call : Call) (sequencer : Option (List ℕ)) → GivesBy s (effect_on s handle call sequencer)
+on_gives : (s : MasterState) (handle : Handle) (call : Call) (sequencer : Option (List ℕ)) → GivesBy s (effect_on (name_space s) s.clock handle call sequencer)
 on_gives s handle (calls.Close bytes) sequencer = tt
-on_gives s handle (calls.Open opening) sequencer = first_gives s handle (calls.Open opening) (answer_on s handle (calls.Open opening) sequencer)
-on_gives s handle (calls.Read bytes) sequencer = first_gives s handle (calls.Read bytes) (answer_on s handle (calls.Read bytes) sequencer)
-on_gives s handle (calls.Stat bytes) sequencer = first_gives s handle (calls.Stat bytes) (answer_on s handle (calls.Stat bytes) sequencer)
-on_gives s handle (calls.List bytes) sequencer = first_gives s handle (calls.List bytes) (answer_on s handle (calls.List bytes) sequencer)
-on_gives s handle (calls.Set bytes content generation) sequencer = first_gives s handle (calls.Set bytes content generation) (answer_on s handle (calls.Set bytes content generation) sequencer)
-on_gives s handle (calls.SetAcl bytes acls generation) sequencer = first_gives s handle (calls.SetAcl bytes acls generation) (answer_on s handle (calls.SetAcl bytes acls generation) sequencer)
-on_gives s handle (calls.Delete bytes) sequencer = first_gives s handle (calls.Delete bytes) (answer_on s handle (calls.Delete bytes) sequencer)
-on_gives s handle (calls.Acquire bytes mode) sequencer = first_gives s handle (calls.Acquire bytes mode) (answer_on s handle (calls.Acquire bytes mode) sequencer)
-on_gives s handle (calls.TryAcquire bytes mode) sequencer = first_gives s handle (calls.TryAcquire bytes mode) (answer_on s handle (calls.TryAcquire bytes mode) sequencer)
-on_gives s handle (calls.Release bytes) sequencer = first_gives s handle (calls.Release bytes) (answer_on s handle (calls.Release bytes) sequencer)
-on_gives s handle (calls.GetSequencer bytes) sequencer = first_gives s handle (calls.GetSequencer bytes) (answer_on s handle (calls.GetSequencer bytes) sequencer)
-on_gives s handle (calls.SetSequencer bytes) sequencer = first_gives s handle (calls.SetSequencer bytes) (answer_on s handle (calls.SetSequencer bytes) sequencer)
-on_gives s handle (calls.CheckSequencer bytes) sequencer = first_gives s handle (calls.CheckSequencer bytes) (answer_on s handle (calls.CheckSequencer bytes) sequencer)
+on_gives s handle (calls.Open opening) sequencer = first_gives s handle (calls.Open opening) (answer_on (name_space s) handle (calls.Open opening) sequencer)
+on_gives s handle (calls.Read bytes) sequencer = first_gives s handle (calls.Read bytes) (answer_on (name_space s) handle (calls.Read bytes) sequencer)
+on_gives s handle (calls.Stat bytes) sequencer = first_gives s handle (calls.Stat bytes) (answer_on (name_space s) handle (calls.Stat bytes) sequencer)
+on_gives s handle (calls.List bytes) sequencer = first_gives s handle (calls.List bytes) (answer_on (name_space s) handle (calls.List bytes) sequencer)
+on_gives s handle (calls.Set bytes content generation) sequencer = first_gives s handle (calls.Set bytes content generation) (answer_on (name_space s) handle (calls.Set bytes content generation) sequencer)
+on_gives s handle (calls.SetAcl bytes acls generation) sequencer = first_gives s handle (calls.SetAcl bytes acls generation) (answer_on (name_space s) handle (calls.SetAcl bytes acls generation) sequencer)
+on_gives s handle (calls.Delete bytes) sequencer = first_gives s handle (calls.Delete bytes) (answer_on (name_space s) handle (calls.Delete bytes) sequencer)
+on_gives s handle (calls.Acquire bytes mode) sequencer = first_gives s handle (calls.Acquire bytes mode) (answer_on (name_space s) handle (calls.Acquire bytes mode) sequencer)
+on_gives s handle (calls.TryAcquire bytes mode) sequencer = first_gives s handle (calls.TryAcquire bytes mode) (answer_on (name_space s) handle (calls.TryAcquire bytes mode) sequencer)
+on_gives s handle (calls.Release bytes) sequencer = first_gives s handle (calls.Release bytes) (answer_on (name_space s) handle (calls.Release bytes) sequencer)
+on_gives s handle (calls.GetSequencer bytes) sequencer = first_gives s handle (calls.GetSequencer bytes) (answer_on (name_space s) handle (calls.GetSequencer bytes) sequencer)
+on_gives s handle (calls.SetSequencer bytes) sequencer = first_gives s handle (calls.SetSequencer bytes) (answer_on (name_space s) handle (calls.SetSequencer bytes) sequencer)
+on_gives s handle (calls.CheckSequencer bytes) sequencer = first_gives s handle (calls.CheckSequencer bytes) (answer_on (name_space s) handle (calls.CheckSequencer bytes) sequencer)
 
-shown_gives : (s : MasterState) (call : Call) (sequencer : Option (List ℕ)) (o : Option Handle) → GivesBy s (handle_effect s call sequencer o)
+shown_gives : (s : MasterState) (call : Call) (sequencer : Option (List ℕ)) (o : Option Handle) → GivesBy s (handle_effect (name_space s) s.clock call sequencer o)
 shown_gives s call sequencer None = tt
 shown_gives s call sequencer (Some handle) = on_gives s handle call sequencer
 
-pub effect_gives : (s : MasterState) (client number : ℕ) (call : Call) (sequencer : Option (List ℕ)) → GivesBy s (effect s client number call sequencer)
+pub effect_gives : (s : MasterState) (client number : ℕ) (call : Call) (sequencer : Option (List ℕ)) → GivesBy s (effect (name_space s) (caller s client) s.clock number call sequencer)
 unfolding effect
 effect_gives s client number (calls.Open opening) sequencer = open_gives s client number opening sequencer opening.create
 effect_gives s client number (calls.Close bytes) sequencer = shown_gives s (calls.Close bytes) sequencer (read_handle s.secret bytes)

@@ -49,6 +49,7 @@ use Rattle.lock_core.specs.State.{LockState}
 use Rattle.lock_core.specs.Turns.{tried, acquired, released}
 use Rattle.cell_update.specs.declared.updates.Change.{Change}
 use Rattle.cell_parts.specs.EphemeralNames.{is_ephemeral}
+use Rattle.cell_state.specs.NameSpace.{name_space, caller}
 use Rattle.cell_state.specs.Lookups.{has_open, has_to_stay}
 use Rattle.cell_core.specs.Ephemerals.{is_idle_node}
 use Rattle.cell_parts.specs.Claims.{owner_of, claim_of}
@@ -220,7 +221,7 @@ module _ (cell : List ℕ) (rows : Rows) (s : MasterState) (k : IsKept cell rows
 
   -- a node is made
 
-  made_fits : (opening : Open) (view : View) (r : Result Handle Fault) → misfit s.nodes (Put opening.name view) ≡ None → Fits (create_made s opening view r)
+  made_fits : (opening : Open) (view : View) (r : Result Handle Fault) → misfit s.nodes (Put opening.name view) ≡ None → Fits (create_made (name_space s) opening view r)
   made_fits opening view (Ok handle) h = h
   made_fits opening view (Err fault) h = tt
 
@@ -233,45 +234,45 @@ module _ (cell : List ℕ) (rows : Rows) (s : MasterState) (k : IsKept cell rows
       (ap (λ (o : Option View). present_misfit o view) absent)
 
   module _ (client number : ℕ) (opening : Open) where
-    permitted_fits : (view : View) → (is_last s.next_instance ≡ false → misfit s.nodes (Put opening.name view) ≡ None) → Fits (create_permitted s client number opening view)
+    permitted_fits : (view : View) → (is_last s.next_instance ≡ false → misfit s.nodes (Put opening.name view) ≡ None) → Fits (create_permitted (name_space s) (caller s client) number opening view)
     permitted_fits view h =
-        by_option Fits (λ (right : Right). refused (faults.Denied right)) (missing_right s client opening.mode view) (create_numbered s client number opening view) (λ right is. tt)
-        (λ none. by_test Fits (is_last s.next_instance) (refused faults.Exhausted) (create_made s opening view (new_handle s client number opening view)) (λ last. tt)
-        (λ room. made_fits opening view (new_handle s client number opening view) (h room)))
+        by_option Fits (λ (right : Right). refused (faults.Denied right)) (missing_right (name_space s) (caller s client) opening.mode view) (create_numbered (name_space s) (caller s client) number opening view) (λ right is. tt)
+        (λ none. by_test Fits (is_last s.next_instance) (refused faults.Exhausted) (create_made (name_space s) opening view (new_handle (name_space s) (caller s client) number opening view)) (λ last. tt)
+        (λ room. made_fits opening view (new_handle (name_space s) (caller s client) number opening view) (h room)))
 
-    in_fits : (create : Create) (parent : List ℕ) (above : View) (kind : Kind) → node_fault create.node ≡ None → get_node s.nodes opening.name ≡ None → parent_of opening.name ≡ Some parent → get_node s.nodes parent ≡ Some above → above.kind ≡ kind → Fits (create_in s client number opening create above kind)
+    in_fits : (create : Create) (parent : List ℕ) (above : View) (kind : Kind) → node_fault create.node ≡ None → get_node s.nodes opening.name ≡ None → parent_of opening.name ≡ Some parent → get_node s.nodes parent ≡ Some above → above.kind ≡ kind → Fits (create_in (name_space s) (caller s client) number opening create above kind)
     in_fits create parent above File short absent p found kind = tt
     in_fits create parent above Directory short absent p found kind =
         let acls = acls_of above create.acls in
         let view : View = new_view s.next_instance create.node create.life acls in
-        by_test Fits (may s client above rights.Write) (create_permitted s client number opening view) (refused (faults.Denied rights.Write))
+        by_test Fits (may (name_space s) (caller s client) above rights.Write) (create_permitted (name_space s) (caller s client) number opening view) (refused (faults.Denied rights.Write))
         (λ allowed. permitted_fits view (node_fits opening.name parent above create.node create.life acls short absent p found kind)) (λ denied. tt)
 
-    under_fits : (create : Create) (parent : List ℕ) (o : Option View) → node_fault create.node ≡ None → get_node s.nodes opening.name ≡ None → parent_of opening.name ≡ Some parent → get_node s.nodes parent ≡ o → Fits (create_under s client number opening create o)
+    under_fits : (create : Create) (parent : List ℕ) (o : Option View) → node_fault create.node ≡ None → get_node s.nodes opening.name ≡ None → parent_of opening.name ≡ Some parent → get_node s.nodes parent ≡ o → Fits (create_under (name_space s) (caller s client) number opening create o)
     under_fits create parent None short absent p found = tt
     under_fits create parent (Some above) short absent p found = in_fits create parent above above.kind short absent p found refl
 
-    over_fits : (disposition : Disposition) (view : View) → Fits (create_over s client number opening disposition view)
+    over_fits : (disposition : Disposition) (view : View) → Fits (create_over (name_space s) (caller s client) number opening disposition view)
     over_fits Must view = tt
     over_fits May view = tt
 
-    create_fits : (create : Create) → node_fault create.node ≡ None → Fits (create_effect s client number opening create)
+    create_fits : (create : Create) → node_fault create.node ≡ None → Fits (create_effect (name_space s) (caller s client) number opening create)
     create_fits create short =
-        by_option Fits (λ view. create_over s client number opening create.disposition view) (get_node s.nodes opening.name) (create_new s client number opening create) (λ view is. over_fits create.disposition view)
-        (λ absent. by_option Fits (λ parent. create_under s client number opening create (get_node s.nodes parent)) (parent_of opening.name) (refused faults.NotFound)
+        by_option Fits (λ view. create_over (name_space s) (caller s client) number opening create.disposition view) (get_node s.nodes opening.name) (create_new (name_space s) (caller s client) number opening create) (λ view is. over_fits create.disposition view)
+        (λ absent. by_option Fits (λ parent. create_under (name_space s) (caller s client) number opening create (get_node s.nodes parent)) (parent_of opening.name) (refused faults.NotFound)
         (λ parent p. under_fits create parent (get_node s.nodes parent) short absent p refl) (λ none. tt))
 
-    sequenced_fits : (create : Create) (o : Option Fault) → Fits (create_under_sequencer s client number opening create o)
+    sequenced_fits : (create : Create) (o : Option Fault) → Fits (create_under_sequencer (name_space s) (caller s client) number opening create o)
     sequenced_fits create (Some fault) = tt
     sequenced_fits create None =
-        by_option Fits (λ (answer : CallResult). answered answer) (create_fault opening create.node) (create_effect s client number opening create) (λ answer is. tt)
+        by_option Fits (λ (answer : CallResult). answered answer) (create_fault opening create.node) (create_effect (name_space s) (caller s client) number opening create) (λ answer is. tt)
         (λ none. create_fits create (no_first (node_fault create.node) (delay_fault opening.delay) none))
 
-    open_fits : (sequencer : Option (List ℕ)) (o : Option Create) → Fits (open_effect s client number opening sequencer o)
+    open_fits : (sequencer : Option (List ℕ)) (o : Option Create) → Fits (open_effect (name_space s) (caller s client) number opening sequencer o)
     open_fits sequencer None = tt
     open_fits sequencer (Some create) =
-        by_test Fits (is_of_cell s opening.name) (create_under_sequencer s client number opening create (sequencer_fault s sequencer)) (refused faults.OtherCell)
-        (λ own. sequenced_fits create (sequencer_fault s sequencer)) (λ other. tt)
+        by_test Fits (is_of_cell (name_space s) opening.name) (create_under_sequencer (name_space s) (caller s client) number opening create (sequencer_fault (name_space s) sequencer)) (refused faults.OtherCell)
+        (λ own. sequenced_fits create (sequencer_fault (name_space s) sequencer)) (λ other. tt)
 
   -- a node that stands
 
@@ -279,13 +280,13 @@ module _ (cell : List ℕ) (rows : Rows) (s : MasterState) (k : IsKept cell rows
   again_fits name former view found limit present =
       put_fits s.nodes name view (stands name former found).parent limit (ap (λ (o : Option View). present_misfit o view) found ∙ present)
 
-  put_at_fits : (handle : Handle) (present : ℕ) (wanted : Option ℕ) (view : View) → (is_last present ≡ false → misfit s.nodes (Put handle.name view) ≡ None) → Fits (put_at s handle present wanted view)
+  put_at_fits : (handle : Handle) (present : ℕ) (wanted : Option ℕ) (view : View) → (is_last present ≡ false → misfit s.nodes (Put handle.name view) ≡ None) → Fits (put_at (name_space s) handle present wanted view)
   put_at_fits handle present wanted view h =
       let put : Effect = changes_to (Put handle.name view) s.next_instance results.Done in
       by_test Fits (generation_fits wanted present) (cond (is_last present) (refused faults.Exhausted) put) (refused (faults.WrongGeneration present))
       (λ fits. by_test Fits (is_last present) (refused faults.Exhausted) put (λ last. tt) h) (λ other. tt)
 
-  set_fits : (handle : Handle) (content : List ℕ) (generation : Option ℕ) (view : View) → get_node s.nodes handle.name ≡ Some view → write_fault view.kind content ≡ None → Fits (put_at s handle view.content_generation generation (with_content view content))
+  set_fits : (handle : Handle) (content : List ℕ) (generation : Option ℕ) (view : View) → get_node s.nodes handle.name ≡ Some view → write_fault view.kind content ≡ None → Fits (put_at (name_space s) handle view.content_generation generation (with_content view content))
   set_fits handle content generation view found short =
       let t = stands handle.name view found in
       put_at_fits handle view.content_generation generation (with_content view content)
@@ -293,7 +294,7 @@ module _ (cell : List ℕ) (rows : Rows) (s : MasterState) (k : IsKept cell rows
       (limits_fit (with_content view content) (written_within view.kind content short) t.instance (next_not_above view.content_generation number_limit room) t.acl)
       (stays_itself view.instance view.kind))
 
-  set_acl_fits : (handle : Handle) (acls : AclNames) (generation : Option ℕ) (view : View) → get_node s.nodes handle.name ≡ Some view → Fits (put_at s handle view.acl_generation generation (with_acls view acls))
+  set_acl_fits : (handle : Handle) (acls : AclNames) (generation : Option ℕ) (view : View) → get_node s.nodes handle.name ≡ Some view → Fits (put_at (name_space s) handle view.acl_generation generation (with_acls view acls))
   set_acl_fits handle acls generation view found =
       let t = stands handle.name view found in
       put_at_fits handle view.acl_generation generation (with_acls view acls)
@@ -301,9 +302,9 @@ module _ (cell : List ℕ) (rows : Rows) (s : MasterState) (k : IsKept cell rows
       (limits_fit (with_acls view acls) t.content t.instance t.written (next_not_above view.acl_generation number_limit room))
       (stays_itself view.instance view.kind))
 
-  delete_fits : (handle : Handle) (view : View) → get_node s.nodes handle.name ≡ Some view → Fits (delete_at s handle)
+  delete_fits : (handle : Handle) (view : View) → get_node s.nodes handle.name ≡ Some view → Fits (delete_at (name_space s) handle)
   delete_fits handle view found =
-      by_test Fits (has_children s.nodes handle.name || is_none (parent_of handle.name)) (refused faults.NotEmpty) (deleted s handle) (λ stays. tt) (gone_fits s.nodes handle.name view found)
+      by_test Fits (has_children s.nodes handle.name || is_none (parent_of handle.name)) (refused faults.NotEmpty) (deleted (name_space s) handle) (λ stays. tt) (gone_fits s.nodes handle.name view found)
 
   -- a lock changes nothing in the map
 
@@ -326,13 +327,13 @@ module _ (cell : List ℕ) (rows : Rows) (s : MasterState) (k : IsKept cell rows
   permitted handle right answer h =
       (elim (has_right handle.mode right) as (λ b. cond b answer (Some (results.Refused (faults.Denied right))) ≡ None → answer ≡ None) [ true ↦ (λ e. e) | false ↦ (λ e. cc) ]) h
 
-  change_fits : (handle : Handle) (call : Call) (view : View) → get_node s.nodes handle.name ≡ Some view → answer_on_node s handle call view ≡ None → Fits (change_at s handle call view)
+  change_fits : (handle : Handle) (call : Call) (view : View) → get_node s.nodes handle.name ≡ Some view → answer_on_node (name_space s) handle call view ≡ None → Fits (change_at (name_space s) s.clock handle call view)
   change_fits handle (calls.Set bytes content generation) view found none = set_fits handle content generation view found (permitted handle rights.Write (write_fault view.kind content) none)
   change_fits handle (calls.SetAcl bytes acls generation) view found none = set_acl_fits handle acls generation view found
   change_fits handle (calls.Delete bytes) view found none = delete_fits handle view found
-  change_fits handle (calls.Acquire bytes mode) view found none = acquire_fits handle (claim_of handle mode) (acquired (lock_under s handle) (claim_of handle mode))
-  change_fits handle (calls.TryAcquire bytes mode) view found none = try_fits handle (claim_of handle mode) (tried (lock_under s handle) (claim_of handle mode) s.clock)
-  change_fits handle (calls.Release bytes) view found none = release_fits handle (released (lock_under s handle) (owner_of handle))
+  change_fits handle (calls.Acquire bytes mode) view found none = acquire_fits handle (claim_of handle mode) (acquired (lock_under (name_space s) handle) (claim_of handle mode))
+  change_fits handle (calls.TryAcquire bytes mode) view found none = try_fits handle (claim_of handle mode) (tried (lock_under (name_space s) handle) (claim_of handle mode) s.clock)
+  change_fits handle (calls.Release bytes) view found none = release_fits handle (released (lock_under (name_space s) handle) (owner_of handle))
   change_fits handle _ view found none = tt
 
   -- the node that a handle shows
@@ -344,29 +345,29 @@ module _ (cell : List ℕ) (rows : Rows) (s : MasterState) (k : IsKept cell rows
         | false ↦ (λ k. cc)
       ]) is
 
-  unanswered : (handle : Handle) (call : Call) (view : View) (o : Option Fault) → answer_under s handle call view o ≡ None → answer_on_node s handle call view ≡ None
+  unanswered : (handle : Handle) (call : Call) (view : View) (o : Option Fault) → answer_under (name_space s) handle call view o ≡ None → answer_on_node (name_space s) handle call view ≡ None
   unanswered handle call view None none = none
   unanswered handle call view (Some fault) none = cc
 
   -- what would be answered at once is answered, and else the change is made
-  application_fits : (handle : Handle) (call : Call) (o : Option Fault) → Fits (option_map_or (λ answer. answered answer) (option_map_or (λ view. answer_under s handle call view o) (node_of_handle s handle) (Some (results.Refused faults.StaleInstance))) (change_on s handle call))
+  application_fits : (handle : Handle) (call : Call) (o : Option Fault) → Fits (option_map_or (λ answer. answered answer) (option_map_or (λ view. answer_under (name_space s) handle call view o) (node_of_handle (name_space s) handle) (Some (results.Refused faults.StaleInstance))) (change_on (name_space s) s.clock handle call))
   application_fits handle call o =
       let stale : Option CallResult = Some (results.Refused faults.StaleInstance) in
-      by_option Fits (λ (answer : CallResult). answered answer) (option_map_or (λ view. answer_under s handle call view o) (node_of_handle s handle) stale) (change_on s handle call) (λ answer is. tt)
-      (λ none. by_option Fits (λ view. change_at s handle call view) (node_of_handle s handle) (refused faults.StaleInstance)
+      by_option Fits (λ (answer : CallResult). answered answer) (option_map_or (λ view. answer_under (name_space s) handle call view o) (node_of_handle (name_space s) handle) stale) (change_on (name_space s) s.clock handle call) (λ answer is. tt)
+      (λ none. by_option Fits (λ view. change_at (name_space s) s.clock handle call view) (node_of_handle (name_space s) handle) (refused faults.StaleInstance)
       (λ view is. change_fits handle call view (node_shown handle (get_node s.nodes handle.name) view refl is)
-      (unanswered handle call view o (none_of (λ v. answer_under s handle call v o) (node_of_handle s handle) stale view is none)))
+      (unanswered handle call view o (none_of (λ v. answer_under (name_space s) handle call v o) (node_of_handle (name_space s) handle) stale view is none)))
       (λ gone. tt))
 
-  on_fits : (handle : Handle) (call : Call) (sequencer : Option (List ℕ)) → Fits (effect_on s handle call sequencer)
+  on_fits : (handle : Handle) (call : Call) (sequencer : Option (List ℕ)) → Fits (effect_on (name_space s) s.clock handle call sequencer)
   on_fits handle (calls.Close bytes) sequencer = tt
-  on_fits handle call sequencer = application_fits handle call (sequencer_fault s sequencer)
+  on_fits handle call sequencer = application_fits handle call (sequencer_fault (name_space s) sequencer)
 
-  handle_fits : (call : Call) (sequencer : Option (List ℕ)) (o : Option Handle) → Fits (handle_effect s call sequencer o)
+  handle_fits : (call : Call) (sequencer : Option (List ℕ)) (o : Option Handle) → Fits (handle_effect (name_space s) s.clock call sequencer o)
   handle_fits call sequencer None = tt
   handle_fits call sequencer (Some handle) = on_fits handle call sequencer
 
-  effect_fits : (client number : ℕ) (call : Call) (sequencer : Option (List ℕ)) → Fits (effect s client number call sequencer)
+  effect_fits : (client number : ℕ) (call : Call) (sequencer : Option (List ℕ)) → Fits (effect (name_space s) (caller s client) s.clock number call sequencer)
   unfolding effect
   effect_fits client number (calls.Open opening) sequencer = open_fits client number opening sequencer opening.create
   effect_fits client number call sequencer = handle_fits call sequencer (read_handle s.secret (bytes_of call))
@@ -376,5 +377,5 @@ module _ (cell : List ℕ) (rows : Rows) (s : MasterState) (k : IsKept cell rows
   change_is (Some c) change h is = let same : c.change ≡ change = cc in subst (λ (m : Mod). misfit s.nodes m ≡ None) same h
 
   -- the change that a call is
-  pub call_fits : (client number : ℕ) (call : Call) (sequencer : Option (List ℕ)) (change : Mod) → change_of (effect s client number call sequencer) ≡ Some change → misfit s.nodes change ≡ None
-  call_fits client number call sequencer change is = change_is (effect s client number call sequencer).change change (effect_fits client number call sequencer) is
+  pub call_fits : (client number : ℕ) (call : Call) (sequencer : Option (List ℕ)) (change : Mod) → change_of (effect (name_space s) (caller s client) s.clock number call sequencer) ≡ Some change → misfit s.nodes change ≡ None
+  call_fits client number call sequencer change is = change_is (effect (name_space s) (caller s client) s.clock number call sequencer).change change (effect_fits client number call sequencer) is

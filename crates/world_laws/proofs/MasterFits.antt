@@ -44,6 +44,7 @@ use Rattle.cell_parts.specs.declared.pending.Task.TheVariants as tasks
 use Rattle.cell_parts.specs.declared.pending.Work.{Work}
 use Rattle.cell_parts.specs.declared.pending.Work.TheVariants as works
 use Rattle.cell_parts.specs.declared.notices.Telling.{Telling}
+use Rattle.cell_state.specs.NameSpace.{name_space, caller}
 use Rattle.cell_state.specs.Notices.{with_telling, with_tellings}
 use Rattle.cell_state.specs.State.{MasterState}
 use Rattle.cell_state.specs.Lookups.{session_of, kept_of, is_live, reply_of, stamped_reply, acknowledgement}
@@ -652,7 +653,7 @@ module _ (sent : List Message) (s : MasterState) (front : List (Waiting Task)) (
 
     -- ---- what becomes of locks
 
-    pub moved : (made : Effect) → effect s asked.client asked.number call sequencer ≡ made → ShowsOwn s → MovesLocks s asked.client made.locking
+    pub moved : (made : Effect) → effect (name_space s) (caller s asked.client) s.clock asked.number call sequencer ≡ made → ShowsOwn s → MovesLocks s asked.client made.locking
     moved made is own =
         subst (λ (e : Effect). MovesLocks s asked.client e.locking) is (effect_moves s asked.client asked.number call sequencer (λ handle shown. own front back asked call sequencer handle turn work shown))
 

@@ -27,6 +27,7 @@ use Rattle.tags_cell.specs.declared.sequencers.Sequencer.{Sequencer}
 use Rattle.messages_cell.specs.declared.outs.CallResult.{CallResult}
 use Rattle.messages_cell.specs.declared.outs.CallResult.TheVariants as results
 use Rattle.tags_cell.proofs.Fields.{name_of_bytes}
+use Rattle.cell_state.specs.NameSpace.{name_space, caller}
 use Rattle.cell_state.specs.State.{MasterState}
 use Rattle.lock_core.specs.declared.claims.Claim.{Claim}
 use Rattle.lock_core.specs.declared.turns.Acquired.{Acquired}
@@ -63,20 +64,20 @@ abbrev IsOfOpen : Open → Result Handle Fault → Type 0
 IsOfOpen opening (Ok handle) = handle.name ≡ opening.name
 IsOfOpen opening (Err fault) = Unit {0}
 
-new_is_of : (s : MasterState) (client number : ℕ) (opening : Open) (view : View) → IsOfOpen opening (new_handle s client number opening view)
+new_is_of : (s : MasterState) (client number : ℕ) (opening : Open) (view : View) → IsOfOpen opening (new_handle (name_space s) (caller s client) number opening view)
 new_is_of s client number opening view =
-    either (IsOfOpen opening) (is_too_long opening.delay) (Err faults.DelayTooLong) (numbered_handle s client number opening view) tt
+    either (IsOfOpen opening) (is_too_long opening.delay) (Err faults.DelayTooLong) (numbered_handle (name_space s) (caller s client) number opening view) tt
     (either (IsOfOpen opening) (is_ordinal s.epoch && is_ordinal view.instance) _ (Err faults.Exhausted) refl tt)
 
-present_is_of : (s : MasterState) (client number : ℕ) (opening : Open) (view : View) → IsOfOpen opening (open_present s client number opening view)
+present_is_of : (s : MasterState) (client number : ℕ) (opening : Open) (view : View) → IsOfOpen opening (open_present (name_space s) (caller s client) number opening view)
 present_is_of s client number opening view =
-    found_or (IsOfOpen opening) (λ (right : Right). Err (faults.Denied right)) (missing_right s client opening.mode view) (new_handle s client number opening view) (λ right. tt) (new_is_of s client number opening view)
+    found_or (IsOfOpen opening) (λ (right : Right). Err (faults.Denied right)) (missing_right (name_space s) (caller s client) opening.mode view) (new_handle (name_space s) (caller s client) number opening view) (λ right. tt) (new_is_of s client number opening view)
 
-plain_is_of : (s : MasterState) (client number : ℕ) (opening : Open) → IsOfOpen opening (plain_open s client number opening)
+plain_is_of : (s : MasterState) (client number : ℕ) (opening : Open) → IsOfOpen opening (plain_open (name_space s) (caller s client) number opening)
 plain_is_of s client number opening =
-    found_or (IsOfOpen opening) (λ view. open_present s client number opening view) (get_node s.nodes opening.name) (Err faults.NotFound) (λ view. present_is_of s client number opening view) tt
+    found_or (IsOfOpen opening) (λ view. open_present (name_space s) (caller s client) number opening view) (get_node s.nodes opening.name) (Err faults.NotFound) (λ view. present_is_of s client number opening view) tt
 
-opened_opens : (s : MasterState) (opening : Open) (opened : Result Handle Fault) → IsOfOpen opening opened → OpensAs (calls.Open opening) (opened_answer s opened)
+opened_opens : (s : MasterState) (opening : Open) (opened : Result Handle Fault) → IsOfOpen opening opened → OpensAs (calls.Open opening) (opened_answer (name_space s) opened)
 opened_opens s opening (Ok handle) h = (opening, refl, name_of_bytes s.secret handle ∙ h)
 opened_opens s opening (Err fault) h = tt
 
@@ -103,44 +104,44 @@ write_opens : (call : Call) (kind : Kind) (content : List ℕ) → OpensIf call 
 write_opens call kinds.Directory content = tt
 write_opens call kinds.File content = content_opens call content
 
-list_opens : (call : Call) (s : MasterState) (name : List ℕ) (kind : Kind) → OpensAs call (list_answer s name kind)
+list_opens : (call : Call) (s : MasterState) (name : List ℕ) (kind : Kind) → OpensAs call (list_answer (name_space s) name kind)
 list_opens call s name kinds.Directory = tt
 list_opens call s name kinds.File = tt
 
 needing_opens : (call : Call) (handle : Handle) (right : Right) (answer : Option CallResult) → OpensIf call answer → OpensIf call (needing handle right answer)
 needing_opens call handle right answer h = either (OpensIf call) (has_right handle.mode right) answer (Some (results.Refused (faults.Denied right))) h tt
 
-release_opens : (call : Call) (s : MasterState) (handle : Handle) → OpensIf call (release_fault s handle)
-release_opens call s handle = either (OpensIf call) (is_none (hold_of (lock_under s handle) (owner_of handle))) (Some (results.Refused faults.NotHolder)) None tt tt
+release_opens : (call : Call) (s : MasterState) (handle : Handle) → OpensIf call (release_fault (name_space s) handle)
+release_opens call s handle = either (OpensIf call) (is_none (hold_of (lock_under (name_space s) handle) (owner_of handle))) (Some (results.Refused faults.NotHolder)) None tt tt
 
 sequencer_opens : (call : Call) (found : Result Sequencer Fault) → OpensAs call (sequencer_result found)
 sequencer_opens call (Ok sequencer) = tt
 sequencer_opens call (Err fault) = tt
 
-on_node_opens : (s : MasterState) (handle : Handle) (call : Call) (view : View) → OpensIf call (answer_on_node s handle call view)
+on_node_opens : (s : MasterState) (handle : Handle) (call : Call) (view : View) → OpensIf call (answer_on_node (name_space s) handle call view)
 on_node_opens s handle (calls.Open opening) view = tt
 on_node_opens s handle (calls.Close bytes) view = tt
 on_node_opens s handle (calls.Read bytes) view = needing_opens (calls.Read bytes) handle rights.Read (Some (results.Viewed view)) tt
 on_node_opens s handle (calls.Stat bytes) view = tt
-on_node_opens s handle (calls.List bytes) view = needing_opens (calls.List bytes) handle rights.Read (Some (list_answer s handle.name view.kind)) (list_opens (calls.List bytes) s handle.name view.kind)
+on_node_opens s handle (calls.List bytes) view = needing_opens (calls.List bytes) handle rights.Read (Some (list_answer (name_space s) handle.name view.kind)) (list_opens (calls.List bytes) s handle.name view.kind)
 on_node_opens s handle (calls.Set bytes content generation) view = needing_opens (calls.Set bytes content generation) handle rights.Write (write_fault view.kind content) (write_opens (calls.Set bytes content generation) view.kind content)
 on_node_opens s handle (calls.SetAcl bytes acls generation) view = needing_opens (calls.SetAcl bytes acls generation) handle rights.Change None tt
 on_node_opens s handle (calls.Delete bytes) view = needing_opens (calls.Delete bytes) handle rights.Write None tt
 on_node_opens s handle (calls.Acquire bytes mode) view = needing_opens (calls.Acquire bytes mode) handle rights.Write None tt
 on_node_opens s handle (calls.TryAcquire bytes mode) view = needing_opens (calls.TryAcquire bytes mode) handle rights.Write None tt
-on_node_opens s handle (calls.Release bytes) view = needing_opens (calls.Release bytes) handle rights.Write (release_fault s handle) (release_opens (calls.Release bytes) s handle)
-on_node_opens s handle (calls.GetSequencer bytes) view = sequencer_opens (calls.GetSequencer bytes) (sequencer_of (lock_under s handle) handle.instance handle.name (owner_of handle))
+on_node_opens s handle (calls.Release bytes) view = needing_opens (calls.Release bytes) handle rights.Write (release_fault (name_space s) handle) (release_opens (calls.Release bytes) s handle)
+on_node_opens s handle (calls.GetSequencer bytes) view = sequencer_opens (calls.GetSequencer bytes) (sequencer_of (lock_under (name_space s) handle) handle.instance handle.name (owner_of handle))
 on_node_opens s handle (calls.SetSequencer bytes) view = tt
 on_node_opens s handle (calls.CheckSequencer bytes) view = tt
 
-on_node_under_opens : (s : MasterState) (handle : Handle) (call : Call) (view : View) (o : Option Fault) → OpensIf call (answer_under s handle call view o)
+on_node_under_opens : (s : MasterState) (handle : Handle) (call : Call) (view : View) (o : Option Fault) → OpensIf call (answer_under (name_space s) handle call view o)
 on_node_under_opens s handle call view (Some fault) = tt
 on_node_under_opens s handle call view None = on_node_opens s handle call view
 
-at_node_opens : (s : MasterState) (handle : Handle) (call : Call) (sequencer : Option (List ℕ)) → OpensIf call (option_map_or (λ view. answer_under s handle call view (sequencer_fault s sequencer)) (node_of_handle s handle) (Some (results.Refused faults.StaleInstance)))
-at_node_opens s handle call sequencer = found_or (OpensIf call) (λ view. answer_under s handle call view (sequencer_fault s sequencer)) (node_of_handle s handle) (Some (results.Refused faults.StaleInstance)) (λ view. on_node_under_opens s handle call view (sequencer_fault s sequencer)) tt
+at_node_opens : (s : MasterState) (handle : Handle) (call : Call) (sequencer : Option (List ℕ)) → OpensIf call (option_map_or (λ view. answer_under (name_space s) handle call view (sequencer_fault (name_space s) sequencer)) (node_of_handle (name_space s) handle) (Some (results.Refused faults.StaleInstance)))
+at_node_opens s handle call sequencer = found_or (OpensIf call) (λ view. answer_under (name_space s) handle call view (sequencer_fault (name_space s) sequencer)) (node_of_handle (name_space s) handle) (Some (results.Refused faults.StaleInstance)) (λ view. on_node_under_opens s handle call view (sequencer_fault (name_space s) sequencer)) tt
 
-on_opens : (s : MasterState) (handle : Handle) (call : Call) (sequencer : Option (List ℕ)) → OpensIf call (answer_on s handle call sequencer)
+on_opens : (s : MasterState) (handle : Handle) (call : Call) (sequencer : Option (List ℕ)) → OpensIf call (answer_on (name_space s) handle call sequencer)
 on_opens s handle (calls.Open opening) sequencer = at_node_opens s handle (calls.Open opening) sequencer
 on_opens s handle (calls.Close bytes) sequencer = tt
 on_opens s handle (calls.Read bytes) sequencer = at_node_opens s handle (calls.Read bytes) sequencer
@@ -162,7 +163,7 @@ handle_opens s call sequencer (Some handle) = on_opens s handle call sequencer
 
 open_opens : (s : MasterState) (client number : ℕ) (opening : Open) (o : Option Create) → OpensIf (calls.Open opening) (admission_of_open s client number opening o).answer
 open_opens s client number opening (Some create) = making_opens (calls.Open opening) opening create.node
-open_opens s client number opening None = opened_opens s opening (plain_open s client number opening) (plain_is_of s client number opening)
+open_opens s client number opening None = opened_opens s opening (plain_open (name_space s) (caller s client) number opening) (plain_is_of s client number opening)
 
 sequenced_opens : (s : MasterState) (client number : ℕ) (opening : Open) (o : Option Fault) → OpensIf (calls.Open opening) (admission_under s client number opening o).answer
 sequenced_opens s client number opening (Some fault) = tt
@@ -170,16 +171,16 @@ sequenced_opens s client number opening None = open_opens s client number openin
 
 check_opens : (s : MasterState) (call : Call) (bytes : List ℕ) (o : Option Fault) → OpensIf call (check_admission s bytes o).answer
 check_opens s call bytes (Some fault) = tt
-check_opens s call bytes None = found_or (OpensAs call) (λ (fault : Fault). results.Refused fault) (sequencer_fault s (Some bytes)) results.Done (λ fault. tt) tt
+check_opens s call bytes None = found_or (OpensAs call) (λ (fault : Fault). results.Refused fault) (sequencer_fault (name_space s) (Some bytes)) results.Done (λ fault. tt) tt
 
 -- by the tests of a call
 pub admission_opens : (s : MasterState) (client number : ℕ) (call : Call) (sequencer : Option (List ℕ)) → OpensIf call (admission_of s client number call sequencer).answer
 admission_opens s client number (calls.Open opening) sequencer =
-    elim (is_of_cell s opening.name) as (λ b. OpensIf (calls.Open opening) (cond b (admission_under s client number opening (sequencer_fault s sequencer)) (answering (results.Refused faults.OtherCell))).answer) [
-      | true ↦ sequenced_opens s client number opening (sequencer_fault s sequencer)
+    elim (is_of_cell (name_space s) opening.name) as (λ b. OpensIf (calls.Open opening) (cond b (admission_under s client number opening (sequencer_fault (name_space s) sequencer)) (answering (results.Refused faults.OtherCell))).answer) [
+      | true ↦ sequenced_opens s client number opening (sequencer_fault (name_space s) sequencer)
       | false ↦ tt
     ]
-admission_opens s client number (calls.CheckSequencer bytes) sequencer = check_opens s (calls.CheckSequencer bytes) bytes (sequencer_fault s sequencer)
+admission_opens s client number (calls.CheckSequencer bytes) sequencer = check_opens s (calls.CheckSequencer bytes) bytes (sequencer_fault (name_space s) sequencer)
 admission_opens s client number (calls.Close bytes) sequencer = handle_opens s (calls.Close bytes) sequencer (shown_handle s client bytes)
 admission_opens s client number (calls.Read bytes) sequencer = handle_opens s (calls.Read bytes) sequencer (shown_handle s client bytes)
 admission_opens s client number (calls.Stat bytes) sequencer = handle_opens s (calls.Stat bytes) sequencer (shown_handle s client bytes)
@@ -201,48 +202,48 @@ answer_opens s client number call sequencer answer is = subst (OpensIf call) is 
 abbrev EffectOpens : Call → Effect → Type 0
 EffectOpens call effected = OpensIf call effected.answer
 
-made_opens : (s : MasterState) (opening : Open) (view : View) (made : Result Handle Fault) → IsOfOpen opening made → EffectOpens (calls.Open opening) (create_made s opening view made)
+made_opens : (s : MasterState) (opening : Open) (view : View) (made : Result Handle Fault) → IsOfOpen opening made → EffectOpens (calls.Open opening) (create_made (name_space s) opening view made)
 made_opens s opening view (Ok handle) h = opened_opens s opening (Ok handle) h
 made_opens s opening view (Err fault) h = tt
 
 module _ (s : MasterState) (client number : ℕ) (opening : Open) where
-  numbered_opens : (view : View) → EffectOpens (calls.Open opening) (create_numbered s client number opening view)
-  numbered_opens view = either (EffectOpens (calls.Open opening)) (is_last s.next_instance) (refused faults.Exhausted) (create_made s opening view (new_handle s client number opening view)) tt
-      (made_opens s opening view (new_handle s client number opening view) (new_is_of s client number opening view))
+  numbered_opens : (view : View) → EffectOpens (calls.Open opening) (create_numbered (name_space s) (caller s client) number opening view)
+  numbered_opens view = either (EffectOpens (calls.Open opening)) (is_last s.next_instance) (refused faults.Exhausted) (create_made (name_space s) opening view (new_handle (name_space s) (caller s client) number opening view)) tt
+      (made_opens s opening view (new_handle (name_space s) (caller s client) number opening view) (new_is_of s client number opening view))
 
-  permitted_opens : (view : View) → EffectOpens (calls.Open opening) (create_permitted s client number opening view)
-  permitted_opens view = found_or (EffectOpens (calls.Open opening)) (λ (right : Right). refused (faults.Denied right)) (missing_right s client opening.mode view) (create_numbered s client number opening view) (λ right. tt) (numbered_opens view)
+  permitted_opens : (view : View) → EffectOpens (calls.Open opening) (create_permitted (name_space s) (caller s client) number opening view)
+  permitted_opens view = found_or (EffectOpens (calls.Open opening)) (λ (right : Right). refused (faults.Denied right)) (missing_right (name_space s) (caller s client) opening.mode view) (create_numbered (name_space s) (caller s client) number opening view) (λ right. tt) (numbered_opens view)
 
-  in_opens : (create : Create) (above : View) (kind : Kind) → EffectOpens (calls.Open opening) (create_in s client number opening create above kind)
+  in_opens : (create : Create) (above : View) (kind : Kind) → EffectOpens (calls.Open opening) (create_in (name_space s) (caller s client) number opening create above kind)
   in_opens create above kinds.File = tt
-  in_opens create above kinds.Directory = either (EffectOpens (calls.Open opening)) (may s client above rights.Write) _ (refused (faults.Denied rights.Write)) (permitted_opens (new_view s.next_instance create.node create.life (acls_of above create.acls))) tt
+  in_opens create above kinds.Directory = either (EffectOpens (calls.Open opening)) (may (name_space s) (caller s client) above rights.Write) _ (refused (faults.Denied rights.Write)) (permitted_opens (new_view s.next_instance create.node create.life (acls_of above create.acls))) tt
 
-  under_opens : (create : Create) (o : Option View) → EffectOpens (calls.Open opening) (create_under s client number opening create o)
+  under_opens : (create : Create) (o : Option View) → EffectOpens (calls.Open opening) (create_under (name_space s) (caller s client) number opening create o)
   under_opens create None = tt
   under_opens create (Some above) = in_opens create above above.kind
 
-  over_opens : (disposition : Disposition) (view : View) → EffectOpens (calls.Open opening) (create_over s client number opening disposition view)
+  over_opens : (disposition : Disposition) (view : View) → EffectOpens (calls.Open opening) (create_over (name_space s) (caller s client) number opening disposition view)
   over_opens Must view = tt
-  over_opens May view = opened_opens s opening (open_present s client number opening view) (present_is_of s client number opening view)
+  over_opens May view = opened_opens s opening (open_present (name_space s) (caller s client) number opening view) (present_is_of s client number opening view)
 
-  create_opens : (create : Create) → EffectOpens (calls.Open opening) (create_effect s client number opening create)
-  create_opens create = found_or (EffectOpens (calls.Open opening)) (λ view. create_over s client number opening create.disposition view) (get_node s.nodes opening.name) (create_new s client number opening create) (λ view. over_opens create.disposition view)
-      (found_or (EffectOpens (calls.Open opening)) (λ parent. create_under s client number opening create (get_node s.nodes parent)) (parent_of opening.name) (refused faults.NotFound) (λ parent. under_opens create (get_node s.nodes parent)) tt)
+  create_opens : (create : Create) → EffectOpens (calls.Open opening) (create_effect (name_space s) (caller s client) number opening create)
+  create_opens create = found_or (EffectOpens (calls.Open opening)) (λ view. create_over (name_space s) (caller s client) number opening create.disposition view) (get_node s.nodes opening.name) (create_new (name_space s) (caller s client) number opening create) (λ view. over_opens create.disposition view)
+      (found_or (EffectOpens (calls.Open opening)) (λ parent. create_under (name_space s) (caller s client) number opening create (get_node s.nodes parent)) (parent_of opening.name) (refused faults.NotFound) (λ parent. under_opens create (get_node s.nodes parent)) tt)
 
-  fault_or_opens : (create : Create) (o : Option CallResult) → OpensIf (calls.Open opening) o → EffectOpens (calls.Open opening) (option_map_or (λ answer. answered answer) o (create_effect s client number opening create))
+  fault_or_opens : (create : Create) (o : Option CallResult) → OpensIf (calls.Open opening) o → EffectOpens (calls.Open opening) (option_map_or (λ answer. answered answer) o (create_effect (name_space s) (caller s client) number opening create))
   fault_or_opens create None h = create_opens create
   fault_or_opens create (Some answer) h = h
 
-  create_under_opens : (create : Create) (o : Option Fault) → EffectOpens (calls.Open opening) (create_under_sequencer s client number opening create o)
+  create_under_opens : (create : Create) (o : Option Fault) → EffectOpens (calls.Open opening) (create_under_sequencer (name_space s) (caller s client) number opening create o)
   create_under_opens create (Some fault) = tt
   create_under_opens create None = fault_or_opens create (create_fault opening create.node) (making_opens (calls.Open opening) opening create.node)
 
-  open_effect_opens : (sequencer : Option (List ℕ)) (o : Option Create) → EffectOpens (calls.Open opening) (open_effect s client number opening sequencer o)
-  open_effect_opens sequencer None = opened_opens s opening (plain_open s client number opening) (plain_is_of s client number opening)
+  open_effect_opens : (sequencer : Option (List ℕ)) (o : Option Create) → EffectOpens (calls.Open opening) (open_effect (name_space s) (caller s client) number opening sequencer o)
+  open_effect_opens sequencer None = opened_opens s opening (plain_open (name_space s) (caller s client) number opening) (plain_is_of s client number opening)
   open_effect_opens sequencer (Some create) =
-      either (EffectOpens (calls.Open opening)) (is_of_cell s opening.name) _ (refused faults.OtherCell) (create_under_opens create (sequencer_fault s sequencer)) tt
+      either (EffectOpens (calls.Open opening)) (is_of_cell (name_space s) opening.name) _ (refused faults.OtherCell) (create_under_opens create (sequencer_fault (name_space s) sequencer)) tt
 
-put_opens : (s : MasterState) (call : Call) (handle : Handle) (present : ℕ) (wanted : Option ℕ) (view : View) → EffectOpens call (put_at s handle present wanted view)
+put_opens : (s : MasterState) (call : Call) (handle : Handle) (present : ℕ) (wanted : Option ℕ) (view : View) → EffectOpens call (put_at (name_space s) handle present wanted view)
 put_opens s call handle present wanted view =
     either (EffectOpens call) (generation_fits wanted present) _ (refused (faults.WrongGeneration present)) (either (EffectOpens call) (is_last present) (refused faults.Exhausted) _ tt tt) tt
 
@@ -259,7 +260,7 @@ released_opens : (call : Call) (handle : Handle) (left : Result Turn Fault) → 
 released_opens call handle (Ok turn) = tt
 released_opens call handle (Err fault) = tt
 
-change_opens : (s : MasterState) (handle : Handle) (call : Call) (view : View) → EffectOpens call (change_at s handle call view)
+change_opens : (s : MasterState) (handle : Handle) (call : Call) (view : View) → EffectOpens call (change_at (name_space s) s.clock handle call view)
 change_opens s handle (calls.Open opening) view = tt
 change_opens s handle (calls.Close bytes) view = tt
 change_opens s handle (calls.Read bytes) view = tt
@@ -268,41 +269,41 @@ change_opens s handle (calls.List bytes) view = tt
 change_opens s handle (calls.Set bytes content generation) view = put_opens s (calls.Set bytes content generation) handle view.content_generation generation (with_content view content)
 change_opens s handle (calls.SetAcl bytes acls generation) view = put_opens s (calls.SetAcl bytes acls generation) handle view.acl_generation generation (with_acls view acls)
 change_opens s handle (calls.Delete bytes) view = either (EffectOpens (calls.Delete bytes)) (has_children s.nodes handle.name || is_none (parent_of handle.name)) (refused faults.NotEmpty) _ tt tt
-change_opens s handle (calls.Acquire bytes mode) view = acquired_opens (calls.Acquire bytes mode) handle (claim_of handle mode) (acquired (lock_under s handle) (claim_of handle mode))
-change_opens s handle (calls.TryAcquire bytes mode) view = tried_opens (calls.TryAcquire bytes mode) handle (claim_of handle mode) (tried (lock_under s handle) (claim_of handle mode) s.clock)
-change_opens s handle (calls.Release bytes) view = released_opens (calls.Release bytes) handle (released (lock_under s handle) (owner_of handle))
+change_opens s handle (calls.Acquire bytes mode) view = acquired_opens (calls.Acquire bytes mode) handle (claim_of handle mode) (acquired (lock_under (name_space s) handle) (claim_of handle mode))
+change_opens s handle (calls.TryAcquire bytes mode) view = tried_opens (calls.TryAcquire bytes mode) handle (claim_of handle mode) (tried (lock_under (name_space s) handle) (claim_of handle mode) s.clock)
+change_opens s handle (calls.Release bytes) view = released_opens (calls.Release bytes) handle (released (lock_under (name_space s) handle) (owner_of handle))
 change_opens s handle (calls.GetSequencer bytes) view = tt
 change_opens s handle (calls.SetSequencer bytes) view = tt
 change_opens s handle (calls.CheckSequencer bytes) view = tt
 
-change_on_opens : (s : MasterState) (handle : Handle) (call : Call) → EffectOpens call (change_on s handle call)
-change_on_opens s handle call = found_or (EffectOpens call) (λ view. change_at s handle call view) (node_of_handle s handle) (refused faults.StaleInstance) (λ view. change_opens s handle call view) tt
+change_on_opens : (s : MasterState) (handle : Handle) (call : Call) → EffectOpens call (change_on (name_space s) s.clock handle call)
+change_on_opens s handle call = found_or (EffectOpens call) (λ view. change_at (name_space s) s.clock handle call view) (node_of_handle (name_space s) handle) (refused faults.StaleInstance) (λ view. change_opens s handle call view) tt
 
-first_opens : (s : MasterState) (handle : Handle) (call : Call) (o : Option CallResult) → OpensIf call o → EffectOpens call (option_map_or (λ answer. answered answer) o (change_on s handle call))
+first_opens : (s : MasterState) (handle : Handle) (call : Call) (o : Option CallResult) → OpensIf call o → EffectOpens call (option_map_or (λ answer. answered answer) o (change_on (name_space s) s.clock handle call))
 first_opens s handle call None h = change_on_opens s handle call
 first_opens s handle call (Some answer) h = h
 
-on_effect_opens : (s : MasterState) (handle : Handle) (call : Call) (sequencer : Option (List ℕ)) → EffectOpens call (effect_on s handle call sequencer)
-on_effect_opens s handle (calls.Open opening) sequencer = first_opens s handle (calls.Open opening) (answer_on s handle (calls.Open opening) sequencer) (on_opens s handle (calls.Open opening) sequencer)
+on_effect_opens : (s : MasterState) (handle : Handle) (call : Call) (sequencer : Option (List ℕ)) → EffectOpens call (effect_on (name_space s) s.clock handle call sequencer)
+on_effect_opens s handle (calls.Open opening) sequencer = first_opens s handle (calls.Open opening) (answer_on (name_space s) handle (calls.Open opening) sequencer) (on_opens s handle (calls.Open opening) sequencer)
 on_effect_opens s handle (calls.Close bytes) sequencer = tt
-on_effect_opens s handle (calls.Read bytes) sequencer = first_opens s handle (calls.Read bytes) (answer_on s handle (calls.Read bytes) sequencer) (on_opens s handle (calls.Read bytes) sequencer)
-on_effect_opens s handle (calls.Stat bytes) sequencer = first_opens s handle (calls.Stat bytes) (answer_on s handle (calls.Stat bytes) sequencer) (on_opens s handle (calls.Stat bytes) sequencer)
-on_effect_opens s handle (calls.List bytes) sequencer = first_opens s handle (calls.List bytes) (answer_on s handle (calls.List bytes) sequencer) (on_opens s handle (calls.List bytes) sequencer)
-on_effect_opens s handle (calls.Set bytes content generation) sequencer = first_opens s handle (calls.Set bytes content generation) (answer_on s handle (calls.Set bytes content generation) sequencer) (on_opens s handle (calls.Set bytes content generation) sequencer)
-on_effect_opens s handle (calls.SetAcl bytes acls generation) sequencer = first_opens s handle (calls.SetAcl bytes acls generation) (answer_on s handle (calls.SetAcl bytes acls generation) sequencer) (on_opens s handle (calls.SetAcl bytes acls generation) sequencer)
-on_effect_opens s handle (calls.Delete bytes) sequencer = first_opens s handle (calls.Delete bytes) (answer_on s handle (calls.Delete bytes) sequencer) (on_opens s handle (calls.Delete bytes) sequencer)
-on_effect_opens s handle (calls.Acquire bytes mode) sequencer = first_opens s handle (calls.Acquire bytes mode) (answer_on s handle (calls.Acquire bytes mode) sequencer) (on_opens s handle (calls.Acquire bytes mode) sequencer)
-on_effect_opens s handle (calls.TryAcquire bytes mode) sequencer = first_opens s handle (calls.TryAcquire bytes mode) (answer_on s handle (calls.TryAcquire bytes mode) sequencer) (on_opens s handle (calls.TryAcquire bytes mode) sequencer)
-on_effect_opens s handle (calls.Release bytes) sequencer = first_opens s handle (calls.Release bytes) (answer_on s handle (calls.Release bytes) sequencer) (on_opens s handle (calls.Release bytes) sequencer)
-on_effect_opens s handle (calls.GetSequencer bytes) sequencer = first_opens s handle (calls.GetSequencer bytes) (answer_on s handle (calls.GetSequencer bytes) sequencer) (on_opens s handle (calls.GetSequencer bytes) sequencer)
-on_effect_opens s handle (calls.SetSequencer bytes) sequencer = first_opens s handle (calls.SetSequencer bytes) (answer_on s handle (calls.SetSequencer bytes) sequencer) (on_opens s handle (calls.SetSequencer bytes) sequencer)
-on_effect_opens s handle (calls.CheckSequencer bytes) sequencer = first_opens s handle (calls.CheckSequencer bytes) (answer_on s handle (calls.CheckSequencer bytes) sequencer) (on_opens s handle (calls.CheckSequencer bytes) sequencer)
+on_effect_opens s handle (calls.Read bytes) sequencer = first_opens s handle (calls.Read bytes) (answer_on (name_space s) handle (calls.Read bytes) sequencer) (on_opens s handle (calls.Read bytes) sequencer)
+on_effect_opens s handle (calls.Stat bytes) sequencer = first_opens s handle (calls.Stat bytes) (answer_on (name_space s) handle (calls.Stat bytes) sequencer) (on_opens s handle (calls.Stat bytes) sequencer)
+on_effect_opens s handle (calls.List bytes) sequencer = first_opens s handle (calls.List bytes) (answer_on (name_space s) handle (calls.List bytes) sequencer) (on_opens s handle (calls.List bytes) sequencer)
+on_effect_opens s handle (calls.Set bytes content generation) sequencer = first_opens s handle (calls.Set bytes content generation) (answer_on (name_space s) handle (calls.Set bytes content generation) sequencer) (on_opens s handle (calls.Set bytes content generation) sequencer)
+on_effect_opens s handle (calls.SetAcl bytes acls generation) sequencer = first_opens s handle (calls.SetAcl bytes acls generation) (answer_on (name_space s) handle (calls.SetAcl bytes acls generation) sequencer) (on_opens s handle (calls.SetAcl bytes acls generation) sequencer)
+on_effect_opens s handle (calls.Delete bytes) sequencer = first_opens s handle (calls.Delete bytes) (answer_on (name_space s) handle (calls.Delete bytes) sequencer) (on_opens s handle (calls.Delete bytes) sequencer)
+on_effect_opens s handle (calls.Acquire bytes mode) sequencer = first_opens s handle (calls.Acquire bytes mode) (answer_on (name_space s) handle (calls.Acquire bytes mode) sequencer) (on_opens s handle (calls.Acquire bytes mode) sequencer)
+on_effect_opens s handle (calls.TryAcquire bytes mode) sequencer = first_opens s handle (calls.TryAcquire bytes mode) (answer_on (name_space s) handle (calls.TryAcquire bytes mode) sequencer) (on_opens s handle (calls.TryAcquire bytes mode) sequencer)
+on_effect_opens s handle (calls.Release bytes) sequencer = first_opens s handle (calls.Release bytes) (answer_on (name_space s) handle (calls.Release bytes) sequencer) (on_opens s handle (calls.Release bytes) sequencer)
+on_effect_opens s handle (calls.GetSequencer bytes) sequencer = first_opens s handle (calls.GetSequencer bytes) (answer_on (name_space s) handle (calls.GetSequencer bytes) sequencer) (on_opens s handle (calls.GetSequencer bytes) sequencer)
+on_effect_opens s handle (calls.SetSequencer bytes) sequencer = first_opens s handle (calls.SetSequencer bytes) (answer_on (name_space s) handle (calls.SetSequencer bytes) sequencer) (on_opens s handle (calls.SetSequencer bytes) sequencer)
+on_effect_opens s handle (calls.CheckSequencer bytes) sequencer = first_opens s handle (calls.CheckSequencer bytes) (answer_on (name_space s) handle (calls.CheckSequencer bytes) sequencer) (on_opens s handle (calls.CheckSequencer bytes) sequencer)
 
-shown_opens : (s : MasterState) (call : Call) (sequencer : Option (List ℕ)) (o : Option Handle) → EffectOpens call (handle_effect s call sequencer o)
+shown_opens : (s : MasterState) (call : Call) (sequencer : Option (List ℕ)) (o : Option Handle) → EffectOpens call (handle_effect (name_space s) s.clock call sequencer o)
 shown_opens s call sequencer None = tt
 shown_opens s call sequencer (Some handle) = on_effect_opens s handle call sequencer
 
-effect_opens_if : (s : MasterState) (client number : ℕ) (call : Call) (sequencer : Option (List ℕ)) → OpensIf call (effect s client number call sequencer).answer
+effect_opens_if : (s : MasterState) (client number : ℕ) (call : Call) (sequencer : Option (List ℕ)) → OpensIf call (effect (name_space s) (caller s client) s.clock number call sequencer).answer
 unfolding effect
 effect_opens_if s client number (calls.Open opening) sequencer = open_effect_opens s client number opening sequencer opening.create
 effect_opens_if s client number (calls.Close bytes) sequencer = shown_opens s (calls.Close bytes) sequencer (read_handle s.secret bytes)
@@ -319,5 +320,5 @@ effect_opens_if s client number (calls.GetSequencer bytes) sequencer = shown_ope
 effect_opens_if s client number (calls.SetSequencer bytes) sequencer = shown_opens s (calls.SetSequencer bytes) sequencer (read_handle s.secret bytes)
 effect_opens_if s client number (calls.CheckSequencer bytes) sequencer = shown_opens s (calls.CheckSequencer bytes) sequencer (read_handle s.secret [])
 
-pub effect_opens : (s : MasterState) (client number : ℕ) (call : Call) (sequencer : Option (List ℕ)) (answer : CallResult) → (effect s client number call sequencer).answer ≡ Some answer → OpensAs call answer
+pub effect_opens : (s : MasterState) (client number : ℕ) (call : Call) (sequencer : Option (List ℕ)) (answer : CallResult) → (effect (name_space s) (caller s client) s.clock number call sequencer).answer ≡ Some answer → OpensAs call answer
 effect_opens s client number call sequencer answer is = subst (OpensIf call) is (effect_opens_if s client number call sequencer)

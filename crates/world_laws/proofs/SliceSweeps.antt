@@ -48,12 +48,13 @@ use Rattle.lock_core.specs.declared.turns.Turn.{Turn}
 use Rattle.lock_core.specs.Turns.{reopened}
 use Rattle.lock_core.specs.Locks.{lock_at}
 use Rattle.cell_update.specs.declared.updates.LockPut.{LockPut}
+use Rattle.cell_state.specs.NameSpace.{name_space, caller}
 use Rattle.cell_state.specs.State.{MasterState}
 use Rattle.cell_parts.specs.StoredSessions.{row_of}
 use Rattle.cell_state.specs.Lookups.{session_of, noted, reply_of, turned_away}
 use Rattle.cell_parts.specs.Answered.{answered_by}
 use Rattle.cell_core.specs.Step.{names_of}
-use Rattle.cell_core.specs.Names.{name_changed}
+use Rattle.cell_core.specs.Names.{name_changed, names_touched}
 use Rattle.cell_core.specs.Ephemerals.{is_ok, spared_for}
 use Rattle.cell_update.specs.Updates.{edit_of, with_kept_put, with_locks, without_lock, lock_changes}
 use Rattle.client_parts.specs.Invalidations.{last_number}
@@ -64,7 +65,7 @@ use Rattle.cell_apply.specs.Outcomes.{left_put}
 use Rattle.cell_update.specs.Lapses.{lapses_of, lapses_puts, lapses_replies}
 use Rattle.sweep_laws.specs.SweepCase.{IsNextApplied, IsDueToEnd, IsDue, SweepCase, rest, ended, mapped, told, expired, relocking, gone_change, gone_replies, swept_by, swept_edits}
 use Rattle.sweep_laws.specs.SweepCase.SweepCase.{Quiet, Recovers, Expires, Reopens, Tidies, Spared, Tidied, AnswersBeat, TurnedAway, StartedAgain, Started, OfEnded, Ended, Applied, Deleted, Locked, Awaited, Left}
-use Rattle.sweep_laws.specs.Kept.{IsKept, names_touched_by}
+use Rattle.sweep_laws.specs.Kept.{IsKept}
 use Rattle.sweep_laws.proofs.SweepCases.{first_tellings}
 use Rattle.sweep_laws.proofs.Touching.{change_is_named}
 use Rattle.sweep_plan.proofs.Unacknowledged.{IsAskedFor, each_is_asked, asked_is_named}
@@ -388,8 +389,8 @@ module _ (x : List ℕ) (w : WorldState) (s : MasterState) (knows : IsKnown w s)
     at_application = record { number = turn.number; change = record { touched = turn.touched; body = task } }
 
     -- it touches the names that it may change
-    touched_is : turn.touched ≡ names_touched_by s.secret task
-    touched_is = all_at (λ (w : Waiting Task). w.change.touched ≡ names_touched_by s.secret w.change.body) front at_application back (subst (All (λ (w : Waiting Task). w.change.touched ≡ names_touched_by s.secret w.change.body)) turn.waited knows.touching)
+    touched_is : turn.touched ≡ names_touched s.secret task
+    touched_is = all_at (λ (w : Waiting Task). w.change.touched ≡ names_touched s.secret w.change.body) front at_application back (subst (All (λ (w : Waiting Task). w.change.touched ≡ names_touched s.secret w.change.body)) turn.waited knows.touching)
 
     -- a change of another name leaves this one
     untouched : (name : List ℕ) → turn.touched ≡ name ∷ [] → touches x at_application ≡ false → bytes_eq x name ≡ false
@@ -586,7 +587,7 @@ module _ (x : List ℕ) (w : WorldState) (s : MasterState) (knows : IsKnown w s)
 
       -- it touches no name
       no_name : touches x (at_application front back (tasks.Asked asked) turn) ≡ false
-      no_name = not_touched turn.touched x (touched_is front back (tasks.Asked asked) turn ∙ ap (λ z. names_touched_by s.secret (tasks.Asked (record asked { work = z }))) work)
+      no_name = not_touched turn.touched x (touched_is front back (tasks.Asked asked) turn ∙ ap (λ z. names_touched s.secret (tasks.Asked (record asked { work = z }))) work)
 
       abbrev start_parts : UpParts → UpParts
       start_parts parts = record parts { pending = touching x (front ++ back) }
@@ -737,10 +738,10 @@ module _ (x : List ℕ) (w : WorldState) (s : MasterState) (knows : IsKnown w s)
       })
 
     -- the rows of a call that changes the map
-    changed_rows_of : (c : ℕ) (call : Call) (sequencer : Option (List ℕ)) (change : Change) → asked.work ≡ works.Calls call sequencer → (effect s asked.client asked.number call sequencer).change ≡ Some change → HasRows front back (tasks.Asked asked) turn c (changed_rows w.rows (edit_of change.change ∷ NextInstance change.next_instance ∷ []))
+    changed_rows_of : (c : ℕ) (call : Call) (sequencer : Option (List ℕ)) (change : Change) → asked.work ≡ works.Calls call sequencer → (effect (name_space s) (caller s asked.client) s.clock asked.number call sequencer).change ≡ Some change → HasRows front back (tasks.Asked asked) turn c (changed_rows w.rows (edit_of change.change ∷ NextInstance change.next_instance ∷ []))
     changed_rows_of c call sequencer change work made =
         let named : name_changed s.secret call ≡ Some (name_of change.change) = change_is_named s asked.client asked.number call sequencer change made in
-        let touched : turn.touched ≡ name_of change.change ∷ [] = touched_is front back (tasks.Asked asked) turn ∙ ap (λ z. names_touched_by s.secret (tasks.Asked (record asked { work = z }))) work ∙ ap names_of named in
+        let touched : turn.touched ≡ name_of change.change ∷ [] = touched_is front back (tasks.Asked asked) turn ∙ ap (λ z. names_touched s.secret (tasks.Asked (record asked { work = z }))) work ∙ ap names_of named in
         mapped_rows_of front back (tasks.Asked asked) turn c change (untouched front back (tasks.Asked asked) turn (name_of change.change) touched)
 
   sweep_by : (c : ℕ) (case : SweepCase s) → Goes c x w s (changed_rows w.rows (swept_edits s case)) (swept_by s case).0 (swept_by s case).1.outs

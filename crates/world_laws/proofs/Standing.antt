@@ -41,6 +41,7 @@ use Rattle.cell_parts.specs.declared.notices.Notice.{Notice}
 use Rattle.cell_parts.specs.declared.notices.Notice.TheVariants as notices
 use Rattle.cell_parts.specs.declared.notices.Telling.{Telling}
 use Rattle.cell_parts.specs.Events.{instance_of}
+use Rattle.cell_state.specs.NameSpace.{name_space}
 use Rattle.cell_state.specs.Notices.{event_if, event_here, event_on, event_for, is_noted, telling_as, telling_by}
 use Rattle.cell_state.specs.State.{MasterState}
 use Rattle.cell_update.specs.Updates.{with_note, new_generation, with_begun, with_put, with_locks, gone_of, session_rest, with_session_rest, with_kept, with_map, without_lock, recovered, left, done}
@@ -307,7 +308,7 @@ module _ (rows : Rows) where
   here_true s handle (notices.ChildModified instance name) h = if_true handle.events.children (events.ChildModified handle.number name) tt
   here_true s handle (notices.Invalid instance) h = tt
   here_true s handle (notices.Locked instance) h = if_true handle.events.lock (events.Locked handle.number) tt
-  here_true s handle (notices.Conflict instance) h = if_true (handle.events.conflict && holds_lock s handle) (events.Conflict handle.number) tt
+  here_true s handle (notices.Conflict instance) h = if_true (handle.events.conflict && holds_lock (name_space s) handle) (events.Conflict handle.number) tt
 
   on_true : (s : MasterState) (handle : Handle) (notice : Notice) → IsTrueNotice rows notice → IfTrue (event_on s handle notice)
   on_true s handle notice h =

@@ -21,6 +21,7 @@ use Rattle.gate_core.specs.declared.pending.Waiting.{Waiting}
 use Rattle.cell_parts.specs.declared.pending.Task.{Task}
 use Rattle.cell_parts.specs.declared.pending.Task.TheVariants as tasks
 use Rattle.cell_parts.specs.declared.pending.Work.TheVariants as works
+use Rattle.cell_state.specs.NameSpace.{name_space, caller}
 use Rattle.cell_state.specs.State.{MasterState}
 use Rattle.cell_core.specs.Ephemerals.{is_idle_node}
 use Rattle.cell_apply.specs.Effect.{effect}
@@ -281,7 +282,7 @@ pub record IsOfCall (old : WorldView) (steps : List Step) (before : List Line) (
   pub sequencer : Option (List ℕ)
   pub sent : call_of made.here.world.messages client number ≡ Some (record { client = client; epoch = made.master.epoch; number = number; call = call; sequencer = sequencer })
   pub taken : HasWaited old.world.master made.master.epoch client number call sequencer ⊎ IsTaken old made.front before made.here made.master.epoch client number call sequencer
-  pub is_effect : change_of (effect made.master client number call sequencer) ≡ Some change
+  pub is_effect : change_of (effect (name_space made.master) (caller made.master client) made.master.clock number call sequencer) ≡ Some change
 
 -- and an ephemeral node goes that nobody held open there
 pub record IsOfIdle (old : WorldView) (steps : List Step) (before : List Line) (number : ℕ) (change : Mod) (rest : List Line) (new : WorldView) : Type 0 where

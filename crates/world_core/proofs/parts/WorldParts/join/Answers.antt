@@ -1,5 +1,9 @@
 use Rattle.std.proofs.Common.{rules}
+use Rattle.world_core.proofs.JoinOutcomes.{refused_new}
 use Rattle.world_core.proofs.parts.WorldParts.join.Goals as goal
 
 pub returns-clause-ok : goal.returns-clause-ok
 returns-clause-ok g c = search rules
+
+pub returns-in_err-join-clause-fault : goal.returns-in_err-join-clause-fault
+returns-in_err-join-clause-fault g c = refused_new c.args.self.now c.args.number c.args.principal.now c.is_taken.result c.is_taken.ensures c.if-not-is_taken.true
