@@ -5,3 +5,4 @@ pub mod ReadLemmas
 pub mod ReadLoops
 pub mod SaidTables
 pub mod InspectLemmas
+pub mod OneSchema

@@ -1,12 +1,13 @@
 -- What becomes of a database that is taken over.
-use Rattle.std.proofs.Common.{◌≡◌, ◌≤◌, Bool, true, false, List, [], ◌∷◌, inl, inr, refl, sym, ap, ◌∙◌, subst, arith, true≢false, Result, Ok, Err, ℕ, ◌++◌, append_assoc}
+use Rattle.std.proofs.Common.{◌≡◌, ◌≤◌, Bool, true, false, List, [], ◌∷◌, inl, inr, refl, sym, ap, ◌∙◌, subst, arith, true≢false, Result, Ok, Err, ℕ, ◌++◌, length, append_assoc}
 use Rattle.std.specs.Prelude.{IsTrue, IfOk, IfErr}
 use Rattle.sqlite_trees.specs.declared.store.Store.{Ghosts}
 use Rattle.sqlite_trees.specs.Objects.{catalog_tree, IsListed}
 use Rattle.sqlite_trees.specs.View.{IsClean, IsOrdered, IsQuiet, IsRolledBack, doubt}
 use Rattle.sqlite.specs.Tree.{Trees}
-use Rattle.sqlite.specs.Effect.{Database}
-use Rattle.sqlite.specs.State.{HasCleanDisk, Survives, Opens, IsLive}
+use Rattle.sqlite.specs.Effect.{Database, IsDatabase}
+use Rattle.sqlite_schema.specs.declared.schema.Schema.{Schema}
+use Rattle.sqlite.specs.State.{State, HasCleanDisk, Survives, Opens, IsLive}
 use Rattle.sqlite.specs.Held.{Held, state, IsNew}
 use Rattle.sqlite.specs.Steps.{IsFresh}
 use Rattle.node_core.specs.declared.views.View.{View as Shown}
@@ -20,10 +21,11 @@ use Rattle.settings_core.specs.Settings.{Settled}
 use Rattle.rows_schema.specs.OurSchema.{the_schema}
 use Rattle.rows_read.specs.Held.{Says}
 use Rattle.rows_read.specs.Ready.{tables_of, IsReady, IsStill, Quiet}
+use Rattle.rows_read.proofs.OneSchema.{one_database}
 use Rattle.rows_edits.specs.Ongoing.{IsStore}
 use Rattle.rows_edits.specs.Creation.{no_schema, puts_of, IsMade, MayOpen}
 use Rattle.rows_sql.specs.Keeping.{Keeps}
-use Rattle.rows_sql.specs.Adopting.{IsAnew, IsTaken, IsLeftAlone, IsReopened, ComesBack}
+use Rattle.rows_sql.specs.Adopting.{IsAnew, Takes, IsForeign, HasDatabase, Adopts, IsOther, IsTaken, IsLeftAlone, IsReopened, ComesBack}
 use Rattle.rows_sql.proofs.Opened.{opened}
 
 -- ---- opened anew
@@ -37,6 +39,7 @@ anew {S = S} g store (Ok c) ordered listed fresh opens cleaner trees new = recor
   idle = new.autocommit;
   is_open = λ clean. (opens clean).0.is_open;
   settled = λ clean. sym (opens clean).0.clean;
+  listed = λ clean. let at = opens clean in (at.1 at.0.is_open).0;
   store = opened {E = S} g store (Ok c) ordered listed fresh opens cleaner trees;
 }
 
@@ -67,16 +70,22 @@ module _ {S : Type 0} (g : Ghosts S) (broken_if_shut : (s : S) → (g.view s).is
     unmarked = (undone.kept clean).marks (open_mid clean);
   }
 
-  pub reopened : (settled : (s : S) (db : Trees) → IsTrue (g.view s).is_open → g.recovers s db → db ≡ (g.view s).committed) → (stays : (s : S) → IsTrue (g.view s).is_open → g.recovers s (g.view s).committed) → (conn new : Held S) → conn.store ≡ old
+  open_old : IsClean (g.view mid) → IsTrue (g.view old).is_open
+  open_old clean = (undone.kept clean).was_open (open_mid clean)
+
+  pub reopened : (settled : (s : S) (db : Trees) → IsTrue (g.view s).is_open → g.recovers s db → db ≡ (g.view s).committed) → (stays : (s : S) → IsTrue (g.view s).is_open → g.recovers s (g.view s).committed) → (conn new : Held S) → conn.store ≡ old → IsLive (state g conn)
       → IsQuiet g.view g.faults g.recovers g.is_shielded old mid → IsAnew (state g new) → doubt (g.view mid).is_clean ≤ doubt (state g new).is_clean → (HasCleanDisk (state g new) → (state g new).now.trees ≡ (g.view mid).trees) → IsReopened g conn new
-  reopened settled stays conn new is quiet at cleaner trees =
+  reopened settled stays conn new is live quiet at cleaner trees =
       let was : HasCleanDisk (state g new) → IsClean (g.view mid) = λ clean. omega (arith, cleaner, clean) in
       let same : HasCleanDisk (state g new) → (state g new).now.trees ≡ (g.view old).committed = λ clean. trees clean ∙ trees_mid (was clean) in
       let before : doubt (g.view old).is_clean ≤ doubt (state g new).is_clean = omega (arith, quiet.clean, cleaner) in
+      let trees_are : HasCleanDisk (state g new) → (state g new).now.trees ≡ (state g conn).committed.trees = λ clean. same clean ∙ ap (λ (s : S). (g.view s).committed) (sym is) in
+      let was_open : HasCleanDisk (state g new) → IsTrue (state g conn).is_open = λ clean. subst (λ (s : S). IsTrue (g.view s).is_open) (sym is) (open_old (was clean)) in
       record {
         anew = at;
         clean = subst (λ (s : S). doubt (g.view s).is_clean ≤ doubt (state g new).is_clean) (sym is) before;
-        same = λ clean. same clean ∙ ap (λ (s : S). (g.view s).committed) (sym is);
+        has = λ clean. record { is_open = was_open clean; listed = (live (was_open clean)).1 };
+        same = λ clean. one_database (state g new).now (state g conn).committed (trees_are clean) (at.listed clean) (live (was_open clean)).1;
         crash = λ clean db may.
             let one : db ≡ (g.view new.store).committed = settled new.store db (at.is_open clean) may in
             let two : (g.view new.store).committed ≡ (g.view old).committed = ap (λ (d : Database). d.trees) (at.settled clean) ∙ same clean in
@@ -131,6 +140,24 @@ module _ {S : Type 0} (g : Ghosts S) (settings : Settled) (old new : Held S) (at
         | inr m ↦ inr (m nothing)
       ];
     }
+
+-- ---- what it was taken over as
+
+-- rows are taken of what isn't a cell's
+none_of_other : (settings : Settled) (db : Database) (rows : Rows) → Takes settings db rows → IsForeign db → ⊥
+none_of_other settings db rows (inl t) (inl f) = f.0 t.0
+none_of_other settings db rows (inl t) (inr f) = f.1 rows t.1
+none_of_other settings db rows (inr t) (inl f) = f.1 t.0
+none_of_other settings db rows (inr t) (inr f) = let e : 0 ≡ 4 = ap (λ (s : Schema). length s.tables) (sym t.0 ∙ f.0) in omega (arith, e)
+
+pub not_other : (settings : Settled) (s : State) (rows : Rows) → Adopts settings s rows → ¬ IsOther s
+not_other settings s rows adopts other = none_of_other settings s.committed rows adopts.takes other.foreign
+
+pub adopts : {S : Type 0} (g : Ghosts S) (settings : Settled) (old mid : Held S) (rows : Rows) → IsReopened g old mid → HasCleanDisk (state g mid) → Takes settings (state g mid).now rows → Adopts settings (state g old) rows
+adopts g settings old mid rows opened clean takes = record { has = opened.has clean; takes = subst (λ (db : Database). Takes settings db rows) (opened.same clean) takes }
+
+pub is_other : {S : Type 0} (g : Ghosts S) (old mid : Held S) → IsReopened g old mid → HasCleanDisk (state g mid) → IsForeign (state g mid).now → IsOther (state g old)
+is_other g old mid opened clean foreign = record { has = opened.has clean; foreign = subst IsForeign (opened.same clean) foreign }
 
 -- ---- the ends
 

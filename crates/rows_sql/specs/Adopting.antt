@@ -3,7 +3,7 @@ use Rattle.std.specs.Prelude.{◌≡◌, ◌≢◌, ◌⊎◌, ◌≤◌, false,
 use Rattle.sqlite_trees.specs.declared.store.Store.{Ghosts}
 use Rattle.sqlite_trees.specs.View.{doubt, IsClean}
 use Rattle.sqlite.specs.Tree.{Trees}
-use Rattle.sqlite.specs.Effect.{Database}
+use Rattle.sqlite.specs.Effect.{Database, IsDatabase}
 use Rattle.sqlite.specs.State.{State, HasCleanDisk}
 use Rattle.sqlite.specs.Held.{Held, state}
 use Rattle.rows_cell.specs.Opening.{opening}
@@ -20,6 +20,7 @@ pub record IsAnew (s : State) : Type 0 where
   pub idle : s.in_transaction ≡ false
   pub is_open : HasCleanDisk s → IsTrue s.is_open
   pub settled : HasCleanDisk s → s.committed ≡ s.now
+  pub listed : HasCleanDisk s → IsDatabase s.now
   pub store : HasCleanDisk s → s.now.schema ≡ the_schema → IsStore s.now
 
 -- the rows that its tables say; or the opening rows, where there is no table yet
@@ -45,11 +46,17 @@ pub record IsLeftAlone {S : Type 0} (g : Ghosts S) (settings : Settled) (old new
   pub clean : doubt (state g old).is_clean ≤ doubt (state g new).is_clean
   pub crash : HasCleanDisk (state g new) → (db : Trees) → (state g new).may_leave db → (state g old).may_leave db ⊎ Says (tables_of db) (opening settings)
 
+-- a connection that is open: its last commit is a database, whose trees list its schema and obey it
+pub record HasDatabase (s : State) : Type 0 where
+  pub is_open : IsTrue s.is_open
+  pub listed : IsDatabase s.committed
+
 -- a connection was opened anew over the store of another, whose last commit is all that there is
 pub record IsReopened {S : Type 0} (g : Ghosts S) (old new : Held S) : Type 0 where
   pub anew : IsAnew (state g new)
   pub clean : doubt (state g old).is_clean ≤ doubt (state g new).is_clean
-  pub same : HasCleanDisk (state g new) → (state g new).now.trees ≡ (state g old).committed.trees
+  pub has : HasCleanDisk (state g new) → HasDatabase (state g old)
+  pub same : HasCleanDisk (state g new) → (state g new).now ≡ (state g old).committed
   pub crash : HasCleanDisk (state g new) → (db : Trees) → (state g new).may_leave db → (state g old).may_leave db
 
 -- behind a refusal the store comes back: a crash leaves what it could leave before, or a new store
@@ -57,10 +64,12 @@ pub record ComesBack {S : Type 0} (g : Ghosts S) (settings : Settled) (old : Hel
   pub clean : doubt (state g old).is_clean ≤ doubt (g.view store).is_clean
   pub crash : IsClean (g.view store) → (db : Trees) → g.recovers store db → (state g old).may_leave db ⊎ Says (tables_of db) (opening settings)
 
--- of what was committed: it lists a schema, by which it is taken over
-abbrev pub Adopts : Settled → Trees → Rows → Type 0
-Adopts settings trees rows = (db : Database) × (db.trees ≡ trees) × Takes settings db rows
+-- what a connection is taken over as: its last commit is a database, and these are the rows that it says, or the opening rows where it has no table
+pub record Adopts (settings : Settled) (s : State) (rows : Rows) : Type 0 where
+  pub has : HasDatabase s
+  pub takes : Takes settings s.committed rows
 
--- of what was committed: it lists a schema, by which it isn't
-abbrev pub IsOther : Trees → Type 0
-IsOther trees = (db : Database) × (db.trees ≡ trees) × IsForeign db
+-- its last commit is a database, and not that of a cell
+pub record IsOther (s : State) : Type 0 where
+  pub has : HasDatabase s
+  pub foreign : IsForeign s.committed

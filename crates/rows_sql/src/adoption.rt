@@ -41,6 +41,8 @@ pub(crate) fn reopen<S: Alter + Drop>(
     ensures ok { IfOk result (λ new. IsReopened S.Store conn new) }
     ensures err { IfErr result (λ store. (doubt (state S.Store conn).is_clean ≤ doubt (S.Store.view store).is_clean) × ((db : _) → S.Store.recovers store db → (state S.Store conn).may_leave db)) }
 {
+    // What it shows is a database.
+    let _schema = conn.schema();
     let store = conn.into_store();
     if store.is_broken() {
         return Err(store);

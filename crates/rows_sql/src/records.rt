@@ -1,6 +1,6 @@
 //! The rows of a cell in a SQL database.
 ghost use Rattle.std.specs.Prelude.{◌≡◌, ◌≤◌, ◌∷◌, [], Ok, IfOk, IfErr, IsTrue};
-ghost use Rattle.sqlite_trees.specs.View.{IsClean};
+ghost use Rattle.sqlite_trees.specs.View.{doubt, IsClean};
 ghost use Rattle.sqlite.specs.State.{HasCleanDisk};
 ghost use Rattle.sqlite.specs.Held.{state};
 ghost use Rattle.rows_cell.specs.declared.tables.Rows.{Rows as Held};
@@ -164,9 +164,13 @@ impl<S: Alter + Drop> SqlRecords<S> {
         ensures cell { IfOk result (λ records. records.cell ≡ settings.now.cell) }
         ensures counted { IfOk result (λ records. records.refusals ≡ 0) }
         ensures left { IfOk result (λ records. records.may_leave ≡ records.rows ∷ []) }
-        ensures rows { IfOk result (λ records. records.doubt ≡ 0 → Adopts settings.now (state S.Store conn).committed.trees records.rows) }
+        // What was in doubt stays so; and over a store that never takes a wrong answer as true, as memory, nothing is.
+        ensures doubted { IfOk result (λ records. doubt (state S.Store conn).is_clean ≤ records.doubt) }
+        ensures undoubted { IfOk result (λ records. ((store : S) → IsClean (S.Store.view store)) → records.doubt ≡ 0) }
+        ensures rows { IfOk result (λ records. records.doubt ≡ 0 → Adopts settings.now (state S.Store conn) records.rows) }
+        ensures ours { IfOk result (λ records. records.doubt ≡ 0 → ¬ IsOther (state S.Store conn)) }
         ensures back { IfErr result (λ e. ComesBack S.Store settings.now conn e.1) }
-        ensures damaged { IfErr result (λ e. IsClean (S.Store.view e.1) → e.0 ≡ StoreFault.Damaged → IsOther (state S.Store conn).committed.trees) }
+        ensures damaged { IfErr result (λ e. IsClean (S.Store.view e.1) → e.0 ≡ StoreFault.Damaged → IsOther (state S.Store conn)) }
     {
         let cell = match settings.cell().clone() {
             Ok(cell) => cell,
@@ -199,6 +203,9 @@ impl<S: Alter> SqlRecords<S> {
     /// Gives the connection back. Where it is still open its tables say the rows; and a crash leaves one of the rows that
     /// it may leave.
     pub fn release(self) -> Connection<S>
+        // The doubt of the records is that of the connection's disk: 0 where it took no wrong answer as true.
+        ensures doubted { doubt (state S.Store result).is_clean ≡ self.doubt }
+        ensures settled { HasCleanDisk (state S.Store result) → IsTrue (state S.Store result).is_open → (state S.Store result).committed ≡ (state S.Store result).now }
         ensures says { HasCleanDisk (state S.Store result) → IsTrue (state S.Store result).is_open → Says (tables_of (state S.Store result).now.trees) self.rows }
         ensures left { HasCleanDisk (state S.Store result) → (db : _) → (state S.Store result).may_leave db → IsLeft self.may_leave db }
     {

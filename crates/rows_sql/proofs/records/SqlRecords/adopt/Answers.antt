@@ -4,8 +4,8 @@ use Rattle.sqlite.specs.Held.{state}
 use Rattle.rows_cell.specs.declared.tables.Rows.{Rows}
 use Rattle.rows_cell.specs.declared.records.StoreFault.{StoreFault}
 use Rattle.rows_sql.specs.Keeping.{Stood, stood, Keeps}
-use Rattle.rows_sql.specs.Adopting.{Takes}
-use Rattle.rows_sql.proofs.Adoptions.{keeps_taken}
+use Rattle.rows_sql.specs.Adopting.{Adopts}
+use Rattle.rows_sql.proofs.Adoptions.{keeps_taken, adopts, not_other, is_other}
 use Rattle.rows_sql.proofs.records.SqlRecords.adopt.Goals as goal
 
 pub invariant_of-result : goal.invariant_of-result
@@ -21,7 +21,14 @@ returns-in-Ok-take_over-clause-rows g c clean =
     let opened = c.in-Ok-reopen.ensures.ok in
     let was : HasCleanDisk mid = omega (arith, taken.clean, clean) in
     let is : (stood c.noted-past.result.items).rows ≡ c.in-Ok-take_over.rows = ap (λ (t : Stood). t.rows) c.noted-past.ensures in
-    (mid.now, opened.same was, subst (λ (r : Rows). Takes c.args.settings.now mid.now r) (sym is) (taken.takes clean))
+    subst (λ (r : Rows). Adopts c.args.settings.now (state g.S.Store c.args.conn) r) (sym is) (adopts g.S.Store c.args.settings.now c.args.conn c.in-Ok-reopen.conn c.in-Ok-take_over.rows opened was (taken.takes clean))
+
+pub returns-in-Ok-take_over-clause-ours : goal.returns-in-Ok-take_over-clause-ours
+returns-in-Ok-take_over-clause-ours g c clean =
+    let mid = state g.S.Store c.in-Ok-reopen.conn in
+    let taken = c.in-Ok-take_over.ensures.ok in
+    let was : HasCleanDisk mid = omega (arith, taken.clean, clean) in
+    not_other c.args.settings.now (state g.S.Store c.args.conn) c.in-Ok-take_over.rows (adopts g.S.Store c.args.settings.now c.args.conn c.in-Ok-reopen.conn c.in-Ok-take_over.rows c.in-Ok-reopen.ensures.ok was (taken.takes clean))
 
 pub returns-in-Err-take_over-clause-damaged : goal.returns-in-Err-take_over-clause-damaged
 returns-in-Err-take_over-clause-damaged g c clean is =
@@ -31,4 +38,10 @@ returns-in-Err-take_over-clause-damaged g c clean is =
     let opened = c.in-Ok-reopen.ensures.ok in
     let then : HasCleanDisk (state g.S.Store c.take_over.new.conn) = omega (arith, quiet.clean, clean) in
     let was : HasCleanDisk mid = omega (arith, left.clean, then) in
-    (mid.now, opened.same was, c.take_over.ensures.why then (c.in-Err-take_over.is ∙ ap (λ (f : StoreFault). Err f) is))
+    is_other g.S.Store c.args.conn c.in-Ok-reopen.conn opened was (c.take_over.ensures.why then (c.in-Err-take_over.is ∙ ap (λ (f : StoreFault). Err f) is))
+
+pub returns-in-Ok-take_over-clause-doubted : goal.returns-in-Ok-take_over-clause-doubted
+returns-in-Ok-take_over-clause-doubted g c = omega (arith, c.in-Ok-reopen.ensures.ok.clean, c.in-Ok-take_over.ensures.ok.clean)
+
+pub returns-in-Ok-take_over-clause-undoubted : goal.returns-in-Ok-take_over-clause-undoubted
+returns-in-Ok-take_over-clause-undoubted g c always = always c.take_over.new.conn.store
