@@ -166,8 +166,9 @@ fn is_going(master: &Master, instance: u64) -> bool
 {
     master
         .gate
-        .as_slice()
-        .iter()
+        .changes()
+        .as_map()
+        .values()
         .any(|waiting| tidies(instance, &waiting.change.body))
 }
 

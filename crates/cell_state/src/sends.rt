@@ -169,7 +169,7 @@ impl Master {
     pub fn is_full(&self) -> bool
         ensures { result ≡ is_full self.now }
     {
-        self.gate.as_slice().len() >= PENDING_LIMIT
+        self.gate.len() >= PENDING_LIMIT
     }
 
     /// Whether a count is at its end: of the changes that ever waited, of the rights that were ever granted, or of a
