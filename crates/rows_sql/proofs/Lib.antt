@@ -3,3 +3,4 @@ pub mod Shaped
 pub mod Opened
 pub mod Adoptions
 pub mod StoreCases
+pub mod Closings

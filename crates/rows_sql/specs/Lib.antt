@@ -6,3 +6,4 @@ pub use Rattle.rows_read.specs.Ready
 pub use Rattle.rows_edits.specs.Ongoing
 pub mod Keeping
 pub mod Adopting
+pub mod Closed

@@ -2,6 +2,7 @@
 #![tactic(auto)]
 
 mod adoption;
+mod closing;
 mod records;
 mod steps;
 
