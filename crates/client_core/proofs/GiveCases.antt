@@ -225,7 +225,7 @@ left s now message = session_after (session_then s (noted_moment s now)) s.epoch
 
 -- the later epoch that it tells of
 abbrev tells : ClientState → ℕ → RefusedMessage → Option ℕ
-tells s now message = later_epoch s (noted_moment s now) message.fault
+tells s now message = later_epoch s (noted_moment s now) message.epoch message.fault
 
 stays_case : (s : ClientState) (now : ℕ) (out : Out) (message : RefusedMessage) → IsHeard s now out → out ≡ outs.Refused message → tells s now message ≡ None → left s now message ≡ None → IsGiven s now out (passed_over s (noted_moment s now))
 stays_case s now out message heard is earlier stays = (RefusalDropped message heard is earlier stays, refl)
@@ -249,20 +249,21 @@ without_case s now out message sessions.Live heard is fault at earlier after = l
 without_case s now out message sessions.Lost heard is fault at earlier after = stays_case s now out message heard is earlier after
 without_case s now out message sessions.TurnedAway heard is fault at earlier after = stays_case s now out message heard is earlier after
 
-later_case : (s : ClientState) (now : ℕ) (out : Out) (message : RefusedMessage) (present : ℕ) (b : Bool) → IsHeard s now out → out ≡ outs.Refused message → message.fault ≡ faults.OldEpoch present → IsLive s now → nat_lt s.epoch present ≡ b → tells s now message ≡ cond b (Some present) None → left s now message ≡ None → IsGiven s now out (learn_step s (noted_moment s now) None (cond b (Some present) None))
-later_case s now out message present true heard is fault live h told_of after = (
-  Learns message present heard is (record { fault = fault; live = live; later = less s.epoch present h }),
+later_case : (s : ClientState) (now : ℕ) (out : Out) (message : RefusedMessage) (present : ℕ) (b c : Bool) → IsHeard s now out → out ≡ outs.Refused message → message.fault ≡ faults.OldEpoch present → IsLive s now → nat_le s.epoch message.epoch ≡ b → nat_lt s.epoch present ≡ c → tells s now message ≡ cond (b && c) (Some present) None → left s now message ≡ None → IsGiven s now out (learn_step s (noted_moment s now) None (cond (b && c) (Some present) None))
+later_case s now out message present true true heard is fault live e h told_of after = (
+  Learns message present heard is (record { fault = fault; live = live; epoch = up_to s.epoch message.epoch e; later = less s.epoch present h }),
   in_session s now (λ n. (learned n present, Ok (told s (noted_moment s now) (unknown_lines s.number s.outstanding) None))) live.live,
 )
-later_case s now out message present false heard is fault live h earlier after = stays_case s now out message heard is earlier after
+later_case s now out message present true false heard is fault live e h earlier after = stays_case s now out message heard is earlier after
+later_case s now out message present false c heard is fault live e h earlier after = stays_case s now out message heard is earlier after
 
-old_case : (s : ClientState) (now : ℕ) (out : Out) (message : RefusedMessage) (present : ℕ) (session : Session) → IsHeard s now out → out ≡ outs.Refused message → message.fault ≡ faults.OldEpoch present → session_then s (noted_moment s now) ≡ session → tells s now message ≡ cond (is_live session && nat_lt s.epoch present) (Some present) None → left s now message ≡ None → IsGiven s now out (learn_step s (noted_moment s now) None (cond (is_live session && nat_lt s.epoch present) (Some present) None))
+old_case : (s : ClientState) (now : ℕ) (out : Out) (message : RefusedMessage) (present : ℕ) (session : Session) → IsHeard s now out → out ≡ outs.Refused message → message.fault ≡ faults.OldEpoch present → session_then s (noted_moment s now) ≡ session → tells s now message ≡ cond (is_live session && (nat_le s.epoch message.epoch && nat_lt s.epoch present)) (Some present) None → left s now message ≡ None → IsGiven s now out (learn_step s (noted_moment s now) None (cond (is_live session && (nat_le s.epoch message.epoch && nat_lt s.epoch present)) (Some present) None))
 old_case s now out message present sessions.Unstarted heard is fault at earlier after = stays_case s now out message heard is earlier after
-old_case s now out message present sessions.Live heard is fault at told_of after = later_case s now out message present (nat_lt s.epoch present) heard is fault (lives s now at) refl told_of after
+old_case s now out message present sessions.Live heard is fault at told_of after = later_case s now out message present (nat_le s.epoch message.epoch) (nat_lt s.epoch present) heard is fault (lives s now at) refl refl told_of after
 old_case s now out message present sessions.Lost heard is fault at earlier after = stays_case s now out message heard is earlier after
 old_case s now out message present sessions.TurnedAway heard is fault at earlier after = stays_case s now out message heard is earlier after
 
-refused_case : (s : ClientState) (now : ℕ) (out : Out) (message : RefusedMessage) (fault : Fault) → IsHeard s now out → out ≡ outs.Refused message → message.fault ≡ fault → tells s now message ≡ later_epoch s (noted_moment s now) fault → left s now message ≡ session_after (session_then s (noted_moment s now)) s.epoch message.epoch fault → IsGiven s now out (learn_step s (noted_moment s now) (session_after (session_then s (noted_moment s now)) s.epoch message.epoch fault) (later_epoch s (noted_moment s now) fault))
+refused_case : (s : ClientState) (now : ℕ) (out : Out) (message : RefusedMessage) (fault : Fault) → IsHeard s now out → out ≡ outs.Refused message → message.fault ≡ fault → tells s now message ≡ later_epoch s (noted_moment s now) message.epoch fault → left s now message ≡ session_after (session_then s (noted_moment s now)) s.epoch message.epoch fault → IsGiven s now out (learn_step s (noted_moment s now) (session_after (session_then s (noted_moment s now)) s.epoch message.epoch fault) (later_epoch s (noted_moment s now) message.epoch fault))
 refused_case s now out message faults.NoSession heard is at earlier after = without_case s now out message (session_then s (noted_moment s now)) heard is at refl earlier after
 refused_case s now out message (faults.OldEpoch present) heard is at told_of after = old_case s now out message present (session_then s (noted_moment s now)) heard is at refl told_of after
 refused_case s now out message fault heard is at earlier after = stays_case s now out message heard is earlier after

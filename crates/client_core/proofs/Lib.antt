@@ -5,3 +5,4 @@ pub mod GiveCases
 pub mod Numbered
 pub mod Leases
 pub mod OneEntry
+pub mod Leading

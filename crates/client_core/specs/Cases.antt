@@ -203,10 +203,11 @@ pub record IsLoss (s : ClientState) (now : ℕ) (message : RefusedMessage) : Typ
   pub live : IsLive s now
   pub epoch : s.epoch ≤ message.epoch
 
--- the master is of a later epoch than the client's
+-- the master is of a later epoch than the client's, and the refusal that says so of no earlier one
 pub record IsLater (s : ClientState) (now : ℕ) (message : RefusedMessage) (present : ℕ) : Type 0 where
   pub fault : message.fault ≡ faults.OldEpoch present
   pub live : IsLive s now
+  pub epoch : s.epoch ≤ message.epoch
   pub later : s.epoch < present
 
 pub data GiveCase (s : ClientState) (now : ℕ) (out : Out) : Type 0 where
@@ -233,7 +234,7 @@ pub data GiveCase (s : ClientState) (now : ℕ) (out : Out) : Type 0 where
   Learns : (message : RefusedMessage) (present : ℕ) → IsHeard s now out → out ≡ outs.Refused message → IsLater s now message present → GiveCase s now out
   Lost : (message : RefusedMessage) → IsHeard s now out → out ≡ outs.Refused message → IsLoss s now message → GiveCase s now out
   TurnedAway : (message : RefusedMessage) → IsHeard s now out → out ≡ outs.Refused message → message.fault ≡ faults.NoSession → s.session ≡ sessions.Unstarted → GiveCase s now out
-  RefusalDropped : (message : RefusedMessage) → IsHeard s now out → out ≡ outs.Refused message → later_epoch s (noted_moment s now) message.fault ≡ None → session_after (session_then s (noted_moment s now)) s.epoch message.epoch message.fault ≡ None → GiveCase s now out
+  RefusalDropped : (message : RefusedMessage) → IsHeard s now out → out ≡ outs.Refused message → later_epoch s (noted_moment s now) message.epoch message.fault ≡ None → session_after (session_then s (noted_moment s now)) s.epoch message.epoch message.fault ≡ None → GiveCase s now out
 
 -- what the client is then, and prints
 abbrev pub given_in : (s : ClientState) (now : ℕ) (out : Out) → GiveCase s now out → ClientState × Result Given Fault

@@ -1,5 +1,5 @@
 -- A client is given a message of a master.
-use Rattle.std.specs.Prelude.{ℕ, ◌+◌, ◌==◌, ◌&&◌, nat_lt, max, Bool, true, false, List, [], ◌∷◌, ◌++◌, Option, Some, None, Result, Ok, Err, if◌then◌else◌}
+use Rattle.std.specs.Prelude.{ℕ, ◌+◌, ◌==◌, ◌&&◌, nat_lt, nat_le, max, Bool, true, false, List, [], ◌∷◌, ◌++◌, Option, Some, None, Result, Ok, Err, if◌then◌else◌}
 use Rattle.std.specs.Map.{remove_entry}
 use Rattle.std.specs.BTreeMap.{is_at}
 use Rattle.std.specs.Ordering.{nat_cmp}
@@ -226,10 +226,11 @@ abbrev pub lose_step : ClientState → ℕ → Option Session → ClientState ×
 lose_step s moment None = passed_over s moment
 lose_step s moment (Some session) = (lost (note s moment) session, Ok (told s moment (lines.Lost s.number ∷ []) None))
 
--- the master's epoch, where the refusal tells a client in its session of a later one
-abbrev pub later_epoch : ClientState → ℕ → Fault → Option ℕ
-later_epoch s moment (faults.OldEpoch present) = if is_live (session_then s moment) && nat_lt s.epoch present then Some present else None
-later_epoch s moment _ = None
+-- the master's epoch, where a refusal of no earlier epoch than the client's tells a client in its session of a later one
+abbrev pub later_epoch : ClientState → ℕ → ℕ → Fault → Option ℕ
+later_epoch s moment epoch (faults.OldEpoch present) =
+    if is_live (session_then s moment) && (nat_le s.epoch epoch && nat_lt s.epoch present) then Some present else None
+later_epoch s moment epoch _ = None
 
 -- it takes the epoch, with an empty cache and both its counts at 0
 abbrev pub learned : ClientState → ℕ → ClientState
@@ -241,7 +242,7 @@ learn_step s moment after None = lose_step s moment after
 learn_step s moment after (Some present) = (learned (note s moment) present, Ok (told s moment (unknown_lines s.number s.outstanding) None))
 
 abbrev pub refused_step : ClientState → ℕ → Refused → ClientState × Result Given Fault
-refused_step s moment message = learn_step s moment (session_after (session_then s moment) s.epoch message.epoch message.fault) (later_epoch s moment message.fault)
+refused_step s moment message = learn_step s moment (session_after (session_then s moment) s.epoch message.epoch message.fault) (later_epoch s moment message.epoch message.fault)
 
 -- ---- every message
 

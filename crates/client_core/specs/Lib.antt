@@ -7,7 +7,9 @@ pub use Rattle.client_parts.specs.Moments
 pub use Rattle.client_parts.specs.Leased
 pub use Rattle.client_parts.specs.Invalidations
 pub use Rattle.client_parts.specs.Events
+pub use Rattle.client_parts.specs.Ops as PartOps
 pub use Rattle.cache_core.specs.Caches
+pub use Rattle.cache_core.specs.Changes
 pub use Rattle.cache_core.specs.Kept
 pub use Rattle.cache_core.specs.Standings
 pub use Rattle.messages_cell.specs.Messages
@@ -21,4 +23,5 @@ pub mod Lessons
 pub mod Gives
 pub mod Beats
 pub mod Cases
+pub mod Ops
 pub mod Laws

@@ -161,8 +161,8 @@ impl Client {
     /// counted in the stamp, and the lease runs; never in jeopardy. With the reply that a SetSequencer was done its handle
     /// has the sequencer that the call carried (Burrows 2006, section 2.4).
     ///
-    /// A refusal as OldEpoch that tells a client in its session of a later epoch than its own is how it learns of another
-    /// master (Burrows 2006, section 2.9). It takes that epoch, empties its cache, has processed no invalidation and no
+    /// A refusal as OldEpoch that tells a client in its session of a later epoch than its own, and is of no earlier epoch
+    /// itself, is how it learns of another master (Burrows 2006, section 2.9). It takes that epoch, empties its cache, has processed no invalidation and no
     /// event of it, and gives its outstanding call up as Unknown: that may have been done or not. It stays enabled under
     /// its lease, and its handles stay.
     ///

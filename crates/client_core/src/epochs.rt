@@ -7,17 +7,22 @@ ghost use Rattle.client_core.specs.Gives.{told, later_epoch, learned};
 
 use crate::client::Client;
 use client_parts::{Given, Session, with_unknown};
+use messages_cell::Refused;
 use node_core::Fault;
 use std::alloc::AllocError;
 
 impl Client {
-    // The master's epoch, where the refusal tells of a later one than the client's, in its session.
-    pub(crate) fn later_epoch(&self, moment: u64, fault: Fault) -> Option<u64>
-        ensures { result ≡ later_epoch self.now moment fault }
+    // The master's epoch, where the refusal tells of a later one than the client's, in its session. A refusal that is of an
+    // earlier epoch itself tells nothing.
+    pub(crate) fn later_epoch(&self, moment: u64, refused: &Refused) -> Option<u64>
+        ensures { result ≡ later_epoch self.now moment refused.now.epoch refused.now.fault }
     {
-        let Fault::OldEpoch(present) = fault else {
+        let Fault::OldEpoch(present) = refused.fault else {
             return None;
         };
+        if refused.epoch < self.epoch {
+            return None;
+        }
         if self.session_then(moment) == Session::Live && self.epoch < present {
             Some(present)
         } else {

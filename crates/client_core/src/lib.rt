@@ -10,6 +10,7 @@ mod laws;
 mod lessons;
 mod notes;
 mod offers;
+mod ops;
 mod plans;
 mod poisons;
 mod refusals;

@@ -110,7 +110,7 @@ impl Client {
     }
 
     // The lease that the newest Start or Beat is answered with; None where the span is none.
-    fn offered(&self, span: u64) -> Option<Lease>
+    pub(crate) fn offered(&self, span: u64) -> Option<Lease>
         ensures { result ≡ if is_span span then Some (offered self.now span) else None }
     {
         Lease::new(self.sent, span)

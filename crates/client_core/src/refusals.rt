@@ -23,7 +23,7 @@ impl Client {
         ensures ok { IfOk result (λ given. refused_step self.old moment refused.now ≡ (self.new, Ok given)) }
         ensures err { OnErr result (self.new ≡ self.old) }
     {
-        match self.later_epoch(moment, refused.fault) {
+        match self.later_epoch(moment, refused) {
             Some(present) => self.learn(moment, present),
             None => self.take_loss(moment, refused),
         }

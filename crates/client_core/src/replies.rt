@@ -80,7 +80,7 @@ impl Client {
     }
 
     // What it is for, where it is of the client's epoch and for the outstanding call.
-    fn awaited(&self, moment: u64, reply: &Reply) -> Option<Target>
+    pub(crate) fn awaited(&self, moment: u64, reply: &Reply) -> Option<Target>
         ensures { result ≡ awaited self.now moment reply.now }
     {
         if self.session_then(moment) != Session::Live || reply.epoch != self.epoch {

@@ -8,6 +8,7 @@ use crate::client::Client;
 use crate::plans::Plan;
 use client_parts::{ClientHandle, NodeCall, is_plain, only_reads, served_line};
 use messages_cell::Open;
+use names_cell::Name;
 use node_core::{Answer, Fault, Line, Right, View};
 use std::alloc::AllocError;
 
@@ -36,8 +37,21 @@ impl Client {
     fn serve_read(&self, handle: &ClientHandle, entry: &Option<View>) -> Result<Plan, AllocError>
         ensures { IfOk result (λ plan. plan ≡ serve_read self.now handle.now entry.now) }
     {
-        let line = served_line(self.number.get(), &handle.name, entry)?;
-        Ok(Plan::Serve(line, handle.read_answer(entry)?))
+        let answer = handle.read_answer(entry)?;
+        self.serving(&handle.name, entry, answer)
+    }
+
+    // This answer, with the line of what is cached.
+    fn serving(&self, name: &Name, entry: &Option<View>, answer: Answer) -> Result<Plan, AllocError>
+        ensures { IfOk result (λ plan. plan ≡ plans.Serve (lines.Served self.now.number name.now entry.now) answer) }
+    {
+        match served_line(self.number.get(), name, entry) {
+            Ok(line) => Ok(Plan::Serve(line, answer)),
+            Err(_) => {
+                drop(answer);
+                Err(AllocError)
+            }
+        }
     }
 
     // A plain Open of a name under which absence is cached, or a view of a node to which a handle is kept.
@@ -61,10 +75,7 @@ impl Client {
         ensures { IfOk result (λ plan. plan ≡ entry_served self.now opening.now (Some entry.now)) }
     {
         match entry {
-            None => {
-                let line = served_line(self.number.get(), &opening.name, entry)?;
-                Ok(Some(Plan::Serve(line, Answer::Refused(Fault::NotFound))))
-            }
+            None => Ok(Some(self.serving(&opening.name, entry, Answer::Refused(Fault::NotFound))?)),
             Some(view) => self.handle_shared(opening, view, entry),
         }
     }
@@ -84,10 +95,28 @@ impl Client {
         }
         match self.kept.kept_for(&opening.name, view.instance) {
             Some(handle) => {
-                let line = served_line(self.number.get(), &opening.name, entry)?;
-                Ok(Some(Plan::Share(line, ClientHandle::of(handle, opening, true)?)))
+                let shared = ClientHandle::of(handle, opening, true)?;
+                Ok(Some(self.sharing(&opening.name, entry, shared)?))
             }
             None => Ok(None),
+        }
+    }
+
+    // This handle, with the line of what is cached.
+    fn sharing(
+        &self,
+        name: &Name,
+        entry: &Option<View>,
+        shared: ClientHandle,
+    ) -> Result<Plan, AllocError>
+        ensures { IfOk result (λ plan. plan ≡ plans.Share (lines.Served self.now.number name.now entry.now) shared) }
+    {
+        match served_line(self.number.get(), name, entry) {
+            Ok(line) => Ok(Plan::Share(line, shared)),
+            Err(_) => {
+                drop(shared);
+                Err(AllocError)
+            }
         }
     }
 }

@@ -1,4 +1,5 @@
 pub use Rattle.cache_core.specs.Caches
+pub use Rattle.cache_core.specs.Changes
 pub use Rattle.cache_core.specs.Kept
 pub use Rattle.cache_core.specs.Standings
 pub use Rattle.messages_cell.specs.Messages
@@ -14,3 +15,4 @@ pub mod Leased
 pub mod InOrder
 pub mod Invalidations
 pub mod Events
+pub mod Ops

@@ -1,7 +1,7 @@
 //! Masters and a client by themselves.
 use crate::masters::{new_records, next};
 use client_core::{Ask, Client, Given, NodeCall, Outcome};
-use messages_cell::{Alive, Call, CallMessage, Open, Out, Request, Started};
+use messages_cell::{Alive, Call, CallMessage, Open, Out, Refused, Request, Started};
 use names_cell::{Name, Principal};
 use plain::Items;
 use rows_cell::ListRecords;
@@ -37,6 +37,8 @@ enum Turn {
     Started(u64),
     // An Alive for the Beat behind it, with its epoch and its span.
     Alive(u64, u64),
+    // A refusal as OldEpoch, with its epoch and the one that it tells of.
+    OldEpoch(u64, u64),
     Read,
     Open,
     // The same message comes again.
@@ -70,6 +72,23 @@ const CLIENTS: &[(&str, &[(Turn, &str)])] = &[
             (Turn::Alive(1, 0x20_0000_0000_0000), "ProtocolFault"),
             (Turn::Alive(2, 0x20_0000_0000_0000), "no line"),
             (Turn::Alive(1, 0x1f_ffff_ffff_ffff), "no line"),
+        ],
+    ),
+    // Of which epoch the client is shows by the span that no master offers: an Alive of another epoch is dropped.
+    (
+        "later_epoch_out_of_an_older_message",
+        &[
+            (Turn::Beat, "start 1"),
+            (Turn::OldEpoch(0, 2), "no line"),
+            (Turn::Started(12_000), "no line"),
+            (Turn::OldEpoch(0, 2), "no line"),
+            (Turn::Alive(2, 0x20_0000_0000_0000), "no line"),
+            (Turn::Alive(1, 0x20_0000_0000_0000), "ProtocolFault"),
+            (Turn::OldEpoch(2, 2), "no line"),
+            (Turn::Alive(1, 0x20_0000_0000_0000), "no line"),
+            (Turn::Alive(2, 0x20_0000_0000_0000), "ProtocolFault"),
+            (Turn::OldEpoch(1, 3), "no line"),
+            (Turn::Alive(2, 0x20_0000_0000_0000), "ProtocolFault"),
         ],
     ),
     (
@@ -108,6 +127,15 @@ fn alive(alloc: Global, epoch: u64, span: u64) -> Result<Out, Fail> {
         span,
         invalidations: Items::new(alloc),
         events: Items::new(alloc),
+    }))
+}
+
+fn old_epoch(epoch: u64, present: u64) -> Result<Out, Fail> {
+    Ok(Out::Refused(Refused {
+        client: ClientNumber::new(1).ok_or("client")?,
+        epoch,
+        number: MessageNumber::new(1).ok_or("number")?,
+        fault: Fault::OldEpoch(present),
     }))
 }
 
@@ -160,6 +188,11 @@ fn give_alive(
 ) -> Result<&'static str, Fail> {
     let alive = alive(alloc, epoch, span)?;
     Ok(give(client, &alive))
+}
+
+fn give_old_epoch(client: &mut Client, epoch: u64, present: u64) -> Result<&'static str, Fail> {
+    let refused = old_epoch(epoch, present)?;
+    Ok(give(client, &refused))
 }
 
 fn again(client: &Client) -> &'static str {
@@ -231,6 +264,7 @@ fn answer(alloc: Global, client: &mut Client, turn: Turn) -> Result<&'static str
         Turn::Beat => Ok(beat(client)),
         Turn::Started(span) => give_started(client, span),
         Turn::Alive(epoch, span) => give_alive(alloc, client, epoch, span),
+        Turn::OldEpoch(epoch, present) => give_old_epoch(client, epoch, present),
         Turn::Read => Ok(ask(client, &Ask::Node(1, NodeCall::Read))),
         Turn::Open => open(alloc, client),
         Turn::Again => Ok(again(client)),

@@ -1,0 +1,183 @@
+-- The changes of the cache that are asked for before a step lead to the cache behind it.
+use Rattle.std.proofs.Common.{◌≡◌, ℕ, ◌+◌, ◌<◌, Bool, true, false, cond, List, [], ◌∷◌, ◌++◌, Option, Some, None, Result, Ok, Err, refl, sym, ap, ◌∙◌, subst, arith}
+use Rattle.std.specs.Prelude.{◌==◌, ◌&&◌, nat_lt, IfOk}
+use Rattle.std.proofs.lemmas.Bool.Decides.{nat_tests}
+use Rattle.std.proofs.lemmas.List.Sums.{fold-append}
+use Rattle.lease_core.specs.Lease.{LeaseTerms, moment_limit, is_unexpired}
+use Rattle.cache_core.specs.Caches.{CacheState, takes_lease, flushed}
+use Rattle.cache_core.specs.Changes.{applied, applied_all}
+use Rattle.cache_core.specs.declared.changes.CacheOp.{CacheOp}
+use Rattle.cache_core.specs.declared.changes.CacheOp.TheVariants.{Flush, Clear}
+use Rattle.node_core.specs.declared.refusals.Fault.{Fault}
+use Rattle.node_core.specs.declared.refusals.Fault.TheVariants as faults
+use Rattle.messages_cell.specs.declared.beats.Alive.{Alive}
+use Rattle.messages_cell.specs.declared.beats.Invalidation.{Invalidation}
+use Rattle.messages_cell.specs.declared.outs.CallResult.{CallResult}
+use Rattle.messages_cell.specs.declared.outs.CallResult.TheVariants as results
+use Rattle.client_parts.specs.declared.asks.Ask.{Ask}
+use Rattle.client_parts.specs.declared.targets.Target.{Target}
+use Rattle.client_parts.specs.Invalidations.{all_flushed}
+use Rattle.client_parts.specs.Leased.{under}
+use Rattle.client_parts.specs.Moments.{moment}
+use Rattle.client_parts.specs.Ops.{losses, with_flushes, lease_ops}
+use Rattle.client_core.specs.State.{ClientState, note_in, note}
+use Rattle.client_core.specs.Asks.{ask_step}
+use Rattle.client_core.specs.Beats.{beat_step}
+use Rattle.client_core.specs.Gives.{offered, takes_offer, with_processed, with_lease, ended_plainly}
+use Rattle.client_core.specs.Ops.{LeadTo}
+use Rattle.client_core.specs.Cases.{noted_moment, IsSafe, AskCase, asked_in, BeatCase, beaten_in}
+use Rattle.client_core.specs.Cases.AskCase.{AskedTooLate, Unsafe, Refused, ReadServed, AbsenceServed, Shared, OutOfHandles, Released, OutOfCalls, Sent, Poisoned}
+use Rattle.client_core.specs.Cases.BeatCase.{BeatTooLate, OutOfBeats, Starts, Beats, Quiet}
+use Rattle.client_core.proofs.Noting.{relied_note}
+use Rattle.client_core.proofs.AskCases.{ask_case, beat_case}
+use Rattle.client_core.proofs.Leases.{note_keeps}
+
+-- ---- lists of changes
+
+-- one more change, done behind the others
+pub and_then : (cache : CacheState) (ops : List CacheOp) (more : List CacheOp) (behind : CacheState) → applied_all cache ops ≡ behind → applied_all cache (ops ++ more) ≡ applied_all behind more
+and_then cache ops more behind h = fold-append applied cache ops more ∙ ap (λ c. applied_all c more) h
+
+-- what is emptied and disabled
+pub loses : (cache : CacheState) (ops : List CacheOp) (behind : CacheState) → applied_all cache ops ≡ behind → applied_all cache (ops ++ losses) ≡ record behind { entries = []; enabled = false }
+loses cache ops behind h = and_then cache ops losses behind h
+
+pub clears : (cache : CacheState) (ops : List CacheOp) (behind : CacheState) → applied_all cache ops ≡ behind → applied_all cache (ops ++ Clear ∷ []) ≡ record behind { entries = [] }
+clears cache ops behind h = and_then cache ops (Clear ∷ []) behind h
+
+flushes_if : (b : Bool) (cache : CacheState) (ops : List CacheOp) (behind : CacheState) (name : List ℕ) → applied_all cache ops ≡ behind → applied_all cache (cond b (ops ++ Flush name ∷ []) ops) ≡ record behind { entries = cond b (flushed behind.entries name) behind.entries }
+flushes_if true cache ops behind name h = and_then cache ops (Flush name ∷ []) behind h
+flushes_if false cache ops behind name h = h
+
+-- what invalidations take away
+pub flushes : (processed : ℕ) (cache : CacheState) (ops : List CacheOp) (behind : CacheState) (all : List Invalidation) → applied_all cache ops ≡ behind → applied_all cache (with_flushes processed ops all) ≡ record behind { entries = all_flushed processed behind.entries all }
+flushes processed cache ops behind [] h = h
+flushes processed cache ops behind (next ∷ others) h =
+    let b = nat_lt processed next.number in
+    flushes processed cache (cond b (ops ++ Flush next.name ∷ []) ops) (record behind { entries = cond b (flushed behind.entries next.name) behind.entries }) others (flushes_if b cache ops behind next.name h)
+
+leases_by : (b : Bool) (behind : CacheState) (lease : LeaseTerms) (moment : ℕ) → is_unexpired lease.sent lease.span moment ≡ b → applied_all behind (lease_ops lease moment) ≡ under behind lease moment
+leases_by true behind lease moment h = rw h refl
+leases_by false behind lease moment h = rw h refl
+
+-- what a lease makes of a cache
+pub leases : (cache : CacheState) (ops : List CacheOp) (behind : CacheState) (lease : LeaseTerms) (moment : ℕ) → applied_all cache ops ≡ behind → applied_all cache (ops ++ lease_ops lease moment) ≡ under behind lease moment
+leases cache ops behind lease moment h = and_then cache ops (lease_ops lease moment) behind h ∙ leases_by (is_unexpired lease.sent lease.span moment) behind lease moment refl
+
+-- ---- an Alive
+
+-- a client that differs from another one in neither its Beats nor its lease takes the same offers
+offer_same : (s n : ClientState) (message : Alive) → n.beats ≡ s.beats → n.sent ≡ s.sent → n.cache.lease ≡ s.cache.lease → takes_offer (with_processed n message) message ≡ takes_offer s message
+offer_same s n message beats sent lease =
+    ap (λ x. message.number == x && takes_lease n.cache.lease (offered n message.span)) beats
+    ∙ (ap (λ x. message.number == s.beats && takes_lease x (offered n message.span)) lease ∙ ap (λ x. message.number == s.beats && takes_lease s.cache.lease (record { sent = x; span = message.span })) sent)
+
+processed_cache : (s n : ClientState) (message : Alive) (ops : List CacheOp) → applied_all s.cache ops ≡ n.cache → n.processed ≡ s.processed → applied_all s.cache (with_flushes s.processed ops message.invalidations) ≡ (with_processed n message).cache
+processed_cache s n message ops h processed = flushes s.processed s.cache ops n.cache message.invalidations h ∙ ap (λ x. record n.cache { entries = all_flushed x n.cache.entries message.invalidations }) (sym processed)
+
+taken_cache : (p : ClientState) (moment : ℕ) (message : Alive) (b : Bool) → b ≡ true → takes_offer p message ≡ b → under p.cache (offered p message.span) moment ≡ (with_lease p moment message).cache
+taken_cache p moment message true h is = rw is refl
+taken_cache p moment message false h is = cc
+
+left_cache : (p : ClientState) (moment : ℕ) (message : Alive) (b : Bool) → b ≡ false → takes_offer p message ≡ b → p.cache ≡ (with_lease p moment message).cache
+left_cache p moment message true h is = cc
+left_cache p moment message false h is = rw is refl
+
+-- the offer isn't taken
+pub stays_under : (s : ClientState) (moment : ℕ) (message : Alive) (ops : List CacheOp) → applied_all s.cache ops ≡ (note s moment).cache → takes_offer s message ≡ false → applied_all s.cache (with_flushes s.processed ops message.invalidations) ≡ (with_lease (with_processed (note s moment) message) moment message).cache
+stays_under s moment message ops h worse =
+    let k = note_keeps s moment in
+    let n = note s moment in
+    let p = with_processed n message in
+    let same = offer_same s n message k.of_beats.beats k.of_beats.sent k.of_session.lease ∙ worse in
+    processed_cache s n message ops h k.of_session.processed ∙ left_cache p moment message (takes_offer p message) same refl
+
+-- it is
+pub goes_under : (s : ClientState) (moment : ℕ) (message : Alive) (ops : List CacheOp) → applied_all s.cache ops ≡ (note s moment).cache → takes_offer s message ≡ true → applied_all s.cache (with_flushes s.processed ops message.invalidations ++ lease_ops (offered s message.span) moment) ≡ (with_lease (with_processed (note s moment) message) moment message).cache
+goes_under s moment message ops h better =
+    let k = note_keeps s moment in
+    let n = note s moment in
+    let p = with_processed n message in
+    let same = offer_same s n message k.of_beats.beats k.of_beats.sent k.of_session.lease ∙ better in
+    leases s.cache (with_flushes s.processed ops message.invalidations) p.cache (offered s message.span) moment (processed_cache s n message ops h k.of_session.processed)
+    ∙ (ap (λ x. under p.cache (record { sent = x; span = message.span }) moment) (sym k.of_beats.sent) ∙ taken_cache p moment message (takes_offer p message) same refl)
+
+-- ---- a Reply
+
+-- its end leaves the cache
+pub plainly : (n : ClientState) (target : Target) (result : CallResult) → (ended_plainly n target result).cache ≡ n.cache
+plainly n target (results.Opened handle) = refl
+plainly n target results.Closed = refl
+plainly n target (results.Viewed view) = refl
+plainly n target (results.Stated stat) = refl
+plainly n target (results.Names names) = refl
+plainly n target (results.Sequencer bytes) = refl
+plainly n target results.Done = refl
+plainly n target (results.Refused fault) = refl
+
+-- a step that may be refused
+pub leads_if : {X : Type 0} (b : Bool) (cache : CacheState) (ops : List CacheOp) (new old : ClientState) (answer : X) (fault : Fault) → applied_all cache ops ≡ new.cache → LeadTo cache ops (cond b (new, Ok answer) (old, Err fault))
+leads_if true cache ops new old answer fault h = h
+leads_if false cache ops new old answer fault h = tt
+
+-- what follows of each success follows of this one
+pub if_ok : {A E : Type 0} (r : Result A E) (P Q : A → Type 0) → ((x : A) → P x → Q x) → IfOk r P → IfOk r Q
+if_ok (Ok x) P Q f h = f x h
+if_ok (Err e) P Q f h = tt
+
+-- ---- ask and beat
+
+safe_cache : (s : ClientState) (now : ℕ) → IsSafe s now → (note s (noted_moment s now)).cache ≡ s.cache
+safe_cache s now safe = ap (λ (n : ClientState). n.cache) (relied_note s (noted_moment s now) (record { live = safe.live; safe = safe.safe; leased = safe.leased }))
+
+-- the changes of the noting of the time, where that is noted
+abbrev pub IsNoting : ClientState → ℕ → List CacheOp → Type 0
+IsNoting s now ops = now < moment_limit → applied_all s.cache ops ≡ (note s (noted_moment s now)).cache
+
+safely_leads : (s : ClientState) (now : ℕ) (ops : List CacheOp) → IsNoting s now ops → IsSafe s now → applied_all s.cache ops ≡ s.cache
+safely_leads s now ops h safe = h safe.early ∙ safe_cache s now safe
+
+asked_leads : (s : ClientState) (now : ℕ) (ask : Ask) (ops : List CacheOp) (c : AskCase s now ask) → IsNoting s now ops → LeadTo s.cache ops (asked_in s now ask c)
+asked_leads s now ask ops (AskedTooLate late) h = tt
+asked_leads s now ask ops (Unsafe fault early is) h = h early
+asked_leads s now ask ops (Refused fault safe is) h = safely_leads s now ops h safe
+asked_leads s now ask ops (ReadServed number handle entry safe is readable) h = safely_leads s now ops h safe
+asked_leads s now ask ops (AbsenceServed opening safe is plain cached) h = safely_leads s now ops h safe
+asked_leads s now ask ops (Shared opening view handle safe is shared room) h = safely_leads s now ops h safe
+asked_leads s now ask ops (OutOfHandles opening view handle safe is shared last) h = tt
+asked_leads s now ask ops (Released number handle safe is found shared) h = safely_leads s now ops h safe
+asked_leads s now ask ops (OutOfCalls call sequencer target sendable last) h = tt
+asked_leads s now ask ops (Sent call sequencer target sendable room) h = safely_leads s now ops h sendable.safe
+asked_leads s now ask ops (Poisoned number handle safe is usable) h = safely_leads s now ops h safe
+
+moment_in : (b : Bool) (m n : ℕ) (fault : Fault) → b ≡ true → Ok m ≡ cond b (Ok n) (Err fault) → m ≡ n
+moment_in true m n fault h e = cc
+moment_in false m n fault h e = cc
+
+no_moment_in : (b : Bool) (n : ℕ) (fault other : Fault) → b ≡ true → Err other ≡ cond {A = Result ℕ Fault} b (Ok n) (Err fault) → ⊥
+no_moment_in true n fault other h e = cc
+no_moment_in false n fault other h e = cc
+
+in_time : (now : ℕ) → now < moment_limit → nat_lt now moment_limit ≡ true
+in_time now early = grind (arith, nat_tests)
+
+-- the moment that is noted is the one of the cases
+pub noting : (s : ClientState) (now m : ℕ) (ops : List CacheOp) → Ok m ≡ moment s.clock now → applied_all s.cache ops ≡ (note s m).cache → IsNoting s now ops
+noting s now m ops is h early = h ∙ ap (λ x. (note s x).cache) (moment_in (nat_lt now moment_limit) m (noted_moment s now) faults.Exhausted (in_time now early) is)
+
+-- none is noted
+pub no_noting : (s : ClientState) (now : ℕ) (fault : Fault) (ops : List CacheOp) → Err fault ≡ moment s.clock now → IsNoting s now ops
+no_noting s now fault ops is early = absurd (no_moment_in (nat_lt now moment_limit) (noted_moment s now) faults.Exhausted fault (in_time now early) is)
+
+pub ask_leads : (s : ClientState) (now : ℕ) (ask : Ask) (ops : List CacheOp) → IsNoting s now ops → LeadTo s.cache ops (ask_step s now ask)
+ask_leads s now ask ops h = let c = ask_case s now ask in subst (LeadTo s.cache ops) (sym c.1) (asked_leads s now ask ops c.0 h)
+
+beaten_leads : (s : ClientState) (now : ℕ) (ops : List CacheOp) (c : BeatCase s now) → IsNoting s now ops → LeadTo s.cache ops (beaten_in s now c)
+beaten_leads s now ops (BeatTooLate late) h = tt
+beaten_leads s now ops (OutOfBeats early last) h = tt
+beaten_leads s now ops (Starts early unstarted room) h = h early ∙ ap (λ x. (note_in x s (noted_moment s now)).cache) unstarted
+beaten_leads s now ops (Beats early live then room) h = h early ∙ ap (λ x. (note_in x s (noted_moment s now)).cache) live
+beaten_leads s now ops (Quiet early started live) h = h early
+
+pub beat_leads : (s : ClientState) (now : ℕ) (ops : List CacheOp) → IsNoting s now ops → LeadTo s.cache ops (beat_step s now)
+beat_leads s now ops h = let c = beat_case s now in subst (LeadTo s.cache ops) (sym c.1) (beaten_leads s now ops c.0 h)
