@@ -3,6 +3,7 @@ use crate::masters::{new_records, next};
 use client_core::{Ask, Client, Given, NodeCall, Outcome};
 use messages_cell::{Alive, Call, CallMessage, Open, Out, Refused, Request, Started};
 use names_cell::{Name, Principal};
+use node_core::Fault;
 use plain::Items;
 use rows_cell::ListRecords;
 use std::alloc::Global;
