@@ -1,2 +1,3 @@
 pub mod MemberAnswers
 pub mod MembersMove
+pub mod FairTicks

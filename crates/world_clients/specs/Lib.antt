@@ -6,3 +6,4 @@ pub use Rattle.client_core.specs.Beats
 pub use Rattle.client_core.specs.Gives
 pub mod Messages
 pub mod Members
+pub mod Lives
