@@ -141,7 +141,7 @@ turn_sweeps s none = ap (λ o. unwrap_or o steps.Sweep) none
 
 pub swept_made : (old new : WorldView) (marks : List Bool) (r : Result SweepResult Fault) → first_waiting old.world.messages marks 1 ≡ None → IfOk r (λ turn. world_sweep old.world old.world.master ≡ Ok (new.world, turn)) → OnOk r (IsStored (step_edits old.world steps.Sweep) old new) → IfOk r (λ turn. PlaysMade (played old marks) (turn_step (played old marks)) (played new marks) turn.lines)
 swept_made old new marks (Ok turn) none made stored =
-    rw (turn_sweeps (played old marks) none) (record { made = (old, refl, record { is_step = step_sweeps old.world ∙ ap without_quiet made; stored = stored }); delivered = refl })
+    rw (turn_sweeps (played old marks) none) (record { made = (old, refl, record { typed = tt; is_step = step_sweeps old.world ∙ ap without_quiet made; stored = stored }); delivered = refl })
 swept_made old new marks (Err fault) none made stored = tt
 
 pub swept_quiet : (w : WorldView) (new : WorldState) (marks : List Bool) (r : Result SweepResult Fault) → first_waiting w.world.messages marks 1 ≡ None → IfOk r (λ turn. world_sweep w.world w.world.master ≡ Ok (new, turn)) → IfOk r (λ turn. turn.quiet ≡ is_idle (played w marks))

@@ -33,3 +33,4 @@ pub use Rattle.world_laws.specs.Runs
 pub use Rattle.world_laws.specs.Served
 pub use Rattle.world_laws.specs.Locks
 pub use Rattle.world_laws.specs.Told
+pub use Rattle.world_laws.specs.Laws as RunLaws

@@ -11,6 +11,7 @@ ghost use Rattle.world_core.specs.Made.{WasRefused, AnyStep};
 ghost use Rattle.world_laws.specs.Served.{ServesPresentByThen};
 ghost use Rattle.world_laws.specs.Locks.{HasLegalLocks, NoGenerationTwice};
 ghost use Rattle.world_laws.specs.Told.{ShowsNoOlder};
+ghost use Rattle.world_laws.specs.Laws.{HoldsOfRuns};
 
 use crate::worlds::World;
 use node_core::{Fault, Line};
@@ -87,6 +88,15 @@ impl<R: Records + Drop> World<R> {
             Ok(lines) => Ok(lines),
             Err(fault) => refused(self.alloc(), fault),
         }
+    }
+
+    /// What holds of every run that begins with this world, by whichever calls of `step`, `sweep` and `run` it is done: all
+    /// that stands at `run`. Does nothing.
+    #[tactic(auto, using(world_laws::proofs::LawsOfRuns::runs_hold))]
+    pub fn runs_hold(&self)
+        ensures { HoldsOfRuns self.now }
+    {
+        self.consistent();
     }
 
     // What holds of every world in which nothing is in doubt.

@@ -8,7 +8,7 @@ use Rattle.cell_state.specs.State.{MasterState}
 use Rattle.world_clients.specs.declared.steps.Step.{Step}
 use Rattle.world_clients.specs.declared.steps.Step.TheVariants as steps
 use Rattle.world_core.specs.World.{WorldView, IsUndoubted, store_in, as_read, IsAtUp, IsAt, world_step, step_edits, IsStored, IsLeft, MayRefuseStep}
-use Rattle.world_core.specs.Made.{IsMade, IsRefused, Does, WasMade, WasRefused, AnyStep}
+use Rattle.world_core.specs.Made.{IsTyped, IsMade, IsRefused, Does, WasMade, WasRefused, AnyStep}
 
 -- ---- the world of a step
 
@@ -45,6 +45,11 @@ at_sure _ old at h none = h
 
 -- ---- a step
 
+-- most steps have nothing to say of types
+pub untyped : {X E : Type 0} (r : Result X E) → OnOk r (Unit {0})
+untyped (Ok x) = tt
+untyped (Err e) = tt
+
 module _ (old : WorldView) (step : Step) (new : WorldView) where
   pub made_doubts : (printed : List Line) → WasMade old step new printed → old.doubt ≤ new.doubt
   made_doubts printed h = let a = at_doubts step old h.0 h.1 in let b = h.2.stored.doubted in omega arith
@@ -73,9 +78,9 @@ module _ (old : WorldView) (step : Step) (new : WorldView) where
   step_sure printed (inr h) none = inr (refused_sure printed h none)
 
   -- a step by the world of before
-  pub made_now : (r : Result (List Line) Fault) → IfOk r (λ printed. world_step old.world step ≡ Ok (new.world, printed)) → OnOk r (IsStored (step_edits old.world step) old new) → IfOk r (λ printed. WasMade old step new printed)
-  made_now (Ok printed) made stored = (old, at_now step old, record { is_step = made; stored = stored })
-  made_now (Err fault) made stored = tt
+  pub made_now : (r : Result (List Line) Fault) → IfOk r (λ printed. world_step old.world step ≡ Ok (new.world, printed)) → OnOk r (IsTyped old.world step) → OnOk r (IsStored (step_edits old.world step) old new) → IfOk r (λ printed. WasMade old step new printed)
+  made_now (Ok printed) made typed stored = (old, at_now step old, record { is_step = made; typed = typed; stored = stored })
+  made_now (Err fault) made typed stored = tt
 
   pub refused_now : (r : Result (List Line) Fault) → IfErr r (λ e. MayRefuseStep (world_step old.world step) step e old new) → OnErr r (IsLeft (step_edits old.world step) old new) → IfErr r (λ e. WasRefused old step new (lines.Refused e ∷ []))
   refused_now (Ok printed) why left = tt

@@ -65,6 +65,7 @@ kept_by old now master after none h =
       read_at old old.world.master h.read none h.was_read,
       record {
         is_step = cut_as at.world now Kept (Ok master) none h.came ∙ sym (ap (λ c. made c after.rows) h.committed.cell ∙ ap (λ r. made h.read.cell r) h.committed.rows);
+        typed = tt;
         stored = subst (λ e. IsStored e at (as_read old after)) (sym edits) (record { leave = h.committed.leave; counted = h.committed.counted; doubted = h.committed.doubted });
       },
     )
@@ -78,6 +79,7 @@ lost_by old now read none h =
       read_at old old.world.master read none h.was_read,
       record {
         is_step = cut_as at.world now Lost _ none (h.comes old.world.lease);
+        typed = tt;
         stored = record { leave = refl; counted = refl; doubted = omega arith };
       },
     )

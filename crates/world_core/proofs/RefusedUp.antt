@@ -8,15 +8,17 @@ use Rattle.node_core.specs.declared.lines.Line.{Line}
 use Rattle.node_core.specs.declared.lines.Line.TheVariants as lines
 use Rattle.rows_cell.specs.declared.tables.Rows.{Rows}
 use Rattle.rows_cell.specs.declared.tables.Edit.{Edit}
+use Rattle.rows_cell.specs.Rows.{changed_rows}
 use Rattle.rows_cell.specs.Stores.{Store, IsRead, IsUnread, MayLeave, MayRefuse, IsRefused as Uncommitted}
 use Rattle.cell_state.specs.State.{MasterState}
 use Rattle.cell_core.specs.Step.{is_past_end}
+use Rattle.sweep_laws.specs.Kept.{IsKept}
 use Rattle.sweep_laws.specs.Up.{up_step, up_edits, up_commit, ComesUp, IsKeptDown, StaysDown}
 use Rattle.world_clients.specs.declared.mail.Message.{Message}
 use Rattle.world_clients.specs.declared.steps.Step.TheVariants as steps
 use Rattle.world_clients.specs.Members.{Clients, each_member, at_up}
 use Rattle.world_core.specs.World.{WorldState, WorldView, Outcome, store_in, held, view_of, as_read, came_up, world_step, world_up, came_up_edits, step_edits, IsAtUp, IsStored, IsOutsideUp}
-use Rattle.world_core.specs.Made.{WasMade, WasRefused}
+use Rattle.world_core.specs.Made.{AreInOrder, WasMade, WasRefused}
 use Rattle.world_core.proofs.AsRead.{at_now}
 
 -- with no master, the store is with the records
@@ -61,15 +63,17 @@ module _ (old : WorldView) (now : ℕ) (none : old.world.master ≡ None) where
   unfolding world_step
   came_as w master down came = steps_up w now w.master down ∙ ap (came_up w now) came
 
-  made_by : (master : MasterState) (after : Store) → ComesUp old.world.lease now master (store_in old) after → WasMade old (steps.Up now) (with_master old now after master) (lines.Up master.epoch ∷ [])
-  made_by master after h =
+  made_by : (master : MasterState) (after : Store) → ComesUp old.world.lease now master (store_in old) after → AreInOrder after.rows → WasMade old (steps.Up now) (with_master old now after master) (lines.Up master.epoch ∷ [])
+  made_by master after h order =
       let at : WorldView = as_read old h.read in
+      let ordered : AreInOrder (changed_rows h.read.rows (up_edits h.read.rows)) = subst AreInOrder h.committed.rows order in
       let made : List ℕ → Rows → Outcome = λ cell rows. Ok (record (with_master old now after master).world { cell = cell; rows = rows }, lines.Up master.epoch ∷ []) in
       let edits : step_edits at.world (steps.Up now) ≡ up_edits h.read.rows = edits_up at.world now at.world.master none ∙ ap (λ r. up_commit r h.read.rows) h.came in (
         at,
         read_at old old.world.master h.read none h.was_read,
         record {
           is_step = came_as at.world master none h.came ∙ sym (ap (λ c. made c after.rows) h.committed.cell ∙ ap (λ r. made h.read.cell r) h.committed.rows);
+          typed = record { names = ordered.names; sessions = ordered.sessions; locks = ordered.locks };
           stored = subst (λ e. IsStored e at (with_master old now after master)) (sym edits) (record { leave = h.committed.leave; counted = h.committed.counted; doubted = h.committed.doubted });
         },
       )
@@ -153,10 +157,11 @@ module _ (old : WorldView) (now : ℕ) (none : old.world.master ≡ None) where
 -- ---- the same of a world whose parts are known
 
 module _ (old new : WorldView) (now lease : ℕ) (before after : Store) (none : old.world.master ≡ None) (is_old : store_in old ≡ before) (is_lease : old.world.lease ≡ lease) where
-  pub came_up_made : (master : MasterState) (printed : List Line) → ComesUp lease now master before after → new ≡ with_master old now after master → printed ≡ lines.Up master.epoch ∷ [] → WasMade old (steps.Up now) new printed
-  came_up_made master printed h is tells =
+  pub came_up_made : (master : MasterState) (printed : List Line) → ComesUp lease now master before after → IsKept after.cell after.rows master → new ≡ with_master old now after master → printed ≡ lines.Up master.epoch ∷ [] → WasMade old (steps.Up now) new printed
+  came_up_made master printed h kept is tells =
+      let order : AreInOrder after.rows = record { names = kept.names_in_order; sessions = kept.sessions_in_order; locks = kept.locks_in_order } in
       let from : ComesUp old.world.lease now master (store_in old) after = subst (λ l. ComesUp l now master (store_in old) after) (sym is_lease) (subst (λ s. ComesUp lease now master s after) (sym is_old) h) in
-      subst (λ w. WasMade old (steps.Up now) w printed) (sym is) (subst (λ p. WasMade old (steps.Up now) (with_master old now after master) p) (sym tells) (made_by old now none master after from))
+      subst (λ w. WasMade old (steps.Up now) w printed) (sym is) (subst (λ p. WasMade old (steps.Up now) (with_master old now after master) p) (sym tells) (made_by old now none master after from order))
 
   pub refused_up : (fault : Fault) → StaysDown lease now fault before after → store_in new ≡ after → new ≡ as_read old (store_in new) → WasRefused old (steps.Up now) new (lines.Refused fault ∷ [])
   refused_up fault h is_new is =

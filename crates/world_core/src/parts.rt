@@ -3,7 +3,7 @@ ghost use Rattle.lease_core.specs.Lease.{longest_lease};
 ghost use Rattle.std.specs.Prelude.{◌≡◌, ◌≤◌, ◌<◌, ◌+◌, ◌∷◌, ◌++◌, [], length, filter, false, Some, None, Ok, Err, IfOk, IfErr, OnOk, OnErr, is_some};
 ghost use Rattle.std.specs.Vec.{vec_len, vec_capacity};
 ghost use Rattle.world_core.specs.World.{opened, store_in, with_refusal, world_join, world_ask, world_beat, world_tick, world_take, world_give, world_sweep, world_down, without_master, is_of_commit, world_cut_sweep, moves_nobody, are_fair, goes_past_end, ticked, step_edits, IsStored, IsLeft, MayRefuseStep, Agrees};
-ghost use Rattle.world_core.specs.Made.{WasMade, WasRefused};
+ghost use Rattle.world_core.specs.Made.{IsTyped, WasMade, WasRefused};
 
 use client_core::{Ask, Asked, Beaten, Given, Outcome};
 use lease_core::MOMENT_LIMIT;
@@ -75,7 +75,7 @@ impl<R: Records + Drop> WorldParts<R> {
 
     /// One step, by the table of steps. What a client refuses by itself is no refusal of the step: it is a line, and the last
     /// one. A refusal changes nothing but perhaps the store's count of its refusals, or what was read.
-    #[tactic(auto, using(crate::proofs::AsRead::made_now, crate::proofs::AsRead::refused_now), unfolding(crate::specs::World::world_step))]
+    #[tactic(auto, using(crate::proofs::AsRead::made_now, crate::proofs::AsRead::untyped, crate::proofs::AsRead::refused_now), unfolding(crate::specs::World::world_step))]
     pub fn step(&mut self, step: &Step) -> Result<Items<Line>, Fault>
         ensures made { IfOk result (λ lines. WasMade self.old step.now self.new lines) }
         ensures refused { IfErr result (λ e. WasRefused self.old step.now self.new (Line.Refused e ∷ [])) }
@@ -160,7 +160,7 @@ impl<R: Records + Drop> WorldParts<R> {
         }
     }
 
-    #[tactic(auto, using(crate::proofs::AsRead::made_now, crate::proofs::AsRead::refused_now), unfolding(crate::specs::World::world_step))]
+    #[tactic(auto, using(crate::proofs::AsRead::made_now, crate::proofs::AsRead::untyped, crate::proofs::AsRead::refused_now), unfolding(crate::specs::World::world_step))]
     fn up(&mut self, now: u64) -> Result<Items<Line>, Fault>
         ensures made { IfOk result (λ lines. WasMade self.old (Step.Up now) self.new lines) }
         ensures refused { IfErr result (λ e. WasRefused self.old (Step.Up now) self.new (Line.Refused e ∷ [])) }
@@ -171,6 +171,7 @@ impl<R: Records + Drop> WorldParts<R> {
             None => Err(Fault::MasterUp),
             Some(records) => match Cell::up(self.alloc, records, self.lease, now) {
                 Ok(cell) => {
+                    cell.kept();
                     lines.set(0, Line::Up(cell.epoch()));
                     drop(self.master.replace(cell));
                     self.clock = now;
@@ -204,7 +205,7 @@ impl<R: Records + Drop> WorldParts<R> {
     }
 
     // A sweep that a crash cuts.
-    #[tactic(auto, using(crate::proofs::AsRead::made_now, crate::proofs::AsRead::refused_now), unfolding(crate::specs::World::world_step))]
+    #[tactic(auto, using(crate::proofs::AsRead::made_now, crate::proofs::AsRead::untyped, crate::proofs::AsRead::refused_now), unfolding(crate::specs::World::world_step))]
     fn cut_sweep(&mut self, commit: Commit) -> Result<Items<Line>, Fault>
         ensures made { IfOk result (λ lines. WasMade self.old (Step.CutSweep commit) self.new lines) }
         ensures refused { IfErr result (λ e. WasRefused self.old (Step.CutSweep commit) self.new (Line.Refused e ∷ [])) }
@@ -254,7 +255,7 @@ impl<R: Records + Drop> WorldParts<R> {
     }
 
     // The next epoch stands.
-    #[tactic(auto, using(crate::proofs::AsRead::made_now, crate::proofs::AsRead::refused_now), unfolding(crate::specs::World::world_step))]
+    #[tactic(auto, using(crate::proofs::AsRead::made_now, crate::proofs::AsRead::untyped, crate::proofs::AsRead::refused_now), unfolding(crate::specs::World::world_step))]
     fn cut_kept_up(&mut self, now: u64) -> Result<Items<Line>, Fault>
         ensures made { IfOk result (λ lines. WasMade self.old (Step.CutUp now Commit.Kept) self.new lines) }
         ensures refused { IfErr result (λ e. WasRefused self.old (Step.CutUp now Commit.Kept) self.new (Line.Refused e ∷ [])) }
@@ -280,7 +281,7 @@ impl<R: Records + Drop> WorldParts<R> {
     }
 
     // Nothing is committed.
-    #[tactic(auto, using(crate::proofs::AsRead::made_now, crate::proofs::AsRead::refused_now), unfolding(crate::specs::World::world_step))]
+    #[tactic(auto, using(crate::proofs::AsRead::made_now, crate::proofs::AsRead::untyped, crate::proofs::AsRead::refused_now), unfolding(crate::specs::World::world_step))]
     fn cut_lost_up(&mut self, now: u64) -> Result<Items<Line>, Fault>
         ensures made { IfOk result (λ lines. WasMade self.old (Step.CutUp now Commit.Lost) self.new lines) }
         ensures refused { IfErr result (λ e. WasRefused self.old (Step.CutUp now Commit.Lost) self.new (Line.Refused e ∷ [])) }
@@ -427,6 +428,7 @@ impl<R: Records + Drop> WorldParts<R> {
     #[tactic(auto, using(crate::proofs::OneMessage::take_few))]
     fn take(&mut self, number: u64) -> Result<Items<Line>, Fault>
         ensures ok { IfOk result (λ lines. world_take self.old.world number self.old.world.master ≡ Ok (self.new.world, lines)) }
+        ensures typed { OnOk result (IsTyped self.old.world (Step.Take number)) }
         ensures stored { OnOk result (IsStored [] self.old self.new) }
         ensures fault { IfErr result (λ e. MayRefuseStep (world_take self.old.world number self.old.world.master) (Step.Take number) e self.old self.new) }
         ensures left { OnErr result (IsLeft [] self.old self.new) }
@@ -438,6 +440,7 @@ impl<R: Records + Drop> WorldParts<R> {
                 let Some(request) = mail::request_at(self.messages.as_slice(), number) else {
                     return Err(Fault::NoSuchMessage);
                 };
+                let _client = request.client().get();
                 let taken = cell.take(self.clock, request)?;
                 mail::send_all(&mut self.messages, taken.outs);
                 Ok(taken.lines)

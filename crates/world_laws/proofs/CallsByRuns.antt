@@ -59,6 +59,7 @@ use Rattle.world_clients.specs.declared.steps.Step.TheVariants.{Take, Sweep, Cut
 use Rattle.world_clients.specs.declared.steps.Commit.TheVariants.{Kept}
 use Rattle.world_clients.specs.Messages.{call_of}
 use Rattle.world_core.specs.World.{WorldState, WorldView, is_of_commit, Agrees}
+use Rattle.world_laws.proofs.StepsHold.{does_holds}
 use Rattle.world_laws.specs.Consistent.{IsConsistent}
 use Rattle.world_laws.specs.Runs.{Run, change_of, IsTaken, HasWaited, IsApplied, IsOfCall, IsOfIdle}
 use Rattle.world_core.specs.Made.{IsMade, Does}
@@ -184,7 +185,7 @@ module _ (g : Ground) (step : Step) (printed : List Line) (new : WorldView) (doe
     next = t.next;
     first = t.first;
     is_made = t.is_made;
-    last = run_push t.next g.here new t.back t.after step printed t.last does fits;
+    last = run_push t.next g.here new t.back t.after step printed t.last does;
     sent = t.sent;
     master = t.master;
     is_up = t.is_up;
@@ -337,13 +338,13 @@ module _ (g : Ground) (step : Step) (new : WorldView) (printed : List Line) (h :
 step_stands : (g : Ground) (step : Step) (new : WorldView) (printed : List Line) → Stands g → Does g.here step new printed → IsConsistent new.world → Stands (ground_after g step printed new)
 step_stands g step new printed h (inl m) fits = record {
   began = h.began;
-  run = run_push g.old g.here new g.past g.told step printed h.run (inl m) fits;
+  run = run_push g.old g.here new g.past g.told step printed h.run (inl m);
   consistent = fits;
   queue = made_queue g step new printed h (inl m) fits m (world_case g.here.world step new.world printed h.consistent.master m.is_step);
 }
 step_stands g step new printed h (inr r) fits = record {
   began = h.began;
-  run = run_push g.old g.here new g.past g.told step printed h.run (inr r) fits;
+  run = run_push g.old g.here new g.past g.told step printed h.run (inr r);
   consistent = fits;
   queue = same_queue g step new printed h (inr r) fits (ap (λ (w : WorldState). w.master) r.left.same);
 }
@@ -624,10 +625,10 @@ run_on : (g : Ground) (steps : List Step) (printed : List Line) (new : WorldView
 run_on g [] printed new h run before rest client number change e =
     absurd (no_split before rest (lines.Applied client number change) (sym run.0 ∙ e))
 run_on g (step ∷ steps) printed new h run before rest client number change e =
-    (elim (split run.1 run.2 before rest (lines.Applied client number change) (sym run.6 ∙ e)) as (λ s. IsOfOne g.old (g.past ++ step ∷ steps) (g.told ++ before) client number change rest new) [
-      | inl k ↦ made_here g step run.0 run.1 before k.0 run.2 client number change steps rest new h run.3 run.5 k.1 k.2
+    (elim (split run.1 run.2 before rest (lines.Applied client number change) (sym run.5 ∙ e)) as (λ s. IsOfOne g.old (g.past ++ step ∷ steps) (g.told ++ before) client number change rest new) [
+      | inl k ↦ made_here g step run.0 run.1 before k.0 run.2 client number change steps rest new h run.3 run.4 k.1 k.2
       | inr k ↦
-          let there = run_on (ground_after g step run.1 run.0) steps run.2 new (step_stands g step run.0 run.1 h run.3 run.4) run.5 k.0 rest client number change k.2 in
+          let there = run_on (ground_after g step run.1 run.0) steps run.2 new (step_stands g step run.0 run.1 h run.3 (does_holds g.here step run.0 run.1 h.consistent run.3)) run.4 k.0 rest client number change k.2 in
           rw (k.1, ← append_assoc g.told run.1 k.0, ← append_assoc g.past (step ∷ []) steps) there
     ])
 

@@ -9,6 +9,7 @@ use Rattle.world_laws.specs.Runs.{Run, AreFairClocks, KeepsClocksFair}
 use Rattle.world_core.specs.Made.{Does}
 use Rattle.world_laws.proofs.MembersFound.{le_of, some_same}
 use Rattle.world_laws.proofs.WorldCases.{world_case}
+use Rattle.world_laws.proofs.StepsHold.{does_holds}
 use Rattle.world_laws.proofs.ConsistentSteps.{HasLater, Later, case_later, agrees_at, fair_at}
 
 no_more : (a b : ℕ) → 16 * a + 17 * b ≤ 16 * a + 17 * b
@@ -72,11 +73,11 @@ does_later old step new printed h (inr r) = subst (λ (w : WorldState). Later ol
 run_later : (old : WorldView) (steps : List Step) (printed : List Line) (new : WorldView) → IsConsistent old.world → Run old steps printed new → Later old.world new.world
 run_later old [] printed new h run = subst (λ (v : WorldView). Later old.world v.world) (sym run.1) (begins old.world)
 run_later old (step ∷ steps) printed new h run =
-    later_on old.world run.0.world new.world (does_later old step run.0 run.1 h run.3) (run_later run.0 steps run.2 new run.4 run.5)
+    later_on old.world run.0.world new.world (does_later old step run.0 run.1 h run.3) (run_later run.0 steps run.2 new (does_holds old step run.0 run.1 h run.3) run.4)
 
 pub run_consistent : (old : WorldView) (steps : List Step) (printed : List Line) (new : WorldView) → IsConsistent old.world → Run old steps printed new → IsConsistent new.world
 run_consistent old [] printed new h run = subst (λ (v : WorldView). IsConsistent v.world) (sym run.1) h
-run_consistent old (step ∷ steps) printed new h run = run_consistent run.0 steps run.2 new run.4 run.5
+run_consistent old (step ∷ steps) printed new h run = run_consistent run.0 steps run.2 new (does_holds old step run.0 run.1 h run.3) run.4
 
 -- by how much the clocks move between two points, by how far ahead the master's is past, and was at least
 moved_fair : (now past own own_then least_now least_own ln lo : ℕ) → now ≤ past → own ≤ own_then → 16 * least_now + 17 * own ≤ 16 * now + 17 * least_own → 16 * ln + 17 * least_own ≤ 16 * least_now + 17 * lo → 16 * past + 17 * lo ≤ 16 * ln + 17 * own_then + 17 → 16 * (past - now) ≤ 17 * ((own_then - own) + 1)

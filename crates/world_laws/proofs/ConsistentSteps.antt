@@ -783,7 +783,7 @@ case_later old step new printed h (LosesUp k) = subst (Later old) (sym k.is) (sa
 abbrev pub LeadsOn : Type 0
 LeadsOn = (old : WorldState) (step : Step) (new : WorldState) (printed : List Line) → IsConsistent old → WorldCase old step new printed → IsServed new
 
-step_keeps : LeadsOn → (old : WorldState) (step : Step) (new : WorldState) (printed : List Line) → IsConsistent old → Agrees new new.master → world_step old step ≡ Ok (new, printed) → IsConsistent new
+pub step_keeps : LeadsOn → (old : WorldState) (step : Step) (new : WorldState) (printed : List Line) → IsConsistent old → Agrees new new.master → world_step old step ≡ Ok (new, printed) → IsConsistent new
 step_keeps leads old step new printed h agrees made =
     let c = world_case old step new printed h.master made in
     once_served new (case_holds old step new printed h c) agrees (leads old step new printed h c)

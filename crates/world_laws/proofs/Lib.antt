@@ -46,6 +46,8 @@ pub mod SliceLeases
 pub mod ServedLines
 pub mod SliceSteps
 pub mod Reaches
+pub mod StepsHold
+pub mod LawsOfRuns
 pub mod WereSent
 pub mod LocksRise
 pub mod EffectLocks

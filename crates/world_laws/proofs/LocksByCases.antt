@@ -37,6 +37,7 @@ use Rattle.cell_apply.specs.Outcomes.{left_put}
 use Rattle.cell_update.specs.Lapses.{lapses_of, lapses_puts}
 use Rattle.sweep_laws.specs.SweepCase.{SweepCase, swept_by, swept_edits}
 use Rattle.sweep_laws.specs.SweepCase.SweepCase.{Quiet, Recovers, Expires, Tidies, Spared, Tidied, AnswersBeat, TurnedAway, StartedAgain, Started, Reopens, OfEnded, Ended, Applied, Deleted, Locked, Awaited, Left}
+use Rattle.cell_state.specs.Lookups.{noted}
 use Rattle.sweep_laws.specs.Kept.{IsKept, is_there}
 use Rattle.world_laws.specs.Locks.{AreLegalRows, begins_in, CountsHolds}
 use Rattle.world_laws.proofs.LocksRise.{RisesTo, begins, rises_same, rises_reopened, rises_lapsed}
@@ -339,3 +340,31 @@ module _ (cell : List ℕ) (rows : Rows) (s : MasterState) (k : IsKept cell rows
       let Q : Effect → Type 0 = Raises s in
       let rises = subst Q made (effect_raises s asked.client asked.number call sequencer) in
       put_grown (Left front back asked call sequencer (Some note) leave answer turn work live made) (left_put leave ∷ []) refl refl refl (rises, tt) l
+
+-- ---- the moment is noted
+
+-- a master that was told the moment stands beside its rows too
+pub noted_kept : (cell : List ℕ) (rows : Rows) (s : MasterState) (now : ℕ) → IsKept cell rows s → IsKept cell rows (noted s now)
+noted_kept cell rows s now k = record {
+  name = k.name;
+  secret = k.secret;
+  epoch = k.epoch;
+  next_instance = k.next_instance;
+  nodes = k.nodes;
+  sessions = k.sessions;
+  sound_rows = k.sound_rows;
+  waiting = k.waiting;
+  locks = record { generations = k.locks.generations; rows_of_locks = k.locks.rows_of_locks; in_order = k.locks.in_order; each = k.locks.each };
+  one_call = k.one_call;
+  names_in_order = k.names_in_order;
+  sessions_in_order = k.sessions_in_order;
+  locks_in_order = k.locks_in_order;
+  recovery_is_empty = k.recovery_is_empty;
+  by_beats = k.by_beats;
+  recorded = k.recorded;
+  issued = k.issued;
+  owned = k.owned;
+  orderly = k.orderly;
+  touching = k.touching;
+  own = k.own;
+}

@@ -17,6 +17,7 @@ use Rattle.sweep_laws.proofs.KeptBySweeps.{case_kept}
 use Rattle.world_clients.specs.declared.steps.Step.{Step}
 use Rattle.world_clients.specs.declared.steps.Step.TheVariants as steps
 use Rattle.world_core.specs.World.{WorldState, WorldView, IsUndoubted, Agrees}
+use Rattle.world_laws.proofs.StepsHold.{does_holds}
 use Rattle.world_laws.specs.Consistent.{IsConsistent}
 use Rattle.world_laws.specs.Runs.{Run}
 use Rattle.world_core.specs.Made.{Does, WasMade, WasRefused}
@@ -26,7 +27,7 @@ use Rattle.world_laws.proofs.ClocksByRuns.{run_consistent}
 use Rattle.world_laws.proofs.ConsistentSteps.{agrees_at}
 use Rattle.world_laws.proofs.InstancesKept.{has_of, generation_of, same_begin}
 use Rattle.world_laws.proofs.LockHolders.{legal_rows}
-use Rattle.world_laws.proofs.LocksByCases.{Grows, case_grows}
+use Rattle.world_laws.proofs.LocksByCases.{noted_kept, Grows, case_grows}
 use Rattle.world_laws.proofs.OwnSteps.{IsOwn, asks_own, beats_own, gives_own}
 use Rattle.world_laws.proofs.WorldCases.{WorldCase, IsSweep, world_case}
 use Rattle.world_laws.proofs.WorldCases.WorldCase.{ComesUp, Joins, Asks, Beats, Gives, Ticks, Takes, Sweeps, GoesDown, CutsSweep, CutsUp, LosesUp}
@@ -121,32 +122,6 @@ weaker old new (inr g) = inr (record {
 
 -- ---- a step
 
--- a master that was told the moment stands beside its rows too
-pub noted_kept : (cell : List ℕ) (rows : Rows) (s : MasterState) (now : ℕ) → IsKept cell rows s → IsKept cell rows (noted s now)
-noted_kept cell rows s now k = record {
-  name = k.name;
-  secret = k.secret;
-  epoch = k.epoch;
-  next_instance = k.next_instance;
-  nodes = k.nodes;
-  sessions = k.sessions;
-  sound_rows = k.sound_rows;
-  waiting = k.waiting;
-  locks = record { generations = k.locks.generations; rows_of_locks = k.locks.rows_of_locks; in_order = k.locks.in_order; each = k.locks.each };
-  one_call = k.one_call;
-  names_in_order = k.names_in_order;
-  sessions_in_order = k.sessions_in_order;
-  locks_in_order = k.locks_in_order;
-  recovery_is_empty = k.recovery_is_empty;
-  by_beats = k.by_beats;
-  recorded = k.recorded;
-  issued = k.issued;
-  owned = k.owned;
-  orderly = k.orderly;
-  touching = k.touching;
-  own = k.own;
-}
-
 own_goes : (old new : WorldState) (printed : List Line) → IsOwn old new printed → Goes CountsHolds old.rows new.rows
 own_goes old new printed o = inl (stays old.rows new.rows (ap (λ (w : WorldState). w.rows) o.is))
 
@@ -185,7 +160,7 @@ step_goes old step new printed h (inr r) = inl (stays old.world.rows new.world.r
 run_goes : (old : WorldView) (steps : List Step) (printed : List Line) (new : WorldView) → IsConsistent old.world → Run old steps printed new → Goes LetsNoneFall old.world.rows new.world.rows
 run_goes old [] printed new h run = inl (stays old.world.rows new.world.rows (ap (λ (w : WorldView). w.world.rows) run.1))
 run_goes old (step ∷ steps) printed new h run =
-    goes_on old.world.rows run.0.world.rows new.world.rows (weaker old.world.rows run.0.world.rows (step_goes old step run.0 run.1 h run.3)) (run_goes run.0 steps run.2 new run.4 run.5)
+    goes_on old.world.rows run.0.world.rows new.world.rows (weaker old.world.rows run.0.world.rows (step_goes old step run.0 run.1 h run.3)) (run_goes run.0 steps run.2 new (does_holds old step run.0 run.1 h run.3) run.4)
 
 same_some : (a b : ℕ) → ◌≡◌ {A = Option ℕ} (Some a) (Some b) → a ≡ b
 same_some a b h = cc
@@ -216,7 +191,7 @@ rises_then first there later n lower higher onward past begins was is =
 one_goes : (old : WorldView) (step : Step) (new : WorldView) (printed : List Line) → IsConsistent old.world → Run old (step ∷ []) printed new → Goes CountsHolds old.world.rows new.world.rows
 one_goes old step new printed h run =
     let P : WorldView → Type 0 = λ w. Goes CountsHolds old.world.rows w.world.rows in
-    subst P (sym run.5.1) (step_goes old step run.0 run.1 h run.3)
+    subst P (sym run.4.1) (step_goes old step run.0 run.1 h run.3)
 
 pub run_generations : (old : WorldView) (steps : List Step) (new : WorldView) → IsConsistent old.world → NoGenerationTwice old steps new
 run_generations old steps new h = record {

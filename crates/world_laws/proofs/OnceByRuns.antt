@@ -61,6 +61,7 @@ use Rattle.world_clients.specs.declared.mail.Message.{Message}
 use Rattle.world_clients.specs.declared.mail.Message.TheVariants.{ToMaster, ToClient}
 use Rattle.world_clients.specs.Messages.{call_of}
 use Rattle.world_core.specs.World.{WorldState, WorldView, member_of}
+use Rattle.world_laws.proofs.StepsHold.{does_holds}
 use Rattle.world_laws.specs.Consistent.{FitsMessages, IsConsistent}
 use Rattle.world_laws.specs.Runs.{Run, applied, put_number, IsAbove, RisesFrom, Rises}
 use Rattle.world_core.specs.Made.{Does}
@@ -609,8 +610,8 @@ run_on : (client : ℕ) (old : WorldView) (steps : List Step) (printed : List Li
 run_on client old [] printed new last run h p some = rw run.0 tt
 run_on client old (step ∷ steps) printed new last run h p some =
     let first = does_on client last old step run.0 run.1 h p some run.3 in
-    let then = run_on client run.0 steps run.2 new (last_after last (applied client run.1)) run.5 run.4 first.past some in
-    rw (run.6, applied_more client run.1 run.2) (rises_more last (applied client run.1) (applied client run.2) first.rises then)
+    let then = run_on client run.0 steps run.2 new (last_after last (applied client run.1)) run.4 (does_holds old step run.0 run.1 h run.3) first.past some in
+    rw (run.5, applied_more client run.1 run.2) (rises_more last (applied client run.1) (applied client run.2) first.rises then)
 
 first_result : (number : ℕ) (o : Option Reply) → PastResult number o None
 first_result number None = tt

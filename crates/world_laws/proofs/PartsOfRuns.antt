@@ -27,29 +27,29 @@ take_more xs i x less is =
     let one : i + 1 ≡ suc i = omega arith in
     rw one (take-suc xs i x less) ∙ ap (λ y. take i xs ++ y ∷ []) (sym is)
 
-any_push : (w mid new : WorldView) (steps : List Step) (printed : List Line) (step : Step) (told : List Line) → AnyRun w steps printed mid → AnyStep mid step new told → (IsUndoubted new → IsConsistent new.world) → AnyRun w (steps ++ step ∷ []) (printed ++ told) new
-any_push w mid new [] printed step told run does fits =
+any_push : (w mid new : WorldView) (steps : List Step) (printed : List Line) (step : Step) (told : List Line) → AnyRun w steps printed mid → AnyStep mid step new told → AnyRun w (steps ++ step ∷ []) (printed ++ told) new
+any_push w mid new [] printed step told run does =
     let none : printed ++ told ≡ told ++ [] = ap (λ l. l ++ told) run.0 ∙ sym (append-nil told) in
-    (new, told, [], rw run.1 at does, fits, (refl, refl), none)
-any_push w mid new (s ∷ steps) printed step told run does fits =
-    (run.0, run.1, run.2 ++ told, run.3, run.4, any_push run.0 mid new steps run.2 step told run.5 does fits, ap (λ l. l ++ told) run.6 ∙ append_assoc run.1 run.2 told)
+    (new, told, [], rw run.1 at does, (refl, refl), none)
+any_push w mid new (s ∷ steps) printed step told run does =
+    (run.0, run.1, run.2 ++ told, run.3, any_push run.0 mid new steps run.2 step told run.4 does, ap (λ l. l ++ told) run.5 ∙ append_assoc run.1 run.2 told)
 
-pub run_push : (w mid new : WorldView) (steps : List Step) (printed : List Line) (step : Step) (told : List Line) → Run w steps printed mid → Does mid step new told → IsConsistent new.world → Run w (steps ++ step ∷ []) (printed ++ told) new
-run_push w mid new [] printed step told run does fits =
+pub run_push : (w mid new : WorldView) (steps : List Step) (printed : List Line) (step : Step) (told : List Line) → Run w steps printed mid → Does mid step new told → Run w (steps ++ step ∷ []) (printed ++ told) new
+run_push w mid new [] printed step told run does =
     let none : printed ++ told ≡ told ++ [] = ap (λ l. l ++ told) run.0 ∙ sym (append-nil told) in
-    (new, told, [], rw run.1 at does, fits, (refl, refl), none)
-run_push w mid new (s ∷ steps) printed step told run does fits =
-    (run.0, run.1, run.2 ++ told, run.3, run.4, run_push run.0 mid new steps run.2 step told run.5 does fits, ap (λ l. l ++ told) run.6 ∙ append_assoc run.1 run.2 told)
+    (new, told, [], rw run.1 at does, (refl, refl), none)
+run_push w mid new (s ∷ steps) printed step told run does =
+    (run.0, run.1, run.2 ++ told, run.3, run_push run.0 mid new steps run.2 step told run.4 does, ap (λ l. l ++ told) run.5 ∙ append_assoc run.1 run.2 told)
 
 -- one step more is run
-pub run_more : (w mid new : WorldView) (steps : List Step) (i : ℕ) (step : Step) (printed told : List Line) → i < length steps → step ≡ slice_index_or steps i step → AnyRun w (take i steps) printed mid → AnyStep mid step new told → (IsUndoubted new → IsConsistent new.world) → AnyRun w (take (i + 1) steps) (printed ++ told) new
-run_more w mid new steps i step printed told less is run does fits =
-    rw (take_more steps i step less is) (any_push w mid new (take i steps) printed step told run does fits)
+pub run_more : (w mid new : WorldView) (steps : List Step) (i : ℕ) (step : Step) (printed told : List Line) → i < length steps → step ≡ slice_index_or steps i step → AnyRun w (take i steps) printed mid → AnyStep mid step new told → AnyRun w (take (i + 1) steps) (printed ++ told) new
+run_more w mid new steps i step printed told less is run does =
+    rw (take_more steps i step less is) (any_push w mid new (take i steps) printed step told run does)
 
 -- what was run where the line of a refused step can't be made, or no line can be added
-pub run_part : {X E : Type 0} (r : Result X E) (w mid new : WorldView) (steps : List Step) (i : ℕ) (step : Step) (printed told : List Line) → i < length steps → step ≡ slice_index_or steps i step → AnyRun w (take i steps) printed mid → AnyStep mid step new told → (IsUndoubted new → IsConsistent new.world) → OnErr r ((count : ℕ) × (lines : List Line) × AnyRun w (take count steps) lines new)
-run_part (Ok x) w mid new steps i step printed told less is run does fits = tt
-run_part (Err e) w mid new steps i step printed told less is run does fits = (i + 1, printed ++ told, run_more w mid new steps i step printed told less is run does fits)
+pub run_part : {X E : Type 0} (r : Result X E) (w mid new : WorldView) (steps : List Step) (i : ℕ) (step : Step) (printed told : List Line) → i < length steps → step ≡ slice_index_or steps i step → AnyRun w (take i steps) printed mid → AnyStep mid step new told → OnErr r ((count : ℕ) × (lines : List Line) × AnyRun w (take count steps) lines new)
+run_part (Ok x) w mid new steps i step printed told less is run does = tt
+run_part (Err e) w mid new steps i step printed told less is run does = (i + 1, printed ++ told, run_more w mid new steps i step printed told less is run does)
 
 pub run_whole : (w new : WorldView) (steps : List Step) (i : ℕ) (printed : List Line) → length steps ≤ i → AnyRun w (take i steps) printed new → AnyRun w steps printed new
 run_whole w new steps i printed all run = rw (take_all i steps all) at run

@@ -38,6 +38,7 @@ use Rattle.sweep_laws.specs.SweepCase.{SweepCase, swept_by}
 use Rattle.sweep_laws.specs.SweepCase.SweepCase.{Expires, Reopens, Tidies, Ended, Applied, Left}
 use Rattle.world_clients.specs.declared.steps.Step.{Step}
 use Rattle.world_core.specs.World.{WorldState, WorldView, is_of_commit}
+use Rattle.world_laws.proofs.StepsHold.{does_holds}
 use Rattle.world_laws.specs.Consistent.{IsConsistent}
 use Rattle.world_laws.specs.Runs.{Run, Told, is_held_as, with_status, told_more, told_ended, rights_by, rights_at, told_of, rights_in, is_held_told, is_acknowledged_told, is_expired_told, totals_by, AreRecordedOnce}
 use Rattle.world_core.specs.Made.{Does}
@@ -322,8 +323,8 @@ totals_told rights =
 run_told : (old : WorldView) (steps : List Step) (printed : List Line) (new : WorldView) → IsConsistent old.world → Run old steps printed new → Tells old.world.master printed new.world.master
 run_told old [] printed new h run = rw (run.0, run.1) refl
 run_told old (step ∷ steps) printed new h run =
-    rw run.6 (told_both (rights_in old.world.master) (rights_in run.0.world.master) (rights_in new.world.master) run.1 run.2
-    (step_told old step run.0 run.1 h run.3) (run_told run.0 steps run.2 new run.4 run.5))
+    rw run.5 (told_both (rights_in old.world.master) (rights_in run.0.world.master) (rights_in new.world.master) run.1 run.2
+    (step_told old step run.0 run.1 h run.3) (run_told run.0 steps run.2 new (does_holds old step run.0 run.1 h run.3) run.4))
 
 -- the lines record each right once, and the master's totals are theirs
 pub run_records : (old : WorldView) (steps : List Step) (printed : List Line) (new : WorldView) → IsConsistent old.world → Run old steps printed new → AreRecordedOnce old.world printed new.world

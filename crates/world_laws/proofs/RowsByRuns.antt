@@ -33,6 +33,7 @@ use Rattle.world_laws.proofs.LockLines.{AreOfLocks, reopened_of_locks, left_of_l
 use Rattle.world_laws.proofs.RelockedRows.{let_go, relocked_rows}
 use Rattle.world_laws.proofs.CutLines.{cut_map, cut_epoch}
 use Rattle.world_laws.proofs.OnceByRuns.{taken_silent}
+use Rattle.world_laws.proofs.StepsHold.{does_holds}
 use Rattle.world_laws.proofs.WorldCases.{WorldCase, world_case}
 use Rattle.world_laws.proofs.WorldCases.WorldCase.{ComesUp, Joins, Asks, Beats, Gives, Ticks, Takes, Sweeps, GoesDown, CutsSweep, CutsUp, LosesUp}
 use Rattle.world_laws.proofs.OwnSteps.{IsOwn, own_silent, asks_own, beats_own, gives_own}
@@ -158,4 +159,4 @@ tells_more old mid new xs ys h k = record {
 pub run_tells : (old : WorldView) (steps : List Step) (printed : List Line) (new : WorldView) → IsConsistent old.world → Run old steps printed new → Tells old.world.rows new.world.rows printed
 run_tells old [] printed new h run = rw (run.0, run.1) (record { is_map = refl; is_epoch = refl })
 run_tells old (step ∷ steps) printed new h run =
-    rw run.6 (tells_more old.world.rows run.0.world.rows new.world.rows run.1 run.2 (step_tells old step run.0 run.1 h run.3) (run_tells run.0 steps run.2 new run.4 run.5))
+    rw run.5 (tells_more old.world.rows run.0.world.rows new.world.rows run.1 run.2 (step_tells old step run.0 run.1 h run.3) (run_tells run.0 steps run.2 new (does_holds old step run.0 run.1 h run.3) run.4))

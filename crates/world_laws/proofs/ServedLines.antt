@@ -55,6 +55,7 @@ use Rattle.client_core.specs.Cases.GiveCase.{GivenTooLate, OfAnother, Started, S
 use Rattle.world_clients.specs.declared.steps.Step.{Step}
 use Rattle.world_clients.specs.declared.members.WorldClient.{WorldClient}
 use Rattle.world_core.specs.World.{WorldState, WorldView, IsUndoubted, is_of_commit, member_of, with_client, with_refusal, asked, beaten, gave, world_step}
+use Rattle.world_laws.proofs.StepsHold.{does_holds}
 use Rattle.world_laws.specs.Slices.{slice, client_of}
 use Rattle.world_laws.specs.Consistent.{IsConsistent}
 use Rattle.world_laws.specs.Runs.{map_by, map_at, Run}
@@ -346,8 +347,8 @@ run_lines old [] printed new h run = subst (Serve (map_of old.world.rows)) (sym 
 run_lines old (step ∷ steps) printed new h run =
     let here = does_serve old step run.0 run.1 h run.3 in
     let map_there = (step_tells old step run.0 run.1 h run.3).is_map in
-    let rest = run_lines run.0 steps run.2 new run.4 run.5 in
-    subst (Serve (map_of old.world.rows)) (sym run.6)
+    let rest = run_lines run.0 steps run.2 new (does_holds old step run.0 run.1 h run.3) run.4 in
+    subst (Serve (map_of old.world.rows)) (sym run.5)
     (serve_more (map_of old.world.rows) run.1 run.2 here (subst (λ (nodes : Nodes). Serve nodes run.2) map_there rest))
 
 -- and whatever is served in a run is what the map holds by then

@@ -31,6 +31,7 @@ use Rattle.sweep_laws.specs.SweepCase.{SweepCase, swept_by, swept_edits}
 use Rattle.sweep_laws.specs.SweepCase.SweepCase.{Expires, Reopens, Tidied, Started as StartedFirst, Applied, Deleted, Locked, Awaited, Left}
 use Rattle.world_clients.specs.declared.steps.Step.{Step}
 use Rattle.world_core.specs.World.{WorldState, WorldView}
+use Rattle.world_laws.proofs.StepsHold.{does_holds}
 use Rattle.world_laws.specs.Consistent.{IsConsistent}
 use Rattle.world_laws.specs.Runs.{Run, live_by, live_at}
 use Rattle.world_core.specs.Made.{Does}
@@ -159,5 +160,5 @@ pub run_lives : (client : ℕ) (old : WorldView) (steps : List Step) (printed : 
 run_lives client old [] printed new h run = rw (run.0, run.1) refl
 run_lives client old (step ∷ steps) printed new h run =
     let first = step_tells client old step run.0 run.1 h run.3 in
-    let others = run_lives client run.0 steps run.2 new run.4 run.5 in
-    rw run.6 (others ∙ ap (λ b. live_at client b run.2) first ∙ sym (lives_more client (is_live_in old.world.rows client) run.1 run.2))
+    let others = run_lives client run.0 steps run.2 new (does_holds old step run.0 run.1 h run.3) run.4 in
+    rw run.5 (others ∙ ap (λ b. live_at client b run.2) first ∙ sym (lives_more client (is_live_in old.world.rows client) run.1 run.2))

@@ -39,7 +39,7 @@ use Rattle.world_core.specs.World.{WorldState, Agrees}
 use Rattle.world_laws.specs.Contents.{Stands, IsTrue, AreTrue, TellsTrue}
 use Rattle.world_laws.proofs.Carried.{IfReply, IfKept, IfQueue, OfSession, OfSessions, OfOut, OfOuts, Shows, out_holds, tellings_hold, taken_over_hold, taken_hold, taken_outs_hold, swept_hold, swept_outs_hold}
 use Rattle.world_laws.proofs.ConsistentSteps.{agrees_at}
-use Rattle.world_laws.proofs.LocksByRuns.{noted_kept}
+use Rattle.world_laws.proofs.LocksByCases.{noted_kept}
 use Rattle.world_laws.proofs.MessagesGrow.{out_more, out_among, one_no_out}
 use Rattle.world_laws.proofs.OwnSteps.{IsOwn, sending, asks_own, beats_own, gives_own}
 use Rattle.world_laws.proofs.Standing.{case_stands, present_stands, tellings_true}

@@ -30,6 +30,7 @@ use Rattle.world_clients.specs.declared.members.WorldClient.{WorldClient}
 use Rattle.world_clients.specs.declared.steps.Step.{Step}
 use Rattle.world_clients.specs.Messages.{out_at, call_of}
 use Rattle.world_core.specs.World.{WorldState, WorldView, member_of, Agrees}
+use Rattle.world_laws.proofs.StepsHold.{does_holds}
 use Rattle.world_laws.specs.Contents.{IsNoOlder, Stands, IsTrue}
 use Rattle.world_laws.specs.Consistent.{Fits, FitsMessages, IsConsistent}
 use Rattle.world_laws.specs.Runs.{Run}
@@ -71,7 +72,7 @@ world_event old new step printed h (inr r) event true = subst (λ (w : WorldStat
 
 run_event : (old : WorldView) (steps : List Step) (printed : List Line) (new : WorldView) → IsConsistent old.world → Run old steps printed new → (event : Event) → IsTrue old.world.rows event → IsTrue new.world.rows event
 run_event old [] printed new h run event true = subst (λ (v : WorldView). IsTrue v.world.rows event) (sym run.1) true
-run_event old (step ∷ steps) printed new h run event true = run_event run.0 steps run.2 new run.4 run.5 event (world_event old run.0 step run.1 h run.3 event true)
+run_event old (step ∷ steps) printed new h run event true = run_event run.0 steps run.2 new (does_holds old step run.0 run.1 h run.3) run.4 event (world_event old run.0 step run.1 h run.3 event true)
 
 step_told : (old new : WorldView) (step : Step) (printed : List Line) → IsConsistent old.world → Does old step new printed → OfLines NoReply (IsTrue old.world.rows) printed
 step_told old new step printed h (inl m) =
@@ -81,10 +82,10 @@ step_told old new step printed h (inr r) = subst (OfLines NoReply (IsTrue old.wo
 run_told : (old : WorldView) (steps : List Step) (printed : List Line) (new : WorldView) → IsConsistent old.world → Run old steps printed new → OfLines NoReply (IsTrue new.world.rows) printed
 run_told old [] printed new h run = subst (OfLines NoReply (IsTrue new.world.rows)) (sym run.0) tt
 run_told old (step ∷ steps) printed new h run =
-    let stays = λ (event : Event) (true : IsTrue old.world.rows event). run_event run.0 steps run.2 new run.4 run.5 event (world_event old run.0 step run.1 h run.3 event true) in
-    subst (OfLines NoReply (IsTrue new.world.rows)) (sym run.6)
+    let stays = λ (event : Event) (true : IsTrue old.world.rows event). run_event run.0 steps run.2 new (does_holds old step run.0 run.1 h run.3) run.4 event (world_event old run.0 step run.1 h run.3 event true) in
+    subst (OfLines NoReply (IsTrue new.world.rows)) (sym run.5)
     (both_lines NoReply (IsTrue new.world.rows) run.1 run.2
-    (lines_stay NoReply (IsTrue old.world.rows) (IsTrue new.world.rows) stays run.1 (step_told old run.0 step run.1 h run.3)) (run_told run.0 steps run.2 new run.4 run.5))
+    (lines_stay NoReply (IsTrue old.world.rows) (IsTrue new.world.rows) stays run.1 (step_told old run.0 step run.1 h run.3)) (run_told run.0 steps run.2 new (does_holds old step run.0 run.1 h run.3) run.4))
 
 -- ---- replies to later calls
 
@@ -232,9 +233,9 @@ module _ (client calls instance generation : ℕ) where
   run_after old [] printed new h run a = (subst (OfLines Follows NoEvent) (sym run.0) tt, subst AreServedLines (sym run.0) tt)
   run_after old (step ∷ steps) printed new h run a =
       let here = step_after old run.0 step run.1 h run.3 a in
-      let rest = run_after run.0 steps run.2 new run.4 run.5 here.0 in (
-        subst (OfLines Follows NoEvent) (sym run.6) (both_lines Follows NoEvent run.1 run.2 here.1 rest.0),
-        subst AreServedLines (sym run.6) (both_served run.1 run.2 here.2 rest.1),
+      let rest = run_after run.0 steps run.2 new (does_holds old step run.0 run.1 h run.3) run.4 here.0 in (
+        subst (OfLines Follows NoEvent) (sym run.5) (both_lines Follows NoEvent run.1 run.2 here.1 rest.0),
+        subst AreServedLines (sym run.5) (both_served run.1 run.2 here.2 rest.1),
       )
 
 -- ---- the law

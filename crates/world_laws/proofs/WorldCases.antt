@@ -59,6 +59,7 @@ pub record IsUp (old : WorldState) (step : Step) (new : WorldState) (printed : L
   pub none : old.master ≡ None
   pub early : is_past_end now ≡ false
   pub are_sound : sound old.cell old.rows ≡ true
+  pub more : is_last old.rows.epoch ≡ false
   pub is : new ≡ record old {
     rows = changed_rows old.rows (up_edits old.rows);
     master = Some (master_of (changed_rows old.rows (up_edits old.rows)) old.lease now);
@@ -231,18 +232,18 @@ step_sweeps w = refl
 module _ (w : WorldState) (step : Step) (new : WorldState) (printed : List Line) where
   -- ---- a master comes up
 
-  came_case : (now : ℕ) (late damaged last : Bool) → step ≡ steps.Up now → w.master ≡ None → is_past_end now ≡ late → not (sound w.cell w.rows) ≡ damaged → came_up w now (cond late (Err faults.Exhausted) (master_by w.lease now (cond damaged (Err faults.StoreDamaged) (cond last (Err faults.Exhausted) (Ok (changed_rows w.rows (up_edits w.rows))))))) ≡ Ok (new, printed) → IsUp w step new printed
-  came_case now true damaged last at none is_late is_damaged h = cc
-  came_case now false true last at none is_late is_damaged h = cc
-  came_case now false false true at none is_late is_damaged h = cc
-  came_case now false false false at none is_late is_damaged h =
+  came_case : (now : ℕ) (late damaged last : Bool) → step ≡ steps.Up now → w.master ≡ None → is_past_end now ≡ late → not (sound w.cell w.rows) ≡ damaged → is_last w.rows.epoch ≡ last → came_up w now (cond late (Err faults.Exhausted) (master_by w.lease now (cond damaged (Err faults.StoreDamaged) (cond last (Err faults.Exhausted) (Ok (changed_rows w.rows (up_edits w.rows))))))) ≡ Ok (new, printed) → IsUp w step new printed
+  came_case now true damaged last at none is_late is_damaged is_end h = cc
+  came_case now false true last at none is_late is_damaged is_end h = cc
+  came_case now false false true at none is_late is_damaged is_end h = cc
+  came_case now false false false at none is_late is_damaged is_end h =
       let master : MasterState = master_of (changed_rows w.rows (up_edits w.rows)) w.lease now in
       let p = ok_pair (record w { rows = changed_rows w.rows (up_edits w.rows); master = Some master; clock = now; clients = each_member (λ number. at_up now) w.clients }, lines.Up master.epoch ∷ []) new printed h in
-      record { now = now; is_step = at; none = none; early = is_late; are_sound = not_false (sound w.cell w.rows) is_damaged; is = sym p.0; tells = sym p.1 }
+      record { now = now; is_step = at; none = none; early = is_late; are_sound = not_false (sound w.cell w.rows) is_damaged; more = is_end; is = sym p.0; tells = sym p.1 }
 
   up_case : (now : ℕ) (m : Option MasterState) → step ≡ steps.Up now → w.master ≡ m → world_up w now m ≡ Ok (new, printed) → WorldCase w step new printed
   up_case now (Some master) at e h = cc
-  up_case now None at e h = ComesUp (came_case now (is_past_end now) (not (sound w.cell w.rows)) (is_last w.rows.epoch) at e refl refl h)
+  up_case now None at e h = ComesUp (came_case now (is_past_end now) (not (sound w.cell w.rows)) (is_last w.rows.epoch) at e refl refl refl h)
 
   -- ---- a client joins
 
@@ -370,7 +371,7 @@ module _ (w : WorldState) (step : Step) (new : WorldState) (printed : List Line)
   cut_came_row now Kept (Ok master) is none step_is h =
       let mid : WorldState = record w { rows = changed_rows w.rows (up_edits w.rows); master = Some master; clock = now; clients = each_member (λ number. at_up now) w.clients } in
       let told : List Line = lines.Up master.epoch ∷ [] in
-      let came = came_case w (steps.Up now) mid told now (is_past_end now) (not (sound w.cell w.rows)) (is_last w.rows.epoch) refl none refl refl (ap (came_up w now) step_is) in
+      let came = came_case w (steps.Up now) mid told now (is_past_end now) (not (sound w.cell w.rows)) (is_last w.rows.epoch) refl none refl refl refl (ap (came_up w now) step_is) in
       let q = ok_pair (record w { rows = mid.rows }, told ++ lines.Down ∷ []) new printed h in
       CutsUp (record { now = now; is_step = is; mid = mid; told = told; comes = came; is = sym q.0; tells = sym q.1 })
   cut_came_row now Lost (Ok master) is none step_is h =

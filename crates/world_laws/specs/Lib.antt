@@ -23,3 +23,4 @@ pub mod Runs
 pub mod Served
 pub mod Locks
 pub mod Told
+pub mod Laws

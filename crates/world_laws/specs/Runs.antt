@@ -37,24 +37,23 @@ use Rattle.session_core.specs.declared.records.Session.{Session}
 use Rattle.cell_state.specs.Lookups.{session_of}
 use Rattle.client_core.specs.State.{lease_of}
 use Rattle.world_clients.specs.declared.members.WorldClient.{WorldClient}
-use Rattle.world_core.specs.World.{WorldState, WorldView, IsUndoubted, member_of}
+use Rattle.world_core.specs.World.{WorldState, WorldView, member_of}
 use Rattle.world_core.specs.Made.{IsMade, Does, AnyStep}
 use Rattle.world_laws.specs.Slices.{slice}
-use Rattle.world_laws.specs.Consistent.{IsConsistent}
 
 -- ---- runs
 
--- one step behind the other, and their lines in order; each world in which nothing is in doubt is consistent
+-- one step behind the other, and their lines in order
 abbrev pub AnyRun : WorldView → List Step → List Line → WorldView → Type 0
 AnyRun old [] printed new = (printed ≡ []) × (new ≡ old)
 AnyRun old (step ∷ steps) printed new =
-    (mid : WorldView) × (here : List Line) × (rest : List Line) × AnyStep old step mid here × (IsUndoubted mid → IsConsistent mid.world) × AnyRun mid steps rest new × (printed ≡ here ++ rest)
+    (mid : WorldView) × (here : List Line) × (rest : List Line) × AnyStep old step mid here × AnyRun mid steps rest new × (printed ≡ here ++ rest)
 
 -- one in which nothing is in doubt: each step is by the world of before
 abbrev pub Run : WorldView → List Step → List Line → WorldView → Type 0
 Run old [] printed new = (printed ≡ []) × (new ≡ old)
 Run old (step ∷ steps) printed new =
-    (mid : WorldView) × (here : List Line) × (rest : List Line) × Does old step mid here × IsConsistent mid.world × Run mid steps rest new × (printed ≡ here ++ rest)
+    (mid : WorldView) × (here : List Line) × (rest : List Line) × Does old step mid here × Run mid steps rest new × (printed ≡ here ++ rest)
 
 -- ---- what lines tell
 

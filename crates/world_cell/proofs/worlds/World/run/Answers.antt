@@ -17,15 +17,15 @@ use Rattle.world_cell.proofs.worlds.World.run.Goals as goal
 pub returns-in_err-here-clause-part : goal.returns-in_err-here-clause-part
 returns-in_err-here-clause-part g c =
     let told = c.in_err-here.ensures.err in
-    run_part c.from_residual.result c.args.self.now c.loop-step.self c.line_step.new.self c.args.steps.now c.loop-step.step-index c.step-item.result c.loop-step.lines told.0 (omega arith) c.step-item.is c.loop-step.invariant (inr told.1) c.line_step.ensures.consistent
+    run_part c.from_residual.result c.args.self.now c.loop-step.self c.line_step.new.self c.args.steps.now c.loop-step.step-index c.step-item.result c.loop-step.lines told.0 (omega arith) c.step-item.is c.loop-step.invariant (inr told.1)
 
 pub returns-in_err-append-clause-part : goal.returns-in_err-append-clause-part
 returns-in_err-append-clause-part g c =
-    run_part c.from_residual-in_err-append.result c.args.self.now c.loop-step.self c.line_step.new.self c.args.steps.now c.loop-step.step-index c.step-item.result c.loop-step.lines c.in_ok-here.here (omega arith) c.step-item.is c.loop-step.invariant c.in_ok-here.ensures.ok c.line_step.ensures.consistent
+    run_part c.from_residual-in_err-append.result c.args.self.now c.loop-step.self c.line_step.new.self c.args.steps.now c.loop-step.step-index c.step-item.result c.loop-step.lines c.in_ok-here.here (omega arith) c.step-item.is c.loop-step.invariant c.in_ok-here.ensures.ok
 
 pub loop-step-preserved : goal.loop-step-preserved
 loop-step-preserved g c =
-    rw c.in_ok-append.ensures.ok (run_more c.args.self.now c.loop-step.self c.line_step.new.self c.args.steps.now c.loop-step.step-index c.step-item.result c.loop-step.lines c.in_ok-here.here (omega arith) c.step-item.is c.loop-step.invariant c.in_ok-here.ensures.ok c.line_step.ensures.consistent)
+    rw c.in_ok-append.ensures.ok (run_more c.args.self.now c.loop-step.self c.line_step.new.self c.args.steps.now c.loop-step.step-index c.step-item.result c.loop-step.lines c.in_ok-here.here (omega arith) c.step-item.is c.loop-step.invariant c.in_ok-here.ensures.ok)
 
 pub returns-clause-map : goal.returns-clause-map
 returns-clause-map g c = λ none.
@@ -101,12 +101,12 @@ returns-clause-clocks g c = λ none.
 
 pub returns-in_err-here-clause-clocks : goal.returns-in_err-here-clause-clocks
 returns-in_err-here-clause-clocks g c = λ none.
-    let run = run_more c.args.self.now c.loop-step.self c.line_step.new.self c.args.steps.now c.loop-step.step-index c.step-item.result c.loop-step.lines _ (omega arith) c.step-item.is c.loop-step.invariant (inr c.in_err-here.ensures.err.1) c.line_step.ensures.consistent in
+    let run = run_more c.args.self.now c.loop-step.self c.line_step.new.self c.args.steps.now c.loop-step.step-index c.step-item.result c.loop-step.lines _ (omega arith) c.step-item.is c.loop-step.invariant (inr c.in_err-here.ensures.err.1) in
     run_fair c.args.self.now c.args.steps.now c.line_step.new.self (began_consistent c.args.self.now c.line_step.new.self _ _ c.consistent.ensures run none)
 
 pub returns-in_err-append-clause-clocks : goal.returns-in_err-append-clause-clocks
 returns-in_err-append-clause-clocks g c = λ none.
-    let run = run_more c.args.self.now c.loop-step.self c.line_step.new.self c.args.steps.now c.loop-step.step-index c.step-item.result c.loop-step.lines _ (omega arith) c.step-item.is c.loop-step.invariant c.in_ok-here.ensures.ok c.line_step.ensures.consistent in
+    let run = run_more c.args.self.now c.loop-step.self c.line_step.new.self c.args.steps.now c.loop-step.step-index c.step-item.result c.loop-step.lines _ (omega arith) c.step-item.is c.loop-step.invariant c.in_ok-here.ensures.ok in
     run_fair c.args.self.now c.args.steps.now c.line_step.new.self (began_consistent c.args.self.now c.line_step.new.self _ _ c.consistent.ensures run none)
 
 pub returns-clause-locks : goal.returns-clause-locks
@@ -116,12 +116,12 @@ returns-clause-locks g c = λ none.
 
 pub returns-in_err-here-clause-locks : goal.returns-in_err-here-clause-locks
 returns-in_err-here-clause-locks g c = λ none.
-    let run = run_more c.args.self.now c.loop-step.self c.line_step.new.self c.args.steps.now c.loop-step.step-index c.step-item.result c.loop-step.lines _ (omega arith) c.step-item.is c.loop-step.invariant (inr c.in_err-here.ensures.err.1) c.line_step.ensures.consistent in
+    let run = run_more c.args.self.now c.loop-step.self c.line_step.new.self c.args.steps.now c.loop-step.step-index c.step-item.result c.loop-step.lines _ (omega arith) c.step-item.is c.loop-step.invariant (inr c.in_err-here.ensures.err.1) in
     run_legal c.args.self.now _ _ c.line_step.new.self (began_consistent c.args.self.now c.line_step.new.self _ _ c.consistent.ensures run none) (run_sure c.args.self.now _ _ c.line_step.new.self run none)
 
 pub returns-in_err-append-clause-locks : goal.returns-in_err-append-clause-locks
 returns-in_err-append-clause-locks g c = λ none.
-    let run = run_more c.args.self.now c.loop-step.self c.line_step.new.self c.args.steps.now c.loop-step.step-index c.step-item.result c.loop-step.lines _ (omega arith) c.step-item.is c.loop-step.invariant c.in_ok-here.ensures.ok c.line_step.ensures.consistent in
+    let run = run_more c.args.self.now c.loop-step.self c.line_step.new.self c.args.steps.now c.loop-step.step-index c.step-item.result c.loop-step.lines _ (omega arith) c.step-item.is c.loop-step.invariant c.in_ok-here.ensures.ok in
     run_legal c.args.self.now _ _ c.line_step.new.self (began_consistent c.args.self.now c.line_step.new.self _ _ c.consistent.ensures run none) (run_sure c.args.self.now _ _ c.line_step.new.self run none)
 
 pub returns-clause-generations : goal.returns-clause-generations
@@ -131,12 +131,12 @@ returns-clause-generations g c = λ none.
 
 pub returns-in_err-here-clause-generations : goal.returns-in_err-here-clause-generations
 returns-in_err-here-clause-generations g c = λ none.
-    let run = run_more c.args.self.now c.loop-step.self c.line_step.new.self c.args.steps.now c.loop-step.step-index c.step-item.result c.loop-step.lines _ (omega arith) c.step-item.is c.loop-step.invariant (inr c.in_err-here.ensures.err.1) c.line_step.ensures.consistent in
+    let run = run_more c.args.self.now c.loop-step.self c.line_step.new.self c.args.steps.now c.loop-step.step-index c.step-item.result c.loop-step.lines _ (omega arith) c.step-item.is c.loop-step.invariant (inr c.in_err-here.ensures.err.1) in
     run_generations c.args.self.now c.args.steps.now c.line_step.new.self (began_consistent c.args.self.now c.line_step.new.self _ _ c.consistent.ensures run none)
 
 pub returns-in_err-append-clause-generations : goal.returns-in_err-append-clause-generations
 returns-in_err-append-clause-generations g c = λ none.
-    let run = run_more c.args.self.now c.loop-step.self c.line_step.new.self c.args.steps.now c.loop-step.step-index c.step-item.result c.loop-step.lines _ (omega arith) c.step-item.is c.loop-step.invariant c.in_ok-here.ensures.ok c.line_step.ensures.consistent in
+    let run = run_more c.args.self.now c.loop-step.self c.line_step.new.self c.args.steps.now c.loop-step.step-index c.step-item.result c.loop-step.lines _ (omega arith) c.step-item.is c.loop-step.invariant c.in_ok-here.ensures.ok in
     run_generations c.args.self.now c.args.steps.now c.line_step.new.self (began_consistent c.args.self.now c.line_step.new.self _ _ c.consistent.ensures run none)
 
 pub returns-clause-told : goal.returns-clause-told
@@ -146,10 +146,10 @@ returns-clause-told g c = λ none.
 
 pub returns-in_err-here-clause-told : goal.returns-in_err-here-clause-told
 returns-in_err-here-clause-told g c = λ none.
-    let run = run_more c.args.self.now c.loop-step.self c.line_step.new.self c.args.steps.now c.loop-step.step-index c.step-item.result c.loop-step.lines _ (omega arith) c.step-item.is c.loop-step.invariant (inr c.in_err-here.ensures.err.1) c.line_step.ensures.consistent in
+    let run = run_more c.args.self.now c.loop-step.self c.line_step.new.self c.args.steps.now c.loop-step.step-index c.step-item.result c.loop-step.lines _ (omega arith) c.step-item.is c.loop-step.invariant (inr c.in_err-here.ensures.err.1) in
     run_shows c.args.self.now c.args.steps.now c.line_step.new.self (began_consistent c.args.self.now c.line_step.new.self _ _ c.consistent.ensures run none)
 
 pub returns-in_err-append-clause-told : goal.returns-in_err-append-clause-told
 returns-in_err-append-clause-told g c = λ none.
-    let run = run_more c.args.self.now c.loop-step.self c.line_step.new.self c.args.steps.now c.loop-step.step-index c.step-item.result c.loop-step.lines _ (omega arith) c.step-item.is c.loop-step.invariant c.in_ok-here.ensures.ok c.line_step.ensures.consistent in
+    let run = run_more c.args.self.now c.loop-step.self c.line_step.new.self c.args.steps.now c.loop-step.step-index c.step-item.result c.loop-step.lines _ (omega arith) c.step-item.is c.loop-step.invariant c.in_ok-here.ensures.ok in
     run_shows c.args.self.now c.args.steps.now c.line_step.new.self (began_consistent c.args.self.now c.line_step.new.self _ _ c.consistent.ensures run none)

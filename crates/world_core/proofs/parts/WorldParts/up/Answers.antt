@@ -25,4 +25,4 @@ pub returns-in-Ok-clause-made : goal.returns-in-Ok-clause-made
 returns-in-Ok-clause-made g c =
     let new : WorldView = the_view (param 0 g.row.R) g.R.Records (record { alloc = c.self.inside.alloc; master = c.replace.new.self; records = c.take.new.self; clock = c.args.now; clients = c.come_up.new.self; messages = c.self.inside.messages; lease = c.self.inside.lease }) in
     let behind = up_view (λ (c : CellState). c.master) (λ (c : CellState). c.store) c.replace.new.self c.in-Ok.cell (option_map g.R.Records.store c.take.new.self) c.args.now c.come_up.new.self c.self.inside.clients c.self.inside.messages.items c.self.inside.lease c.replace.ensures.after c.come_up.ensures in
-    came_up_made c.args.self.now new c.args.now c.self.inside.lease (g.R.Records.store c.in-Some.records) c.in-Ok.cell.store (search rules) (search rules) (search rules) c.in-Ok.cell.master c.set.new.self c.in-Ok.ensures.ok (subst (λ (v : WorldView). new ≡ with_master v c.args.now c.in-Ok.cell.store c.in-Ok.cell.master) c.self.view_is behind) (search rules)
+    came_up_made c.args.self.now new c.args.now c.self.inside.lease (g.R.Records.store c.in-Some.records) c.in-Ok.cell.store (search rules) (search rules) (search rules) c.in-Ok.cell.master c.set.new.self c.in-Ok.ensures.ok c.kept.ensures (subst (λ (v : WorldView). new ≡ with_master v c.args.now c.in-Ok.cell.store c.in-Ok.cell.master) c.self.view_is behind) (search rules)
