@@ -120,6 +120,18 @@ pub(crate) const LEASES: &[Row] = &[
         "jeopardy 1; refused 30 InJeopardy; lost 1; refused 31 SessionExpired",
     ),
     (
+        "safe_one_before_the_end_of_grace",
+        Before::Client,
+        "tick 9000 9000; tick 0 3000; ask 1 stat 1; tick 0 44999; beat 1; settle",
+        "jeopardy 1; refused 30 InJeopardy; safe 1",
+    ),
+    (
+        "lost_at_the_end_of_grace",
+        Before::Client,
+        "tick 9000 9000; tick 0 3000; ask 1 stat 1; tick 0 45000; beat 1; settle",
+        "jeopardy 1; refused 30 InJeopardy; lost 1",
+    ),
+    (
         "jeopardy_then_safe",
         Before::File,
         "ask 1 read 1; settle; tick 0 11294; beat 1; ask 1 read 1; tick 8250 8250; settle; ask 1 read 1; settle; ask 1 read 1",

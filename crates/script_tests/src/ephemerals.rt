@@ -10,6 +10,18 @@ pub(crate) const EPHEMERALS: &[Row] = &[
         "applied 1 1 put /ls/c/e file 4 1 1 base base base ephemeral 0 -; done 1 1 opened 1; done 1 2 closed; ended 1; applied 0 0 gone /ls/c/e",
     ),
     (
+        "spared_after_a_recovery_until_one_before",
+        Before::Client,
+        "ask 1 open /ls/c/e rw must file ephemeral -; settle; down; up 0; beat 1; settle; beat 1; settle; tick 1000 1000; beat 1; settle; tick 59000 59000; settle; tick 999 999; settle",
+        "applied 1 1 put /ls/c/e file 4 1 1 base base base ephemeral 0 -; done 1 1 opened 1; down; up 2; refused 28 OldEpoch 2; event 1 failover; recovered; jeopardy 1; safe 1",
+    ),
+    (
+        "spared_after_a_recovery_no_longer",
+        Before::Client,
+        "ask 1 open /ls/c/e rw must file ephemeral -; settle; down; up 0; beat 1; settle; beat 1; settle; tick 1000 1000; beat 1; settle; tick 59000 59000; settle; tick 999 999; settle; tick 1 1; settle",
+        "applied 1 1 put /ls/c/e file 4 1 1 base base base ephemeral 0 -; done 1 1 opened 1; down; up 2; refused 28 OldEpoch 2; event 1 failover; recovered; jeopardy 1; safe 1; applied 0 0 gone /ls/c/e",
+    ),
+    (
         "permanent_node_stays",
         Before::Nothing,
         "up 0; tick 60000 60000; join 1 ann; beat 1; settle; ask 1 open /ls/c/e rw must file permanent -; settle; ask 1 close 1; settle; ask 1 open /ls/c/e r; settle",
