@@ -64,7 +64,8 @@ Exit status:
   4                 memory ran out outside a step
 
 The store is a SQLite file. Where it isn't there, or has no table, a new store is made in it; else its rows are taken as
-they are. Nobody else may write it meanwhile.
+they are. Nobody else may write it meanwhile. A script in a file is up to 1,500 commits ahead of its lines: where such a run
+is killed, these stand in the store, and their lines weren't written.
 
 Settings are a table in TOML. A key that isn't there has its value here:
   cell       = \"c\"               a component
