@@ -8,6 +8,7 @@ mod laws;
 mod stored;
 mod takes;
 
+pub use cell_parts::Taken;
 pub use cells::Cell;
 pub use ephemerals::SPARED_FOR;
 pub use laws::queues_what_it_touches;

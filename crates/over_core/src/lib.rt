@@ -4,4 +4,6 @@
 mod cells;
 mod sweeps;
 
+pub use cell_parts::Taken;
 pub use cells::Cell;
+pub use sweep_laws::Swept;

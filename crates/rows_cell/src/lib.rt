@@ -12,5 +12,6 @@ pub use counts::Counts;
 pub use keys::LockKey;
 pub use lists::ListRecords;
 pub use records::{Records, StoreFault};
+pub use settings_core::Settings;
 pub use soundness::is_sound;
 pub use tables::{Edit, LockRow, LockState, Node, Rows, Session};

@@ -4,4 +4,5 @@
 mod runs;
 mod worlds;
 
+pub use world_clients::Step;
 pub use worlds::World;
