@@ -96,10 +96,6 @@ turn_loud more old new turn texts a b same made idle e loud h =
 pub turn_refused : (old new : Played) (fault : Fault) (a b : Option (List ℕ)) → PlaysRefused old (turn_step old) new (lines.Refused fault ∷ []) → Appends a b (lines_text (lines.Refused fault ∷ [])) → Wrote (λ printed. TakesTurn false old printed new) a b
 turn_refused old new fault a b refused h = (lines.Refused fault ∷ [], inr refused, h)
 
-pub settles_down : {E : Type 0} (w : Played) (up : Bool) (a b : Option (List ℕ)) (r : Result (Unit {0}) E) → up ≡ is_some w.view.world.master → up ≡ false → OnOk r (Appends a b (lines_text (lines.Refused MasterDown ∷ []))) → OnOk r (Wrote (λ printed. Settles w printed w) a b)
-settles_down w up a b (Ok x) is down h = (lines.Refused MasterDown ∷ [], subst (λ up. SettlesBy up w (lines.Refused MasterDown ∷ []) w) (sym down ∙ is) (refl, refl), h)
-settles_down w up a b (Err e) is down h = tt
-
 -- ---- lines
 
 lines_more : (old mid new : Played) (texts : List (List ℕ)) (line : List ℕ) (front back : List Line) → DoesLines old texts front mid → DoesLine mid line back new → DoesLines old (texts ++ line ∷ []) (front ++ back) new
@@ -131,15 +127,10 @@ part_more there text mid after old w new a b c is next h k =
     wrote_then (λ p. IsOfPart text mid.rest mid.number old p w) (λ p. DoesLine w after.line p new) (λ p. IsOfPart text after.rest after.number old p new) a b c
     (λ front back f g. part_then text mid after old w new front back (subst (λ b. Advances b mid after) is next) f g) h k
 
-part_whole : (text : Option (List ℕ)) (rest : Option (List ℕ)) (count : ℕ) (old : WorldView) (new : Played) (printed : List Line) → IsAtEnd rest → IsOfPart text rest count old printed new → IsOfScript text old printed
+pub part_whole : (text : Option (List ℕ)) (rest : Option (List ℕ)) (count : ℕ) (old : WorldView) (new : Played) (printed : List Line) → IsAtEnd rest → IsOfPart text rest count old printed new → IsOfScript text old printed
 part_whole text rest count old new printed ended h =
     let few : length h.texts ≤ 1000000 = rw h.counted h.few in
     record { texts = h.texts; whole = passes_all text rest h.texts h.first ended; few = few; new = new; does = h.does }
-
-pub part_all : (there : Bool) (text : Option (List ℕ)) (mid after : Reading) (old : WorldView) (new : Played) (a b : Option (List ℕ)) → there ≡ false → Advances there mid after → Wrote (λ printed. IsOfPart text mid.rest mid.number old printed new) a b → Wrote (IsOfScript text old) a b
-part_all there text mid after old new a b none next h =
-    let ended : IsAtEnd mid.rest = subst (λ b. Advances b mid after) none next in
-    wrote_as (λ printed. IsOfPart text mid.rest mid.number old printed new) (IsOfScript text old) a b (λ printed f. part_whole text mid.rest mid.number old new printed ended f) h
 
 -- the line that was read fits
 pub line_fits : (there : Bool) (mid after : Reading) → there ≡ true → Advances there mid after → length after.line ≤ 1048576
@@ -147,13 +138,6 @@ line_fits there mid after is next = let h = subst (λ b. Advances b mid after) i
 
 pub wrote_line : (old new : Played) (line text : List ℕ) (meant : Parsed) (a b : Option (List ℕ)) → text ≡ line → length line ≤ 1048576 → IsParsed (utf8_lossy text) meant → Wrote (λ printed. DoesParsed old meant printed new) a b → Wrote (λ printed. DoesLine old line printed new) a b
 wrote_line old new line text meant a b same fits is h = (h.0, (fits, (meant, subst (λ t. IsParsed (utf8_lossy t) meant) same is, h.1)), h.2)
-
--- a step as a line asked for it
-pub wrote_step : (old new : Played) (meant : Parsed) (step : Step) (r : Result (List Line) Fault) (a b : Option (List ℕ)) → meant ≡ parsed.Step step → IfOk r (λ printed. PlaysMade old step new printed) → IfErr r (λ e. PlaysRefused old step new (lines.Refused e ∷ [])) → Appends a b (lines_text (told r)) → Wrote (λ printed. DoesParsed old meant printed new) a b
-wrote_step old new meant step (Ok printed) a b is made refused h =
-    subst (λ x. Wrote (λ printed. DoesParsed old x printed new) a b) (sym is) (printed, inl made, h)
-wrote_step old new meant step (Err fault) a b is made refused h =
-    subst (λ x. Wrote (λ printed. DoesParsed old x printed new) a b) (sym is) (lines.Refused fault ∷ [], inr refused, h)
 
 pub wrote_refusal : (w : Played) (meant : Parsed) (fault : Fault) (a b : Option (List ℕ)) → meant ≡ parsed.Refused fault → Appends a b (lines_text (lines.Refused fault ∷ [])) → Wrote (λ printed. DoesParsed w meant printed w) a b
 wrote_refusal w meant fault a b is h = subst (λ x. Wrote (λ printed. DoesParsed w x printed w) a b) (sym is) (lines.Refused fault ∷ [], (refl, refl), h)
@@ -167,8 +151,3 @@ appends_kept (Some x) (Some y) (Some z) bytes h k = k ∙ h
 -- what was written stays written where the writer is flushed
 pub wrote_kept : (P : List Line → Type 0) (a b c : Option (List ℕ)) → Wrote P a b → Keeps b c → Wrote P a c
 wrote_kept P a b c h k = (h.0, h.1, appends_kept a b c (lines_text h.0) h.2 k)
-
-pub ran : {E : Type 0} (text rest : Option (List ℕ)) (old w : WorldView) (a b c : Option (List ℕ)) (r : Result (Unit {0}) E) → rest ≡ text → w ≡ old → OnOk r (Wrote (IsOfScript rest w) a b) → Keeps b c → OnOk r (Wrote (IsOfScript text old) a c)
-ran text rest old w a b c (Err e) same from h k = tt
-ran text rest old w a b c (Ok x) same from h k =
-    (h.0, subst (λ t. IsOfScript t old h.0) same (subst (λ v. IsOfScript rest v h.0) from h.1), appends_kept a b c (lines_text h.0) h.2 k)

@@ -1,3 +1,4 @@
 pub mod Turns
 mod Doings
 mod FirstLines
+mod RunsOf

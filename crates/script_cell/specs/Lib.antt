@@ -1,3 +1,4 @@
+pub mod Ran
 pub mod Scripts
 pub mod Settling
 pub mod Stops

@@ -7,4 +7,4 @@ mod scripts;
 mod stops;
 
 pub use lines::Counted;
-pub use scripts::script;
+pub use scripts::{script, script_on};

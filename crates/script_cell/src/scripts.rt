@@ -1,8 +1,9 @@
 //! Runs a script.
-ghost use Rattle.std.specs.Prelude.{◌≡◌, ◌≤◌, ◌∷◌, [], Some, length, true, OnOk, IfOk, IfErr};
-ghost use Rattle.std.specs.Io.KnownBytes.{Appends, Keeps};
+ghost use Rattle.std.specs.Prelude.{◌≡◌, ◌≤◌, ◌∷◌, [], Some, length, OnOk, IfOk, IfErr};
+ghost use Rattle.std.specs.Io.KnownBytes.{Keeps};
 ghost use Rattle.world_core.specs.World.{opened};
-ghost use Rattle.script_cell.specs.Scripts.{Wrote, IsOfScript, DoesLine, DoesParsed, lines_text, told};
+ghost use Rattle.script_cell.specs.Ran.{Ran, RanWell, EndsAs, EndsWith, Writes, Obeys};
+ghost use Rattle.script_cell.specs.Scripts.{Wrote, IsOfScript, DoesLine, told};
 ghost use Rattle.script_cell.specs.Settling.{played, Settles, TakesTurn, PlaysMade, PlaysRefused, turn_step, is_waiting, is_idle};
 ghost use Rattle.script_cell.specs.Stops.{IsStatus};
 ghost use Rattle.script_cell.specs.Texts.{Advances};
@@ -31,12 +32,32 @@ pub fn script<R: Records + Drop, I: Read + Drop, W: Write>(
     records: R,
     reader: I,
     writer: &mut W,
-    mut errors: impl Write + Drop,
+    errors: impl Write + Drop,
 ) -> u8
     ensures status { IsStatus result }
     ensures written { result ≡ 0 → Wrote (IsOfScript (I.remaining reader) (opened (R.store records) settings.now.lease)) (W.contents writer.old) (W.contents writer.new) }
 {
-    match run(alloc, settings, records, reader, writer) {
+    let mut world = World::new(alloc, records, settings);
+    script_on(alloc, &mut world, reader, writer, errors)
+}
+
+/// The same on a world that is there. Behind the script it stands as the steps left it, and can be closed.
+pub fn script_on<R: Records + Drop, I: Read + Drop, W: Write>(
+    alloc: Global,
+    world: &mut World<R>,
+    reader: I,
+    writer: &mut W,
+    mut errors: impl Write + Drop,
+) -> u8
+    ensures status { IsStatus result }
+    ensures written { result ≡ 0 → Wrote (IsOfScript (I.remaining reader) world.old) (W.contents writer.old) (W.contents writer.new) }
+    // Whatever the end: what was done are steps of the world, one behind the other, and their lines were written, with
+    // refusals of lines that are no steps between them; so the laws of runs hold of them, and each `served` line shows the
+    // map of its moment.
+    ensures ran { EndsWith result (RanWell world.old world.new) (W.contents writer.old) (W.contents writer.new) }
+{
+    world.runs_hold();
+    match run(alloc, world, reader, writer) {
         Ok(()) => 0,
         Err(stop) => {
             // Where these words can't be written, the status still tells.
@@ -56,17 +77,14 @@ fn write_stop(errors: &mut impl Write, stop: &Stop) -> io::Result<()> {
 
 fn run<R: Records + Drop, I: Read + Drop, W: Write>(
     alloc: Global,
-    settings: &Settings,
-    records: R,
+    world: &mut World<R>,
     reader: I,
     writer: &mut W,
 ) -> Result<(), Stop>
-    ensures { OnOk result (Wrote (IsOfScript (I.remaining reader) (opened (R.store records) settings.now.lease)) (W.contents writer.old) (W.contents writer.new)) }
+    ensures { EndsAs result (λ _ printed. IsOfScript (I.remaining reader) world.old printed × Ran world.old world.new printed) (Ran world.old world.new) (W.contents writer.old) (W.contents writer.new) }
 {
     let mut lines = ScriptLines::new(alloc, reader)?;
-    let mut world = World::new(alloc, records, settings);
-    let ended = run_lines(alloc, &mut world, &mut lines, writer);
-    let _records = world.close();
+    let ended = run_lines(alloc, world, &mut lines, writer);
     writer.flush()?;
     ended
 }
@@ -78,7 +96,7 @@ fn run_lines<R: Records + Drop, I: Read + Drop, W: Write>(
     output: &mut W,
 ) -> Result<(), Stop>
     requires { lines.old.number ≡ 0 }
-    ensures { OnOk result (Wrote (IsOfScript lines.old.rest world.old) (W.contents output.old) (W.contents output.new)) }
+    ensures { EndsAs result (λ _ printed. IsOfScript lines.old.rest world.old printed × Ran world.old world.new printed) (Ran world.old world.new) (W.contents output.old) (W.contents output.new) }
 {
     let mut delivered = Deliveries::new(alloc);
     for _ in 0..=LINE_COUNT_LIMIT {
@@ -96,7 +114,7 @@ fn advance<I: Read + Drop, W: Write>(
     output: &mut W,
 ) -> Result<bool, Stop>
     ensures advances { IfOk result (λ is_there. Advances is_there lines.old lines.new) }
-    ensures kept { OnOk result (Keeps (W.contents output.old) (W.contents output.new)) }
+    ensures kept { Keeps (W.contents output.old) (W.contents output.new) }
 {
     if lines.is_used_up() {
         output.flush()?;
@@ -113,7 +131,7 @@ fn run_line<R: Records + Drop, I: Read + Drop, W: Write>(
     output: &mut W,
 ) -> Result<(), Stop>
     requires { length lines.now.line ≤ 1048576 }
-    ensures { OnOk result (Wrote (λ printed. DoesLine (played world.old delivered.old) lines.now.line printed (played world.new delivered.new)) (W.contents output.old) (W.contents output.new)) }
+    ensures { EndsAs result (λ _ printed. DoesLine (played world.old delivered.old) lines.now.line printed (played world.new delivered.new)) (Ran world.old world.new) (W.contents output.old) (W.contents output.new) }
 {
     let parsed = read_line(alloc, lines.line())?;
     if !obey(world, &parsed, delivered, output)? {
@@ -129,7 +147,7 @@ fn obey<R: Records + Drop, W: Write>(
     delivered: &mut Deliveries,
     output: &mut W,
 ) -> Result<bool, Stop>
-    ensures { IfOk result (λ done. done ≡ true → Wrote (λ printed. DoesParsed (played world.old delivered.old) parsed.now printed (played world.new delivered.new)) (W.contents output.old) (W.contents output.new)) }
+    ensures { EndsAs result (λ done printed. Obeys done (played world.old delivered.old) parsed.now printed (played world.new delivered.new)) (Ran world.old world.new) (W.contents output.old) (W.contents output.new) }
 {
     match parsed {
         Parsed::Nothing => {}
@@ -148,7 +166,7 @@ fn settle<R: Records + Drop, W: Write>(
     delivered: &mut Deliveries,
     output: &mut W,
 ) -> Result<(), Stop>
-    ensures { OnOk result (Wrote (λ printed. Settles (played world.old delivered.old) printed (played world.new delivered.new)) (W.contents output.old) (W.contents output.new)) }
+    ensures { EndsAs result (λ _ printed. Settles (played world.old delivered.old) printed (played world.new delivered.new)) (Ran world.old world.new) (W.contents output.old) (W.contents output.new) }
 {
     if !world.is_up() {
         return write_refusal(output, Fault::MasterDown);
@@ -168,7 +186,7 @@ fn settle_on<R: Records + Drop, W: Write>(
     delivered: &mut Deliveries,
     output: &mut W,
 ) -> Result<bool, Stop>
-    ensures { IfOk result (λ more. Wrote (λ printed. TakesTurn more (played world.old delivered.old) printed (played world.new delivered.new)) (W.contents output.old) (W.contents output.new)) }
+    ensures { EndsAs result (λ more printed. TakesTurn more (played world.old delivered.old) printed (played world.new delivered.new)) (Ran world.old world.new) (W.contents output.old) (W.contents output.new) }
 {
     match settle_turn(world, delivered) {
         Ok(turn) => {
@@ -213,7 +231,7 @@ fn has_waiting<R: Records + Drop>(world: &World<R>, delivered: &Deliveries) -> b
 
 // Writes what a step printed, or its refusal.
 fn write_answer<W: Write>(output: &mut W, answer: &Result<Items<Line>, Fault>) -> Result<(), Stop>
-    ensures { OnOk result (Appends (W.contents output.old) (W.contents output.new) (lines_text (told answer.now))) }
+    ensures { Writes result (told answer.now) (W.contents output.old) (W.contents output.new) }
 {
     match answer {
         Ok(lines) => write_lines(output, lines.as_slice()),
@@ -222,7 +240,7 @@ fn write_answer<W: Write>(output: &mut W, answer: &Result<Items<Line>, Fault>) -
 }
 
 fn write_lines<W: Write>(output: &mut W, lines: &[Line]) -> Result<(), Stop>
-    ensures { OnOk result (Appends (W.contents output.old) (W.contents output.new) (lines_text lines.now)) }
+    ensures { Writes result lines.now (W.contents output.old) (W.contents output.new) }
 {
     for line in lines {
         write_line(output, line)?;
@@ -231,7 +249,7 @@ fn write_lines<W: Write>(output: &mut W, lines: &[Line]) -> Result<(), Stop>
 }
 
 fn write_refusal<W: Write>(output: &mut W, fault: Fault) -> Result<(), Stop>
-    ensures { OnOk result (Appends (W.contents output.old) (W.contents output.new) (lines_text (Line.Refused fault ∷ []))) }
+    ensures { Writes result (Line.Refused fault ∷ []) (W.contents output.old) (W.contents output.new) }
 {
     let line = Line::Refused(fault);
     let written = write_line(output, &line);
@@ -240,7 +258,7 @@ fn write_refusal<W: Write>(output: &mut W, fault: Fault) -> Result<(), Stop>
 }
 
 fn write_line<W: Write>(output: &mut W, line: &Line) -> Result<(), Stop>
-    ensures { OnOk result (Appends (W.contents output.old) (W.contents output.new) (lines_text (line.now ∷ []))) }
+    ensures { Writes result (line.now ∷ []) (W.contents output.old) (W.contents output.new) }
 {
     writeln!(output, "{line}")?;
     Ok(())

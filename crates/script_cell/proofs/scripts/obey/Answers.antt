@@ -1,11 +1,14 @@
 use Rattle.script_cell.specs.Settling.{played}
-use Rattle.script_cell.proofs.Doings.{wrote_step, wrote_refusal}
+use Rattle.script_cell.specs.Scripts.{told}
+use Rattle.script_cell.proofs.Doings.{wrote_refusal}
+use Rattle.script_cell.proofs.RunsOf.{step_ran, exit_unwritten}
 use Rattle.script_cell.proofs.scripts.obey.Goals as goal
 
-pub returns-in_ok-write_answer-in-Step : goal.returns-in_ok-write_answer-in-Step
-returns-in_ok-write_answer-in-Step g c =
-    λ _. wrote_step (played c.args.world.now c.args.delivered.now) _ c.args.parsed.now c.in-Step.step c.play.result _ _ c.in-Step.is c.play.ensures.made c.play.ensures.refused c.in_ok-write_answer-in-Step.ensures
+pub returns-in_err-write_answer-in-Step : goal.returns-in_err-write_answer-in-Step
+returns-in_err-write_answer-in-Step g c =
+    exit_unwritten _ _ _ _ c.from_residual.result c.in_err-write_answer-in-Step.field-0.0 (told c.play.result) c.from_residual.ensures c.in_err-write_answer-in-Step.ensures
+    (step_ran (played c.args.world.now c.args.delivered.now) _ c.in-Step.step c.play.result c.play.ensures.made c.play.ensures.refused)
 
 pub returns-in_ok-write_refusal-in-Refused : goal.returns-in_ok-write_refusal-in-Refused
 returns-in_ok-write_refusal-in-Refused g c =
-    λ _. wrote_refusal (played c.args.world.now c.args.delivered.now) c.args.parsed.now c.in-Refused.fault _ _ c.in-Refused.is c.in_ok-write_refusal-in-Refused.ensures
+    wrote_refusal (played c.args.world.now c.args.delivered.now) c.args.parsed.now c.in-Refused.fault _ _ c.in-Refused.is c.in_ok-write_refusal-in-Refused.ensures

@@ -1,13 +1,17 @@
-use Rattle.script_cell.proofs.Doings.{turn_loud, turn_quiet, turn_refused}
-use Rattle.script_cell.proofs.scripts.settle_on.Goals.{then-not-turn, else-not-turn}
+use Rattle.script_cell.specs.Settling.{played}
+use Rattle.script_cell.proofs.Doings.{turn_refused}
+use Rattle.script_cell.proofs.RunsOf.{made_ran, refused_ran, exit_unwritten}
 use Rattle.script_cell.proofs.scripts.settle_on.Goals as goal
 
-pub returns-after-not-turn : goal.returns-after-not-turn
-returns-after-not-turn g c =
-    elim c.if-not-turn.branch [
-      | then-not-turn w ↦ turn_loud _ _ _ c.in-Ok.turn _ _ _ c.as_slice.ensures c.in-Ok.ensures.made c.in-Ok.ensures.quiet w.result-is w.if-not-turn.true c.in_ok-write_lines-in-Ok.ensures
-      | else-not-turn w ↦ turn_quiet _ _ _ _ c.in-Ok.turn _ _ _ c.as_slice.ensures c.in-Ok.ensures.made c.in-Ok.ensures.quiet w.has_waiting.ensures w.result-is w.if-not-turn.false c.in_ok-write_lines-in-Ok.ensures
-    ]
+pub returns-in_err-write_lines-in-Ok : goal.returns-in_err-write_lines-in-Ok
+returns-in_err-write_lines-in-Ok g c =
+    exit_unwritten _ _ _ _ c.from_residual.result c.in_err-write_lines-in-Ok.field-0.0 c.in-Ok.turn.lines c.from_residual.ensures c.in_err-write_lines-in-Ok.ensures
+    (made_ran (played c.args.world.now c.args.delivered.now) _ _ _ c.in-Ok.ensures.made)
+
+pub returns-in_err-write_refusal-in-Err : goal.returns-in_err-write_refusal-in-Err
+returns-in_err-write_refusal-in-Err g c =
+    exit_unwritten _ _ _ _ c.from_residual-in_err-write_refusal-in-Err.result c.in_err-write_refusal-in-Err.field-0.0 _ c.from_residual-in_err-write_refusal-in-Err.ensures c.in_err-write_refusal-in-Err.ensures
+    (refused_ran (played c.args.world.now c.args.delivered.now) _ _ _ c.in-Err.ensures.refused)
 
 pub returns-in_ok-write_refusal-in-Err : goal.returns-in_ok-write_refusal-in-Err
 returns-in_ok-write_refusal-in-Err g c = turn_refused _ _ _ _ _ c.in-Err.ensures.refused c.in_ok-write_refusal-in-Err.ensures

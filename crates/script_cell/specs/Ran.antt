@@ -1,0 +1,85 @@
+-- What a script ran, however it ended.
+use Rattle.std.specs.Prelude.{◌≡◌, ◌⊎◌, ℕ, ◌≤◌, Bool, true, false, List, [], ◌∷◌, Option, Some, Result, Ok, Err}
+use Rattle.node_core.specs.declared.refusals.Fault.{Fault}
+use Rattle.node_core.specs.declared.lines.Line.{Line}
+use Rattle.node_core.specs.declared.lines.Line.TheVariants as lines
+use Rattle.rows_cell.specs.Rows.{map_of}
+use Rattle.rows_cell.specs.Sound.{is_live_in}
+use Rattle.world_clients.specs.declared.steps.Step.{Step}
+use Rattle.world_core.specs.World.{WorldView, IsUndoubted}
+use Rattle.world_laws.specs.Runs.{AnyRun, map_at, after_lines, epoch_at, live_at, applied, Rises}
+use Rattle.world_laws.specs.Served.{ServesPresentByThen}
+use Rattle.world_laws.specs.Laws.{HoldsOfRun}
+use Rattle.script_cell.specs.declared.stops.Stop.{Stop}
+use Rattle.script_cell.specs.declared.stops.Stop.TheVariants.{BadStep, NoMemory, Unwritten}
+use Rattle.script_cell.specs.Settling.{Played}
+use Rattle.script_cell.specs.Scripts.{lines_text, DoesParsed, Wrote}
+use Rattle.step_words.specs.declared.steps.Parsed.{Parsed}
+use Rattle.std.specs.Io.KnownBytes.{Appends}
+use Rattle.script_cell.specs.Stops.{status_of}
+
+-- the lines of a run, and between them refusals of lines that are no steps for a word in them
+abbrev pub Adds : List Line → List Line → Type 0
+Adds told [] = told ≡ []
+Adds told (line ∷ printed) =
+    ((rest : List Line) × (told ≡ line ∷ rest) × Adds rest printed)
+    ⊎ ((fault : Fault) × (line ≡ lines.Refused fault) × Adds told printed)
+
+-- steps of the world, one behind the other, and what was printed of them
+pub record Ran (old new : WorldView) (printed : List Line) : Type 0 where
+  pub steps : List Step
+  pub told : List Line
+  pub run : AnyRun old steps told new
+  pub tells : Adds told printed
+
+-- what the printed lines tell then
+pub record TellsOfRun (old new : WorldView) (printed : List Line) : Type 0 where
+  -- whatever a client serves from its cache is what the map holds of that name by then
+  pub served : ServesPresentByThen (map_of old.world.rows) printed
+  -- each call is applied at most once
+  pub once : (client : ℕ) → 1 ≤ client → Rises (applied client printed)
+  -- the rows hold the map that the printed changes make of the former one, each of which fits the map just before it
+  pub map : map_of new.world.rows ≡ map_at (map_of old.world.rows) printed
+  pub fits : after_lines (map_of old.world.rows) printed ≡ Some (map_of new.world.rows)
+  -- the epoch is that of the last master that came up
+  pub epoch : new.world.rows.epoch ≡ epoch_at old.world.rows.epoch printed
+  -- a client's session is live where the lines of its start and its end make it so
+  pub sessions : (client : ℕ) → is_live_in new.world.rows client ≡ live_at client (is_live_in old.world.rows client) printed
+
+-- these steps, and the laws of runs with them, where nothing is in doubt
+pub record RanWell (old new : WorldView) (printed : List Line) : Type 0 where
+  pub ran : Ran old new printed
+  pub holds : IsUndoubted new → HoldsOfRun old ran.steps ran.told new
+  pub tells : IsUndoubted new → TellsOfRun old new printed
+
+-- lines of which P holds are written whole, unless they can't be written
+abbrev pub EndsIn : {X : Type 0} → Result X Stop → (List Line → Type 0) → Option (List ℕ) → Option (List ℕ) → Type 0
+EndsIn (Ok x) P before after = Wrote P before after
+EndsIn (Err Unwritten) P before after = (printed : List Line) × P printed
+EndsIn (Err stop) P before after = Wrote P before after
+
+-- what came to an end did what P says; what stopped before did what Q says; and the lines of it are written whole,
+-- unless they can't be
+abbrev pub EndsAs : {X : Type 0} → Result X Stop → (X → List Line → Type 0) → (List Line → Type 0) → Option (List ℕ) → Option (List ℕ) → Type 0
+EndsAs (Ok x) P Q before after = Wrote (P x) before after
+EndsAs (Err Unwritten) P Q before after = (printed : List Line) × Q printed
+EndsAs (Err stop) P Q before after = Wrote Q before after
+
+-- lines are written whole, or can't be written
+abbrev pub Writes : {X : Type 0} → Result X Stop → List Line → Option (List ℕ) → Option (List ℕ) → Type 0
+Writes (Ok x) printed before after = Appends before after (lines_text printed)
+Writes (Err stop) printed before after = stop ≡ Unwritten
+
+-- a line that is a step was obeyed, and one that isn't does nothing
+abbrev pub Obeys : Bool → Played → Parsed → List Line → Played → Type 0
+Obeys true old meant printed new = DoesParsed old meant printed new
+Obeys false old meant printed new = (printed ≡ []) × (new ≡ old)
+
+abbrev pub status_at : Result (Unit {0}) Stop → ℕ
+status_at (Ok x) = 0
+status_at (Err stop) = status_of stop
+
+-- with this status the script came to its end; or to a line that is no step, or to want of memory, and what it printed
+-- before is written whole; or that can't be written
+abbrev pub EndsWith : ℕ → (List Line → Type 0) → Option (List ℕ) → Option (List ℕ) → Type 0
+EndsWith status P before after = (ended : Result (Unit {0}) Stop) × (status ≡ status_at ended) × EndsIn ended P before after
