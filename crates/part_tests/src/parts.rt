@@ -234,10 +234,12 @@ fn ask_the_same(opening: &Open, other: &Open) -> bool {
 }
 
 fn is_same(request: &Request, other: &Request) -> bool {
-    let (Some((message, opening)), Some((kept, again))) = (opening_of(request), opening_of(other)) else {
-        return false;
-    };
-    are_alike(message, kept) && ask_the_same(opening, again)
+    match (opening_of(request), opening_of(other)) {
+        (Some((message, opening)), Some((kept, again))) => {
+            are_alike(message, kept) && ask_the_same(opening, again)
+        }
+        _ => false,
+    }
 }
 
 fn again_text(client: &Client, request: &Request) -> &'static str {
