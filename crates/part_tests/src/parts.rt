@@ -203,22 +203,43 @@ fn again(client: &Client) -> &'static str {
     }
 }
 
-fn asked_name(request: &Request) -> &str {
-    match request {
-        Request::Call(
-            CallMessage {
-                call: Call::Open(open),
-                ..
-            },
-        ) => open.name.as_str(),
-        _ => "another call",
+// The message of an Open, and what that asks for.
+fn opening_of(request: &Request) -> Option<(&CallMessage, &Open)> {
+    let Request::Call(message) = request else {
+        return None;
+    };
+    match &message.call {
+        Call::Open(opening) => Some((message, opening)),
+        _ => None,
     }
 }
 
+// Whether two messages without a sequencer are the same but for their calls.
+fn are_alike(message: &CallMessage, other: &CallMessage) -> bool {
+    message.client.get() == other.client.get()
+        && message.epoch == other.epoch
+        && message.number.get() == other.number.get()
+        && message.sequencer.is_none()
+        && other.sequencer.is_none()
+}
+
+// Whether two Opens that make nothing ask for the same.
+fn ask_the_same(opening: &Open, other: &Open) -> bool {
+    opening.name == other.name
+        && opening.mode == other.mode
+        && opening.create.is_none()
+        && other.create.is_none()
+        && opening.delay == other.delay
+        && opening.events == other.events
+}
+
 fn is_same(request: &Request, other: &Request) -> bool {
-    request.client().get() == other.client().get()
-        && request.number().get() == other.number().get()
-        && asked_name(request) == asked_name(other)
+    match (opening_of(request), opening_of(other)) {
+        (Some((message, opening)), Some((kept, again))) => {
+            are_alike(message, kept) && ask_the_same(opening, again)
+        }
+        _ => false,
+    }
 }
 
 fn again_text(client: &Client, request: &Request) -> &'static str {
