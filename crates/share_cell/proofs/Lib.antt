@@ -1,0 +1,3 @@
+pub mod Turning
+pub mod Owing
+pub mod Refusing

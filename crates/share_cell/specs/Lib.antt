@@ -1,0 +1,11 @@
+pub use Rattle.client_core.specs.State
+pub use Rattle.client_core.specs.Asks
+pub use Rattle.client_core.specs.Gives
+pub use Rattle.client_core.specs.Beats
+pub use Rattle.cache_core.specs.Caches
+pub use Rattle.cache_core.specs.Changes
+pub mod Stepped
+pub mod Published
+pub mod Hits
+pub mod Owed
+pub mod Keeping

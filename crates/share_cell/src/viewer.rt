@@ -1,0 +1,151 @@
+//! A reader of the published views.
+ghost use Rattle.std.specs.Prelude.{◌≡◌, ◌≤◌, length, max, nat_lt, if◌then◌else◌, MatchResult, IfOk};
+ghost use Rattle.left_right.specs.Sides.{view};
+ghost use Rattle.share_cell.specs.Published.{StartsWith};
+ghost use Rattle.share_cell.specs.Hits.{Hits};
+
+use crate::hit::Hit;
+use crate::rule::{Known, Published, Sees};
+use crate::side::Side;
+use core::mem::replace_with;
+use lease_core::Clock;
+use left_right::reader::Reader;
+use names_cell::Name;
+use node_core::View;
+use std::alloc::AllocError;
+use std::marker::Model;
+
+/// Who asks what was published. Its front is the number of published views that it knows of.
+#[derive(Drop)]
+pub struct Viewer {
+    reader: Reader<Side, Known, Published>,
+    front: u64,
+}
+
+impl Model for Viewer {
+    ghost use Rattle.std.specs.Prelude.{◌≡◌, List, length};
+    ghost use Rattle.left_right.specs.Sides.{view as view_of};
+    ghost use Rattle.cache_core.specs.Caches.{CacheState};
+
+    ghost Value = { List CacheState };
+
+    ghost view = { λ v. view_of v.reader.place };
+
+    ghost invariant = { λ v. v.front ≡ length (view_of v.reader.place) };
+}
+
+/// What the keeper told a viewer: so many views were published.
+#[derive(Drop)]
+pub struct Told {
+    reader: Reader<Side, Known, Published>,
+    count: u64,
+}
+
+impl Model for Told {
+    ghost use Rattle.std.specs.Prelude.{◌≡◌, List, length};
+    ghost use Rattle.left_right.specs.Sides.{view as view_of};
+    ghost use Rattle.cache_core.specs.Caches.{CacheState};
+
+    ghost Value = { List CacheState };
+
+    ghost view = { λ t. view_of t.reader.place };
+
+    ghost invariant = { λ t. t.count ≡ length (view_of t.reader.place) };
+}
+
+impl Told {
+    pub(crate) fn of(reader: Reader<Side, Known, Published>, count: u64) -> Told
+        requires { count ≡ length (view reader.place) }
+        ensures { result ≡ view reader.place }
+    {
+        Told { reader, count }
+    }
+
+    /// So many views were published.
+    pub fn count(&self) -> u64
+        ensures { result ≡ length self.now }
+    {
+        self.count
+    }
+}
+
+impl Viewer {
+    pub(crate) fn over(reader: Reader<Side, Known, Published>, front: u64) -> Viewer
+        requires { front ≡ length (view reader.place) }
+        ensures { result ≡ view reader.place }
+    {
+        Viewer { reader, front }
+    }
+
+    /// How many published views it knows of.
+    pub fn front(&self) -> u64
+        ensures { result ≡ length (self.now) }
+    {
+        self.front
+    }
+
+    /// What the last published view answers. The view is no older than any that this viewer knew of.
+    pub fn hit<C: Clock>(&mut self, name: &Name, clock: &C) -> Result<Hit, AllocError>
+        ensures { MatchResult result
+            (Hits (C.is_reading clock.now) name.now (self.old) (self.new))
+            (λ _. StartsWith (self.new) (self.old)) }
+    {
+        replace_with(
+            self,
+            (name, clock),
+            |viewer, asked| viewer.ask(asked.0, asked.1),
+        )
+    }
+
+    fn ask<C: Clock>(self, name: &Name, clock: &C) -> (Viewer, Result<Hit, AllocError>)
+        ensures { MatchResult result.1
+            (Hits (C.is_reading clock.now) name.now (self) (result.0))
+            (λ _. StartsWith (result.0) (self)) }
+    {
+        let Viewer { reader, front } = self;
+        match reader.enter_as::<Sees>() {
+            Err(reader) => (Viewer { reader, front }, Ok(Hit::Gone)),
+            Ok(reading) => {
+                let side = reading.get();
+                let front = side.place;
+                let now = clock.now();
+                let hit = match side.cache.look(name, now) {
+                    None => Ok(Hit::Miss),
+                    Some(None) => Ok(Hit::Absent),
+                    Some(Some(found)) => copied(found),
+                };
+                let reader = reading.leave();
+                (Viewer { reader, front }, hit)
+            }
+        }
+    }
+
+    /// From now on the viewer knows of so many views at least.
+    pub fn learn(&mut self, told: Told)
+        ensures front { length (self.new) ≡ max (length (self.old)) (length told) }
+        ensures known { self.new ≡ (if nat_lt (length (self.old)) (length told) then told else self.old) }
+    {
+        replace_with(self, told, |viewer, told| (viewer.taught(told), ()))
+    }
+
+    fn taught(self, told: Told) -> Viewer
+        ensures front { length (result) ≡ max (length (self)) (length told) }
+        ensures known { result ≡ (if nat_lt (length (self)) (length told) then told else self) }
+    {
+        if self.front < told.count {
+            let Told { reader, count } = told;
+            Viewer {
+                reader,
+                front: count,
+            }
+        } else {
+            self
+        }
+    }
+}
+
+fn copied(found: &View) -> Result<Hit, AllocError>
+    ensures { IfOk result (λ h. h ≡ Hit.View found.now) }
+{
+    Ok(Hit::View(found.clone()?))
+}
