@@ -329,12 +329,33 @@ fn wrong(alloc: Global, rows: &[Row]) -> Result<Option<&'static str>, Fail> {
     Ok(None)
 }
 
-const READ: &[&[Row]] = &[LINES, BAD_STEPS, BAD_CALLS, TICKS];
+// Each table by a function of its own: all of them in one declaration meet the prover's limit of steps.
+fn wrong_line(alloc: Global) -> Result<Option<&'static str>, Fail> {
+    wrong(alloc, LINES)
+}
+
+fn wrong_step(alloc: Global) -> Result<Option<&'static str>, Fail> {
+    wrong(alloc, BAD_STEPS)
+}
+
+fn wrong_call(alloc: Global) -> Result<Option<&'static str>, Fail> {
+    wrong(alloc, BAD_CALLS)
+}
+
+fn wrong_tick(alloc: Global) -> Result<Option<&'static str>, Fail> {
+    wrong(alloc, TICKS)
+}
 
 #[test]
 fn lines_are_read(rt: HostRuntime) -> Result<(), Fail> {
-    for rows in READ {
-        let line = wrong(rt.alloc(), rows)?;
+    let alloc = rt.alloc();
+    let found = [
+        wrong_line(alloc)?,
+        wrong_step(alloc)?,
+        wrong_call(alloc)?,
+        wrong_tick(alloc)?,
+    ];
+    for line in found {
         assert!(rt; line.is_none(), "at {line:?}");
     }
     Ok(())

@@ -92,7 +92,6 @@ impl<R: Records + Drop> World<R> {
 
     /// What holds of every run that begins with this world, by whichever calls of `step`, `sweep` and `run` it is done: all
     /// that stands at `run`. Does nothing.
-    #[tactic(auto, using(world_laws::proofs::LawsOfRuns::runs_hold))]
     pub fn runs_hold(&self)
         ensures { HoldsOfRuns self.now }
     {
