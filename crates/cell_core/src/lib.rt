@@ -2,12 +2,14 @@
 #![tactic(auto)]
 
 mod admissions;
+mod answers;
 mod cells;
 mod ephemerals;
 mod laws;
 mod stored;
 mod takes;
 
+pub use answers::{Answers, Thrice};
 pub use cell_parts::Taken;
 pub use cells::Cell;
 pub use ephemerals::SPARED_FOR;

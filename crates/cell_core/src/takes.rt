@@ -2,12 +2,13 @@
 ghost use Rattle.std.specs.Prelude.{◌≡◌, ◌≢◌, true, false, Some, None, Ok, Err, IfOk, IfErr, OnOk, OnErr};
 ghost use Rattle.cell_core.specs.Step.{take_step, take_at, start_step, beat_step, call_step, kept_step, new_call, admit_step, telling, granting, is_cachable, waits, recorded, queued, replied, task_of};
 ghost use Rattle.cell_update.specs.Updates.{with_note};
-ghost use Rattle.cell_state.specs.Lookups.{kept_of, is_full, is_spent};
+ghost use Rattle.cell_state.specs.Lookups.{kept_of, is_full, is_spent, nothing};
 ghost use Rattle.session_core.specs.Session.{kept_answer};
 ghost use Rattle.gate_core.specs.Gate.{push_answer};
 ghost use Rattle.cell_core.specs.Ephemerals.{is_ok};
 
 use crate::admissions::{Admission, admission_for};
+use crate::answers::{Answers, Thrice};
 use crate::cells::Cell;
 use cell_parts::{Asked, Note, Taken, Task, Work, answered_by};
 use cell_state::Master;
@@ -27,9 +28,27 @@ impl Cell {
     /// One step by a request that came. A moment, in milliseconds, that is earlier than the last one counts as that;
     /// one of 2^53 or more is refused as Exhausted, and so is every request once 2^63-1 changes have waited, as many
     /// rights were granted, or a session has as many events. Nothing is committed.
-    #[tactic(auto, unfolding(crate::specs::Step::take_step))]
     pub fn take(&mut self, now: u64, request: &Request) -> Result<Taken, Fault>
         ensures ok { IfOk result (λ taken. take_step self.old now request.now ≡ Ok (self.new, taken)) }
+        ensures fault { IfErr result (λ e. e ≢ Fault.NoMemory → take_step self.old now request.now ≡ Err e) }
+        ensures err { OnErr result (self.new ≡ self.old) }
+    {
+        self.take_as::<Taken>(now, request)
+    }
+
+    /// The same step, its answer three times. All memory is taken before the step has an effect.
+    pub fn take_thrice(&mut self, now: u64, request: &Request) -> Result<Thrice, Fault>
+        ensures ok { IfOk result (λ taken. take_step self.old now request.now ≡ Ok (self.new, taken)) }
+        ensures fault { IfErr result (λ e. e ≢ Fault.NoMemory → take_step self.old now request.now ≡ Err e) }
+        ensures err { OnErr result (self.new ≡ self.old) }
+    {
+        self.take_as::<Thrice>(now, request)
+    }
+
+    // The same step, its answer as often as it is wanted.
+    #[tactic(auto, unfolding(crate::specs::Step::take_step))]
+    fn take_as<A: Answers>(&mut self, now: u64, request: &Request) -> Result<A, Fault>
+        ensures ok { IfOk result (λ taken. take_step self.old now request.now ≡ Ok (self.new, A.answer taken)) }
         ensures fault { IfErr result (λ e. e ≢ Fault.NoMemory → take_step self.old now request.now ≡ Err e) }
         ensures err { OnErr result (self.new ≡ self.old) }
     {
@@ -48,9 +67,9 @@ impl Cell {
     }
 }
 
-fn take_at(master: &mut Master, request: &Request) -> Result<Taken, AllocError>
+fn take_at<A: Answers>(master: &mut Master, request: &Request) -> Result<A, AllocError>
     requires { is_spent master.old ≡ false }
-    ensures ok { IfOk result (λ taken. take_at master.old request.now ≡ (master.new, taken)) }
+    ensures ok { IfOk result (λ taken. take_at master.old request.now ≡ (master.new, A.answer taken)) }
     ensures err { OnErr result (master.new ≡ master.old) }
 {
     match request {
@@ -60,19 +79,19 @@ fn take_at(master: &mut Master, request: &Request) -> Result<Taken, AllocError>
     }
 }
 
-fn take_start(master: &mut Master, start: &Start) -> Result<Taken, AllocError>
+fn take_start<A: Answers>(master: &mut Master, start: &Start) -> Result<A, AllocError>
     requires { is_spent master.old ≡ false }
-    ensures ok { IfOk result (λ taken. start_step master.old start.now ≡ (master.new, taken)) }
+    ensures ok { IfOk result (λ taken. start_step master.old start.now ≡ (master.new, A.answer taken)) }
     ensures err { OnErr result (master.new ≡ master.old) }
 {
     if !master.may_start(start.client, &start.principal) {
-        return master.refusal(start.client, start.number, Fault::NoSession);
+        return A::of(master.refusal(start.client, start.number, Fault::NoSession)?);
     }
     if master.recovering {
-        return master.turned_away(start.client, start.number, Fault::Recovering);
+        return A::of(master.turned_away(start.client, start.number, Fault::Recovering)?);
     }
     if master.is_full() {
-        return master.turned_away(start.client, start.number, Fault::Busy);
+        return A::of(master.turned_away(start.client, start.number, Fault::Busy)?);
     }
     let work = Work::Starts(start.principal.clone()?, master.clock);
     let asked = Asked {
@@ -80,69 +99,72 @@ fn take_start(master: &mut Master, start: &Start) -> Result<Taken, AllocError>
         number: start.number,
         work,
     };
-    queue(master, Items::new(master.alloc), Task::Asked(asked))?;
-    Ok(master.nothing())
+    queue_answered(master, Items::new(master.alloc), Task::Asked(asked))
 }
 
 // It acknowledges, which ends rights, and waits for its answer.
-fn take_beat(master: &mut Master, beat: &Beat) -> Result<Taken, AllocError>
-    ensures ok { IfOk result (λ taken. beat_step master.old beat.now ≡ (master.new, taken)) }
+fn take_beat<A: Answers>(master: &mut Master, beat: &Beat) -> Result<A, AllocError>
+    ensures ok { IfOk result (λ taken. beat_step master.old beat.now ≡ (master.new, A.answer taken)) }
     ensures err { OnErr result (master.new ≡ master.old) }
 {
     if beat.epoch != master.epoch {
         let present = master.epoch;
-        return master.refusal(beat.client, beat.number, Fault::OldEpoch(present));
+        return A::of(master.refusal(beat.client, beat.number, Fault::OldEpoch(present))?);
     }
     let lines = master.acked_lines(beat)?;
+    let answers = A::of(Taken {
+        lines,
+        outs: Items::new(master.alloc),
+    })?;
     match master.sessions.beat(beat, master.clock) {
         Ok(()) => {
             let ending = Ending::Acknowledgement(beat.invalidations);
             master.rights.end(beat.client.get(), ending);
-            Ok(Taken {
-                lines,
-                outs: Items::new(master.alloc),
-            })
+            Ok(answers)
         }
-        Err(fault) => master.refusal(beat.client, beat.number, fault),
+        Err(fault) => {
+            drop(answers);
+            A::of(master.refusal(beat.client, beat.number, fault)?)
+        }
     }
 }
 
-fn take_call(master: &mut Master, message: &CallMessage) -> Result<Taken, AllocError>
+fn take_call<A: Answers>(master: &mut Master, message: &CallMessage) -> Result<A, AllocError>
     requires { is_spent master.old ≡ false }
-    ensures ok { IfOk result (λ taken. call_step master.old message.now ≡ (master.new, taken)) }
+    ensures ok { IfOk result (λ taken. call_step master.old message.now ≡ (master.new, A.answer taken)) }
     ensures err { OnErr result (master.new ≡ master.old) }
 {
     let client = message.client;
     let number = message.number;
     if message.epoch != master.epoch {
         let present = master.epoch;
-        return master.refusal(client, number, Fault::OldEpoch(present));
+        return A::of(master.refusal(client, number, Fault::OldEpoch(present))?);
     }
     if !master.is_live(client) {
-        return master.refusal(client, number, Fault::NoSession);
+        return A::of(master.refusal(client, number, Fault::NoSession)?);
     }
     by_kept(master, message)
 }
 
 // By the last call of the client.
-fn by_kept(master: &mut Master, message: &CallMessage) -> Result<Taken, AllocError>
+fn by_kept<A: Answers>(master: &mut Master, message: &CallMessage) -> Result<A, AllocError>
     requires { is_spent master.old ≡ false }
-    ensures ok { IfOk result (λ taken. kept_step master.old message.now (kept_answer (kept_of master.old message.now.client) message.now.number) ≡ (master.new, taken)) }
+    ensures ok { IfOk result (λ taken. kept_step master.old message.now (kept_answer (kept_of master.old message.now.client) message.now.number) ≡ (master.new, A.answer taken)) }
     ensures err { OnErr result (master.new ≡ master.old) }
 {
     let client = message.client;
     let number = message.number;
     match master.sessions.kept(client, number) {
-        Err(fault) => master.refusal(client, number, fault),
-        Ok(Some(kept)) => master.repeated(kept),
+        Err(fault) => A::of(master.refusal(client, number, fault)?),
+        Ok(Some(kept)) => A::of(master.repeated(kept)?),
         Ok(None) => new_call(master, message),
     }
 }
 
 // A call that is neither repeated nor too early. During recovery each is refused, and that is recorded.
-fn new_call(master: &mut Master, message: &CallMessage) -> Result<Taken, AllocError>
+fn new_call<A: Answers>(master: &mut Master, message: &CallMessage) -> Result<A, AllocError>
     requires { is_spent master.old ≡ false }
-    ensures ok { IfOk result (λ taken. new_call master.old message.now ≡ (master.new, taken)) }
+    ensures ok { IfOk result (λ taken. new_call master.old message.now ≡ (master.new, A.answer taken)) }
     ensures err { OnErr result (master.new ≡ master.old) }
 {
     let client = message.client;
@@ -164,16 +186,16 @@ fn new_call(master: &mut Master, message: &CallMessage) -> Result<Taken, AllocEr
 }
 
 // What is noted of the call's handle is taken back where memory is refused.
-fn admit_noted(
+fn admit_noted<A: Answers>(
     master: &mut Master,
     note: Note,
     message: &CallMessage,
     touched: Option<Name>,
     told: Option<Name>,
     answer: Option<CallResult>,
-) -> Result<Taken, AllocError>
+) -> Result<A, AllocError>
     requires { is_spent master.old ≡ false }
-    ensures ok { IfOk result (λ taken. admit_step (with_note master.old (Some note)) message.now touched told answer ≡ (master.new, taken)) }
+    ensures ok { IfOk result (λ taken. admit_step (with_note master.old (Some note)) message.now touched told answer ≡ (master.new, A.answer taken)) }
     ensures err { OnErr result (master.new ≡ master.old) }
 {
     let Note { key, state } = note;
@@ -191,15 +213,15 @@ fn admit_noted(
 }
 
 // A call that is answered at once, or waits where there is room.
-fn admit(
+fn admit<A: Answers>(
     master: &mut Master,
     message: &CallMessage,
     touched: Option<Name>,
     told: Option<Name>,
     answer: Option<CallResult>,
-) -> Result<Taken, AllocError>
+) -> Result<A, AllocError>
     requires { is_spent master.old ≡ false }
-    ensures ok { IfOk result (λ taken. admit_step master.old message.now touched told answer ≡ (master.new, taken)) }
+    ensures ok { IfOk result (λ taken. admit_step master.old message.now touched told answer ≡ (master.new, A.answer taken)) }
     ensures err { OnErr result (master.new ≡ master.old) }
 {
     match answer {
@@ -216,15 +238,15 @@ fn admit(
 }
 
 // An answer, by the name of which it tells what it shows.
-fn answer_telling(
+fn answer_telling<A: Answers>(
     master: &mut Master,
     client: ClientNumber,
     number: MessageNumber,
     answer: CallResult,
     told: Option<Name>,
-) -> Result<Taken, AllocError>
+) -> Result<A, AllocError>
     requires { is_spent master.old ≡ false }
-    ensures ok { IfOk result (λ taken. telling master.old client number answer told ≡ (master.new, taken)) }
+    ensures ok { IfOk result (λ taken. telling master.old client number answer told ≡ (master.new, A.answer taken)) }
     ensures err { OnErr result (master.new ≡ master.old) }
 {
     let Some(name) = told else {
@@ -238,50 +260,71 @@ fn answer_telling(
 }
 
 // Grants the client the right to keep its answer.
-fn grant(
+fn grant<A: Answers>(
     master: &mut Master,
     client: ClientNumber,
     number: MessageNumber,
     answer: CallResult,
     name: &Name,
-) -> Result<Taken, AllocError>
+) -> Result<A, AllocError>
     requires cachable { is_cachable master.old client name.now ≡ true }
     requires more { is_spent master.old ≡ false }
-    ensures ok { IfOk result (λ taken. granting master.old client number answer name.now ≡ (master.new, taken)) }
+    ensures ok { IfOk result (λ taken. granting master.old client number answer name.now ≡ (master.new, A.answer taken)) }
     ensures err { OnErr result (master.new ≡ master.old) }
 {
     let reply = master.stamped_reply(client, number, answer);
     let Taken { lines: _, outs } = master.sends(&reply)?;
     let lines = master.granted_lines(client, name)?;
+    let answers = A::of(Taken { lines, outs })?;
     if master.rights.grant(client.get(), name).is_err() {
         return Err(AllocError);
     }
     master.sessions.keep(client, answered_by(reply));
-    Ok(Taken { lines, outs })
+    Ok(answers)
 }
 
 // Queues a call, and keeps that it waits; who holds the name that it touches is asked for it.
-fn wait(
+fn wait<A: Answers>(
     master: &mut Master,
     message: &CallMessage,
     touched: Option<Name>,
-) -> Result<Taken, AllocError>
+) -> Result<A, AllocError>
     requires room { is_full master.old ≡ false }
     requires more { is_spent master.old ≡ false }
-    ensures ok { IfOk result (λ taken. waits master.old message.now touched ≡ (master.new, taken)) }
+    ensures ok { IfOk result (λ taken. waits master.old message.now touched ≡ (master.new, A.answer taken)) }
+    ensures err { OnErr result (master.new ≡ master.old) }
+{
+    let answers = A::of(master.nothing())?;
+    match wait_quietly(master, message, touched) {
+        Ok(()) => Ok(answers),
+        Err(error) => {
+            drop(answers);
+            Err(error)
+        }
+    }
+}
+
+// The same, and nothing is printed or sent.
+fn wait_quietly(
+    master: &mut Master,
+    message: &CallMessage,
+    touched: Option<Name>,
+) -> Result<(), AllocError>
+    requires room { is_full master.old ≡ false }
+    requires more { is_spent master.old ≡ false }
+    ensures ok { OnOk result (waits master.old message.now touched ≡ (master.new, nothing)) }
     ensures err { OnErr result (master.new ≡ master.old) }
 {
     let mut names = Items::new(master.alloc);
     let Some(name) = touched else {
-        queue_call(master, message, names)?;
-        return Ok(master.nothing());
+        return queue_call(master, message, names);
     };
     let asked = master.rights.to_ask(&name)?;
     names.push(name.clone()?)?;
     queue_call(master, message, names)?;
     master.rights.mark(&name, &asked);
     master.sessions.issue_all(&asked);
-    Ok(master.nothing())
+    Ok(())
 }
 
 // A call stands behind all others, and is the last one of its client.
@@ -327,20 +370,40 @@ pub(crate) fn queue(master: &mut Master, touched: Items<Name>, task: Task) -> Re
     }
 }
 
+// The same, and nothing is printed or sent.
+fn queue_answered<A: Answers>(
+    master: &mut Master,
+    touched: Items<Name>,
+    task: Task,
+) -> Result<A, AllocError>
+    requires { is_ok (push_answer master.old.gate) ≡ true }
+    ensures ok { IfOk result (λ taken. (queued master.old touched task, nothing) ≡ (master.new, A.answer taken)) }
+    ensures err { OnErr result (master.new ≡ master.old) }
+{
+    let answers = A::of(master.nothing())?;
+    match queue(master, touched, task) {
+        Ok(()) => Ok(answers),
+        Err(error) => {
+            drop(answers);
+            Err(error)
+        }
+    }
+}
+
 // Records a reply that no client may keep in its cache, and sends it.
-fn reply(
+fn reply<A: Answers>(
     master: &mut Master,
     client: ClientNumber,
     number: MessageNumber,
     answer: CallResult,
-) -> Result<Taken, AllocError>
-    ensures ok { IfOk result (λ taken. replied master.old client number answer ≡ (master.new, taken)) }
+) -> Result<A, AllocError>
+    ensures ok { IfOk result (λ taken. replied master.old client number answer ≡ (master.new, A.answer taken)) }
     ensures err { OnErr result (master.new ≡ master.old) }
 {
     let reply = master.reply_of(client, number, answer);
-    let taken = master.sends(&reply)?;
+    let answers = A::of(master.sends(&reply)?)?;
     master.sessions.keep(client, answered_by(reply));
-    Ok(taken)
+    Ok(answers)
 }
 
 // What waits of a call: also the sequencer that it carries.

@@ -10,16 +10,19 @@ ghost use Rattle.rows_cell.specs.Rows.{changed_rows};
 ghost use Rattle.rows_cell.specs.Sound.{sound};
 ghost use Rattle.cell_core.specs.Step.{take_step};
 ghost use Rattle.rows_cell.specs.Stores.{Commits, IsCommitted, IsRead, IsRefused, IsUnread};
-ghost use Rattle.sweep_laws.specs.Sweep.{sweep_step, sweep_edits};
+ghost use Rattle.sweep_laws.specs.Sweep.{sweep_step, sweep_edits, swept_as};
+ghost use Rattle.rights_core.specs.Rights.{totals_of};
 ghost use Rattle.sweep_laws.specs.Kept.{IsKept};
 ghost use Rattle.sweep_laws.specs.Up.{up_edits, next_epoch, ComesUp, StaysDown, CouldComeUp, CouldNotComeUp};
 
-use crate::sweeps::sweep_by;
+use crate::sweeps::{SweptThrice, sweep_by, sweep_thrice_by};
+use cell_core::Thrice;
 use cell_parts::Taken;
 use lease_core::MOMENT_LIMIT;
 use messages_cell::Request;
 use node_core::{Fault, Line, NUMBER_LIMIT};
 use plain::Items;
+use rights_core::Totals;
 use rows_cell::{Edit, Records, Rows};
 use std::alloc::Global;
 use std::marker::Model;
@@ -126,6 +129,37 @@ impl<R: Records> Cell<R> {
         ensures lines { IfOk result (λ swept. vec_len room.new + length swept.lines < vec_capacity room.new) }
     {
         sweep_by(&mut self.master, &mut self.records, now, room)
+    }
+
+    /// A step by a request as `take` does it, its answer three times. All memory is taken before the step has an effect.
+    pub fn take_thrice(&mut self, now: u64, request: &Request) -> Result<Thrice, Fault>
+        ensures ok { IfOk result (λ taken. take_step self.old.master now request.now ≡ Ok (self.new.master, taken)) }
+        ensures store { self.new ≡ record self.old { master = self.new.master } }
+        ensures fault { IfErr result (λ e. e ≢ Fault.NoMemory → take_step self.old.master now request.now ≡ Err e) }
+        ensures err { OnErr result (self.new ≡ self.old) }
+    {
+        let _client = request.client().get();
+        self.master.take_thrice(now, request)
+    }
+
+    /// A sweep as `sweep` does it, its answer three times, and whether it found nothing to do. All memory is taken before
+    /// the sweep has an effect.
+    pub fn sweep_thrice(&mut self, now: u64) -> Result<SweptThrice, Fault>
+        ensures ok { IfOk result (λ done. sweep_step self.old.master now ≡ Ok (self.new.master, swept_as done.answers done.quiet)) }
+        ensures committed { OnOk result (IsCommitted (sweep_edits self.old.master now) self.old.store self.new.store) }
+        ensures fault { IfErr result (λ e. (sweep_step self.old.master now ≡ Err e × self.new ≡ self.old)
+            ⊎ IsRefused e (sweep_edits self.old.master now) self.old.store self.new.store) }
+        ensures err { OnErr result (self.new.master ≡ self.old.master) }
+    {
+        sweep_thrice_by(&mut self.master, &mut self.records, now)
+    }
+
+    /// How many rights were granted in this master's epoch, and how many of them stand in each way. Takes no memory.
+    pub fn totals(&self) -> Totals
+        ensures counts { result ≡ totals_of self.now.master.rights }
+        ensures sum { result.issued ≡ result.held + result.acknowledged + result.expired }
+    {
+        self.master.master().rights().totals()
     }
 
     /// How many masters came up, this one being the last.

@@ -7,3 +7,4 @@ mod sweeps;
 pub use cell_parts::Taken;
 pub use cells::Cell;
 pub use sweep_laws::Swept;
+pub use sweeps::SweptThrice;

@@ -8,9 +8,9 @@ ghost use Rattle.gate_core.specs.Gate.{push_answer};
 ghost use Rattle.cell_update.specs.Updates.{BeginsNew, edits_of, done};
 ghost use Rattle.cell_core.specs.Ephemerals.{is_ok, tidied};
 ghost use Rattle.sweep_plan.specs.Plans.{tellings_of, first_action, plan_of};
-ghost use Rattle.sweep_laws.specs.Sweep.{is_quiet, done_and_told, swept, action_edits, is_over, sweep_edits, sweep_step};
+ghost use Rattle.sweep_laws.specs.Sweep.{is_quiet, done_and_told, swept, swept_as, action_edits, is_over, sweep_edits, sweep_step};
 
-use cell_core::Cell;
+use cell_core::{Answers, Cell, Thrice};
 use cell_parts::{Idle, Taken, Telling};
 use cell_state::Master;
 use cell_update::{Grown, Update, edits_of};
@@ -23,16 +23,29 @@ use std::alloc::AllocError;
 use sweep_laws::Swept;
 use sweep_plan::{Action, Plan, first_action, plan_of, tellings_of};
 
-// What is planned for an action, and what the clients of open handles are told of it.
-struct Prepared {
-    plan: Plan,
+// What is planned for an action, its answer as often as it is wanted, and what the clients of open handles are told of it.
+struct Prepared<A: Answers> {
+    update: Update,
+    answers: A,
     tellings: Items<Telling>,
+}
+
+// The answer of a sweep as often as it is wanted, and whether the sweep found nothing to do.
+struct Done<A: Answers> {
+    answers: A,
+    quiet: bool,
+}
+
+/// The answer of a sweep three times, and whether the sweep found nothing to do.
+#[derive(Drop)]
+pub struct SweptThrice {
+    pub answers: Thrice,
+    pub quiet: bool,
 }
 
 /// A sweep at a moment, in milliseconds; an earlier one than the last counts as that, and one of 2^53 or more is refused
 /// as Exhausted, as is each sweep once a session's events have no number left. Room for what is printed and sent is made
 /// in a list of the caller's. A refusal leaves the master as it was.
-#[tactic(auto, unfolding(sweep_laws::specs::Sweep::sweep_step))]
 pub(crate) fn sweep_by<R: Records, T>(
     cell: &mut Cell,
     records: &mut R,
@@ -49,12 +62,58 @@ pub(crate) fn sweep_by<R: Records, T>(
     ensures outs { IfOk result (λ swept. vec_len room.new + length swept.outs ≤ vec_capacity room.new) }
     ensures lines { IfOk result (λ swept. vec_len room.new + length swept.lines < vec_capacity room.new) }
 {
+    match sweep_as::<R, Taken, T>(cell, records, now, room) {
+        Ok(Done { answers, quiet }) => Ok(Swept::of(answers, quiet)),
+        Err(fault) => Err(fault),
+    }
+}
+
+/// The same, its answer three times.
+pub(crate) fn sweep_thrice_by<R: Records>(
+    cell: &mut Cell,
+    records: &mut R,
+    now: u64,
+) -> Result<SweptThrice, Fault>
+    requires { sound (R.store records.old).cell (changed_rows (R.store records.old).rows (sweep_edits cell.old now)) ≡ true }
+    ensures ok { IfOk result (λ done. sweep_step cell.old now ≡ Ok (cell.new, swept_as done.answers done.quiet)) }
+    ensures committed { OnOk result (IsCommitted (sweep_edits cell.old now) (R.store records.old) (R.store records.new)) }
+    ensures err { OnErr result (cell.new ≡ cell.old) }
+    ensures fault { IfErr result (λ e. (sweep_step cell.old now ≡ Err e × R.store records.new ≡ R.store records.old)
+        ⊎ IsRefused e (sweep_edits cell.old now) (R.store records.old) (R.store records.new)) }
+{
+    let mut room: Vec<Line> = Vec::new(cell.master().alloc());
+    let done = sweep_as::<R, Thrice, Line>(cell, records, now, &mut room);
+    drop(room);
+    match done {
+        Ok(Done { answers, quiet }) => Ok(SweptThrice { answers, quiet }),
+        Err(fault) => Err(fault),
+    }
+}
+
+// The same, its answer as often as it is wanted.
+#[tactic(auto, unfolding(sweep_laws::specs::Sweep::sweep_step))]
+fn sweep_as<R: Records, A: Answers, T>(
+    cell: &mut Cell,
+    records: &mut R,
+    now: u64,
+    room: &mut Vec<T>,
+) -> Result<Done<A>, Fault>
+    requires { sound (R.store records.old).cell (changed_rows (R.store records.old).rows (sweep_edits cell.old now)) ≡ true }
+    ensures ok { IfOk result (λ done. sweep_step cell.old now ≡ Ok (cell.new, swept_as (A.answer done.answers) done.quiet)) }
+    ensures committed { OnOk result (IsCommitted (sweep_edits cell.old now) (R.store records.old) (R.store records.new)) }
+    ensures err { OnErr result (cell.new ≡ cell.old) }
+    ensures fault { IfErr result (λ e. (sweep_step cell.old now ≡ Err e × R.store records.new ≡ R.store records.old)
+        ⊎ IsRefused e (sweep_edits cell.old now) (R.store records.old) (R.store records.new)) }
+    ensures items { room.new.items ≡ room.old.items }
+    ensures outs { IfOk result (λ done. vec_len room.new + length (A.answer done.answers).outs ≤ vec_capacity room.new) }
+    ensures lines { IfOk result (λ done. vec_len room.new + length (A.answer done.answers).lines < vec_capacity room.new) }
+{
     if is_over(cell.master(), now) {
         return Err(Fault::Exhausted);
     }
     let before = cell.note_moment(now);
     match sweep_at(cell, records, room) {
-        Ok(swept) => Ok(swept),
+        Ok(done) => Ok(done),
         Err(fault) => {
             cell.restore_moment(before);
             Err(fault)
@@ -71,18 +130,18 @@ fn is_over(master: &Master, now: u64) -> bool
 
 // Does the first action that there is, with at most one commit to the records, which comes before all that is printed
 // and sent. Behind all else the clients of open handles are told of it. A refusal leaves the master as it was.
-fn sweep_at<R: Records, T>(
+fn sweep_at<R: Records, A: Answers, T>(
     cell: &mut Cell,
     records: &mut R,
     room: &mut Vec<T>,
-) -> Result<Swept, Fault>
+) -> Result<Done<A>, Fault>
     requires { sound (R.store records.old).cell (changed_rows (R.store records.old).rows (action_edits cell.old (first_action cell.old))) ≡ true }
-    ensures ok { IfOk result (λ done. swept cell.old (first_action cell.old) ≡ (cell.new, done)) }
+    ensures ok { IfOk result (λ done. swept cell.old (first_action cell.old) ≡ (cell.new, swept_as (A.answer done.answers) done.quiet)) }
     ensures store { Commits (action_edits cell.old (first_action cell.old)) (R.store records.old) (R.store records.new) result }
     ensures err { OnErr result (cell.new ≡ cell.old) }
     ensures items { room.new.items ≡ room.old.items }
-    ensures outs { IfOk result (λ swept. vec_len room.new + length swept.outs ≤ vec_capacity room.new) }
-    ensures lines { IfOk result (λ swept. vec_len room.new + length swept.lines < vec_capacity room.new) }
+    ensures outs { IfOk result (λ done. vec_len room.new + length (A.answer done.answers).outs ≤ vec_capacity room.new) }
+    ensures lines { IfOk result (λ done. vec_len room.new + length (A.answer done.answers).lines < vec_capacity room.new) }
 {
     match first_action(cell)? {
         Action::Tidy(idle) => Ok(tidy(cell, idle, room)?),
@@ -95,10 +154,14 @@ fn sweep_at<R: Records, T>(
 }
 
 // The deletion of an ephemeral node is queued. Nothing is printed, nothing sent, and nobody is told.
-fn tidy<T>(cell: &mut Cell, idle: Idle, room: &mut Vec<T>) -> Result<Swept, AllocError>
+fn tidy<A: Answers, T>(
+    cell: &mut Cell,
+    idle: Idle,
+    room: &mut Vec<T>,
+) -> Result<Done<A>, AllocError>
     requires { is_ok (push_answer cell.old.gate) ≡ true }
     ensures ok { OnOk result (cell.new ≡ tidied cell.old idle) }
-    ensures nothing { IfOk result (λ swept. swept ≡ record { lines = []; outs = []; quiet = false }) }
+    ensures nothing { IfOk result (λ done. swept_as (A.answer done.answers) done.quiet ≡ record { lines = []; outs = []; quiet = false }) }
     ensures err { OnErr result (cell.new ≡ cell.old) }
     ensures items { room.new.items ≡ room.old.items }
     ensures room { OnOk result (vec_len room.new < vec_capacity room.new) }
@@ -107,34 +170,66 @@ fn tidy<T>(cell: &mut Cell, idle: Idle, room: &mut Vec<T>) -> Result<Swept, Allo
         drop(idle);
         return Err(AllocError);
     }
-    cell.tidy(idle)?;
-    Ok(Swept::of(cell.master().nothing(), false))
+    match A::of(cell.master().nothing()) {
+        Ok(answers) => tidy_answered(cell, idle, answers),
+        Err(error) => {
+            drop(idle);
+            Err(error)
+        }
+    }
+}
+
+// The same, with the answers made.
+fn tidy_answered<A: Answers>(cell: &mut Cell, idle: Idle, answers: A) -> Result<Done<A>, AllocError>
+    requires { is_ok (push_answer cell.old.gate) ≡ true }
+    ensures ok { OnOk result (cell.new ≡ tidied cell.old idle) }
+    ensures answers { IfOk result (λ done. (done.answers ≡ answers) × (done.quiet ≡ false)) }
+    ensures err { OnErr result (cell.new ≡ cell.old) }
+{
+    match cell.tidy(idle) {
+        Ok(()) => Ok(Done {
+            answers,
+            quiet: false,
+        }),
+        Err(error) => {
+            drop(answers);
+            Err(error)
+        }
+    }
 }
 
 // Does what is planned for any other action, and behind all else the clients of open handles are told of it.
-fn act<R: Records, T>(
+fn act<R: Records, A: Answers, T>(
     cell: &mut Cell,
     records: &mut R,
     action: &Action,
     room: &mut Vec<T>,
-) -> Result<Swept, Fault>
+) -> Result<Done<A>, Fault>
     requires { sound (R.store records.old).cell (changed_rows (R.store records.old).rows (action_edits cell.old action.now)) ≡ true }
-    ensures ok { IfOk result (λ done. done_and_told cell.old (plan_of cell.old action.now) (is_quiet action.now) ≡ (cell.new, done)) }
+    ensures ok { IfOk result (λ done. done_and_told cell.old (plan_of cell.old action.now) (is_quiet action.now) ≡ (cell.new, swept_as (A.answer done.answers) done.quiet)) }
     ensures store { Commits (action_edits cell.old action.now) (R.store records.old) (R.store records.new) result }
     ensures err { OnErr result (cell.new ≡ cell.old) }
     ensures items { room.new.items ≡ room.old.items }
-    ensures outs { IfOk result (λ swept. vec_len room.new + length swept.outs ≤ vec_capacity room.new) }
-    ensures lines { IfOk result (λ swept. vec_len room.new + length swept.lines < vec_capacity room.new) }
+    ensures outs { IfOk result (λ done. vec_len room.new + length (A.answer done.answers).outs ≤ vec_capacity room.new) }
+    ensures lines { IfOk result (λ done. vec_len room.new + length (A.answer done.answers).lines < vec_capacity room.new) }
 {
     note_if_quiet(cell, action);
-    let Prepared { plan, tellings } = planned(cell, action, room)?;
-    match carry_out(cell, records, plan, is_quiet(action)) {
-        Ok(swept) => {
+    let Prepared {
+        update,
+        answers,
+        tellings,
+    } = planned::<A, T>(cell, action, room)?;
+    match commit_edits(cell, records, update) {
+        Ok(()) => {
             cell.tell(tellings);
-            Ok(swept)
+            Ok(Done {
+                answers,
+                quiet: is_quiet(action),
+            })
         }
         Err(fault) => {
             drop(tellings);
+            drop(answers);
             Err(fault)
         }
     }
@@ -150,18 +245,44 @@ fn note_if_quiet(cell: &mut Cell, action: &Action)
 }
 
 // What is planned for an action, with room for what it prints and sends.
-fn planned<T>(cell: &Cell, action: &Action, room: &mut Vec<T>) -> Result<Prepared, AllocError>
-    ensures ok { IfOk result (λ prepared. prepared.plan ≡ plan_of cell.now action.now) }
+fn planned<A: Answers, T>(
+    cell: &Cell,
+    action: &Action,
+    room: &mut Vec<T>,
+) -> Result<Prepared<A>, AllocError>
+    ensures update { IfOk result (λ prepared. prepared.update ≡ (plan_of cell.now action.now).update) }
+    ensures answer { IfOk result (λ prepared. A.answer prepared.answers ≡ (plan_of cell.now action.now).taken) }
     ensures told { IfOk result (λ prepared. prepared.tellings ≡ tellings_of cell.now (plan_of cell.now action.now)) }
     ensures items { room.new.items ≡ room.old.items }
-    ensures outs { IfOk result (λ prepared. vec_len room.new + length prepared.plan.taken.outs ≤ vec_capacity room.new) }
-    ensures lines { IfOk result (λ prepared. vec_len room.new + length prepared.plan.taken.lines < vec_capacity room.new) }
+    ensures outs { IfOk result (λ prepared. vec_len room.new + length (A.answer prepared.answers).outs ≤ vec_capacity room.new) }
+    ensures lines { IfOk result (λ prepared. vec_len room.new + length (A.answer prepared.answers).lines < vec_capacity room.new) }
 {
     let plan = plan_of(cell, action)?;
     match with_room(cell.master(), room, &plan) {
-        Ok(tellings) => Ok(Prepared { plan, tellings }),
+        Ok(told) => with_answers(plan, told),
         Err(error) => {
             drop(plan);
+            Err(error)
+        }
+    }
+}
+
+// A plan with its answer as often as it is wanted.
+fn with_answers<A: Answers>(plan: Plan, told: Items<Telling>) -> Result<Prepared<A>, AllocError>
+    ensures update { IfOk result (λ prepared. prepared.update ≡ plan.update) }
+    ensures answer { IfOk result (λ prepared. A.answer prepared.answers ≡ plan.taken) }
+    ensures told { IfOk result (λ prepared. prepared.tellings ≡ told) }
+{
+    let Plan { update, taken, .. } = plan;
+    match A::of(taken) {
+        Ok(answers) => Ok(Prepared {
+            update,
+            answers,
+            tellings: told,
+        }),
+        Err(error) => {
+            drop(update);
+            drop(told);
             Err(error)
         }
     }
@@ -199,30 +320,6 @@ fn is_quiet(action: &Action) -> bool
     ensures { result ≡ is_quiet action.now }
 {
     matches!(action, Action::Quiet)
-}
-
-// Does what is planned: it grows first, then commits, and what can't fail comes last.
-fn carry_out<R: Records>(
-    cell: &mut Cell,
-    records: &mut R,
-    plan: Plan,
-    quiet: bool,
-) -> Result<Swept, Fault>
-    requires sound { sound (R.store records.old).cell (changed_rows (R.store records.old).rows (edits_of cell.old plan.update)) ≡ true }
-    requires begins { BeginsNew cell.old plan.update.session }
-    ensures ok { IfOk result (λ swept. swept ≡ record { lines = plan.taken.lines; outs = plan.taken.outs; quiet = quiet }) }
-    ensures done { OnOk result (cell.new ≡ done cell.old plan.update) }
-    ensures store { Commits (edits_of cell.old plan.update) (R.store records.old) (R.store records.new) result }
-    ensures err { OnErr result (cell.new ≡ cell.old) }
-{
-    let Plan { update, taken, .. } = plan;
-    match commit_edits(cell, records, update) {
-        Ok(()) => Ok(Swept::of(taken, quiet)),
-        Err(fault) => {
-            drop(taken);
-            Err(fault)
-        }
-    }
 }
 
 // The update is done, with its edits committed.

@@ -26,3 +26,4 @@ pub mod SweepCases
 pub mod SweepSteps
 pub mod ToldSessions
 pub mod Touching
+pub mod StepsTell

@@ -6,6 +6,8 @@ pub use Rattle.rows_cell.specs.Sound
 pub use Rattle.rows_cell.specs.Stores
 pub use Rattle.rows_cell.specs.LockRows
 pub use Rattle.rows_cell.specs.Indexes
+pub use Rattle.rights_core.specs.Rights
+pub use Rattle.rights_core.specs.Grants
 pub use Rattle.lock_core.specs.State as LockStates
 pub use Rattle.lock_core.specs.Turns
 pub use Rattle.lock_core.specs.Locks as LockTables

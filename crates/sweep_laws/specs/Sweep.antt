@@ -1,6 +1,7 @@
 -- A sweep: what is planned for its first action is done and committed, and the clients are told of it.
 use Rattle.std.specs.Prelude.{List, ℕ, Bool, true, false, ◌||◌, [], Result, Ok, Err, if◌then◌else◌}
 use Rattle.cell_parts.specs.declared.notices.Telling.{Telling}
+use Rattle.cell_parts.specs.declared.pending.Taken.{Taken}
 use Rattle.cell_state.specs.Notices.{with_tellings}
 use Rattle.cell_state.specs.State.{MasterState}
 use Rattle.sweep_plan.specs.declared.plans.Plan.{Plan}
@@ -23,9 +24,13 @@ abbrev pub is_quiet : Action → Bool
 is_quiet Quiet = true
 is_quiet _ = false
 
+-- what is printed and sent, and whether there was nothing to do
+abbrev pub swept_as : Taken → Bool → Swept
+swept_as taken quiet = record { lines = taken.lines; outs = taken.outs; quiet = quiet }
+
 -- what is planned stands
 abbrev pub swept_by_plan : MasterState → Plan → Bool → MasterState × Swept
-swept_by_plan s plan quiet = (done s plan.update, record { lines = plan.taken.lines; outs = plan.taken.outs; quiet = quiet })
+swept_by_plan s plan quiet = (done s plan.update, swept_as plan.taken quiet)
 
 -- what is queued commits nothing yet
 abbrev pub acted : MasterState → Action → MasterState × Swept

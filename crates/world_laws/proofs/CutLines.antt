@@ -15,7 +15,8 @@ use Rattle.sweep_laws.specs.SweepCase.{SweepCase, swept_by}
 use Rattle.sweep_laws.specs.SweepCase.SweepCase.{Recovers, Expires, Reopens, Left}
 use Rattle.world_core.specs.World.{is_of_commit}
 use Rattle.world_laws.proofs.LockLines.{reopened_of_locks, left_of_locks, expiry_kept}
-use Rattle.world_laws.specs.Runs.{Told, map_by, map_at, epoch_by, epoch_at, live_by, live_at, put_number, applied, rights_by, rights_at}
+use Rattle.rights_core.specs.Grants.{Told, rights_by, rights_at}
+use Rattle.world_laws.specs.Runs.{map_by, map_at, epoch_by, epoch_at, live_by, live_at, put_number, applied}
 
 -- the lines of a sweep that was cut
 abbrev pub cut_lines : List Line → List Line

@@ -2,6 +2,7 @@
 use Rattle.std.proofs.Common.{ℕ, List, [], ◌∷◌, ◌++◌, map}
 use Rattle.node_core.specs.declared.lines.Line.{Line}
 use Rattle.node_core.specs.declared.lines.Line.TheVariants as lines
+use Rattle.rights_core.proofs.ToldLines.{IsOfNoRight, AreOfNoRight}
 
 abbrev pub IsSilentLine : Line → Type 0
 IsSilentLine (lines.Up epoch) = ⊥
@@ -13,19 +14,6 @@ IsSilentLine _ = Unit {0}
 abbrev pub IsSilent : List Line → Type 0
 IsSilent [] = Unit {0}
 IsSilent (line ∷ rest) = IsSilentLine line × IsSilent rest
-
--- no master comes up or goes down, and no right is granted or ends
-abbrev pub IsOfNoRight : Line → Type 0
-IsOfNoRight (lines.Up epoch) = ⊥
-IsOfNoRight lines.Down = ⊥
-IsOfNoRight (lines.Granted number client name) = ⊥
-IsOfNoRight (lines.Acked number) = ⊥
-IsOfNoRight (lines.Expired number) = ⊥
-IsOfNoRight _ = Unit {0}
-
-abbrev pub AreOfNoRight : List Line → Type 0
-AreOfNoRight [] = Unit {0}
-AreOfNoRight (line ∷ rest) = IsOfNoRight line × AreOfNoRight rest
 
 -- both
 abbrev pub IsQuiet : List Line → Type 0

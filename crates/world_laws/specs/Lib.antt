@@ -4,6 +4,7 @@ pub use Rattle.rows_cell.specs.Sound
 pub use Rattle.coherence.specs.Slice
 pub use Rattle.session_core.specs.Sessions
 pub use Rattle.rights_core.specs.Rights
+pub use Rattle.rights_core.specs.Grants
 pub use Rattle.rights_core.specs.Laws as RightsLaws
 pub use Rattle.cell_state.specs.State
 pub use Rattle.cell_state.specs.Lookups

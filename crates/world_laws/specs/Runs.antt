@@ -1,6 +1,5 @@
 -- Whole runs of a world.
-use Rattle.std.specs.Prelude.{◌≡◌, ◌⊎◌, ℕ, ◌+◌, ◌-◌, ◌*◌, ◌<◌, ◌≤◌, ◌==◌, Bool, true, false, ◌&&◌, List, [], ◌∷◌, ◌++◌, length, map, count_by, Option, Some, None, if◌then◌else◌}
-use Rattle.std.specs.List.{list_any}
+use Rattle.std.specs.Prelude.{◌≡◌, ◌⊎◌, ℕ, ◌+◌, ◌-◌, ◌*◌, ◌<◌, ◌≤◌, ◌==◌, Bool, true, false, List, [], ◌∷◌, ◌++◌, map, Option, Some, None, if◌then◌else◌}
 use Rattle.std.specs.Option.{option_map, option_and_then}
 use Rattle.node_core.specs.declared.lines.Line.{Line}
 use Rattle.node_core.specs.declared.lines.Line.TheVariants as lines
@@ -12,11 +11,8 @@ use Rattle.messages_cell.specs.declared.calls.Call.{Call}
 use Rattle.messages_cell.specs.declared.requests.Request.TheVariants as requests
 use Rattle.rows_cell.specs.Rows.{map_of}
 use Rattle.cell_apply.specs.declared.effects.Effect.{Effect}
-use Rattle.rights_core.specs.declared.cache_rights.CacheRight.{CacheRight}
-use Rattle.rights_core.specs.declared.cache_rights.Status.{Status}
-use Rattle.rights_core.specs.declared.cache_rights.Status.TheVariants as statuses
-use Rattle.rights_core.specs.declared.totals.Totals.{Totals}
-use Rattle.rights_core.specs.Rights.{stands, was_acknowledged, has_expired, totals_of}
+use Rattle.rights_core.specs.Rights.{totals_of}
+use Rattle.rights_core.specs.Grants.{Told, rights_at, told_of, totals_by}
 use Rattle.gate_core.specs.declared.pending.Waiting.{Waiting}
 use Rattle.cell_parts.specs.declared.pending.Task.{Task}
 use Rattle.cell_parts.specs.declared.pending.Task.TheVariants as tasks
@@ -128,67 +124,10 @@ KeepsClocksFair old steps new =
 
 -- ---- rights
 
--- a right as lines tell of it
-pub record Told : Type 0 where
-  pub number : ℕ
-  pub client : ℕ
-  pub name : List ℕ
-  pub status : Status
-
-abbrev pub is_held_as : ℕ → Told → Bool
-is_held_as number right = stands right.status && right.number == number
-
-abbrev pub with_status : ℕ → Status → Told → Told
-with_status number status right = if right.number == number then record right { status = status } else right
-
--- a new right has the next number
-abbrev pub told_more : List Told → ℕ → ℕ → List ℕ → Option (List Told)
-told_more rights number client name =
-    if number == length rights + 1 then Some (rights ++ record { number = number; client = client; name = name; status = statuses.Held } ∷ []) else None
-
--- one that ends was held
-abbrev pub told_ended : List Told → ℕ → Status → Option (List Told)
-told_ended rights number status = if list_any (is_held_as number) rights then Some (map (with_status number status) rights) else None
-
--- what a line makes of the rights of an epoch; None where it tells of one out of its turn
-abbrev pub rights_by : List Told → Line → Option (List Told)
-rights_by rights (lines.Up epoch) = Some []
-rights_by rights lines.Down = Some []
-rights_by rights (lines.Granted number client name) = told_more rights number client name
-rights_by rights (lines.Acked number) = told_ended rights number statuses.Acknowledged
-rights_by rights (lines.Expired number) = told_ended rights number statuses.Expired
-rights_by rights _ = Some rights
-
--- the rights of the last epoch, by the lines: numbered from 1 in order, each ended at most once, later than itself
-abbrev pub rights_at : List Told → List Line → Option (List Told)
-rights_at rights [] = Some rights
-rights_at rights (line ∷ rest) = option_and_then (λ next. rights_at next rest) (rights_by rights line)
-
-abbrev pub told_of : CacheRight → Told
-told_of right = record { number = right.number; client = right.client; name = right.name; status = right.status }
-
 -- those that the master has granted
 abbrev pub rights_in : Option MasterState → List Told
 rights_in None = []
 rights_in (Some s) = map told_of s.rights
-
-abbrev pub is_held_told : Told → Bool
-is_held_told right = stands right.status
-
-abbrev pub is_acknowledged_told : Told → Bool
-is_acknowledged_told right = was_acknowledged right.status
-
-abbrev pub is_expired_told : Told → Bool
-is_expired_told right = has_expired right.status
-
--- all, and those of each status
-abbrev pub totals_by : List Told → Totals
-totals_by rights = record {
-  issued = length rights;
-  held = count_by is_held_told rights;
-  acknowledged = count_by is_acknowledged_told rights;
-  expired = count_by is_expired_told rights;
-}
 
 -- the lines record each right once, and the totals of a master that is up are those of its lines
 pub record AreRecordedOnce (old : WorldState) (printed : List Line) (new : WorldState) : Type 0 where

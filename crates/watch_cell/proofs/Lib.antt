@@ -1,0 +1,7 @@
+pub mod Count
+pub mod Counting
+pub mod Flaws
+pub mod Lists
+pub mod Replay
+pub mod Settling
+pub mod StepFacts

@@ -1,0 +1,85 @@
+-- What a cell's methods say of the step of an event.
+use Rattle.std.proofs.Common.{◌≡◌, ◌≢◌, ◌⊎◌, inl, inr, ℕ, List, [], ◌∷◌, Bool, true, false, cond, Result, Ok, Err, refl, sym, ap, ◌∙◌, subst}
+use Rattle.std.specs.Prelude.{◌||◌, IfOk, IfErr}
+use Rattle.node_core.specs.declared.refusals.Fault.{Fault}
+use Rattle.node_core.specs.declared.refusals.Fault.TheVariants as faults
+use Rattle.messages_cell.specs.declared.requests.Request.{Request}
+use Rattle.rows_cell.specs.declared.tables.Rows.{Rows}
+use Rattle.rows_cell.specs.declared.tables.Edit.{Edit}
+use Rattle.rows_cell.specs.Stores.{IsCommitted, IsRefused, MayRefuse, StoreRefuses}
+use Rattle.rights_core.specs.Grants.{Tells}
+use Rattle.cell_parts.specs.declared.pending.Taken.{Taken}
+use Rattle.cell_state.specs.State.{MasterState}
+use Rattle.cell_state.specs.Lookups.{noted, is_spent}
+use Rattle.cell_core.specs.Step.{take_step, take_at, is_past_end}
+use Rattle.sweep_laws.specs.declared.swept.Swept.{Swept}
+use Rattle.sweep_laws.specs.Kept.{CellState, IsKept}
+use Rattle.sweep_laws.specs.Sweep.{sweep_step, sweep_edits, swept_as, swept, is_over}
+use Rattle.sweep_plan.specs.Plans.{first_action}
+use Rattle.sweep_laws.proofs.StepsTell.{taken_tells, swept_tells}
+use Rattle.over_core.specs.declared.sweeps.SweptThrice.{SweptThrice}
+use Rattle.watch_cell.specs.declared.events.Event.TheVariants.{Take, Sweep}
+use Rattle.watch_cell.specs.Views.{WatchedState, watched}
+use Rattle.watch_cell.specs.Trail.{after_take, after_sweep, step_of}
+
+-- ---- a message that was taken
+
+pub take_is : (old new : CellState) (now : ℕ) (request : Request) (taken : Taken) → take_step old.master now request ≡ Ok (new.master, taken) → new ≡ record old { master = new.master } → step_of (watched old) (Take now request) ≡ Ok (watched new, swept_as taken false)
+unfolding step_of
+take_is old new now request taken is same =
+    let rows : new.store.rows ≡ old.store.rows = ap (λ (c : CellState). c.store.rows) same in
+    ap (after_take (watched old)) is ∙ ap (λ (r : Rows). Ok (record { master = new.master; rows = r }, swept_as taken false)) (sym rows)
+
+pub take_tells : (old new : CellState) (now : ℕ) (request : Request) (taken : Taken) → IsKept old.store.cell old.store.rows old.master → take_step old.master now request ≡ Ok (new.master, taken) → Tells old.master.rights taken.lines new.master.rights
+take_tells old new now request taken kept is = taken_tells old.master new.master now request taken kept.recorded is
+
+pub take_not_full : (s : MasterState) (now : ℕ) (request : Request) (e : Fault) → (e ≢ faults.NoMemory → take_step s now request ≡ Err e) → e ≢ faults.WatchFull
+unfolding take_step
+take_not_full s now request e h is =
+    let other : e ≢ faults.NoMemory = λ k. cc in
+    (elim (is_past_end now || is_spent s) as (λ b. cond {A = Result (MasterState × Taken) Fault} b (Err faults.Exhausted) (Ok (take_at (noted s now) request)) ≡ Err e → ⊥) [
+      | true ↦ (λ k. cc)
+      | false ↦ (λ k. cc)
+    ]) (h other)
+
+-- ---- a sweep that was made
+
+pub sweep_is : (old new : CellState) (now : ℕ) (done : Swept) → sweep_step old.master now ≡ Ok (new.master, done) → IsCommitted (sweep_edits old.master now) old.store new.store → step_of (watched old) (Sweep now) ≡ Ok (watched new, done)
+unfolding step_of
+sweep_is old new now done is committed =
+    ap (after_sweep (watched old) (sweep_edits old.master now)) is ∙ ap (λ (r : Rows). Ok (record { master = new.master; rows = r }, done)) (sym committed.rows)
+
+pub sweep_tells : (old new : CellState) (now : ℕ) (done : Swept) → IsKept old.store.cell old.store.rows old.master → sweep_step old.master now ≡ Ok (new.master, done) → Tells old.master.rights done.lines new.master.rights
+sweep_tells old new now done kept is = swept_tells old.store.cell old.store.rows old.master new.master now done kept is
+
+same_state : (m n : MasterState) (r q : Rows) → m ≡ n → r ≡ q → ◌≡◌ {A = WatchedState} (record { master = m; rows = r }) (record { master = n; rows = q })
+same_state m n r q h k = rw (h, k) refl
+
+pub sweep_same : (old new : CellState) (now : ℕ) (e : Fault) → new.master ≡ old.master → (sweep_step old.master now ≡ Err e × new ≡ old) ⊎ IsRefused e (sweep_edits old.master now) old.store new.store → watched new ≡ watched old
+sweep_same old new now e same (inl p) = ap watched p.1
+sweep_same old new now e same (inr r) = same_state new.master old.master new.store.rows old.store.rows same r.rows
+
+refused_not_full : (edits : List Edit) (e : Fault) (before after : ℕ) → MayRefuse edits e before after → e ≢ faults.WatchFull
+refused_not_full [] e before after w is = let none : e ≡ faults.NoMemory = w.0 in cc
+refused_not_full (edit ∷ edits) e before after w is = subst (λ (f : Fault). StoreRefuses f before after) is w
+
+stepped_not_full : (s : MasterState) (now : ℕ) (e : Fault) → sweep_step s now ≡ Err e → e ≢ faults.WatchFull
+unfolding sweep_step
+stepped_not_full s now e h is =
+    (elim (is_over s now) as (λ b. cond {A = Result (MasterState × Swept) Fault} b (Err faults.Exhausted) (Ok (swept (noted s now) (first_action (noted s now)))) ≡ Err e → ⊥) [
+      | true ↦ (λ k. cc)
+      | false ↦ (λ k. cc)
+    ]) h
+
+pub sweep_not_full : (old new : CellState) (now : ℕ) (e : Fault) → (sweep_step old.master now ≡ Err e × new ≡ old) ⊎ IsRefused e (sweep_edits old.master now) old.store new.store → e ≢ faults.WatchFull
+sweep_not_full old new now e (inl p) = stepped_not_full old.master now e p.0
+sweep_not_full old new now e (inr r) = refused_not_full (sweep_edits old.master now) e old.store.refusals new.store.refusals r.why
+
+-- of a sweep that may be refused
+pub swept_tells_so : (old new : CellState) (now : ℕ) (result : Result SweptThrice Fault) → IsKept old.store.cell old.store.rows old.master → IfOk result (λ t. sweep_step old.master now ≡ Ok (new.master, swept_as t.answers t.quiet)) → IfOk result (λ t. Tells old.master.rights t.answers.lines new.master.rights)
+swept_tells_so old new now (Ok t) kept is = sweep_tells old new now (swept_as t.answers t.quiet) kept is
+swept_tells_so old new now (Err e) kept is = tt
+
+pub swept_not_full : (old new : CellState) (now : ℕ) (result : Result SweptThrice Fault) → IfErr result (λ e. (sweep_step old.master now ≡ Err e × new ≡ old) ⊎ IsRefused e (sweep_edits old.master now) old.store new.store) → IfErr result (λ e. e ≢ faults.WatchFull)
+swept_not_full old new now (Ok t) h = tt
+swept_not_full old new now (Err e) h = sweep_not_full old new now e h

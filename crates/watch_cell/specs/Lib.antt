@@ -1,0 +1,13 @@
+pub use Rattle.plain.specs.Results
+pub use Rattle.rows_cell.specs.Rows
+pub use Rattle.rows_cell.specs.Stores
+pub use Rattle.rights_core.specs.Rights
+pub use Rattle.rights_core.specs.Grants
+pub use Rattle.cell_state.specs.State
+pub use Rattle.cell_core.specs.Step
+pub use Rattle.sweep_laws.specs.Kept
+pub use Rattle.sweep_laws.specs.Sweep
+pub mod Closing
+pub mod Marks
+pub mod Trail
+pub mod Views
