@@ -377,7 +377,8 @@ fn queue_answered<A: Answers>(
     task: Task,
 ) -> Result<A, AllocError>
     requires { is_ok (push_answer master.old.gate) ≡ true }
-    ensures ok { IfOk result (λ taken. (queued master.old touched task, nothing) ≡ (master.new, A.answer taken)) }
+    ensures queued { OnOk result (master.new ≡ queued master.old touched task) }
+    ensures answer { IfOk result (λ taken. A.answer taken ≡ nothing) }
     ensures err { OnErr result (master.new ≡ master.old) }
 {
     let answers = A::of(master.nothing())?;

@@ -4,10 +4,10 @@ use Rattle.cell_core.proofs.Notes.{noted}
 use Rattle.cell_core.proofs.takes.admit_noted.Goals as goal
 
 pub returns-in-Ok-clause-ok : goal.returns-in-Ok-clause-ok
-returns-in-Ok-clause-ok c =
+returns-in-Ok-clause-ok g c =
     sym (ap (λ s. admit_step s c.args.message.now c.args.touched c.args.told c.args.answer) (noted _ c.args.master.now c.put.new.self (Some c.args.note) c.args.note c.master.view_is refl c.in_ok-former.ensures.ok))
     ∙ c.in-Ok.ensures.ok
-    ∙ ap (λ s. (s, c.in-Ok.taken)) (sym c.settle_note.ensures)
+    ∙ ap (λ s. (s, g.A.Answers.answer c.in-Ok.taken)) (sym c.settle_note.ensures)
 
 pub returns-in-Err-clause-err : goal.returns-in-Err-clause-err
-returns-in-Err-clause-err c = search rules
+returns-in-Err-clause-err g c = search rules
