@@ -1,1 +1,2 @@
+pub mod BeginsNew
 pub mod KeptThrice

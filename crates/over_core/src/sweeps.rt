@@ -251,6 +251,7 @@ fn planned<A: Answers, T>(
     room: &mut Vec<T>,
 ) -> Result<Prepared<A>, AllocError>
     ensures update { IfOk result (λ prepared. prepared.update ≡ (plan_of cell.now action.now).update) }
+    ensures begins { IfOk result (λ prepared. BeginsNew cell.now prepared.update.session) }
     ensures answer { IfOk result (λ prepared. A.answer prepared.answers ≡ (plan_of cell.now action.now).taken) }
     ensures told { IfOk result (λ prepared. prepared.tellings ≡ tellings_of cell.now (plan_of cell.now action.now)) }
     ensures items { room.new.items ≡ room.old.items }
