@@ -2,13 +2,14 @@
 use Rattle.std.proofs.Common.{◌≡◌, ◌⊎◌, inl, inr, ℕ, zero, suc, ◌+◌, ◌<◌, ◌≤◌, max, List, [], ◌∷◌, ◌++◌, length, true, false, ◌==◌, refl, sym, ap, ◌∙◌, subst, arith, length-append}
 use Rattle.std.specs.Prelude.{if◌then◌else◌}
 use Rattle.std.proofs.lemmas.Bool.Decides.{nat_tests}
+use Rattle.std.proofs.lemmas.Option.{slice_get_within}
 use Rattle.rights_core.specs.declared.totals.Totals.{Totals}
 use Rattle.rights_core.specs.Rights.{totals_of}
 use Rattle.rights_core.specs.Grants.{totals_by}
 use Rattle.rights_core.proofs.ToldLines.{totals_told}
 use Rattle.watch_cell.specs.declared.events.Entry.{Entry}
 use Rattle.watch_cell.specs.Views.{WatchedState, Ticket, Hand}
-use Rattle.watch_cell.specs.Trail.{Kept}
+use Rattle.watch_cell.specs.Trail.{Kept, entry}
 use Rattle.watch_cell.specs.Closing.{times, gathered, numbers, ticket_places, places, SoundIn, SoundOf, AllThere, Rising, AllRising, Settled}
 use Rattle.watch_cell.proofs.Lists.{times_append, gathered_append}
 use Rattle.watch_cell.proofs.Count.{AllBelow, all_there, each_once}
@@ -29,44 +30,44 @@ below_append : (n : ℕ) (xs ys : List ℕ) → AllBelow n xs → AllBelow n ys 
 below_append n [] ys h k = k
 below_append n (x ∷ xs) ys h k = (h.0, below_append n xs ys h.1 k)
 
-below_in : (long : ℕ) (all : List ℕ) (top : ℕ) (ts : List Ticket) → SoundIn long all top ts → AllBelow long (ticket_places ts)
-below_in long all top [] h = tt
-below_in long all top (t ∷ ts) h = (h.0.there, below_in long all (max top (t.place + 1)) ts h.1)
+below_in : (trail : List Entry) (all : List ℕ) (top : ℕ) (ts : List Ticket) → SoundIn trail all top ts → AllBelow (length trail) (ticket_places ts)
+below_in trail all top [] h = tt
+below_in trail all top (t ∷ ts) h = (slice_get_within trail t.place (entry t.event t.reply) h.0.entered, below_in trail all (max top (t.place + 1)) ts h.1)
 
-below_of : (long : ℕ) (all : List ℕ) (hs : List Hand) → SoundOf long all hs → AllBelow long (places hs)
-below_of long all [] h = tt
-below_of long all (x ∷ hs) h = below_append long (ticket_places x.receipts) (places hs) (below_in long all 0 x.receipts h.0) (below_of long all hs h.1)
+below_of : (trail : List Entry) (all : List ℕ) (hs : List Hand) → SoundOf trail all hs → AllBelow (length trail) (places hs)
+below_of trail all [] h = tt
+below_of trail all (x ∷ hs) h = below_append (length trail) (ticket_places x.receipts) (places hs) (below_in trail all 0 x.receipts h.0) (below_of trail all hs h.1)
 
 -- a place that some receipt has is there once
-single_in : (long : ℕ) (all : List ℕ) (top : ℕ) (ts : List Ticket) (k : ℕ) → SoundIn long all top ts → (times k (ticket_places ts) ≡ 0) ⊎ (times k all ≡ 1)
-single_in long all top [] k h = inl refl
-single_in long all top (t ∷ ts) k h =
+single_in : (trail : List Entry) (all : List ℕ) (top : ℕ) (ts : List Ticket) (k : ℕ) → SoundIn trail all top ts → (times k (ticket_places ts) ≡ 0) ⊎ (times k all ≡ 1)
+single_in trail all top [] k h = inl refl
+single_in trail all top (t ∷ ts) k h =
     elim (t.place == k) as (λ b. (t.place == k) ≡ b → ((if b then 1 else 0) + times k (ticket_places ts) ≡ 0) ⊎ (times k all ≡ 1)) [
       | true ↦ λ e. (let same : t.place ≡ k = grind (arith, nat_tests) in inr (rw same at h.0.single))
-      | false ↦ λ e. elim (single_in long all (max top (t.place + 1)) ts k h.1) [ inl z ↦ inl (omega arith) | inr s ↦ inr s ]
+      | false ↦ λ e. elim (single_in trail all (max top (t.place + 1)) ts k h.1) [ inl z ↦ inl (omega arith) | inr s ↦ inr s ]
     ] refl
 
-single_of : (long : ℕ) (all : List ℕ) (hs : List Hand) (k : ℕ) → SoundOf long all hs → (times k (places hs) ≡ 0) ⊎ (times k all ≡ 1)
-single_of long all [] k h = inl refl
-single_of long all (x ∷ hs) k h =
-    elim (single_in long all 0 x.receipts k h.0) [
-      | inl z ↦ elim (single_of long all hs k h.1) [ inl y ↦ inl (omega (arith, times_append k (ticket_places x.receipts) (places hs))) | inr s ↦ inr s ]
+single_of : (trail : List Entry) (all : List ℕ) (hs : List Hand) (k : ℕ) → SoundOf trail all hs → (times k (places hs) ≡ 0) ⊎ (times k all ≡ 1)
+single_of trail all [] k h = inl refl
+single_of trail all (x ∷ hs) k h =
+    elim (single_in trail all 0 x.receipts k h.0) [
+      | inl z ↦ elim (single_of trail all hs k h.1) [ inl y ↦ inl (omega (arith, times_append k (ticket_places x.receipts) (places hs))) | inr s ↦ inr s ]
       | inr s ↦ inr s
     ]
 
-rising_in : (long : ℕ) (all : List ℕ) (top top' : ℕ) (ts : List Ticket) → top' ≤ top → SoundIn long all top ts → Rising long top' ts
-rising_in long all top top' [] le h = tt
-rising_in long all top top' (t ∷ ts) le h =
-    (let b = h.0.behind in omega arith, h.0.there, rising_in long all (max top (t.place + 1)) (t.place + 1) ts (omega arith) h.1)
+rising_in : (trail : List Entry) (all : List ℕ) (top top' : ℕ) (ts : List Ticket) → top' ≤ top → SoundIn trail all top ts → Rising trail top' ts
+rising_in trail all top top' [] le h = tt
+rising_in trail all top top' (t ∷ ts) le h =
+    (let b = h.0.behind in omega arith, h.0.entered, rising_in trail all (max top (t.place + 1)) (t.place + 1) ts (omega arith) h.1)
 
-rising_of : (long : ℕ) (all : List ℕ) (hs : List Hand) → SoundOf long all hs → AllRising long hs
-rising_of long all [] h = tt
-rising_of long all (x ∷ hs) h = (rising_in long all 0 0 x.receipts (omega arith) h.0, rising_of long all hs h.1)
+rising_of : (trail : List Entry) (all : List ℕ) (hs : List Hand) → SoundOf trail all hs → AllRising trail hs
+rising_of trail all [] h = tt
+rising_of trail all (x ∷ hs) h = (rising_in trail all 0 0 x.receipts (omega arith) h.0, rising_of trail all hs h.1)
 
 pub settled : (opening cell : WatchedState) (seats : ℕ) (trail : List Entry) (hands : List Hand) (i a x c : ℕ) (totals : Totals)
     → Kept opening cell trail i a x c
     → totals ≡ totals_of cell.master.rights → totals.issued ≡ totals.held + totals.acknowledged + totals.expired
-    → AllThere hands seats → SoundOf (length trail) (places hands) hands
+    → AllThere hands seats → SoundOf trail (places hands) hands
     → length hands ≤ seats → gathered (λ h. h.calls) hands ≡ gathered (λ h. length h.receipts) hands
     → (length hands ≡ seats → (gathered (λ h. h.issued) hands ≡ i) × (gathered (λ h. h.acknowledged) hands ≡ a) × (gathered (λ h. h.expired) hands ≡ x) × (gathered (λ h. h.calls) hands ≡ c))
     → Settled opening seats hands cell trail totals
@@ -77,7 +78,7 @@ settled opening cell seats trail hands i a x c totals kept is balance there soun
     let are : totals ≡ totals_by kept.grants = is ∙ totals_told cell.master.rights ∙ ap totals_by kept.cell_has in
     let calls : gathered (λ h. h.calls) hands ≡ length trail = sums.3 ∙ kept.calls_is in
     let long : length (places hands) ≡ length trail = length_places hands ∙ sym receipts ∙ calls in
-    let most : (k : ℕ) → times k (places hands) ≤ 1 = λ k. elim (single_of (length trail) (places hands) hands k sound) [ inl z ↦ omega arith | inr s ↦ omega arith ] in
+    let most : (k : ℕ) → times k (places hands) ≤ 1 = λ k. elim (single_of trail (places hands) hands k sound) [ inl z ↦ omega arith | inr s ↦ omega arith ] in
     record {
       there = there;
       count = count;
@@ -89,8 +90,8 @@ settled opening cell seats trail hands i a x c totals kept is balance there soun
       granted_once = kept.once;
       totals_are = are;
       balance = balance;
-      rising = rising_of (length trail) (places hands) hands sound;
-      once = each_once (length trail) (places hands) long (below_of (length trail) (places hands) hands sound) most;
+      rising = rising_of trail (places hands) hands sound;
+      once = each_once (length trail) (places hands) long (below_of trail (places hands) hands sound) most;
       replay = kept.replay;
     }
 
@@ -117,14 +118,14 @@ pub settled_by : (opening cell : WatchedState) (seats : ℕ) (trail trail' : Lis
     → Kept opening cell trail i a x c
     → totals ≡ totals_of cell.master.rights → totals.issued ≡ totals.held + totals.acknowledged + totals.expired
     → trail ≡ trail' → r ≡ r' → ps' ≡ ps
-    → AllThere (r' ++ ps') seats → SoundOf (length trail') (places (r' ++ ps')) (r' ++ ps')
+    → AllThere (r' ++ ps') seats → SoundOf trail' (places (r' ++ ps')) (r' ++ ps')
     → gathered (λ h. h.calls) r ≡ gathered (λ h. length h.receipts) r → gathered (λ h. h.calls) ps ≡ gathered (λ h. length h.receipts) ps
     → Joined (λ h. h.issued) r ps seats i → Joined (λ h. h.acknowledged) r ps seats a → Joined (λ h. h.expired) r ps seats x → Joined (λ h. h.calls) r ps seats c
     → Settled opening seats (r' ++ ps) cell trail totals
 settled_by opening cell seats trail trail' r r' ps ps' i a x c totals kept is balance et er eps there sound c1 c2 ji ja jx jc =
     let here : r' ++ ps' ≡ r ++ ps = (λ k. (sym er k) ++ (eps k)) in
     let there' : AllThere (r ++ ps) seats = subst (λ (w : List Hand). AllThere w seats) here there in
-    let sound' : SoundOf (length trail) (places (r ++ ps)) (r ++ ps) = subst (λ (w : List Hand). SoundOf (length trail) (places w) w) here (subst (λ (w : List Entry). SoundOf (length w) (places (r' ++ ps')) (r' ++ ps')) (sym et) sound) in
+    let sound' : SoundOf trail (places (r ++ ps)) (r ++ ps) = subst (λ (w : List Hand). SoundOf trail (places w) w) here (subst (λ (w : List Entry). SoundOf w (places (r' ++ ps')) (r' ++ ps')) (sym et) sound) in
     let receipts : gathered (λ h. h.calls) (r ++ ps) ≡ gathered (λ h. length h.receipts) (r ++ ps) = omega (arith, c1, c2, gathered_append (λ h. h.calls) r ps, gathered_append (λ h. length h.receipts) r ps) in
     subst (λ (w : List Hand). Settled opening seats (w ++ ps) cell trail totals) er
     (settled opening cell seats trail (r ++ ps) i a x c totals kept is balance there' sound' ji.few receipts (λ n. (ji.sum n, ja.sum n, jx.sum n, jc.sum n)))

@@ -1,8 +1,10 @@
 //! The tests of a watch that closes.
-ghost use Rattle.std.specs.Prelude.{◌≡◌, ◌↔◌, ◌++◌, ℕ, List, IfOk, IsTrue, MatchOption, length, nat_lt, replicate};
+ghost use Rattle.std.specs.Prelude.{◌≡◌, ◌↔◌, ◌++◌, ℕ, ◌<◌, Some, List, IfOk, IsTrue, MatchOption, length, nat_lt, replicate, slice_get};
 ghost use Rattle.watch_cell.specs.Closing.{times, numbers, ticket_places, places, Sound, SoundIn, SoundOf, FlawIn, FlawOf, IsLowest, lower_of, IsPlace, Misses, AllThere};
 ghost use Rattle.watch_cell.specs.Marks.{IsMarked, marked};
+ghost use Rattle.watch_cell.specs.Trail.{entry};
 
+use crate::events::{Entry, is_same};
 use crate::locked::{Pass, Receipt};
 use std::alloc::{AllocError, Global};
 use std::sync::ledger::Ledger;
@@ -95,24 +97,37 @@ fn marks_of<I: Ledger, A: Ledger, E: Ledger, C: Ledger>(
     Ok(marks)
 }
 
+// Whether the trail has a receipt's event and reply at its place.
+fn is_entered(trail: &[Entry], receipt: &Receipt) -> bool
+    ensures entered { IsTrue result ↔ (slice_get trail.now receipt.now.place ≡ Some (entry receipt.now.event receipt.now.reply)) }
+    ensures there { IsTrue result → receipt.now.place < length trail.now }
+{
+    match trail.get(receipt.place() as usize) {
+        None => false,
+        Some(entry) => is_same(entry, receipt.event(), receipt.reply()),
+    }
+}
+
 // Whether a receipt is sound; there is a mark for each place of the trail.
-fn is_sound(marks: &[u8], top: u64, receipt: &Receipt) -> bool
-    ensures { (all : List ℕ) → IsMarked marks.now all → IsTrue result ↔ Sound (length marks.now) all top receipt.now }
+fn is_sound(marks: &[u8], trail: &[Entry], top: u64, receipt: &Receipt) -> bool
+    requires { length marks.now ≡ length trail.now }
+    ensures { (all : List ℕ) → IsMarked marks.now all → IsTrue result ↔ Sound trail.now all top receipt.now }
 {
     let place = receipt.place();
-    top <= place && (place as usize) < marks.len() && marks[place as usize] == 1
+    top <= place && is_entered(trail, receipt) && marks[place as usize] == 1
 }
 
 // The lowest place of a receipt of one pass that isn't sound.
-fn flaw_in(marks: &[u8], receipts: &[Receipt]) -> Option<u64>
-    ensures lowest { (all : List ℕ) → IsMarked marks.now all → IsLowest (SoundIn (length marks.now) all 0 receipts.now) (FlawIn (length marks.now) all 0 receipts.now) result }
+fn flaw_in(marks: &[u8], trail: &[Entry], receipts: &[Receipt]) -> Option<u64>
+    requires { length marks.now ≡ length trail.now }
+    ensures lowest { (all : List ℕ) → IsMarked marks.now all → IsLowest (SoundIn trail.now all 0 receipts.now) (FlawIn trail.now all 0 receipts.now) result }
     ensures place { IsPlace result }
 {
     let mut lowest = None;
     let mut top = 0;
     for receipt in receipts {
         let place = receipt.place();
-        if !is_sound(marks, top, receipt) {
+        if !is_sound(marks, trail, top, receipt) {
             lowest = lower(lowest, Some(place));
         }
         top = top.max(place + 1);
@@ -135,14 +150,16 @@ fn lower(a: Option<u64>, b: Option<u64>) -> Option<u64>
 // The same of all passes of a list.
 fn flaw_of<I: Ledger, A: Ledger, E: Ledger, C: Ledger>(
     marks: &[u8],
+    trail: &[Entry],
     passes: &[Pass<I, A, E, C>],
 ) -> Option<u64>
-    ensures lowest { (all : List ℕ) → IsMarked marks.now all → IsLowest (SoundOf (length marks.now) all passes.now) (FlawOf (length marks.now) all passes.now) result }
+    requires { length marks.now ≡ length trail.now }
+    ensures lowest { (all : List ℕ) → IsMarked marks.now all → IsLowest (SoundOf trail.now all passes.now) (FlawOf trail.now all passes.now) result }
     ensures place { IsPlace result }
 {
     let mut lowest = None;
     for pass in passes {
-        lowest = lower(lowest, flaw_in(marks, pass.receipts()));
+        lowest = lower(lowest, flaw_in(marks, trail, pass.receipts()));
     }
     lowest
 }
@@ -150,15 +167,15 @@ fn flaw_of<I: Ledger, A: Ledger, E: Ledger, C: Ledger>(
 /// The lowest place of a receipt that isn't sound.
 pub fn lowest_flaw<I: Ledger, A: Ledger, E: Ledger, C: Ledger>(
     alloc: Global,
-    long: usize,
+    trail: &[Entry],
     retired: &[Pass<I, A, E, C>],
     passes: &[Pass<I, A, E, C>],
 ) -> Result<Option<u64>, AllocError>
-    ensures lowest { IfOk result (λ o. let hands = retired.now ++ passes.now in IsLowest (SoundOf long (places hands) hands) (FlawOf long (places hands) hands) o) }
+    ensures lowest { IfOk result (λ o. let hands = retired.now ++ passes.now in IsLowest (SoundOf trail.now (places hands) hands) (FlawOf trail.now (places hands) hands) o) }
     ensures place { IfOk result (λ o. IsPlace o) }
 {
-    let marks = marks_of(alloc, long, retired, passes)?;
-    let first = flaw_of(marks.as_slice(), retired);
-    let second = flaw_of(marks.as_slice(), passes);
+    let marks = marks_of(alloc, trail.len(), retired, passes)?;
+    let first = flaw_of(marks.as_slice(), trail, retired);
+    let second = flaw_of(marks.as_slice(), trail, passes);
     Ok(lower(first, second))
 }

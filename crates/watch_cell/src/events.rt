@@ -1,7 +1,8 @@
 //! The events of a watch, and the entries of its trail.
-ghost use Rattle.std.specs.Prelude.{◌≡◌, IfOk};
+ghost use Rattle.std.specs.Prelude.{◌≡◌, ◌↔◌, IfOk, IsTrue};
 
 use messages_cell::Request;
+use same_cell::Alike;
 use std::alloc::AllocError;
 use std::marker::Model;
 use sweep_laws::Swept;
@@ -31,6 +32,28 @@ impl Clone for Event {
             Event::Sweep(now) => Event::Sweep(*now),
         })
     }
+}
+
+impl Alike for Event {
+    fn is_same(&self, other: &Event) -> bool {
+        match (self, other) {
+            (Event::Take(now, request), Event::Take(then, another)) => {
+                now == then && request.is_same(another)
+            }
+            (Event::Sweep(now), Event::Sweep(then)) => now == then,
+            _ => false,
+        }
+    }
+}
+
+/// Whether an entry has this event and this reply. Costs their size.
+pub(crate) fn is_same(entry: &Entry, event: &Event, reply: &Swept) -> bool
+    ensures { IsTrue result ↔ ((entry.now.event ≡ event.now) × (entry.now.reply ≡ reply.now)) }
+{
+    entry.event.is_same(event)
+        && entry.reply.lines.is_same(&reply.lines)
+        && entry.reply.outs.is_same(&reply.outs)
+        && entry.reply.quiet == reply.quiet
 }
 
 /// An event three times: for the trail, for the pass and for the caller. To a contract it is that event.

@@ -247,14 +247,14 @@ impl<R: Records, O: Opening, I: Ledger, A: Ledger, E: Ledger, C: Ledger> Locked<
     // Tests the passes, retired ones included, against the trail.
     fn test(&self, passes: &[Pass<I, A, E, C>]) -> Result<(), Fault>
         ensures there { OnOk result (AllThere (self.now.retired ++ passes.now) O.seats) }
-        ensures sound { OnOk result (SoundOf (length self.now.trail) (places (self.now.retired ++ passes.now)) (self.now.retired ++ passes.now)) }
-        ensures err { IfErr result (λ e. Refuses (self.now.retired ++ passes.now) (length self.now.trail) O.seats e) }
+        ensures sound { OnOk result (SoundOf self.now.trail (places (self.now.retired ++ passes.now)) (self.now.retired ++ passes.now)) }
+        ensures err { IfErr result (λ e. Refuses (self.now.retired ++ passes.now) self.now.trail O.seats e) }
     {
         let retired = self.retired.as_slice();
         if let Some(number) = lowest_missing(retired, passes, self.seats) {
             return Err(Fault::PassMissing(number));
         }
-        match lowest_flaw(self.alloc, self.trail.len(), retired, passes) {
+        match lowest_flaw(self.alloc, self.trail.as_slice(), retired, passes) {
             Err(AllocError) => Err(Fault::NoMemory),
             Ok(Some(place)) => Err(Fault::ReceiptApart(place + 1)),
             Ok(None) => Ok(()),
@@ -269,7 +269,7 @@ impl<R: Records, O: Opening, I: Ledger, A: Ledger, E: Ledger, C: Ledger> Locked<
         ensures ok { IfOk result (λ c. Settled O.opening O.seats (self.retired ++ passes.items) (watched c.cell) c.trail.items c.totals) }
         ensures same { IfOk result (λ c. (watched c.cell ≡ self.cell) × (c.trail.items ≡ self.trail)) }
         ensures back { IfErr result (λ e. (e.1 ≡ self) × (e.2 ≡ passes)) }
-        ensures refusal { IfErr result (λ e. Refuses (self.retired ++ passes.items) (length self.trail) O.seats e.0) }
+        ensures refusal { IfErr result (λ e. Refuses (self.retired ++ passes.items) self.trail O.seats e.0) }
     {
         match self.test(passes.as_slice()) {
             Err(fault) => return Err((fault, self, passes)),

@@ -3,6 +3,7 @@ ghost use Rattle.std.specs.Prelude.{◌≡◌, ◌++◌, List, ◌<◌, ◌≤�
 ghost use Rattle.watch_cell.specs.Trail.{Gained};
 ghost use Rattle.watch_cell.specs.Views.{Hand, watched, fresh_hands};
 ghost use Rattle.watch_cell.specs.Closing.{Settled, Refuses};
+ghost use Rattle.watch_cell.specs.declared.events.Entry.{Entry};
 
 use crate::events::Event;
 use crate::ledgers::Blanks;
@@ -77,7 +78,7 @@ impl<R: Records, O: Opening, I: Ledger, A: Ledger, E: Ledger, C: Ledger> Watch<R
     ) -> Result<Closed<R>, (Fault, Self, Vec<Pass<I, A, E, C>>)>
         ensures ok { IfOk result (λ c. (retired : List Hand) × Settled O.opening O.seats (retired ++ passes.items) (watched c.cell) c.trail.items c.totals) }
         ensures passes { IfErr result (λ e. e.2 ≡ passes) }
-        ensures refusal { IfErr result (λ e. (retired : List Hand) × (long : ℕ) × Refuses (retired ++ passes.items) long O.seats e.0) }
+        ensures refusal { IfErr result (λ e. (retired : List Hand) × (trail : List Entry) × Refuses (retired ++ passes.items) trail O.seats e.0) }
     {
         let Watch { locked } = self;
         match locked.into_inner().settle(passes) {
