@@ -969,26 +969,93 @@ fn wrong(alloc: Global, rows: &[Row]) -> Result<&'static str, Fail> {
     Ok("")
 }
 
-const ALL: &[&[Row]] = &[
-    CELLS,
-    NUMBERS,
-    NAMES,
-    INSTANCES,
-    GENERATIONS,
-    CONTENTS,
-    CLIENTS,
-    HOLDERS,
-    HANDLES,
-    DELAYS,
-    COLUMNS,
-    KEYS,
-    TABLES,
-];
+// Each table by a function of its own: all of them in one declaration meet the prover's limit of steps.
+fn wrong_cells(alloc: Global) -> Result<&'static str, Fail> {
+    wrong(alloc, CELLS)
+}
+
+fn wrong_numbers(alloc: Global) -> Result<&'static str, Fail> {
+    wrong(alloc, NUMBERS)
+}
+
+fn wrong_names(alloc: Global) -> Result<&'static str, Fail> {
+    wrong(alloc, NAMES)
+}
+
+fn wrong_instances(alloc: Global) -> Result<&'static str, Fail> {
+    wrong(alloc, INSTANCES)
+}
+
+fn wrong_generations(alloc: Global) -> Result<&'static str, Fail> {
+    wrong(alloc, GENERATIONS)
+}
+
+fn wrong_contents(alloc: Global) -> Result<&'static str, Fail> {
+    wrong(alloc, CONTENTS)
+}
+
+fn wrong_clients(alloc: Global) -> Result<&'static str, Fail> {
+    wrong(alloc, CLIENTS)
+}
+
+fn wrong_holders(alloc: Global) -> Result<&'static str, Fail> {
+    wrong(alloc, HOLDERS)
+}
+
+fn wrong_handles(alloc: Global) -> Result<&'static str, Fail> {
+    wrong(alloc, HANDLES)
+}
+
+fn wrong_delays(alloc: Global) -> Result<&'static str, Fail> {
+    wrong(alloc, DELAYS)
+}
+
+fn wrong_columns(alloc: Global) -> Result<&'static str, Fail> {
+    wrong(alloc, COLUMNS)
+}
+
+fn wrong_keys(alloc: Global) -> Result<&'static str, Fail> {
+    wrong(alloc, KEYS)
+}
+
+fn wrong_tables(alloc: Global) -> Result<&'static str, Fail> {
+    wrong(alloc, TABLES)
+}
+
+fn wrong_among_nodes(alloc: Global) -> Result<[&'static str; 6], Fail> {
+    Ok([
+        wrong_cells(alloc)?,
+        wrong_numbers(alloc)?,
+        wrong_names(alloc)?,
+        wrong_instances(alloc)?,
+        wrong_generations(alloc)?,
+        wrong_contents(alloc)?,
+    ])
+}
+
+fn wrong_among_others(alloc: Global) -> Result<[&'static str; 7], Fail> {
+    Ok([
+        wrong_clients(alloc)?,
+        wrong_holders(alloc)?,
+        wrong_handles(alloc)?,
+        wrong_delays(alloc)?,
+        wrong_columns(alloc)?,
+        wrong_keys(alloc)?,
+        wrong_tables(alloc)?,
+    ])
+}
 
 #[test]
-fn stores(rt: HostRuntime) -> Result<(), Fail> {
-    for rows in ALL {
-        let name = wrong(rt.alloc(), rows)?;
+fn stores_of_nodes(rt: HostRuntime) -> Result<(), Fail> {
+    for name in wrong_among_nodes(rt.alloc())? {
+        assert!(rt; name == "", "at {name}");
+    }
+    Ok(())
+}
+
+#[test]
+fn stores_of_others(rt: HostRuntime) -> Result<(), Fail> {
+    for name in wrong_among_others(rt.alloc())? {
         assert!(rt; name == "", "at {name}");
     }
     Ok(())
