@@ -1022,40 +1022,58 @@ fn wrong_tables(alloc: Global) -> Result<&'static str, Fail> {
     wrong(alloc, TABLES)
 }
 
-fn wrong_among_nodes(alloc: Global) -> Result<[&'static str; 6], Fail> {
-    Ok([
+#[test]
+fn stores_of_cells(rt: HostRuntime) -> Result<(), Fail> {
+    let alloc = rt.alloc();
+    for name in [
         wrong_cells(alloc)?,
         wrong_numbers(alloc)?,
         wrong_names(alloc)?,
-        wrong_instances(alloc)?,
-        wrong_generations(alloc)?,
-        wrong_contents(alloc)?,
-    ])
-}
-
-fn wrong_among_others(alloc: Global) -> Result<[&'static str; 7], Fail> {
-    Ok([
-        wrong_clients(alloc)?,
-        wrong_holders(alloc)?,
-        wrong_handles(alloc)?,
-        wrong_delays(alloc)?,
-        wrong_columns(alloc)?,
-        wrong_keys(alloc)?,
-        wrong_tables(alloc)?,
-    ])
-}
-
-#[test]
-fn stores_of_nodes(rt: HostRuntime) -> Result<(), Fail> {
-    for name in wrong_among_nodes(rt.alloc())? {
+    ] {
         assert!(rt; name == "", "at {name}");
     }
     Ok(())
 }
 
 #[test]
-fn stores_of_others(rt: HostRuntime) -> Result<(), Fail> {
-    for name in wrong_among_others(rt.alloc())? {
+fn stores_of_nodes(rt: HostRuntime) -> Result<(), Fail> {
+    let alloc = rt.alloc();
+    for name in [
+        wrong_instances(alloc)?,
+        wrong_generations(alloc)?,
+        wrong_contents(alloc)?,
+    ] {
+        assert!(rt; name == "", "at {name}");
+    }
+    Ok(())
+}
+
+#[test]
+fn stores_of_sessions_and_locks(rt: HostRuntime) -> Result<(), Fail> {
+    let alloc = rt.alloc();
+    for name in [
+        wrong_clients(alloc)?,
+        wrong_holders(alloc)?,
+        wrong_handles(alloc)?,
+    ] {
+        assert!(rt; name == "", "at {name}");
+    }
+    Ok(())
+}
+
+#[test]
+fn stores_of_columns(rt: HostRuntime) -> Result<(), Fail> {
+    let alloc = rt.alloc();
+    for name in [wrong_delays(alloc)?, wrong_columns(alloc)?] {
+        assert!(rt; name == "", "at {name}");
+    }
+    Ok(())
+}
+
+#[test]
+fn stores_of_tables(rt: HostRuntime) -> Result<(), Fail> {
+    let alloc = rt.alloc();
+    for name in [wrong_keys(alloc)?, wrong_tables(alloc)?] {
         assert!(rt; name == "", "at {name}");
     }
     Ok(())
