@@ -260,7 +260,14 @@ change_at space now handle (calls.Delete bytes) view = delete_at space handle
 change_at space now handle (calls.Acquire bytes mode) view = acquire_at space handle mode
 change_at space now handle (calls.TryAcquire bytes mode) view = try_at space now handle mode
 change_at space now handle (calls.Release bytes) view = release_at space handle
-change_at space now handle _ view = refused faults.BadHandle
+change_at space now handle (calls.Open opening) view = refused faults.BadHandle
+change_at space now handle (calls.Close bytes) view = refused faults.BadHandle
+change_at space now handle (calls.Read bytes) view = refused faults.BadHandle
+change_at space now handle (calls.Stat bytes) view = refused faults.BadHandle
+change_at space now handle (calls.List bytes) view = refused faults.BadHandle
+change_at space now handle (calls.GetSequencer bytes) view = refused faults.BadHandle
+change_at space now handle (calls.SetSequencer bytes) view = refused faults.BadHandle
+change_at space now handle (calls.CheckSequencer bytes) view = refused faults.BadHandle
 
 abbrev pub change_on : NameSpace → ℕ → Handle → Call → Effect
 change_on space now handle call = option_map_or (λ view. change_at space now handle call view) (node_of_handle space handle) (refused faults.StaleInstance)

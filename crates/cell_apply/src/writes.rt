@@ -44,7 +44,12 @@ fn change_at(
         Call::Acquire { mode, .. } => acquire_at(master, handle, *mode),
         Call::TryAcquire { mode, .. } => try_at(master, handle, *mode),
         Call::Release(_) => release_at(master, handle),
-        _ => Ok(Effect::refused(Fault::BadHandle)),
+        Call::Open(_) | Call::Close(_) | Call::Read(_) | Call::Stat(_) | Call::List(_) => {
+            Ok(Effect::refused(Fault::BadHandle))
+        }
+        Call::GetSequencer(_) | Call::SetSequencer(_) | Call::CheckSequencer(_) => {
+            Ok(Effect::refused(Fault::BadHandle))
+        }
     }
 }
 

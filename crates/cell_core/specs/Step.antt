@@ -165,7 +165,17 @@ abbrev pub touched_by : Handle → Call → Option (List ℕ)
 touched_by handle (calls.Set bytes content generation) = Some handle.name
 touched_by handle (calls.SetAcl bytes acls generation) = Some handle.name
 touched_by handle (calls.Delete bytes) = Some handle.name
-touched_by handle _ = None
+touched_by handle (calls.Open opening) = None
+touched_by handle (calls.Close bytes) = None
+touched_by handle (calls.Read bytes) = None
+touched_by handle (calls.Stat bytes) = None
+touched_by handle (calls.List bytes) = None
+touched_by handle (calls.Acquire bytes mode) = None
+touched_by handle (calls.TryAcquire bytes mode) = None
+touched_by handle (calls.Release bytes) = None
+touched_by handle (calls.GetSequencer bytes) = None
+touched_by handle (calls.SetSequencer bytes) = None
+touched_by handle (calls.CheckSequencer bytes) = None
 
 -- a handle that is shown is open from then on, where nothing is noted of it yet
 abbrev pub shown_note : MasterState → Handle → List ℕ → Option Note

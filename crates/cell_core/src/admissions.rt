@@ -172,7 +172,9 @@ fn touched_by(handle: &Handle, call: &Call) -> Result<Option<Name>, AllocError>
 {
     match call {
         Call::Set { .. } | Call::SetAcl { .. } | Call::Delete(_) => Ok(Some(handle.name.clone()?)),
-        _ => Ok(None),
+        Call::Open(_) | Call::Close(_) | Call::Read(_) | Call::Stat(_) | Call::List(_) => Ok(None),
+        Call::Acquire { .. } | Call::TryAcquire { .. } | Call::Release(_) => Ok(None),
+        Call::GetSequencer(_) | Call::SetSequencer(_) | Call::CheckSequencer(_) => Ok(None),
     }
 }
 
