@@ -147,12 +147,13 @@ impl Master {
         before
     }
 
-    /// Notes until when nothing is to be done for sessions, so that until then nobody looks for one. To be called where
-    /// nothing is to be done; elsewhere it does no harm. Takes no memory.
+    /// Notes until when nothing is to be done for sessions, and no lock reopens, so that until then nobody looks for one.
+    /// To be called where nothing is to be done; elsewhere it does no harm. Takes no memory.
     pub fn note_quiet(&mut self)
         ensures { self.new ≡ self.old }
     {
         self.sessions.note_quiet(self.clock);
+        self.locks.note_quiet(self.clock);
         if self.recovering {
             self.sessions.note_unheard();
         }

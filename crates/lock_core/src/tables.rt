@@ -9,7 +9,7 @@ ghost use Rattle.plain.specs.Results.{Gives};
 ghost use Rattle.plain.specs.Tables.{with_former};
 ghost use Rattle.lock_core.specs.State.{lock_of};
 ghost use Rattle.lock_core.specs.Turns.{tried, acquired, released, closed_by, reopened};
-ghost use Rattle.lock_core.specs.Locks.{AreLegal, lock_at, lapses, after_lapses, due, sequencer_of, checked, with_lock, with_holder, with_closing};
+ghost use Rattle.lock_core.specs.Locks.{AreLegal, AreShutUntil, lock_at, lapses, after_lapses, due, sequencer_of, checked, with_lock, with_holder, with_closing};
 
 use crate::claims::{Claim, Owner};
 use crate::states::Lock;
@@ -29,16 +29,18 @@ use tags_cell::{Ordinal, Sequencer};
 pub struct Locks {
     alloc: Global,
     locks: Table<u64, Lock>,
+    // Before this moment no lock is due.
+    quiet: u64,
 }
 
 impl Model for Locks {
-    ghost use Rattle.lock_core.specs.Locks.{LockTable, AreLegal};
+    ghost use Rattle.lock_core.specs.Locks.{LockTable, AreLegal, AreShutUntil};
 
     ghost Value = { LockTable };
 
     ghost view = { λ l. l.locks };
 
-    ghost invariant = { λ l. AreLegal l.locks };
+    ghost invariant = { λ l. AreLegal l.locks × AreShutUntil l.quiet l.locks };
 }
 
 impl Locks {
@@ -49,6 +51,7 @@ impl Locks {
         Locks {
             alloc,
             locks: Table::new(alloc),
+            quiet: u64::MAX,
         }
     }
 
@@ -139,16 +142,31 @@ impl Locks {
         Ok(ended)
     }
 
-    /// The lowest instance whose lock was closed long enough. It walks over the locks up to that one.
+    /// The lowest instance whose lock was closed long enough. It looks at no lock where it is known that none was; else it
+    /// walks over the locks up to that one.
     pub fn due(&self, now: u64) -> Option<u64>
         ensures { result ≡ due self.now now }
     {
+        if now < self.quiet {
+            return None;
+        }
         for (instance, lock) in self.locks.as_map() {
             if lock.is_due(now) {
                 return Some(*instance);
             }
         }
         None
+    }
+
+    /// Notes until when no lock is due, so that until then `due` looks at none. To be called where none was due;
+    /// elsewhere it does no harm. Takes no memory.
+    pub fn note_quiet(&mut self, now: u64)
+        ensures { self.new ≡ self.old }
+    {
+        if now < self.quiet {
+            return;
+        }
+        self.quiet = first_opening(&self.locks);
     }
 
     /// GetSequencer: of the lock of this instance, whose node has this name. Refused where the handle holds no lock.
@@ -190,6 +208,7 @@ impl Locks {
     {
         // That the lock is legal is told by this call.
         let _generation = lock.generation();
+        self.quiet = self.quiet.min(lock.opens_at());
         self.locks.put(instance, lock)
     }
 
@@ -209,6 +228,7 @@ impl Locks {
     {
         // That the lock is legal is told by this call.
         let _generation = lock.generation();
+        self.quiet = self.quiet.min(lock.opens_at());
         self.locks.restore(&instance, Some(lock));
     }
 
@@ -279,4 +299,15 @@ impl Locks {
         drop(self.set(instance, lock)?);
         Ok(())
     }
+}
+
+// Before this moment none of these locks is due.
+fn first_opening(locks: &Table<u64, Lock>) -> u64
+    ensures { AreShutUntil result locks.now }
+{
+    let mut least = u64::MAX;
+    for lock in locks.as_map().values() {
+        least = least.min(lock.opens_at());
+    }
+    least
 }
