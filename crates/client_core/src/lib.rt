@@ -15,6 +15,7 @@ mod plans;
 mod poisons;
 mod refusals;
 mod replies;
+mod seen;
 mod serves;
 
 pub use client::Client;
@@ -26,3 +27,4 @@ pub use laws::{
     repeated_reply_is_dropped, safe_note_sets_the_clock, shared_numbers_rise,
 };
 pub use plans::Plan;
+pub use seen::Seen;

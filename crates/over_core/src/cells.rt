@@ -18,6 +18,7 @@ ghost use Rattle.sweep_laws.specs.Up.{up_edits, next_epoch, ComesUp, StaysDown, 
 use crate::sweeps::{SweptThrice, sweep_by, sweep_thrice_by};
 use cell_core::Thrice;
 use cell_parts::Taken;
+use cell_state::Master;
 use lease_core::MOMENT_LIMIT;
 use messages_cell::Request;
 use node_core::{Fault, Line, NUMBER_LIMIT};
@@ -167,6 +168,13 @@ impl<R: Records> Cell<R> {
         ensures { result ≡ self.now.master.epoch }
     {
         self.master.master().epoch()
+    }
+
+    /// The parts of the master, to be looked at.
+    pub fn master(&self) -> &Master
+        ensures { result.now ≡ self.now.master }
+    {
+        self.master.master()
     }
 
     /// What holds of every master: what it knows of its rows is what they hold, and they are sound.

@@ -7,7 +7,7 @@ use rows_cell::{Edit, Records, Rows, StoreFault};
 use std::marker::Model;
 
 /// Records over others. They refuse one commit as a store does that refuses: it is counted and not done. All else they
-/// hand on.
+/// hand on. To a contract, what the others keep, how many commits are left up to that one, and the count of refusals.
 #[derive(Drop)]
 pub struct FailAt<R: Records> {
     records: R,
@@ -18,11 +18,11 @@ pub struct FailAt<R: Records> {
 impl<R: Records> Model for FailAt<R> {
     ghost use Rattle.std.specs.Prelude.{◌≤◌};
     ghost use Rattle.node_core.specs.Limits.{number_limit};
-    ghost use Rattle.rows_cell.specs.Stores.{Store};
+    ghost use Rattle.rows_fail.specs.Failing.{Failing};
 
-    ghost Value = { Store };
+    ghost Value = { Failing };
 
-    ghost view = { λ f. record (R.store f.records) { refusals = f.refusals } };
+    ghost view = { λ f. record { inner = R.store f.records; left = f.left; refusals = f.refusals } };
 
     ghost invariant = { λ f. ((R.store f.records).refusals ≤ f.refusals) × (f.refusals ≤ number_limit) };
 }
@@ -32,7 +32,7 @@ impl<R: Records> FailAt<R> {
     /// counted. With 0 they refuse none.
     pub fn new(records: R, number: u64) -> FailAt<R>
         requires { (R.store records).refusals ≡ 0 }
-        ensures { result ≡ R.store records }
+        ensures { result ≡ record { inner = R.store records; left = number; refusals = 0 } }
     {
         FailAt {
             records,
@@ -43,7 +43,7 @@ impl<R: Records> FailAt<R> {
 
     /// Gives the records back.
     pub fn into_inner(self) -> R
-        ensures { record (R.store result) { refusals = self.refusals } ≡ self }
+        ensures { R.store result ≡ self.inner }
     {
         let FailAt { records, .. } = self;
         records
@@ -51,11 +51,21 @@ impl<R: Records> FailAt<R> {
 }
 
 impl<R: Records> Records for FailAt<R> {
-    ghost use Rattle.std.specs.Prelude.{◌≡◌};
+    ghost use Rattle.std.specs.Prelude.{◌≡◌, ◌<◌, true};
+    ghost use Rattle.node_core.specs.Limits.{number_limit};
+    ghost use Rattle.rows_cell.specs.Rows.{changed_rows};
+    ghost use Rattle.rows_cell.specs.Sound.{sound};
+    ghost use Rattle.rows_cell.specs.Stores.{Loads, Commits, told};
+    ghost use Rattle.rows_fail.specs.Failing.{kept_in, is_the_one, FailsIf};
 
-    ghost store = { λ f. f };
+    ghost store = { λ f. kept_in f };
 
-    fn load(&mut self) -> Result<Rows, StoreFault> {
+    /// Read by the others. Once 2^63-1 refusals are counted it is refused as Exhausted.
+    fn load(&mut self) -> Result<Rows, StoreFault>
+        ensures loads { Loads (kept_in self.old) (kept_in self.new) (told result) }
+        ensures handed_on { self.old.refusals < number_limit → Loads self.old.inner self.new.inner (told result) }
+        ensures left { self.new.left ≡ self.old.left }
+    {
         if self.refusals == NUMBER_LIMIT {
             return Err(StoreFault::Exhausted);
         }
@@ -69,7 +79,13 @@ impl<R: Records> Records for FailAt<R> {
         }
     }
 
-    fn commit(&mut self, change: &Items<Edit>) -> Result<(), StoreFault> {
+    /// The one with the number is refused, and every other is handed on. Once 2^63-1 refusals are counted each with an edit
+    /// is refused as Exhausted.
+    fn commit(&mut self, change: &Items<Edit>) -> Result<(), StoreFault>
+        requires { sound (kept_in self.old).cell (changed_rows (kept_in self.old).rows change.now) ≡ true }
+        ensures commits { Commits change.now (kept_in self.old) (kept_in self.new) (told result) }
+        ensures one { self.old.refusals < number_limit → FailsIf (is_the_one change.now self.old.left) change.now self.old self.new (told result) }
+    {
         if change.is_empty() {
             return self.records.commit(change);
         }
