@@ -1,5 +1,6 @@
 //! Calls.
-ghost use Rattle.std.specs.Prelude.{OnOk};
+ghost use Rattle.std.specs.Prelude.{◌∷◌, [], ◌++◌, OnOk};
+ghost use Rattle.wire_core.specs.Fields.{block};
 ghost use Rattle.wire_core.specs.Forms.{Reads, Appends, Form, behind};
 ghost use Rattle.wire_core.specs.Calls.{call, call_behind, set_fields, set_acl_fields, lock_fields};
 ghost use Rattle.messages_cell.specs.declared.calls.Call.TheVariants as calls;
@@ -94,67 +95,36 @@ pub(crate) fn put_call(out: &mut Vec<u8>, asked: &Call) -> Result<(), AllocError
             put_byte(out, 0)?;
             put_open(out, open)
         }
-        Call::Close(handle) => {
-            put_byte(out, 1)?;
-            put_block(out, handle.as_slice())
-        }
-        Call::Read(handle) => {
-            put_byte(out, 2)?;
-            put_block(out, handle.as_slice())
-        }
-        Call::Stat(handle) => {
-            put_byte(out, 3)?;
-            put_block(out, handle.as_slice())
-        }
-        Call::List(handle) => {
-            put_byte(out, 4)?;
-            put_block(out, handle.as_slice())
-        }
+        Call::Close(handle) => put_on(out, 1, handle.as_slice()),
+        Call::Read(handle) => put_on(out, 2, handle.as_slice()),
+        Call::Stat(handle) => put_on(out, 3, handle.as_slice()),
+        Call::List(handle) => put_on(out, 4, handle.as_slice()),
         Call::Set {
             handle,
             content,
             generation,
-        } => {
-            put_byte(out, 5)?;
-            put_set(out, handle, content, *generation)
-        }
+        } => put_set(out, handle, content, *generation),
         Call::SetAcl {
             handle,
             acls,
             generation,
-        } => {
-            put_byte(out, 6)?;
-            put_set_acl(out, handle, acls, *generation)
-        }
-        Call::Delete(handle) => {
-            put_byte(out, 7)?;
-            put_block(out, handle.as_slice())
-        }
-        Call::Acquire { handle, mode } => {
-            put_byte(out, 8)?;
-            put_lock(out, handle, *mode)
-        }
-        Call::TryAcquire { handle, mode } => {
-            put_byte(out, 9)?;
-            put_lock(out, handle, *mode)
-        }
-        Call::Release(handle) => {
-            put_byte(out, 10)?;
-            put_block(out, handle.as_slice())
-        }
-        Call::GetSequencer(handle) => {
-            put_byte(out, 11)?;
-            put_block(out, handle.as_slice())
-        }
-        Call::SetSequencer(handle) => {
-            put_byte(out, 12)?;
-            put_block(out, handle.as_slice())
-        }
-        Call::CheckSequencer(bytes) => {
-            put_byte(out, 13)?;
-            put_block(out, bytes.as_slice())
-        }
+        } => put_set_acl(out, handle, acls, *generation),
+        Call::Delete(handle) => put_on(out, 7, handle.as_slice()),
+        Call::Acquire { handle, mode } => put_lock(out, 8, handle, *mode),
+        Call::TryAcquire { handle, mode } => put_lock(out, 9, handle, *mode),
+        Call::Release(handle) => put_on(out, 10, handle.as_slice()),
+        Call::GetSequencer(handle) => put_on(out, 11, handle.as_slice()),
+        Call::SetSequencer(handle) => put_on(out, 12, handle.as_slice()),
+        Call::CheckSequencer(bytes) => put_on(out, 13, bytes.as_slice()),
     }
+}
+
+// The kind of a call, and the bytes of a handle or of a sequencer.
+fn put_on(out: &mut Vec<u8>, kind: u8, bytes: &[u8]) -> Result<(), AllocError>
+    ensures { OnOk result (Appends block bytes.now (out.old.items ++ kind ∷ []) out.new.items) }
+{
+    put_byte(out, kind)?;
+    put_block(out, bytes)
 }
 
 fn put_set(
@@ -163,8 +133,9 @@ fn put_set(
     content: &Bytes,
     generation: Option<u64>,
 ) -> Result<(), AllocError>
-    ensures { OnOk result (Appends set_fields (handle.now, (content.now, generation)) out.old.items out.new.items) }
+    ensures { OnOk result (Appends set_fields (handle.now, (content.now, generation)) (out.old.items ++ 5 ∷ []) out.new.items) }
 {
+    put_byte(out, 5)?;
     put_block(out, handle.as_slice())?;
     put_block(out, content.as_slice())?;
     put_optional_word(out, generation)
@@ -176,16 +147,23 @@ fn put_set_acl(
     acls: &AclNames,
     generation: Option<u64>,
 ) -> Result<(), AllocError>
-    ensures { OnOk result (Appends set_acl_fields (handle.now, (acls.now, generation)) out.old.items out.new.items) }
+    ensures { OnOk result (Appends set_acl_fields (handle.now, (acls.now, generation)) (out.old.items ++ 6 ∷ []) out.new.items) }
 {
+    put_byte(out, 6)?;
     put_block(out, handle.as_slice())?;
     put_acl_names(out, acls)?;
     put_optional_word(out, generation)
 }
 
-fn put_lock(out: &mut Vec<u8>, handle: &HandleBytes, mode: LockMode) -> Result<(), AllocError>
-    ensures { OnOk result (Appends lock_fields (handle.now, mode) out.old.items out.new.items) }
+fn put_lock(
+    out: &mut Vec<u8>,
+    kind: u8,
+    handle: &HandleBytes,
+    mode: LockMode,
+) -> Result<(), AllocError>
+    ensures { OnOk result (Appends lock_fields (handle.now, mode) (out.old.items ++ kind ∷ []) out.new.items) }
 {
+    put_byte(out, kind)?;
     put_block(out, handle.as_slice())?;
     put_lock_mode(out, mode)
 }

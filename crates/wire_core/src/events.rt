@@ -1,5 +1,6 @@
 //! Events, and those that a session waits to be told.
-ghost use Rattle.std.specs.Prelude.{◌≡◌, OnOk};
+ghost use Rattle.std.specs.Prelude.{◌≡◌, ◌∷◌, [], ◌++◌, OnOk};
+ghost use Rattle.wire_core.specs.Fields.{word};
 ghost use Rattle.wire_core.specs.Forms.{Reads, Appends, Form, choice, read_all};
 ghost use Rattle.wire_core.specs.Beats.{all_events, event_place, event, event_behind, event_is, event_bytes, numbered_event, numbered_events, three_words, child_fields};
 
@@ -9,6 +10,7 @@ use crate::kinds::{EVENT_KINDS, EventKind};
 use crate::outputs::{put_byte, put_count, put_word};
 use crate::texts::{put_name, read_name};
 use messages_cell::NumberedEvent;
+use names_cell::Name;
 use node_core::Event;
 use plain::Items;
 use std::alloc::{AllocError, Global};
@@ -49,35 +51,31 @@ pub(crate) fn put_event(out: &mut Vec<u8>, told: &Event) -> Result<(), AllocErro
             put_word(out, *instance)?;
             put_word(out, *generation)
         }
-        Event::ChildAdded(handle, child) => {
-            put_byte(out, 2)?;
-            put_word(out, *handle)?;
-            put_name(out, child)
-        }
-        Event::ChildRemoved(handle, child) => {
-            put_byte(out, 3)?;
-            put_word(out, *handle)?;
-            put_name(out, child)
-        }
-        Event::ChildModified(handle, child) => {
-            put_byte(out, 4)?;
-            put_word(out, *handle)?;
-            put_name(out, child)
-        }
-        Event::Invalid(handle) => {
-            put_byte(out, 5)?;
-            put_word(out, *handle)
-        }
-        Event::Locked(handle) => {
-            put_byte(out, 6)?;
-            put_word(out, *handle)
-        }
-        Event::Conflict(handle) => {
-            put_byte(out, 7)?;
-            put_word(out, *handle)
-        }
+        Event::ChildAdded(handle, child) => put_child(out, 2, *handle, child),
+        Event::ChildRemoved(handle, child) => put_child(out, 3, *handle, child),
+        Event::ChildModified(handle, child) => put_child(out, 4, *handle, child),
+        Event::Invalid(handle) => put_told(out, 5, *handle),
+        Event::Locked(handle) => put_told(out, 6, *handle),
+        Event::Conflict(handle) => put_told(out, 7, *handle),
         Event::Lost => put_byte(out, 8),
     }
+}
+
+// The kind of an event, the handle and a child.
+fn put_child(out: &mut Vec<u8>, kind: u8, handle: u64, child: &Name) -> Result<(), AllocError>
+    ensures { OnOk result (Appends child_fields (handle, child.now) (out.old.items ++ kind ∷ []) out.new.items) }
+{
+    put_byte(out, kind)?;
+    put_word(out, handle)?;
+    put_name(out, child)
+}
+
+// The kind of an event, and the handle.
+fn put_told(out: &mut Vec<u8>, kind: u8, handle: u64) -> Result<(), AllocError>
+    ensures { OnOk result (Appends word handle (out.old.items ++ kind ∷ []) out.new.items) }
+{
+    put_byte(out, kind)?;
+    put_word(out, handle)
 }
 
 #[tactic(auto, unfolding(crate::specs::Beats::numbered_event))]
