@@ -2,7 +2,9 @@
 #![tactic(auto)]
 
 mod answers;
+mod runs;
 mod settling;
 
 pub use answers::{Answered, answer};
+pub use runs::{Asked, serve};
 pub use settling::{End, Settled, settle};
