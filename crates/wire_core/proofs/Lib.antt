@@ -1,0 +1,11 @@
+pub mod FormLaws
+pub mod FieldLaws
+pub mod FaultLaws
+pub mod CallLaws
+pub mod BeatLaws
+pub mod RequestLaws
+pub mod OutLaws
+pub mod Loops
+pub mod TextLaws
+pub mod Appending
+pub mod Wholes

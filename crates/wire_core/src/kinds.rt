@@ -1,0 +1,117 @@
+//! Of which kind a message, a call, a result or an event is: the byte in front of its fields.
+
+/// Of which kind a request is.
+#[derive(Clone, Copy)]
+pub enum RequestKind {
+    Start,
+    Beat,
+    Call,
+}
+
+pub(crate) const REQUEST_KINDS: [RequestKind; 3] = [
+    RequestKind::Start,
+    RequestKind::Beat,
+    RequestKind::Call,
+];
+
+/// Of which kind a call is.
+#[derive(Clone, Copy)]
+pub enum CallKind {
+    Open,
+    Close,
+    Read,
+    Stat,
+    List,
+    Set,
+    SetAcl,
+    Delete,
+    Acquire,
+    TryAcquire,
+    Release,
+    GetSequencer,
+    SetSequencer,
+    CheckSequencer,
+}
+
+pub(crate) const CALL_KINDS: [CallKind; 14] = [
+    CallKind::Open,
+    CallKind::Close,
+    CallKind::Read,
+    CallKind::Stat,
+    CallKind::List,
+    CallKind::Set,
+    CallKind::SetAcl,
+    CallKind::Delete,
+    CallKind::Acquire,
+    CallKind::TryAcquire,
+    CallKind::Release,
+    CallKind::GetSequencer,
+    CallKind::SetSequencer,
+    CallKind::CheckSequencer,
+];
+
+/// Of which kind a master's message is.
+#[derive(Clone, Copy)]
+pub enum OutKind {
+    Started,
+    Alive,
+    Reply,
+    Refused,
+}
+
+pub(crate) const OUT_KINDS: [OutKind; 4] = [
+    OutKind::Started,
+    OutKind::Alive,
+    OutKind::Reply,
+    OutKind::Refused,
+];
+
+/// Of which kind the end of a call is.
+#[derive(Clone, Copy)]
+pub enum ResultKind {
+    Opened,
+    Closed,
+    Viewed,
+    Stated,
+    Names,
+    Sequencer,
+    Done,
+    Refused,
+}
+
+pub(crate) const RESULT_KINDS: [ResultKind; 8] = [
+    ResultKind::Opened,
+    ResultKind::Closed,
+    ResultKind::Viewed,
+    ResultKind::Stated,
+    ResultKind::Names,
+    ResultKind::Sequencer,
+    ResultKind::Done,
+    ResultKind::Refused,
+];
+
+/// Of which kind an event is.
+#[derive(Clone, Copy)]
+pub enum EventKind {
+    FailOver,
+    Contents,
+    ChildAdded,
+    ChildRemoved,
+    ChildModified,
+    Invalid,
+    Locked,
+    Conflict,
+    Lost,
+}
+
+pub(crate) const EVENT_KINDS: [EventKind; 9] = [
+    EventKind::FailOver,
+    EventKind::Contents,
+    EventKind::ChildAdded,
+    EventKind::ChildRemoved,
+    EventKind::ChildModified,
+    EventKind::Invalid,
+    EventKind::Locked,
+    EventKind::Conflict,
+    EventKind::Lost,
+];

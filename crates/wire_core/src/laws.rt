@@ -1,0 +1,22 @@
+//! What holds of the bytes of messages, for every message and all bytes.
+ghost use Rattle.wire_core.specs.Laws.{WrittenRequestIsRead, ReadRequestWasWritten, WrittenOutIsRead, ReadOutWasWritten};
+
+/// What a client wrote is read as it was.
+pub fn written_request_is_read()
+    ensures { WrittenRequestIsRead }
+{}
+
+/// What is read of a client is what would be written: no two messages have the same bytes, and no message two forms.
+pub fn read_request_was_written()
+    ensures { ReadRequestWasWritten }
+{}
+
+/// What a master wrote is read as it was.
+pub fn written_out_is_read()
+    ensures { WrittenOutIsRead }
+{}
+
+/// What is read of a master is what would be written: no two messages have the same bytes, and no message two forms.
+pub fn read_out_was_written()
+    ensures { ReadOutWasWritten }
+{}

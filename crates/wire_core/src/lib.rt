@@ -1,0 +1,26 @@
+//! The bytes of the messages between a client and its master.
+#![tactic(auto)]
+
+mod beats;
+mod calls;
+mod choices;
+mod events;
+mod faults;
+mod inputs;
+mod kinds;
+mod laws;
+mod messages;
+mod numbers;
+mod opens;
+mod outputs;
+mod outs;
+mod refusals;
+mod requests;
+mod results;
+mod texts;
+
+pub use faults::WireFault;
+pub use laws::{
+    read_out_was_written, read_request_was_written, written_out_is_read, written_request_is_read,
+};
+pub use messages::{VERSION, read_out, read_request, write_out, write_request};
