@@ -26,8 +26,9 @@ fn main(rt: HostRuntime) -> Result<()> {
         bail!("no client's number");
     };
     let mut client = Client::new(alloc, number, Principal::parse(alloc, "ann")?);
-    if let Some(start) = client.beat(0)?.request {
-        carry(&mut cell, &mut client, &start)?;
+    let beaten = client.beat(0)?;
+    if let Some(start) = &beaten.request {
+        carry(&mut cell, &mut client, start)?;
     }
     ask(&rt, &mut cell, &mut client, &opening(alloc)?)?;
     ask(&rt, &mut cell, &mut client, &Ask::Node(1, NodeCall::Read))?;
@@ -42,9 +43,10 @@ fn ask(
     client: &mut Client,
     ask: &Ask,
 ) -> Result<()> {
-    match client.ask(0, ask)?.outcome {
+    let asked = client.ask(0, ask)?;
+    match &asked.outcome {
         Outcome::Sent(request) => {
-            carry(cell, client, &request)?;
+            carry(cell, client, request)?;
             println!(rt; "the master answers")?;
         }
         Outcome::Served(_) => println!(rt; "the cache serves")?,
