@@ -1,0 +1,134 @@
+//! The thread of a client.
+use crate::letters::{Letter, Letters};
+use crate::players::Player;
+use crate::turns::Turn;
+use messages_cell::{Out, Request};
+use node_core::Fault;
+use rows_cell::Records;
+use std::alloc::Global;
+use std::sync::Wait;
+use std::sync::ledger::Ledger;
+use sweep_laws::Swept;
+use watch_cell::{Event, Opening, Pass, Watch};
+
+/// A client's thread, until all clients have finished or one was refused: then all end.
+pub(crate) fn client<
+    R: Records,
+    O: Opening,
+    I: Ledger,
+    A: Ledger,
+    E: Ledger,
+    C: Ledger,
+    W: Wait,
+    T: Turn,
+>(
+    rt: &W,
+    alloc: Global,
+    watch: &Watch<R, O, I, A, E, C>,
+    pass: &mut Pass<I, A, E, C>,
+    letters: &Letters,
+    rounds: u64,
+    turn: &T,
+) -> Result<(), Fault> {
+    let played = play(rt, alloc, watch, pass, letters, rounds, turn);
+    if played.is_err() {
+        letters.end(rt);
+    }
+    played
+}
+
+fn play<
+    R: Records,
+    O: Opening,
+    I: Ledger,
+    A: Ledger,
+    E: Ledger,
+    C: Ledger,
+    W: Wait,
+    T: Turn,
+>(
+    rt: &W,
+    alloc: Global,
+    watch: &Watch<R, O, I, A, E, C>,
+    pass: &mut Pass<I, A, E, C>,
+    letters: &Letters,
+    rounds: u64,
+    turn: &T,
+) -> Result<(), Fault> {
+    let mut player = Player::new(alloc, pass.number(), rounds)?;
+    let start = player.beat()?;
+    deliver(rt, watch, pass, letters, turn, start)?;
+    for _ in rt.forever() {
+        let Letter::Out(out) = letters.next(rt, pass.number()) else {
+            return Ok(());
+        };
+        let beat = player.hear(&out)?;
+        deliver(rt, watch, pass, letters, turn, beat)?;
+        let call = player.play()?;
+        deliver(rt, watch, pass, letters, turn, call)?;
+        if player.finishes() {
+            letters.finish(rt);
+        }
+    }
+    unreachable!()
+}
+
+// Takes a message, and sweeps until the master is quiet.
+fn deliver<
+    R: Records,
+    O: Opening,
+    I: Ledger,
+    A: Ledger,
+    E: Ledger,
+    C: Ledger,
+    W: Wait,
+    T: Turn,
+>(
+    rt: &W,
+    watch: &Watch<R, O, I, A, E, C>,
+    pass: &mut Pass<I, A, E, C>,
+    letters: &Letters,
+    turn: &T,
+    request: Option<Request>,
+) -> Result<(), Fault> {
+    let Some(request) = request else {
+        return Ok(());
+    };
+    call(rt, watch, pass, letters, turn, Event::Take(0, request))?;
+    for _ in rt.forever() {
+        if call(rt, watch, pass, letters, turn, Event::Sweep(0))? {
+            return Ok(());
+        }
+    }
+    unreachable!()
+}
+
+// One call of the master, whose messages go to their clients. Whether it found nothing to do.
+fn call<
+    R: Records,
+    O: Opening,
+    I: Ledger,
+    A: Ledger,
+    E: Ledger,
+    C: Ledger,
+    W: Wait,
+    T: Turn,
+>(
+    rt: &W,
+    watch: &Watch<R, O, I, A, E, C>,
+    pass: &mut Pass<I, A, E, C>,
+    letters: &Letters,
+    turn: &T,
+    event: Event,
+) -> Result<bool, Fault> {
+    let receipt = watch.call(rt, pass, event)?;
+    turn.answered(pass.number());
+    send_on(rt, letters, receipt.reply())
+}
+
+fn send_on<W: Wait>(rt: &W, letters: &Letters, reply: &Swept) -> Result<bool, Fault> {
+    for out in reply.outs.as_slice() {
+        letters.send(rt, out.clone()?);
+    }
+    Ok(reply.quiet)
+}
