@@ -37,16 +37,7 @@ pub(crate) fn client<
     played
 }
 
-fn play<
-    R: Records,
-    O: Opening,
-    I: Ledger,
-    A: Ledger,
-    E: Ledger,
-    C: Ledger,
-    W: Wait,
-    T: Turn,
->(
+fn play<R: Records, O: Opening, I: Ledger, A: Ledger, E: Ledger, C: Ledger, W: Wait, T: Turn>(
     rt: &W,
     alloc: Global,
     watch: &Watch<R, O, I, A, E, C>,
@@ -74,16 +65,7 @@ fn play<
 }
 
 // Takes a message, and sweeps until the master is quiet.
-fn deliver<
-    R: Records,
-    O: Opening,
-    I: Ledger,
-    A: Ledger,
-    E: Ledger,
-    C: Ledger,
-    W: Wait,
-    T: Turn,
->(
+fn deliver<R: Records, O: Opening, I: Ledger, A: Ledger, E: Ledger, C: Ledger, W: Wait, T: Turn>(
     rt: &W,
     watch: &Watch<R, O, I, A, E, C>,
     pass: &mut Pass<I, A, E, C>,
@@ -104,16 +86,7 @@ fn deliver<
 }
 
 // One call of the master, whose messages go to their clients. Whether it found nothing to do.
-fn call<
-    R: Records,
-    O: Opening,
-    I: Ledger,
-    A: Ledger,
-    E: Ledger,
-    C: Ledger,
-    W: Wait,
-    T: Turn,
->(
+fn call<R: Records, O: Opening, I: Ledger, A: Ledger, E: Ledger, C: Ledger, W: Wait, T: Turn>(
     rt: &W,
     watch: &Watch<R, O, I, A, E, C>,
     pass: &mut Pass<I, A, E, C>,

@@ -49,14 +49,14 @@ impl Letters {
     /// Sends what the master sent on to its client.
     pub(crate) fn send<W: Wait>(&self, rt: &W, out: Out) {
         let client = out.client().get();
-        if let Some(sender) = self.senders.get((client - 1) as usize) {
+        if let Some(sender) = self.senders.get(client.saturating_sub(1) as usize) {
             let _ = sender.send(rt, Letter::Out(out));
         }
     }
 
     /// Waits for the next letter to a client.
     pub(crate) fn next<W: Wait>(&self, rt: &W, client: u64) -> Letter {
-        match self.receivers.get((client.saturating_sub(1)) as usize) {
+        match self.receivers.get(client.saturating_sub(1) as usize) {
             Some(receiver) => receiver.recv(rt).unwrap_or(Letter::Over),
             None => Letter::Over,
         }

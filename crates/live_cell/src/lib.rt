@@ -9,6 +9,6 @@ mod players;
 mod runs;
 mod turns;
 
-pub use live::live_with;
+pub use live::{live_with, new_cell};
 pub use runs::{give_up, retire, run_clients};
 pub use turns::{Idle, Turn};

@@ -1,5 +1,5 @@
 //! A run of clients over list rows, and the line that it prints.
-ghost use Rattle.std.specs.Prelude.{◌≡◌, ◌↔◌, false, [], IfOk};
+ghost use Rattle.std.specs.Prelude.{◌≡◌, ◌↔◌, ◌⊎◌, false, [], IfOk};
 ghost use Rattle.live_cell.specs.Bounds.{is_within, IsStatus};
 
 use crate::bounds::is_within;
@@ -41,7 +41,10 @@ fn write_balanced(writer: &mut impl Write, clients: u64, rounds: u64, totals: &T
     ensures { (result ≡ 0) ⊎ (result ≡ 5) }
 {
     let held = totals.held;
-    match writeln!(writer, "balanced clients {clients} rounds {rounds} held {held}") {
+    match writeln!(
+        writer,
+        "balanced clients {clients} rounds {rounds} held {held}"
+    ) {
         Ok(()) => 0,
         Err(_) => 5,
     }
@@ -68,8 +71,8 @@ fn totals<W: Threads + Wait + Sync, T: Turn + Sync>(
     Ok(run_clients(rt, alloc, cell, clients, rounds, lease, turn)?.totals)
 }
 
-// A first master over new rows, at the moment 0.
-fn new_cell(alloc: Global, settings: &Settings) -> Result<Cell<ListRecords>, Fault>
+/// A first master over new rows in lists, at the moment 0: it has granted no right yet.
+pub fn new_cell(alloc: Global, settings: &Settings) -> Result<Cell<ListRecords>, Fault>
     ensures { IfOk result (λ cell. cell.master.rights ≡ []) }
 {
     let records = ListRecords::new(alloc, settings)?;

@@ -125,7 +125,16 @@ fn run_with<
         Ok(opened) => opened,
         Err(_) => return Err(Fault::NoMemory),
     };
-    let played = play_all(rt, alloc, &watch, passes.as_mut_slice(), &letters, rounds, end, turn);
+    let played = play_all(
+        rt,
+        alloc,
+        &watch,
+        passes.as_mut_slice(),
+        &letters,
+        rounds,
+        end,
+        turn,
+    );
     close(rt, watch, passes, played)
 }
 

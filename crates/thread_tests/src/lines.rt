@@ -16,7 +16,10 @@ fn runs(rt: HostRuntime) -> Result<(), Fail> {
         let mut printed: Vec<u8> = Vec::new(rt.alloc());
         let ended = live_with(&rt, rt.alloc(), *clients, *rounds, &Idle, &mut printed);
         assert_eq!(&rt; ended, *status);
-        assert!(&rt; printed.as_slice() == line.as_bytes(), "{clients} clients, {rounds} rounds");
+        assert!(&rt;
+            printed.as_slice() == line.as_bytes(),
+            "{clients} clients, {rounds} rounds"
+        );
     }
     Ok(())
 }

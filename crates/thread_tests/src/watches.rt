@@ -3,7 +3,7 @@ ghost use Rattle.std.specs.Prelude.{◌≡◌, [], IfOk};
 ghost use Rattle.watch_cell.specs.Views.{watched};
 
 use client_core::{Ask, Client, NodeCall, Outcome};
-use live_cell::{give_up, retire};
+use live_cell::{give_up, new_cell, retire};
 use messages_cell::{Create, Disposition, NewNode, Open, Request};
 use names_cell::{Name, Principal};
 use node_core::{Fault, Life};
@@ -43,7 +43,7 @@ const FILES: &[(&str, &[u8])] = &[("/ls/c/one", b"a"), ("/ls/c/two", b"bc")];
 #[test]
 fn watches(rt: HostRuntime) -> Result<(), Fail> {
     for (name, seats, case) in CASES {
-        let cell = new_cell(rt.alloc())?;
+        let cell = first_cell(rt.alloc())?;
         let went = on_watch::<_, Brand, Brand, Brand, Brand, Brand, _>(
             &rt,
             rt.alloc(),
@@ -57,25 +57,22 @@ fn watches(rt: HostRuntime) -> Result<(), Fail> {
     Ok(())
 }
 
-fn new_cell(alloc: Global) -> Result<Cell<ListRecords>, Fail>
+fn first_cell(alloc: Global) -> Result<Cell<ListRecords>, Fail>
     ensures { IfOk result (λ cell. cell.master.rights ≡ []) }
 {
     let settings = Settings::standard(alloc)?;
-    let records = ListRecords::new(alloc, &settings)?;
-    match Cell::up(alloc, records, 12_000, 0) {
-        Ok(cell) => Ok(cell),
-        Err((fault, _)) => Err(Fail::from(fault)),
-    }
+    Ok(new_cell(alloc, &settings)?)
 }
 
-fn on_watch<R: Records + Drop, O: Opening, I: Ledger, A: Ledger, E: Ledger, C: Ledger, W: Wait + Abort>(
-    rt: &W,
-    alloc: Global,
-    cell: Cell<R>,
-    seats: u64,
-    blanks: Blanks,
-    case: Case,
-) -> bool
+fn on_watch<
+    R: Records + Drop,
+    O: Opening,
+    I: Ledger,
+    A: Ledger,
+    E: Ledger,
+    C: Ledger,
+    W: Wait + Abort,
+>(rt: &W, alloc: Global, cell: Cell<R>, seats: u64, blanks: Blanks, case: Case) -> bool
     requires cell { (watched cell ≡ O.opening) × (cell.master.rights ≡ []) }
     requires seats { seats ≡ O.seats }
     requires issued { (blanks.issued.name ≡ I.name) × (blanks.issued.parts ≡ I.parts) × (I.parts ≡ seats) }
