@@ -1,9 +1,7 @@
-//! Tests with threads: of masters behind one lock, and of caches that many threads read.
+//! Tests with threads: of runs of clients over one master behind one lock.
 #![tactic(auto)]
 
 #[cfg(test)]
 mod lines;
 #[cfg(test)]
 mod meetings;
-#[cfg(test)]
-mod watches;
