@@ -4,8 +4,11 @@ use Rattle.std.proofs.MapsCrossing as maps
 use Rattle.plain.specs.contracts.contents.Bytes as Bytes
 use Rattle.names_cell.specs.contracts.paths.Name as Name
 use Rattle.names_cell.specs.contracts.components.Component as Component
+use Rattle.node_core.specs.contracts.refusals.Fault as Fault
+use Rattle.node_core.specs.contracts.stats.Stat as Stat
 use Rattle.node_core.specs.contracts.views.View as View
 use Rattle.tags_cell.specs.contracts.handle_bytes.HandleBytes as HandleBytes
+use Rattle.messages_cell.specs.contracts.outs.NewHandle as NewHandle
 use Rattle.messages_cell.specs.contracts.outs.CallResult as CallResult
 use Rattle.messages_cell.specs.contracts.outs.Reply as Reply
 use Rattle.messages_cell.specs.contracts.outs.Out as Out
@@ -33,8 +36,17 @@ handle_send = search (bytes_send, sendable, crosses, maps.crosses) depth 200 fit
 view_send : IsSend View.the_row
 view_send = search (bytes_send, component_send, name_send, sendable, crosses, maps.crosses) depth 200 fits 20000
 
+fault_send : IsSend Fault.the_row
+fault_send = search sendable depth 200 fits 20000
+
+stat_send : IsSend Stat.the_row
+stat_send = search (component_send, sendable, crosses, maps.crosses) depth 40 fits 5000
+
+new_handle_send : IsSend NewHandle.the_row
+new_handle_send = search (handle_send, sendable, crosses, maps.crosses) depth 40 fits 5000
+
 result_send : IsSend CallResult.the_row
-result_send = search (handle_send, view_send, bytes_send, component_send, name_send, sendable, crosses, maps.crosses) depth 200 fits 20000
+result_send = search (fault_send, stat_send, new_handle_send, handle_send, view_send, bytes_send, component_send, name_send, sendable, crosses, maps.crosses) depth 200 fits 20000
 
 reply_send : IsSend Reply.the_row
 reply_send = search (result_send, sendable, crosses, maps.crosses) depth 200 fits 20000
@@ -43,13 +55,13 @@ alive_send : IsSend Alive.the_row
 alive_send = search (bytes_send, component_send, name_send, sendable, crosses, maps.crosses) depth 200 fits 20000
 
 out_send : IsSend Out.the_row
-out_send = search (reply_send, alive_send, sendable, crosses, maps.crosses) depth 200 fits 20000
+out_send = search (fault_send, reply_send, alive_send, sendable, crosses, maps.crosses) depth 200 fits 20000
 
 request_send : IsSend Request.the_row
 request_send = search (handle_send, bytes_send, component_send, name_send, sendable, crosses, maps.crosses) depth 200 fits 20000
 
 swept_send : IsSend Swept.the_row
-swept_send = search (out_send, bytes_send, component_send, name_send, sendable, crosses, maps.crosses) depth 200 fits 20000
+swept_send = search (fault_send, stat_send, view_send, out_send, bytes_send, component_send, name_send, sendable, crosses, maps.crosses) depth 200 fits 20000
 
 event_send : IsSend Event.the_row
 event_send = search (request_send, sendable, crosses, maps.crosses) depth 200 fits 20000
