@@ -1,26 +1,30 @@
 //! The thread of a client.
 use crate::letters::{Letter, Letters};
-use crate::players::Player;
+use crate::players::{FILE, Player};
 use crate::turns::Turn;
+use crate::viewers::view;
 use messages_cell::{Out, Request};
+use names_cell::Name;
 use node_core::Fault;
 use rows_cell::Records;
 use std::alloc::Global;
 use std::sync::Wait;
+use std::sync::atomic::{AtomicU64, Ordering};
 use std::sync::ledger::Ledger;
+use std::thread::{Threads, join};
 use sweep_laws::Swept;
 use watch_cell::{Event, Opening, Pass, Watch};
 
-/// A client's thread, until all clients have finished or one was refused: then all end.
+/// A client's threads, until all clients have finished or one was refused: then all end.
 pub(crate) fn client<
-    R: Records,
-    O: Opening,
-    I: Ledger,
-    A: Ledger,
-    E: Ledger,
-    C: Ledger,
-    W: Wait,
-    T: Turn,
+    R: Records + Send,
+    O: Opening + Send + Sync,
+    I: Ledger + Send + Sync,
+    A: Ledger + Send + Sync,
+    E: Ledger + Send + Sync,
+    C: Ledger + Send + Sync,
+    W: Threads + Wait + Sync,
+    T: Turn + Sync,
 >(
     rt: &W,
     alloc: Global,
@@ -30,14 +34,24 @@ pub(crate) fn client<
     rounds: u64,
     turn: &T,
 ) -> Result<(), Fault> {
-    let played = play(rt, alloc, watch, pass, letters, rounds, turn);
+    let played = share(rt, alloc, watch, pass, letters, rounds, turn);
     if played.is_err() {
         letters.end(rt);
     }
     played
 }
 
-fn play<R: Records, O: Opening, I: Ledger, A: Ledger, E: Ledger, C: Ledger, W: Wait, T: Turn>(
+// The client in this thread, and what reads its cache in another.
+fn share<
+    R: Records + Send,
+    O: Opening + Send + Sync,
+    I: Ledger + Send + Sync,
+    A: Ledger + Send + Sync,
+    E: Ledger + Send + Sync,
+    C: Ledger + Send + Sync,
+    W: Threads + Wait + Sync,
+    T: Turn + Sync,
+>(
     rt: &W,
     alloc: Global,
     watch: &Watch<R, O, I, A, E, C>,
@@ -46,18 +60,44 @@ fn play<R: Records, O: Opening, I: Ledger, A: Ledger, E: Ledger, C: Ledger, W: W
     rounds: u64,
     turn: &T,
 ) -> Result<(), Fault> {
-    let mut player = Player::new(alloc, pass.number(), rounds)?;
-    let start = player.beat()?;
+    let name = Name::parse(alloc, FILE)?;
+    let (mut player, mut viewers) = Player::new(rt, alloc, pass.number(), rounds)?;
+    let finished = AtomicU64::new(0);
+    let seats = viewers.as_mut_slice();
+    let (played, ()) = join(
+        rt,
+        || {
+            let played = play(rt, watch, pass, letters, &mut player, &finished, turn);
+            finished.store(1, Ordering::SeqCst);
+            played
+        },
+        || view(rt, seats, &name, &finished),
+    );
+    player.close(rt);
+    played
+}
+
+fn play<R: Records, O: Opening, I: Ledger, A: Ledger, E: Ledger, C: Ledger, W: Wait, T: Turn>(
+    rt: &W,
+    watch: &Watch<R, O, I, A, E, C>,
+    pass: &mut Pass<I, A, E, C>,
+    letters: &Letters,
+    player: &mut Player,
+    finished: &AtomicU64,
+    turn: &T,
+) -> Result<(), Fault> {
+    let start = player.beat(rt)?;
     deliver(rt, watch, pass, letters, turn, start)?;
     for _ in rt.forever() {
         let Letter::Out(out) = letters.next(rt, pass.number()) else {
             return Ok(());
         };
-        let beat = player.hear(&out)?;
+        let beat = player.hear(rt, &out)?;
         deliver(rt, watch, pass, letters, turn, beat)?;
-        let call = player.play()?;
+        let call = player.play(rt)?;
         deliver(rt, watch, pass, letters, turn, call)?;
         if player.finishes() {
+            finished.store(1, Ordering::SeqCst);
             letters.finish(rt);
         }
     }

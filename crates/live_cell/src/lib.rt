@@ -8,6 +8,7 @@ mod live;
 mod players;
 mod runs;
 mod turns;
+mod viewers;
 
 pub use live::{live_with, new_cell};
 pub use runs::{give_up, retire, run_clients};

@@ -6,4 +6,10 @@ mod lines;
 #[cfg(test)]
 mod meetings;
 #[cfg(test)]
+mod readers;
+#[cfg(test)]
+mod rows;
+#[cfg(test)]
+mod stages;
+#[cfg(test)]
 mod watches;

@@ -5,7 +5,7 @@ use std::test::Fail;
 // Clients, rounds, the status and what is printed.
 const RUNS: &[(u64, u64, u8, &str)] = &[
     (1, 1, 0, "balanced clients 1 rounds 1 held 0\n"),
-    (2, 8, 0, "balanced clients 2 rounds 8 held 0\n"),
+    (8, 1_000, 0, "balanced clients 8 rounds 1000 held 0\n"),
     (65, 1, 2, ""),
     (64, 10_000, 2, ""),
 ];

@@ -2,7 +2,7 @@
 ghost use Rattle.std.specs.Prelude.{◌≡◌, [], IfOk};
 ghost use Rattle.watch_cell.specs.Views.{watched};
 
-use client_core::{Ask, Client, NodeCall, Outcome};
+use client_core::{Ask, Asked, Client, NodeCall, Outcome};
 use live_cell::{give_up, new_cell, retire};
 use messages_cell::{Create, Disposition, NewNode, Open, Request};
 use names_cell::{Name, Principal};
@@ -168,7 +168,8 @@ fn ask<R: Records, O: Opening, I: Ledger, A: Ledger, E: Ledger, C: Ledger, W: Wa
     client: &mut Client,
     asked: &Ask,
 ) -> Result<(), Fault> {
-    match client.ask(0, asked)?.outcome {
+    let Asked { lines: _, outcome } = client.ask(0, asked)?;
+    match outcome {
         Outcome::Sent(request) => send(rt, watch, pass, client, Some(request)),
         _ => Err(Fault::Unknown),
     }

@@ -1,5 +1,5 @@
 use Rattle.std.proofs.Common.{◌+◌, ◌*◌, length}
-use Rattle.live_cell.proofs.runs.+runs+fn-threads-join+arg3.Given as goal
+use Rattle.live_cell.proofs.runs.+fn-threads-join+arg3+threads.Given as goal
 
 abbrev pub decreases-threads : goal.decreases-threads
 decreases-threads g l = 2 * length l.passes.now
