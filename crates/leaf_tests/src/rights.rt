@@ -138,6 +138,54 @@ fn do_all(rt: &impl Abort, rights: &mut Rights, alloc: Global) -> Result<(), Fai
     Ok(())
 }
 
+// So many clients are granted a name.
+fn grant_to_all(rights: &mut Rights, name: &Name, clients: u64) -> Result<(), Fail> {
+    for client in 1..=clients {
+        rights.grant(client, name)?;
+    }
+    Ok(())
+}
+
+// 1,048,575 rights: of 1,023 clients on 1,025 names.
+fn almost_full(alloc: Global) -> Result<Rights, Fail> {
+    let mut rights = Rights::new(alloc);
+    for number in 1..=1_025 {
+        grant_to_all(&mut rights, &name(alloc, number)?, 1_023)?;
+    }
+    Ok(rights)
+}
+
+// A new right is one too many; one that is held stays known, and one that ends makes room.
+fn fill_up(rt: &impl Abort, rights: &mut Rights, alloc: Global) -> Result<(), Fail> {
+    let steps = [
+        Step::Grant(1_024, 1, Grant::Granted(1_048_576)),
+        Step::Grant(1_024, 2, Grant::Full),
+        Step::Grant(1, 1_026, Grant::Full),
+        Step::Grant(1, 1, Grant::Already(1)),
+        Step::Grant(1_023, 1_025, Grant::Already(1_048_575)),
+        Step::Grant(1_024, 1, Grant::Already(1_048_576)),
+        Step::Expire(1_024, 1),
+        Step::Grant(1_024, 2, Grant::Granted(1_048_577)),
+        Step::Grant(1_024, 1, Grant::Full),
+        Step::Totals(Totals {
+            issued: 1_048_577,
+            held: 1_048_576,
+            acknowledged: 0,
+            expired: 1,
+        }),
+    ];
+    for step in steps {
+        does(rt, rights, alloc, step)?;
+    }
+    Ok(())
+}
+
+#[test]
+fn the_1048577th_held_right_is_refused(rt: HostRuntime) -> Result<(), Fail> {
+    let mut rights = almost_full(rt.alloc())?;
+    fill_up(&rt, &mut rights, rt.alloc())
+}
+
 #[test]
 fn rights_step_by_step(rt: HostRuntime) -> Result<(), Fail> {
     let mut rights = Rights::new(rt.alloc());

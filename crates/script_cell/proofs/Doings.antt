@@ -127,10 +127,10 @@ part_more there text mid after old w new a b c is next h k =
     wrote_then (λ p. IsOfPart text mid.rest mid.number old p w) (λ p. DoesLine w after.line p new) (λ p. IsOfPart text after.rest after.number old p new) a b c
     (λ front back f g. part_then text mid after old w new front back (subst (λ b. Advances b mid after) is next) f g) h k
 
-pub part_whole : (text : Option (List ℕ)) (rest : Option (List ℕ)) (count : ℕ) (old : WorldView) (new : Played) (printed : List Line) → IsAtEnd rest → IsOfPart text rest count old printed new → IsOfScript text old printed
+pub part_whole : (text : Option (List ℕ)) (rest : Option (List ℕ)) (count : ℕ) (old : WorldView) (new : Played) (printed : List Line) → IsAtEnd rest → IsOfPart text rest count old printed new → (all : IsOfScript text old printed) × (all.new.view ≡ new.view)
 part_whole text rest count old new printed ended h =
     let few : length h.texts ≤ 1000000 = rw h.counted h.few in
-    record { texts = h.texts; whole = passes_all text rest h.texts h.first ended; few = few; new = new; does = h.does }
+    (record { texts = h.texts; whole = passes_all text rest h.texts h.first ended; few = few; new = new; does = h.does }, refl)
 
 -- the line that was read fits
 pub line_fits : (there : Bool) (mid after : Reading) → there ≡ true → Advances there mid after → length after.line ≤ 1048576

@@ -1,8 +1,9 @@
 -- What a script does is a run of its world, and what its lines tell.
-use Rattle.std.proofs.Common.{◌≡◌, inl, inr, ℕ, zero, suc, ◌≤◌, List, [], ◌∷◌, ◌++◌, Bool, true, false, Option, None, Some, Result, Ok, Err, refl, sym, ap, subst, ◌∙◌}
+use Rattle.std.proofs.Common.{◌≡◌, inl, inr, ℕ, zero, suc, ◌+◌, ◌≤◌, min, arith, List, [], ◌∷◌, ◌++◌, Bool, true, false, Option, None, Some, Result, Ok, Err, refl, sym, ap, subst, ◌∙◌}
 use Rattle.std.specs.Prelude.{is_some, IfOk, IfErr}
 use Rattle.std.specs.Option.{option_and_then}
-use Rattle.std.specs.Io.KnownBytes.{IsAtEnd}
+use Rattle.std.specs.Io.KnownBytes.{IsAtEnd, Keeps}
+use Rattle.std.specs.Str.Lossy.{utf8_lossy}
 use Rattle.std.specs.Result.{IsErr, IsErrAnd}
 use Rattle.std.proofs.lemmas.List.{append-nil, append_assoc}
 use Rattle.node_core.specs.declared.refusals.Fault.{Fault}
@@ -18,16 +19,18 @@ use Rattle.world_core.specs.World.{WorldView, IsUndoubted}
 use Rattle.world_laws.specs.Runs.{AnyRun, map_by, map_at, after_line, after_lines, epoch_by, epoch_at, live_by, live_at, put_number, applied, Rises}
 use Rattle.world_laws.specs.Served.{ServesPresentByThen}
 use Rattle.world_laws.specs.Laws.{HoldsOfRun, HoldsOfRuns}
+use Rattle.world_laws.proofs.SureRuns.{run_doubts}
 use Rattle.step_words.specs.declared.steps.Parsed.{Parsed}
 use Rattle.step_words.specs.declared.steps.Parsed.TheVariants as parsed
+use Rattle.step_words.specs.Readings.{IsParsed}
 use Rattle.script_cell.specs.declared.stops.Stop.{Stop}
-use Rattle.script_cell.specs.declared.stops.Stop.TheVariants.{BadStep, NoMemory, Unwritten}
+use Rattle.script_cell.specs.declared.stops.Stop.TheVariants.{BadStep, Unread, NoMemory, Unwritten}
 use Rattle.script_cell.specs.Settling.{Played, played, PlaysMade, PlaysRefused, TakesTurn, Turns, SettlesBy, Settles}
-use Rattle.script_cell.specs.Scripts.{told, DoesParsed, DoesLines, IsOfPart, IsOfScript, Wrote}
+use Rattle.script_cell.specs.Scripts.{told, DoesParsed, DoesLine, DoesLines, IsOfPart, IsOfScript, Wrote}
 use Rattle.script_cell.specs.Stops.{status_of}
 use Rattle.script_cell.specs.Texts.{Reading, Advances}
-use Rattle.script_cell.specs.Ran.{Adds, Ran, TellsOfRun, RanWell, EndsAs, EndsIn, EndsWith, Writes, Obeys}
-use Rattle.script_cell.proofs.Doings.{wrote_as, wrote_then, part_whole}
+use Rattle.script_cell.specs.Ran.{Adds, Ran, TellsOfRun, RanWell, IsNoStep, StopsReading, IsDoneBefore, Ends, EndsWell, EndsSurely, EndsAs, EndsIn, EndsWith, Breaks, BreaksLine, Writes, Obeys}
+use Rattle.script_cell.proofs.Doings.{wrote_as, wrote_then, wrote_none, wrote_kept, part_whole}
 
 -- ---- lines of a run, with refusals between them
 
@@ -182,11 +185,11 @@ pub part_ran : (text after : Option (List ℕ)) (count : ℕ) (old : WorldView) 
 part_ran text after count old printed new h = lines_ran (played old []) new h.texts printed h.does
 
 -- the text was done to its end
-pub all_ran : (there : Bool) (text : Option (List ℕ)) (mid after : Reading) (old : WorldView) (new : Played) (a b : Option (List ℕ)) → there ≡ false → Advances there mid after → Wrote (λ printed. IsOfPart text mid.rest mid.number old printed new) a b → Wrote (λ printed. IsOfScript text old printed × Ran old new.view printed) a b
-all_ran there text mid after old new a b none next h =
+pub all_done : (there : Bool) (text : Option (List ℕ)) (mid after : Reading) (old : WorldView) (new : Played) (a b : Option (List ℕ)) → there ≡ false → Advances there mid after → Wrote (λ printed. IsOfPart text mid.rest mid.number old printed new) a b → Wrote (Ends text old new.view (Ok tt)) a b
+all_done there text mid after old new a b none next h =
     let ended : IsAtEnd mid.rest = subst (λ b. Advances b mid after) none next in
-    wrote_as (λ printed. IsOfPart text mid.rest mid.number old printed new) (λ printed. IsOfScript text old printed × Ran old new.view printed) a b
-    (λ printed f. (part_whole text mid.rest mid.number old new printed ended f, part_ran text mid.rest mid.number old printed new f)) h
+    wrote_as (λ printed. IsOfPart text mid.rest mid.number old printed new) (Ends text old new.view (Ok tt)) a b
+    (λ printed f. part_whole text mid.rest mid.number old new printed ended f) h
 
 -- what was done so far
 pub parts_ran : (text after : Option (List ℕ)) (count : ℕ) (old : WorldView) (new : Played) (a b : Option (List ℕ)) → Wrote (λ printed. IsOfPart text after count old printed new) a b → Wrote (Ran old new.view) a b
@@ -201,56 +204,210 @@ pub step_ran : (old new : Played) (step : Step) (r : Result (List Line) Fault) �
 step_ran old new step (Ok printed) made refused = made_ran old new step printed made
 step_ran old new step (Err fault) made refused = refused_ran old new step (lines.Refused fault ∷ []) refused
 
-module _ {Y : Type 0} (P : Y → List Line → Type 0) (Q : List Line → Type 0) (a c : Option (List ℕ)) where
-  stopped : (stop : Stop) → Wrote Q a c → (let r : Result Y Stop = Err stop in EndsAs r P Q a c)
-  stopped Unwritten h = (h.0, h.1)
-  stopped NoMemory h = h
-  stopped (BadStep line) h = h
-
-  unwritten : (stop : Stop) (printed : List Line) → stop ≡ Unwritten → Q printed → (let r : Result Y Stop = Err stop in EndsAs r P Q a c)
+module _ {Y : Type 0} (P : Y → List Line → Type 0) (Q : Stop → List Line → Type 0) (a c : Option (List ℕ)) where
+  unwritten : (stop : Stop) (printed : List Line) → stop ≡ Unwritten → Q Unwritten printed → (let r : Result Y Stop = Err stop in EndsAs r P Q a c)
   unwritten stop printed is h = subst (λ s. (let r : Result Y Stop = Err s in EndsAs r P Q a c)) (sym is) (printed, h)
 
-  -- the exit of a `?`: all that was done is written
-  pub exit_written : (r : Result Y Stop) (stop : Stop) → IsErr r × IsErrAnd r (λ e. e ≡ stop) → Wrote Q a c → EndsAs r P Q a c
-  exit_written (Ok y) stop exit h = let none = exit.0 in cc
-  exit_written (Err e) stop exit h = stopped e h
-
   -- lines can't be written
-  pub exit_unwritten : (r : Result Y Stop) (stop : Stop) (printed : List Line) → IsErr r × IsErrAnd r (λ e. e ≡ stop) → stop ≡ Unwritten → Q printed → EndsAs r P Q a c
+  pub exit_unwritten : (r : Result Y Stop) (stop : Stop) (printed : List Line) → IsErr r × IsErrAnd r (λ e. e ≡ stop) → stop ≡ Unwritten → Q Unwritten printed → EndsAs r P Q a c
   exit_unwritten (Ok y) stop printed exit is h = let none = exit.0 in cc
   exit_unwritten (Err e) stop printed exit is h = unwritten e printed (exit.1 ∙ is) h
 
--- what was done and written before, and then what stops so
+-- what was done and written before, and then what breaks off so
 module _ {X Y : Type 0} (O : X → List Line → Type 0) (P : Y → List Line → Type 0) (old mid new : WorldView) (a b c : Option (List ℕ)) where
-  stopped_then : (stop : Stop) → Wrote (Ran old mid) a b → (let q : Result X Stop = Err stop in EndsAs q O (Ran mid new) b c) → (let r : Result Y Stop = Err stop in EndsAs r P (Ran old new) a c)
-  stopped_then Unwritten h k = (h.0 ++ k.0, ran_then old mid new h.0 k.0 h.1 k.1)
-  stopped_then NoMemory h k = wrote_then (Ran old mid) (Ran mid new) (Ran old new) a b c (λ front back f g. ran_then old mid new front back f g) h k
-  stopped_then (BadStep line) h k = wrote_then (Ran old mid) (Ran mid new) (Ran old new) a b c (λ front back f g. ran_then old mid new front back f g) h k
+  broken_then : (stop : Stop) → Wrote (Ran old mid) a b → (let q : Result X Stop = Err stop in EndsAs q O (Breaks mid new) b c) → (let r : Result Y Stop = Err stop in EndsAs r P (Breaks old new) a c)
+  broken_then Unwritten h k = (h.0 ++ k.0, ran_then old mid new h.0 k.0 h.1 k.1)
+  broken_then NoMemory h k = wrote_then (Ran old mid) (Ran mid new) (Ran old new) a b c (λ front back f g. ran_then old mid new front back f g) h k
+  broken_then (BadStep line) h k = absurd k.1
+  broken_then (Unread line) h k = absurd k.1
 
-  pub exit_then : (r : Result Y Stop) (stop : Stop) → IsErr r × IsErrAnd r (λ e. e ≡ stop) → Wrote (Ran old mid) a b → (let q : Result X Stop = Err stop in EndsAs q O (Ran mid new) b c) → EndsAs r P (Ran old new) a c
+  pub exit_then : (r : Result Y Stop) (stop : Stop) → IsErr r × IsErrAnd r (λ e. e ≡ stop) → Wrote (Ran old mid) a b → (let q : Result X Stop = Err stop in EndsAs q O (Breaks mid new) b c) → EndsAs r P (Breaks old new) a c
   exit_then (Ok y) stop exit h k = let none = exit.0 in cc
   exit_then (Err e) stop exit h k =
-      stopped_then e h (subst (λ s. (let q : Result X Stop = Err s in EndsAs q O (Ran mid new) b c)) (sym exit.1) k)
+      broken_then e h (subst (λ s. (let q : Result X Stop = Err s in EndsAs q O (Breaks mid new) b c)) (sym exit.1) k)
+
+-- what breaks off a part breaks off the whole
+module _ {X Y : Type 0} (O : X → List Line → Type 0) (P : Y → List Line → Type 0) (Q : Stop → List Line → Type 0) (a b : Option (List ℕ)) where
+  same_break : (stop : Stop) → (let q : Result X Stop = Err stop in EndsAs q O Q a b) → (let r : Result Y Stop = Err stop in EndsAs r P Q a b)
+  same_break Unwritten h = h
+  same_break NoMemory h = h
+  same_break (BadStep line) h = h
+  same_break (Unread line) h = h
+
+  pub exit_same : (r : Result Y Stop) (stop : Stop) → IsErr r × IsErrAnd r (λ e. e ≡ stop) → (let q : Result X Stop = Err stop in EndsAs q O Q a b) → EndsAs r P Q a b
+  exit_same (Ok y) stop exit h = let none = exit.0 in cc
+  exit_same (Err e) stop exit h = same_break e (subst (λ s. (let q : Result X Stop = Err s in EndsAs q O Q a b)) (sym exit.1) h)
 
 -- without a master nothing is settled
-pub settles_down : (w : Played) (up : Bool) (a b : Option (List ℕ)) (r : Result (Unit {0}) Stop) → up ≡ is_some w.view.world.master → up ≡ false → Writes r (lines.Refused MasterDown ∷ []) a b → EndsAs r (λ _ printed. Settles w printed w) (Ran w.view w.view) a b
+pub settles_down : (w : Played) (up : Bool) (a b : Option (List ℕ)) (r : Result (Unit {0}) Stop) → up ≡ is_some w.view.world.master → up ≡ false → Writes r (lines.Refused MasterDown ∷ []) a b → EndsAs r (λ _ printed. Settles w printed w) (Breaks w.view w.view) a b
 settles_down w up a b (Ok x) is down h = (lines.Refused MasterDown ∷ [], subst (λ up. SettlesBy up w (lines.Refused MasterDown ∷ []) w) (sym down ∙ is) (refl, refl), h)
-settles_down w up a b (Err e) is down h = unwritten (λ (x : Unit {0}) printed. Settles w printed w) (Ran w.view w.view) a b e [] h (ran_none w.view)
+settles_down w up a b (Err e) is down h = unwritten (λ (x : Unit {0}) printed. Settles w printed w) (Breaks w.view w.view) a b e [] h (ran_none w.view)
+
+-- ---- lines
 
 -- a line that is a step
 pub obeyed : (done : Bool) (old new : Played) (meant : Parsed) (a b : Option (List ℕ)) → done ≡ true → Wrote (λ printed. Obeys done old meant printed new) a b → Wrote (λ printed. DoesParsed old meant printed new) a b
 obeyed done old new meant a b is h = subst (λ x. Wrote (λ printed. Obeys x old meant printed new) a b) is h
 
+-- a line that is no step
+pub disobeyed : (done : Bool) (number at : ℕ) (line text : List ℕ) (old new : Played) (meant : Parsed) (a b : Option (List ℕ)) → done ≡ false → at ≡ number → text ≡ line → IsParsed (utf8_lossy text) meant → Wrote (λ printed. Obeys done old meant printed new) a b → Wrote (BreaksLine line number old new (BadStep at)) a b
+disobeyed done number at line text old new meant a b is same this read h =
+    let k = subst (λ x. Wrote (λ printed. Obeys x old meant printed new) a b) is h in
+    let bad : IsParsed (utf8_lossy line) parsed.Bad = subst (λ t. IsParsed (utf8_lossy t) parsed.Bad) this (subst (IsParsed (utf8_lossy text)) k.1.0 read) in
+    (k.0, (same, bad, k.1.1, k.1.2), k.2)
+
+-- no memory to read a line's words
+pub line_unread : (line : List ℕ) (number : ℕ) (w : Played) (a : Option (List ℕ)) → Wrote (BreaksLine line number w w NoMemory) a a
+line_unread line number w a = wrote_none (Ran w.view w.view) a (ran_none w.view)
+
+-- what breaks off a step breaks off its line
+module _ {X : Type 0} (O : X → List Line → Type 0) (P : Unit {0} → List Line → Type 0) (line : List ℕ) (number : ℕ) (old new : Played) (a b : Option (List ℕ)) where
+  line_breaks : (stop : Stop) → (let q : Result X Stop = Err stop in EndsAs q O (Breaks old.view new.view) a b) → (let r : Result (Unit {0}) Stop = Err stop in EndsAs r P (BreaksLine line number old new) a b)
+  line_breaks Unwritten h = h
+  line_breaks NoMemory h = h
+  line_breaks (BadStep at) h = absurd h.1
+  line_breaks (Unread at) h = absurd h.1
+
+  pub exit_line : (r : Result (Unit {0}) Stop) (stop : Stop) → IsErr r × IsErrAnd r (λ e. e ≡ stop) → (let q : Result X Stop = Err stop in EndsAs q O (Breaks old.view new.view) a b) → EndsAs r P (BreaksLine line number old new) a b
+  exit_line (Ok y) stop exit h = let none = exit.0 in cc
+  exit_line (Err e) stop exit h = line_breaks e (subst (λ s. (let q : Result X Stop = Err s in EndsAs q O (Breaks old.view new.view) a b)) (sym exit.1) h)
+
 -- ---- the whole script
 
-module _ (A : List Line → Type 0) (old new : WorldView) (laws : HoldsOfRuns old) (a b : Option (List ℕ)) where
-  pub ends_well : Wrote (λ printed. A printed × Ran old new printed) a b → EndsWith 0 (RanWell old new) a b
-  ends_well h = (Ok tt, refl, wrote_as (λ printed. A printed × Ran old new printed) (RanWell old new) a b (λ printed f. ran_well old new laws printed f.1) h)
+done_before : (text rest : Option (List ℕ)) (count number : ℕ) (old : WorldView) (new : Played) (printed : List Line) → number ≡ count + 1 → IsOfPart text rest count old printed new → IsDoneBefore text number old new.view printed
+done_before text rest count number old new printed next h = record { rest = rest; marks = new.delivered; count = count; next = next; before = h }
 
-  stops_in : (stop : Stop) → (let r : Result (Unit {0}) Stop = Err stop in EndsAs r (λ _ printed. A printed × Ran old new printed) (Ran old new) a b) → (let r : Result (Unit {0}) Stop = Err stop in EndsIn r (RanWell old new) a b)
-  stops_in Unwritten h = (h.0, ran_well old new laws h.0 h.1)
-  stops_in NoMemory h = wrote_as (Ran old new) (RanWell old new) a b (ran_well old new laws) h
-  stops_in (BadStep line) h = wrote_as (Ran old new) (RanWell old new) a b (ran_well old new laws) h
+-- the next line isn't read
+next_line : (at number count : ℕ) → number ≡ count → at ≡ min (number + 1) 18446744073709551615 → count ≤ 1000000 → at ≡ count + 1
+next_line at number count is next few = grind arith
 
-  pub stops_well : (status : ℕ) (stop : Stop) → status ≡ status_of stop → (let r : Result (Unit {0}) Stop = Err stop in EndsAs r (λ _ printed. A printed × Ran old new printed) (Ran old new) a b) → EndsWith status (RanWell old new) a b
-  stops_well status stop is h = (Err stop, is, stops_in stop h)
+module _ (text : Option (List ℕ)) (mid : Reading) (old : WorldView) (new : Played) (a b : Option (List ℕ)) where
+  unread_by : (stop : Stop) → (mid.number ≤ 1000000 → StopsReading mid stop) → Wrote (λ printed. IsOfPart text mid.rest mid.number old printed new) a b → (let r : Result (Unit {0}) Stop = Err stop in EndsIn r (Ends text old new.view r) a b)
+  unread_by Unwritten h k = (k.0, part_ran text mid.rest mid.number old k.0 new k.1)
+  unread_by NoMemory h k = parts_ran text mid.rest mid.number old new a b k
+  unread_by (BadStep at) h k =
+      wrote_as (λ printed. IsOfPart text mid.rest mid.number old printed new) (Ends text old new.view (Err (BadStep at))) a b
+      (λ printed f. let s = h f.few in (done_before text mid.rest mid.number at old new printed s.0 f, s.1)) k
+  unread_by (Unread at) h k =
+      wrote_as (λ printed. IsOfPart text mid.rest mid.number old printed new) (Ends text old new.view (Err (Unread at))) a b
+      (λ printed f. done_before text mid.rest mid.number at old new printed (h f.few) f) k
+
+  pub exit_unread : (r : Result (Unit {0}) Stop) (stop : Stop) → IsErr r × IsErrAnd r (λ e. e ≡ stop) → (mid.number ≤ 1000000 → StopsReading mid stop) → Wrote (λ printed. IsOfPart text mid.rest mid.number old printed new) a b → EndsIn r (Ends text old new.view r) a b
+  exit_unread (Ok x) stop exit h k = let none = exit.0 in cc
+  exit_unread (Err e) stop exit h k = unread_by e (λ few. subst (StopsReading mid) (sym exit.1) (h few)) k
+
+  -- that behind the last of them
+  pub last_unread : (at number : ℕ) → number ≡ mid.number → at ≡ min (number + 1) 18446744073709551615 → Wrote (λ printed. IsOfPart text mid.rest mid.number old printed new) a b → Wrote (IsDoneBefore text at old new.view) a b
+  last_unread at number is next k =
+      wrote_as (λ printed. IsOfPart text mid.rest mid.number old printed new) (IsDoneBefore text at old new.view) a b
+      (λ printed f. done_before text mid.rest mid.number at old new printed (next_line at number mid.number is next f.few) f) k
+
+-- a line breaks off behind the others
+module _ (text : Option (List ℕ)) (mid after : Reading) (old : WorldView) (w new : Played) (a b c : Option (List ℕ)) where
+  bad_line : (at : ℕ) (front back : List Line) → Advances true mid after → IsOfPart text mid.rest mid.number old front w → BreaksLine after.line after.number w new (BadStep at) back → Ends text old new.view (Err (BadStep at)) (front ++ back)
+  bad_line at front back next f g =
+      let same : front ≡ front ++ back = sym (append-nil front) ∙ ap (λ xs. front ++ xs) (sym g.2) in
+      let stands : IsOfPart text mid.rest mid.number old (front ++ back) new = subst (IsOfPart text mid.rest mid.number old (front ++ back)) (sym g.3) (subst (λ xs. IsOfPart text mid.rest mid.number old xs w) same f) in
+      (done_before text mid.rest mid.number at old new (front ++ back) (g.0 ∙ next.1.0) stands, (after.line, after.rest, next.0, inl g.1))
+
+  broken : (stop : Stop) → Advances true mid after → Wrote (λ printed. IsOfPart text mid.rest mid.number old printed w) a b → (let q : Result (Unit {0}) Stop = Err stop in EndsAs q (λ _ printed. DoesLine w after.line printed new) (BreaksLine after.line after.number w new) b c) → (let r : Result (Unit {0}) Stop = Err stop in EndsIn r (Ends text old new.view r) a c)
+  broken Unwritten next h k = (h.0 ++ k.0, ran_then old w.view new.view h.0 k.0 (part_ran text mid.rest mid.number old h.0 w h.1) k.1)
+  broken NoMemory next h k =
+      wrote_then (Ran old w.view) (Ran w.view new.view) (Ran old new.view) a b c (λ front back f g. ran_then old w.view new.view front back f g) (parts_ran text mid.rest mid.number old w a b h) k
+  broken (BadStep at) next h k =
+      wrote_then (λ p. IsOfPart text mid.rest mid.number old p w) (BreaksLine after.line after.number w new (BadStep at)) (Ends text old new.view (Err (BadStep at))) a b c (λ front back f g. bad_line at front back next f g) h k
+  broken (Unread at) next h k = absurd k.1
+
+  pub exit_broken : (there : Bool) (r : Result (Unit {0}) Stop) (stop : Stop) → IsErr r × IsErrAnd r (λ e. e ≡ stop) → there ≡ true → Advances there mid after → Wrote (λ printed. IsOfPart text mid.rest mid.number old printed w) a b → (let q : Result (Unit {0}) Stop = Err stop in EndsAs q (λ _ printed. DoesLine w after.line printed new) (BreaksLine after.line after.number w new) b c) → EndsIn r (Ends text old new.view r) a c
+  exit_broken there (Ok x) stop exit is next h k = let none = exit.0 in cc
+  exit_broken there (Err e) stop exit is next h k =
+      broken e (subst (λ t. Advances t mid after) is next) h
+      (subst (λ s. (let q : Result (Unit {0}) Stop = Err s in EndsAs q (λ _ printed. DoesLine w after.line printed new) (BreaksLine after.line after.number w new) b c)) (sym exit.1) k)
+
+-- whatever the end, what was done is a run
+module _ (text : Option (List ℕ)) (old new : WorldView) where
+  ends_ran : (r : Result (Unit {0}) Stop) (printed : List Line) → Ends text old new r printed → Ran old new printed
+  ends_ran (Ok x) printed h = subst (λ w. Ran old w printed) h.1 (lines_ran (played old []) h.0.new h.0.texts printed h.0.does)
+  ends_ran (Err (BadStep at)) printed h = part_ran text h.0.rest h.0.count old printed (played new h.0.marks) h.0.before
+  ends_ran (Err (Unread at)) printed h = part_ran text h.rest h.count old printed (played new h.marks) h.before
+  ends_ran (Err NoMemory) printed h = h
+  ends_ran (Err Unwritten) printed h = h
+
+  -- there is no memory for a line
+  pub exit_unbegun : (a : Option (List ℕ)) (r : Result (Unit {0}) Stop) (stop : Stop) → new ≡ old → IsErr r × IsErrAnd r (λ e. e ≡ stop) → stop ≡ NoMemory → EndsIn r (Ends text old new r) a a
+  exit_unbegun a (Ok x) stop same exit is = let none = exit.0 in cc
+  exit_unbegun a (Err e) stop same exit is =
+      subst (λ s. (let r : Result (Unit {0}) Stop = Err s in EndsIn r (Ends text old new r) a a)) (sym (exit.1 ∙ is))
+      (wrote_none (Ran old new) a (subst (λ w. Ran old w []) (sym same) (ran_none old)))
+
+  some_end : (a b : Option (List ℕ)) (r : Result (Unit {0}) Stop) → EndsIn r (Ends text old new r) a b → (printed : List Line) × Ran old new printed
+  some_end a b (Ok x) h = (h.0, ends_ran (Ok x) h.0 h.1)
+  some_end a b (Err (BadStep at)) h = (h.0, ends_ran (Err (BadStep at)) h.0 h.1)
+  some_end a b (Err (Unread at)) h = (h.0, ends_ran (Err (Unread at)) h.0 h.1)
+  some_end a b (Err NoMemory) h = (h.0, h.1)
+  some_end a b (Err Unwritten) h = h
+
+  -- the last lines can't be written
+  pub exit_unflushed : (a b c : Option (List ℕ)) (ended r : Result (Unit {0}) Stop) → IsErr r × IsErrAnd r (λ e. e ≡ Unwritten) → EndsIn ended (Ends text old new ended) a b → EndsIn r (Ends text old new r) a c
+  exit_unflushed a b c ended (Ok x) exit h = let none = exit.0 in cc
+  exit_unflushed a b c ended (Err e) exit h =
+      subst (λ s. (let r : Result (Unit {0}) Stop = Err s in EndsIn r (Ends text old new r) a c)) (sym exit.1) (some_end a b ended h)
+
+  -- what was written stays written
+  pub ends_kept : (a b c : Option (List ℕ)) (r : Result (Unit {0}) Stop) → EndsIn r (Ends text old new r) a b → Keeps b c → EndsIn r (Ends text old new r) a c
+  ends_kept a b c (Ok x) h k = wrote_kept (Ends text old new (Ok x)) a b c h k
+  ends_kept a b c (Err (BadStep at)) h k = wrote_kept (Ends text old new (Err (BadStep at))) a b c h k
+  ends_kept a b c (Err (Unread at)) h k = wrote_kept (Ends text old new (Err (Unread at))) a b c h k
+  ends_kept a b c (Err NoMemory) h k = wrote_kept (Ends text old new (Err NoMemory)) a b c h k
+  ends_kept a b c (Err Unwritten) h k = h
+
+  -- and the laws of runs hold of it
+  well : HoldsOfRuns old → (r : Result (Unit {0}) Stop) (printed : List Line) → Ends text old new r printed → EndsWell text old new r printed
+  well laws r printed h = (h, ran_well old new laws printed (ends_ran r printed h))
+
+  pub ends_well : HoldsOfRuns old → (a b : Option (List ℕ)) → Wrote (Ends text old new (Ok tt)) a b → EndsWith 0 (EndsWell text old new) a b
+  ends_well laws a b h = (Ok tt, refl, wrote_as (Ends text old new (Ok tt)) (EndsWell text old new (Ok tt)) a b (well laws (Ok tt)) h)
+
+  stops_in : HoldsOfRuns old → (a b : Option (List ℕ)) (stop : Stop) → (let r : Result (Unit {0}) Stop = Err stop in EndsIn r (Ends text old new r) a b) → (let r : Result (Unit {0}) Stop = Err stop in EndsIn r (EndsWell text old new r) a b)
+  stops_in laws a b Unwritten h = (h.0, well laws (Err Unwritten) h.0 h.1)
+  stops_in laws a b NoMemory h = wrote_as (Ends text old new (Err NoMemory)) (EndsWell text old new (Err NoMemory)) a b (well laws (Err NoMemory)) h
+  stops_in laws a b (BadStep at) h = wrote_as (Ends text old new (Err (BadStep at))) (EndsWell text old new (Err (BadStep at))) a b (well laws (Err (BadStep at))) h
+  stops_in laws a b (Unread at) h = wrote_as (Ends text old new (Err (Unread at))) (EndsWell text old new (Err (Unread at))) a b (well laws (Err (Unread at))) h
+
+  pub stops_well : HoldsOfRuns old → (a b : Option (List ℕ)) (status : ℕ) (stop : Stop) → status ≡ status_of stop → (let r : Result (Unit {0}) Stop = Err stop in EndsIn r (Ends text old new r) a b) → EndsWith status (EndsWell text old new) a b
+  stops_well laws a b status stop is h = (Err stop, is, stops_in laws a b stop h)
+
+  -- a script that came to its end
+  pub all_written : (a b : Option (List ℕ)) → Wrote (Ends text old new (Ok tt)) a b → Wrote (IsOfScript text old) a b
+  all_written a b h = wrote_as (Ends text old new (Ok tt)) (IsOfScript text old) a b (λ printed f. f.0) h
+
+-- ---- where nothing is in doubt
+
+module _ (text : Option (List ℕ)) (old new : WorldView) (none : IsUndoubted new) where
+  surely : (r : Result (Unit {0}) Stop) (printed : List Line) → EndsWell text old new r printed → EndsSurely text old new r printed
+  surely r printed h = record { ends = h.0; ran = h.1.ran; holds = h.1.holds none; tells = h.1.tells none }
+
+  sure_in : (a b : Option (List ℕ)) (r : Result (Unit {0}) Stop) → EndsIn r (EndsWell text old new r) a b → EndsIn r (EndsSurely text old new r) a b
+  sure_in a b (Ok x) h = wrote_as (EndsWell text old new (Ok x)) (EndsSurely text old new (Ok x)) a b (surely (Ok x)) h
+  sure_in a b (Err Unwritten) h = (h.0, surely (Err Unwritten) h.0 h.1)
+  sure_in a b (Err NoMemory) h = wrote_as (EndsWell text old new (Err NoMemory)) (EndsSurely text old new (Err NoMemory)) a b (surely (Err NoMemory)) h
+  sure_in a b (Err (BadStep at)) h = wrote_as (EndsWell text old new (Err (BadStep at))) (EndsSurely text old new (Err (BadStep at))) a b (surely (Err (BadStep at))) h
+  sure_in a b (Err (Unread at)) h = wrote_as (EndsWell text old new (Err (Unread at))) (EndsSurely text old new (Err (Unread at))) a b (surely (Err (Unread at))) h
+
+  sure_before : (printed : List Line) → Ran old new printed → IsUndoubted old
+  sure_before printed r =
+      let less : old.doubt ≤ new.doubt = run_doubts old r.steps r.told new r.run in
+      let last : new.doubt ≡ 0 = none in
+      let first : old.doubt ≡ 0 = omega arith in first
+
+  some_ran : (a b : Option (List ℕ)) (r : Result (Unit {0}) Stop) → EndsIn r (EndsWell text old new r) a b → (printed : List Line) × Ran old new printed
+  some_ran a b (Ok x) h = (h.0, h.1.1.ran)
+  some_ran a b (Err Unwritten) h = (h.0, h.1.1.ran)
+  some_ran a b (Err NoMemory) h = (h.0, h.1.1.ran)
+  some_ran a b (Err (BadStep at)) h = (h.0, h.1.1.ran)
+  some_ran a b (Err (Unread at)) h = (h.0, h.1.1.ran)
+
+  pub sure_end : (status : ℕ) (a b : Option (List ℕ)) → EndsWith status (EndsWell text old new) a b → IsUndoubted old × EndsWith status (EndsSurely text old new) a b
+  sure_end status a b h =
+      let ran = some_ran a b h.0 h.2 in
+      (sure_before ran.0 ran.1, (h.0, h.1, sure_in a b h.0 h.2))

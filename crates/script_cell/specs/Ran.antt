@@ -1,5 +1,6 @@
 -- What a script ran, however it ended.
-use Rattle.std.specs.Prelude.{◌≡◌, ◌⊎◌, ℕ, ◌≤◌, Bool, true, false, List, [], ◌∷◌, Option, Some, Result, Ok, Err}
+use Rattle.std.specs.Prelude.{◌≡◌, ◌⊎◌, ⊤, ℕ, ◌+◌, ◌≤◌, ◌<◌, Bool, true, false, List, [], ◌∷◌, length, Option, Some, Result, Ok, Err}
+use Rattle.std.specs.Str.Lossy.{utf8_lossy}
 use Rattle.node_core.specs.declared.refusals.Fault.{Fault}
 use Rattle.node_core.specs.declared.lines.Line.{Line}
 use Rattle.node_core.specs.declared.lines.Line.TheVariants as lines
@@ -11,12 +12,15 @@ use Rattle.world_laws.specs.Runs.{AnyRun, map_at, after_lines, epoch_at, live_at
 use Rattle.world_laws.specs.Served.{ServesPresentByThen}
 use Rattle.world_laws.specs.Laws.{HoldsOfRun}
 use Rattle.script_cell.specs.declared.stops.Stop.{Stop}
-use Rattle.script_cell.specs.declared.stops.Stop.TheVariants.{BadStep, NoMemory, Unwritten}
-use Rattle.script_cell.specs.Settling.{Played}
-use Rattle.script_cell.specs.Scripts.{lines_text, DoesParsed, Wrote}
+use Rattle.script_cell.specs.declared.stops.Stop.TheVariants.{BadStep, Unread, NoMemory, Unwritten}
+use Rattle.script_cell.specs.Settling.{Played, played}
+use Rattle.script_cell.specs.Scripts.{lines_text, DoesParsed, IsOfPart, IsOfScript, Wrote}
 use Rattle.step_words.specs.declared.steps.Parsed.{Parsed}
+use Rattle.step_words.specs.declared.steps.Parsed.TheVariants as parsed
+use Rattle.step_words.specs.Readings.{IsParsed}
 use Rattle.std.specs.Io.KnownBytes.{Appends}
 use Rattle.script_cell.specs.Stops.{status_of}
+use Rattle.script_cell.specs.Texts.{Reading, Passes}
 
 -- the lines of a run, and between them refusals of lines that are no steps for a word in them
 abbrev pub Adds : List Line → List Line → Type 0
@@ -52,6 +56,47 @@ pub record RanWell (old new : WorldView) (printed : List Line) : Type 0 where
   pub holds : IsUndoubted new → HoldsOfRun old ran.steps ran.told new
   pub tells : IsUndoubted new → TellsOfRun old new printed
 
+-- the line of this number, the next of the text, is no step; or it is too long, or one too many
+abbrev pub IsNoStep : Option (List ℕ) → ℕ → Type 0
+IsNoStep rest number =
+    (line : List ℕ) × (after : Option (List ℕ)) × Passes rest (line ∷ []) after
+    × (IsParsed (utf8_lossy line) parsed.Bad ⊎ ((1048576 < length line) ⊎ (1000000 < number)))
+
+-- no line was read, and that of this number is no step, or can't be read
+abbrev pub StopsReading : Reading → Stop → Type 0
+StopsReading old (BadStep number) = (number ≡ old.number + 1) × IsNoStep old.rest number
+StopsReading old (Unread number) = number ≡ old.number + 1
+StopsReading old NoMemory = ⊤
+StopsReading old Unwritten = ⊤
+
+-- the lines before that of this number were done, each of them whole, and nothing behind them
+pub record IsDoneBefore (text : Option (List ℕ)) (number : ℕ) (old new : WorldView) (printed : List Line) : Type 0 where
+  pub rest : Option (List ℕ)
+  pub marks : List Bool
+  pub count : ℕ
+  pub next : number ≡ count + 1
+  pub before : IsOfPart text rest count old printed (played new marks)
+
+-- what was done of a text where a script ended so: all its lines; those before the one that is no step or can't be read;
+-- or steps
+abbrev pub Ends : Option (List ℕ) → WorldView → WorldView → Result (Unit {0}) Stop → List Line → Type 0
+Ends text old new (Ok x) printed = (all : IsOfScript text old printed) × (all.new.view ≡ new)
+Ends text old new (Err (BadStep number)) printed = (done : IsDoneBefore text number old new printed) × IsNoStep done.rest number
+Ends text old new (Err (Unread number)) printed = IsDoneBefore text number old new printed
+Ends text old new (Err NoMemory) printed = Ran old new printed
+Ends text old new (Err Unwritten) printed = Ran old new printed
+
+-- that, and the laws of the run that it is
+abbrev pub EndsWell : Option (List ℕ) → WorldView → WorldView → Result (Unit {0}) Stop → List Line → Type 0
+EndsWell text old new ended printed = Ends text old new ended printed × RanWell old new printed
+
+-- the same where nothing is in doubt: the laws hold
+pub record EndsSurely (text : Option (List ℕ)) (old new : WorldView) (ended : Result (Unit {0}) Stop) (printed : List Line) : Type 0 where
+  pub ends : Ends text old new ended printed
+  pub ran : Ran old new printed
+  pub holds : HoldsOfRun old ran.steps ran.told new
+  pub tells : TellsOfRun old new printed
+
 -- lines of which P holds are written whole, unless they can't be written
 abbrev pub EndsIn : {X : Type 0} → Result X Stop → (List Line → Type 0) → Option (List ℕ) → Option (List ℕ) → Type 0
 EndsIn (Ok x) P before after = Wrote P before after
@@ -60,10 +105,21 @@ EndsIn (Err stop) P before after = Wrote P before after
 
 -- what came to an end did what P says; what stopped before did what Q says; and the lines of it are written whole,
 -- unless they can't be
-abbrev pub EndsAs : {X : Type 0} → Result X Stop → (X → List Line → Type 0) → (List Line → Type 0) → Option (List ℕ) → Option (List ℕ) → Type 0
+abbrev pub EndsAs : {X : Type 0} → Result X Stop → (X → List Line → Type 0) → (Stop → List Line → Type 0) → Option (List ℕ) → Option (List ℕ) → Type 0
 EndsAs (Ok x) P Q before after = Wrote (P x) before after
-EndsAs (Err Unwritten) P Q before after = (printed : List Line) × Q printed
-EndsAs (Err stop) P Q before after = Wrote Q before after
+EndsAs (Err Unwritten) P Q before after = (printed : List Line) × Q Unwritten printed
+EndsAs (Err stop) P Q before after = Wrote (Q stop) before after
+
+-- a line that is a step stops for want of memory, or as its lines can't be written, and leaves steps
+abbrev pub Breaks : WorldView → WorldView → Stop → List Line → Type 0
+Breaks old new NoMemory printed = Ran old new printed
+Breaks old new Unwritten printed = Ran old new printed
+Breaks old new stop printed = ⊥
+
+-- a line stops so too, or it is no step, and does nothing
+abbrev pub BreaksLine : List ℕ → ℕ → Played → Played → Stop → List Line → Type 0
+BreaksLine line number old new (BadStep at) printed = (at ≡ number) × IsParsed (utf8_lossy line) parsed.Bad × (printed ≡ []) × (new ≡ old)
+BreaksLine line number old new stop printed = Breaks old.view new.view stop printed
 
 -- lines are written whole, or can't be written
 abbrev pub Writes : {X : Type 0} → Result X Stop → List Line → Option (List ℕ) → Option (List ℕ) → Type 0
@@ -73,13 +129,13 @@ Writes (Err stop) printed before after = stop ≡ Unwritten
 -- a line that is a step was obeyed, and one that isn't does nothing
 abbrev pub Obeys : Bool → Played → Parsed → List Line → Played → Type 0
 Obeys true old meant printed new = DoesParsed old meant printed new
-Obeys false old meant printed new = (printed ≡ []) × (new ≡ old)
+Obeys false old meant printed new = (meant ≡ parsed.Bad) × (printed ≡ []) × (new ≡ old)
 
 abbrev pub status_at : Result (Unit {0}) Stop → ℕ
 status_at (Ok x) = 0
 status_at (Err stop) = status_of stop
 
--- with this status the script came to its end; or to a line that is no step, or to want of memory, and what it printed
--- before is written whole; or that can't be written
-abbrev pub EndsWith : ℕ → (List Line → Type 0) → Option (List ℕ) → Option (List ℕ) → Type 0
-EndsWith status P before after = (ended : Result (Unit {0}) Stop) × (status ≡ status_at ended) × EndsIn ended P before after
+-- with this status a script came to its end; or to a line that is no step or can't be read, or to want of memory, and
+-- what it printed before is written whole; or that can't be written
+abbrev pub EndsWith : ℕ → (Result (Unit {0}) Stop → List Line → Type 0) → Option (List ℕ) → Option (List ℕ) → Type 0
+EndsWith status P before after = (ended : Result (Unit {0}) Stop) × (status ≡ status_at ended) × EndsIn ended (P ended) before after

@@ -5,6 +5,7 @@ mod deliveries;
 mod lines;
 mod scripts;
 mod stops;
+mod traces;
 
 pub use lines::Counted;
 pub use scripts::{script, script_on};

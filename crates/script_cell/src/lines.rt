@@ -1,9 +1,10 @@
 //! The lines of a script.
-ghost use Rattle.std.specs.Prelude.{◌≡◌, ◌+◌, ◌<◌, [], IsErr, IfOk};
+ghost use Rattle.std.specs.Prelude.{◌≡◌, ◌⊎◌, ◌+◌, ◌<◌, ◌≤◌, [], IsErr, IfOk, IfErr};
 ghost use Rattle.std.specs.Io.{ReadsAtMost};
 ghost use Rattle.std.specs.Io.KnownBytes.{ReadConsumes};
 ghost use Rattle.std.specs.Io.BufRead.{strip_last};
 ghost use Rattle.script_cell.specs.Texts.{Advances, Fills};
+ghost use Rattle.script_cell.specs.Ran.{StopsReading};
 
 use crate::stops::Stop;
 use std::alloc::Global;
@@ -105,7 +106,8 @@ impl<R: Read + Drop> Model for ScriptLines<R> {
 
 impl<R: Read + Drop> ScriptLines<R> {
     pub(crate) fn new(alloc: Global, reader: R) -> Result<ScriptLines<R>, Stop>
-        ensures { IfOk result (λ lines. lines ≡ record { rest = R.remaining reader; line = []; number = 0 }) }
+        ensures new { IfOk result (λ lines. lines ≡ record { rest = R.remaining reader; line = []; number = 0 }) }
+        ensures only { IfErr result (λ stop. stop ≡ Stop.NoMemory) }
     {
         let rationed = Rationed {
             reader: Counted::new(reader, READ_LIMIT),
@@ -129,14 +131,18 @@ impl<R: Read + Drop> ScriptLines<R> {
     /// Goes on to the next line; false where there is none. A line that is too long, too many or can't be read is no
     /// step.
     pub(crate) fn advance(&mut self) -> Result<bool, Stop>
-        ensures { IfOk result (λ is_there. Advances is_there self.old self.new) }
+        ensures advances { IfOk result (λ is_there. Advances is_there self.old self.new) }
+        ensures stopped { IfErr result (λ stop. self.old.number ≤ 1000000 → StopsReading self.old stop) }
     {
         self.number = self.number.saturating_add(1);
         if self.fill()? == 0 {
             return Ok(false);
         }
         cut(&mut self.line);
-        if self.number > LINE_COUNT_LIMIT || self.line.len() > LINE_LENGTH_LIMIT {
+        if self.number > LINE_COUNT_LIMIT {
+            return Err(Stop::BadStep(self.number));
+        }
+        if self.line.len() > LINE_LENGTH_LIMIT {
             return Err(Stop::BadStep(self.number));
         }
         Ok(true)
@@ -158,14 +164,15 @@ impl<R: Read + Drop> ScriptLines<R> {
 
     // Reads up to and with the next LF, and little more than a line may have.
     fn fill(&mut self) -> Result<usize, Stop>
-        ensures { IfOk result (λ count. Fills count self.old self.new) }
+        ensures filled { IfOk result (λ count. Fills count self.old self.new) }
+        ensures only { IfErr result (λ stop. (stop ≡ Stop.NoMemory) ⊎ (stop ≡ Stop.Unread self.old.number)) }
     {
         self.line.clear();
         self.reader.get_mut().allow(LINE_LENGTH_LIMIT + 1);
         match self.reader.read_until(b'\n', &mut self.line) {
             Ok(count) => Ok(count),
             Err(error) if error.kind() == ErrorKind::OutOfMemory => Err(Stop::NoMemory),
-            Err(_) => Err(Stop::BadStep(self.number)),
+            Err(_) => Err(Stop::Unread(self.number)),
         }
     }
 }

@@ -1,8 +1,8 @@
 //! Runs a script.
 ghost use Rattle.std.specs.Prelude.{◌≡◌, ◌≤◌, ◌∷◌, [], Some, length, OnOk, IfOk, IfErr};
 ghost use Rattle.std.specs.Io.KnownBytes.{Keeps};
-ghost use Rattle.world_core.specs.World.{opened};
-ghost use Rattle.script_cell.specs.Ran.{Ran, RanWell, EndsAs, EndsWith, Writes, Obeys};
+ghost use Rattle.world_core.specs.World.{WorldView, IsUndoubted, opened};
+ghost use Rattle.script_cell.specs.Ran.{Ends, EndsWell, EndsSurely, EndsIn, EndsAs, EndsWith, Breaks, BreaksLine, StopsReading, Writes, Obeys};
 ghost use Rattle.script_cell.specs.Scripts.{Wrote, IsOfScript, DoesLine, told};
 ghost use Rattle.script_cell.specs.Settling.{played, Settles, TakesTurn, PlaysMade, PlaysRefused, turn_step, is_waiting, is_idle};
 ghost use Rattle.script_cell.specs.Stops.{IsStatus};
@@ -11,12 +11,13 @@ ghost use Rattle.script_cell.specs.Texts.{Advances};
 use crate::deliveries::Deliveries;
 use crate::lines::{LINE_COUNT_LIMIT, ScriptLines};
 use crate::stops::Stop;
+use crate::traces::Trace;
 use node_core::{Fault, Line};
 use plain::Items;
 use rows_cell::Records;
 use settings_core::Settings;
 use std::alloc::Global;
-use std::io::{self, Read, Write};
+use std::io::{Read, Write};
 use step_words::{Parsed, read_line};
 use world_cell::World;
 use world_core::SweepResult;
@@ -36,76 +37,80 @@ pub fn script<R: Records + Drop, I: Read + Drop, W: Write>(
 ) -> u8
     ensures status { IsStatus result }
     ensures written { result ≡ 0 → Wrote (IsOfScript (I.remaining reader) (opened (R.store records) settings.now.lease)) (W.contents writer.old) (W.contents writer.new) }
+    // Whatever the end, as of `script_on`: the world that the steps left is gone, and the records with it.
+    ensures ran { (new : WorldView) × EndsWith result (EndsWell (I.remaining reader) (opened (R.store records) settings.now.lease) new) (W.contents writer.old) (W.contents writer.new) }
 {
     let mut world = World::new(alloc, records, settings);
-    script_on(alloc, &mut world, reader, writer, errors)
+    script_on(alloc, &mut world, reader, writer, errors, false)
 }
 
-/// The same on a world that is there. Behind the script it stands as the steps left it, and can be closed.
+/// The same on a world that is there. Behind the script it stands as the steps left it, and can be closed. Where it is
+/// traced, `errors` is told of each message that was sent, behind the line that sent it: `message N client C -> master KIND`
+/// or `message N master -> client C KIND`.
 pub fn script_on<R: Records + Drop, I: Read + Drop, W: Write>(
     alloc: Global,
     world: &mut World<R>,
     reader: I,
     writer: &mut W,
-    mut errors: impl Write + Drop,
+    errors: impl Write + Drop,
+    is_traced: bool,
 ) -> u8
     ensures status { IsStatus result }
     ensures written { result ≡ 0 → Wrote (IsOfScript (I.remaining reader) world.old) (W.contents writer.old) (W.contents writer.new) }
     // Whatever the end: what was done are steps of the world, one behind the other, and their lines were written, with
     // refusals of lines that are no steps between them; so the laws of runs hold of them, and each `served` line shows the
-    // map of its moment.
-    ensures ran { EndsWith result (RanWell world.old world.new) (W.contents writer.old) (W.contents writer.new) }
+    // map of its moment. Where line N is no step or can't be read, these are the steps of the lines before it.
+    ensures ran { EndsWith result (EndsWell (I.remaining reader) world.old world.new) (W.contents writer.old) (W.contents writer.new) }
+    // Where nothing is in doubt behind it, nothing was before, and all these laws hold.
+    ensures sure { IsUndoubted world.new → IsUndoubted world.old × EndsWith result (EndsSurely (I.remaining reader) world.old world.new) (W.contents writer.old) (W.contents writer.new) }
 {
     world.runs_hold();
-    match run(alloc, world, reader, writer) {
+    let mut trace = Trace::new(errors, is_traced, world.messages().len());
+    match run(alloc, world, reader, writer, &mut trace) {
         Ok(()) => 0,
         Err(stop) => {
             // Where these words can't be written, the status still tells.
-            let _ = write_stop(&mut errors, &stop);
+            let _ = trace.stop(&stop);
             stop.status()
         }
     }
 }
 
-fn write_stop(errors: &mut impl Write, stop: &Stop) -> io::Result<()> {
-    match stop {
-        Stop::BadStep(line) => writeln!(errors, "line {line}: bad step"),
-        Stop::NoMemory => writeln!(errors, "out of memory"),
-        Stop::Unwritten => Ok(()),
-    }
-}
-
-fn run<R: Records + Drop, I: Read + Drop, W: Write>(
+fn run<R: Records + Drop, I: Read + Drop, W: Write, E: Write + Drop>(
     alloc: Global,
     world: &mut World<R>,
     reader: I,
     writer: &mut W,
+    trace: &mut Trace<E>,
 ) -> Result<(), Stop>
-    ensures { EndsAs result (λ _ printed. IsOfScript (I.remaining reader) world.old printed × Ran world.old world.new printed) (Ran world.old world.new) (W.contents writer.old) (W.contents writer.new) }
+    ensures { EndsIn result (Ends (I.remaining reader) world.old world.new result) (W.contents writer.old) (W.contents writer.new) }
 {
     let mut lines = ScriptLines::new(alloc, reader)?;
-    let ended = run_lines(alloc, world, &mut lines, writer);
+    let ended = run_lines(alloc, world, &mut lines, writer, trace);
     writer.flush()?;
     ended
 }
 
-fn run_lines<R: Records + Drop, I: Read + Drop, W: Write>(
+fn run_lines<R: Records + Drop, I: Read + Drop, W: Write, E: Write + Drop>(
     alloc: Global,
     world: &mut World<R>,
     lines: &mut ScriptLines<I>,
     output: &mut W,
+    trace: &mut Trace<E>,
 ) -> Result<(), Stop>
     requires { lines.old.number ≡ 0 }
-    ensures { EndsAs result (λ _ printed. IsOfScript lines.old.rest world.old printed × Ran world.old world.new printed) (Ran world.old world.new) (W.contents output.old) (W.contents output.new) }
+    ensures { EndsIn result (Ends lines.old.rest world.old world.new result) (W.contents output.old) (W.contents output.new) }
 {
     let mut delivered = Deliveries::new(alloc);
     for _ in 0..=LINE_COUNT_LIMIT {
         if !advance(lines, output)? {
             return Ok(());
         }
-        run_line(alloc, world, lines, &mut delivered, output)?;
+        let done = run_line(alloc, world, lines, &mut delivered, output);
+        trace.tell(world.messages());
+        done?;
     }
-    Err(Stop::BadStep(lines.number()))
+    Err(Stop::Unread(lines.number().saturating_add(1)))
 }
 
 // Goes on to the next line; false where there is none. What was printed is written before more input is read.
@@ -114,6 +119,7 @@ fn advance<I: Read + Drop, W: Write>(
     output: &mut W,
 ) -> Result<bool, Stop>
     ensures advances { IfOk result (λ is_there. Advances is_there lines.old lines.new) }
+    ensures stopped { IfErr result (λ stop. lines.old.number ≤ 1000000 → StopsReading lines.old stop) }
     ensures kept { Keeps (W.contents output.old) (W.contents output.new) }
 {
     if lines.is_used_up() {
@@ -131,7 +137,7 @@ fn run_line<R: Records + Drop, I: Read + Drop, W: Write>(
     output: &mut W,
 ) -> Result<(), Stop>
     requires { length lines.now.line ≤ 1048576 }
-    ensures { EndsAs result (λ _ printed. DoesLine (played world.old delivered.old) lines.now.line printed (played world.new delivered.new)) (Ran world.old world.new) (W.contents output.old) (W.contents output.new) }
+    ensures { EndsAs result (λ _ printed. DoesLine (played world.old delivered.old) lines.now.line printed (played world.new delivered.new)) (BreaksLine lines.now.line lines.now.number (played world.old delivered.old) (played world.new delivered.new)) (W.contents output.old) (W.contents output.new) }
 {
     let parsed = read_line(alloc, lines.line())?;
     if !obey(world, &parsed, delivered, output)? {
@@ -147,7 +153,7 @@ fn obey<R: Records + Drop, W: Write>(
     delivered: &mut Deliveries,
     output: &mut W,
 ) -> Result<bool, Stop>
-    ensures { EndsAs result (λ done printed. Obeys done (played world.old delivered.old) parsed.now printed (played world.new delivered.new)) (Ran world.old world.new) (W.contents output.old) (W.contents output.new) }
+    ensures { EndsAs result (λ done printed. Obeys done (played world.old delivered.old) parsed.now printed (played world.new delivered.new)) (Breaks world.old world.new) (W.contents output.old) (W.contents output.new) }
 {
     match parsed {
         Parsed::Nothing => {}
@@ -166,7 +172,7 @@ fn settle<R: Records + Drop, W: Write>(
     delivered: &mut Deliveries,
     output: &mut W,
 ) -> Result<(), Stop>
-    ensures { EndsAs result (λ _ printed. Settles (played world.old delivered.old) printed (played world.new delivered.new)) (Ran world.old world.new) (W.contents output.old) (W.contents output.new) }
+    ensures { EndsAs result (λ _ printed. Settles (played world.old delivered.old) printed (played world.new delivered.new)) (Breaks world.old world.new) (W.contents output.old) (W.contents output.new) }
 {
     if !world.is_up() {
         return write_refusal(output, Fault::MasterDown);
@@ -186,7 +192,7 @@ fn settle_on<R: Records + Drop, W: Write>(
     delivered: &mut Deliveries,
     output: &mut W,
 ) -> Result<bool, Stop>
-    ensures { EndsAs result (λ more printed. TakesTurn more (played world.old delivered.old) printed (played world.new delivered.new)) (Ran world.old world.new) (W.contents output.old) (W.contents output.new) }
+    ensures { EndsAs result (λ more printed. TakesTurn more (played world.old delivered.old) printed (played world.new delivered.new)) (Breaks world.old world.new) (W.contents output.old) (W.contents output.new) }
 {
     match settle_turn(world, delivered) {
         Ok(turn) => {

@@ -8,8 +8,10 @@ use std::io;
 /// Why a script stops before its end.
 #[derive(Clone, Copy, Debug)]
 pub(crate) enum Stop {
-    /// The line of this number, counted from 1, is no step, or it can't be read.
+    /// The line of this number, counted from 1, is no step.
     BadStep(u64),
+    /// The line of this number can't be read.
+    Unread(u64),
     /// Memory ran out outside a step.
     NoMemory,
     /// The lines can't be written.
@@ -22,7 +24,7 @@ impl Stop {
         ensures { result ≡ status_of self.now }
     {
         match self {
-            Stop::BadStep(_) | Stop::Unwritten => 1,
+            Stop::BadStep(_) | Stop::Unread(_) | Stop::Unwritten => 1,
             Stop::NoMemory => 4,
         }
     }

@@ -33,3 +33,5 @@ mod scripts;
 mod stores;
 #[cfg(test)]
 mod texts;
+#[cfg(test)]
+mod traces;

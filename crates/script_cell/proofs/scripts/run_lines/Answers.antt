@@ -1,5 +1,5 @@
 use Rattle.script_cell.proofs.Doings.{part_none, part_more, wrote_kept}
-use Rattle.script_cell.proofs.RunsOf.{all_ran, parts_ran, exit_written, exit_then}
+use Rattle.script_cell.proofs.RunsOf.{all_done, exit_unread, exit_broken, last_unread}
 use Rattle.script_cell.proofs.scripts.run_lines.Goals as goal
 
 pub loop-init : goal.loop-init
@@ -7,20 +7,20 @@ loop-init g c = part_none c.args.lines.now c.args.world.now _ _ c.requires c.new
 
 pub returns-in_err-advance : goal.returns-in_err-advance
 returns-in_err-advance g c =
-    exit_written _ _ _ _ c.from_residual.result c.in_err-advance.field-0.0 c.from_residual.ensures (parts_ran _ _ _ _ _ _ _ (wrote_kept _ _ _ _ c.loop.invariant c.advance.ensures.kept))
+    exit_unread _ _ _ _ _ _ c.from_residual.result c.in_err-advance.field-0.0 c.from_residual.ensures c.in_err-advance.ensures.stopped (wrote_kept _ _ _ _ c.loop.invariant c.advance.ensures.kept)
 
 pub returns-then-not-branch : goal.returns-then-not-branch
 returns-then-not-branch g c =
-    all_ran _ _ _ c.advance.new.lines _ _ _ _ c.if-not-branch.true c.in_ok-advance.ensures.advances (wrote_kept _ _ _ _ c.loop.invariant c.advance.ensures.kept)
+    all_done _ _ _ c.advance.new.lines _ _ _ _ c.if-not-branch.true c.in_ok-advance.ensures.advances (wrote_kept _ _ _ _ c.loop.invariant c.advance.ensures.kept)
 
 pub returns-in_err-run_line : goal.returns-in_err-run_line
 returns-in_err-run_line g c =
-    exit_then _ _ _ _ _ _ _ _ c.from_residual-in_err-run_line.result c.in_err-run_line.field-0.0 c.from_residual-in_err-run_line.ensures
-    (parts_ran _ _ _ _ _ _ _ (wrote_kept _ _ _ _ c.loop.invariant c.advance.ensures.kept)) c.in_err-run_line.ensures
+    exit_broken _ _ c.advance.new.lines _ _ _ _ _ _ _ c.from_residual-in_err-run_line.result c.in_err-run_line.field-0.0 c.from_residual-in_err-run_line.ensures c.if-not-branch.false
+    c.in_ok-advance.ensures.advances (wrote_kept _ _ _ _ c.loop.invariant c.advance.ensures.kept) c.in_err-run_line.ensures
 
 pub loop-preserved : goal.loop-preserved
 loop-preserved g c =
     part_more _ _ _ c.advance.new.lines _ _ _ _ _ _ c.if-not-branch.false c.in_ok-advance.ensures.advances (wrote_kept _ _ _ _ c.loop.invariant c.advance.ensures.kept) c.in_ok-run_line.ensures
 
 pub returns : goal.returns
-returns g c = parts_ran _ _ _ _ _ _ _ c.loop.invariant
+returns g c = last_unread _ _ _ _ _ _ _ _ c.number.ensures c.saturating_add.ensures c.loop.invariant
