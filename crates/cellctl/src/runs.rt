@@ -46,7 +46,7 @@ pub(crate) fn run_path<S: Start, I: Read + Drop, W: Write, E: Write + Drop>(
     script: Script<I, E>,
     writer: &mut W,
 ) -> Result<(u8, Files<FileFrom<S>>), Unclosed<FileFrom<S>>>
-    ensures closed { IfOk result (λ r. AreClean FileFrom<S>.Disk r.1.log r.1.db → RanAt FileFrom<S>.Disk settings.now (image_at S.Start) (I.remaining script.reader) r.0 r.1 (W.contents writer.old) (W.contents writer.new)) }
+    ensures closed { IfOk result (λ r. AreClean ⟦<FileFrom<S> as Disk>⟧ r.1.log r.1.db → RanAt ⟦<FileFrom<S> as Disk>⟧ settings.now (image_at S.Start) (I.remaining script.reader) r.0 r.1 (W.contents writer.old) (W.contents writer.new)) }
     ensures status { IfOk result (λ r. IsStatus r.0) }
 {
     match Connection::open_from(rt, path, false, start) {

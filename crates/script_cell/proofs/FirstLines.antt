@@ -93,6 +93,13 @@ next_number number last told old filled seen is first start h same few =
     let b : seen.number ≡ number = ap (λ (r : Reading). r.number) same ∙ h in
     grind arith
 
+-- that of a line that can't be done
+pub next_stop : (number last : ℕ) (told old filled seen : Reading) → number ≡ min (last + 1) 18446744073709551615 → told ≡ old → last ≡ told.number → filled.number ≡ number → seen ≡ filled → old.number ≤ 1000000 → seen.number ≡ old.number + 1
+next_stop number last told old filled seen is first start h same few =
+    let a : last ≡ old.number = start ∙ ap (λ (r : Reading). r.number) first in
+    let b : seen.number ≡ number = ap (λ (r : Reading). r.number) same ∙ h in
+    grind arith
+
 pub passes_none : (text : Option (List ℕ)) → Passes text [] text
 passes_none None = tt
 passes_none (Some text) = refl

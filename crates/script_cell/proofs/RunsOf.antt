@@ -274,7 +274,7 @@ module _ {X : Type 0} (O : X → List Line → Type 0) (P : Unit {0} → List Li
 
 -- ---- the whole script
 
-done_before : (text rest : Option (List ℕ)) (count number : ℕ) (old : WorldView) (new : Played) (printed : List Line) → number ≡ count + 1 → IsOfPart text rest count old printed new → IsDoneBefore text number old new.view printed
+abbrev done_before : (text rest : Option (List ℕ)) (count number : ℕ) (old : WorldView) (new : Played) (printed : List Line) → number ≡ count + 1 → IsOfPart text rest count old printed new → IsDoneBefore text number old new.view printed
 done_before text rest count number old new printed next h = record { rest = rest; marks = new.delivered; count = count; next = next; before = h }
 
 -- the next line isn't read

@@ -48,7 +48,7 @@ impl<E: Write + Drop> Trace<E> {
 
 // The message at a place, whose number is one more.
 fn write_message(errors: &mut impl Write, place: usize, message: &Message) -> io::Result<()> {
-    let number = place as u64 + 1;
+    let number = (place as u64).saturating_add(1);
     match message {
         Message::ToMaster(request) => write_request(errors, number, request),
         Message::ToClient(out) => write_out(errors, number, out),
