@@ -281,26 +281,26 @@ done_before text rest count number old new printed next h = record { rest = rest
 next_line : (at number count : ℕ) → number ≡ count → at ≡ min (number + 1) 18446744073709551615 → count ≤ 1000000 → at ≡ count + 1
 next_line at number count is next few = grind arith
 
-module _ (text : Option (List ℕ)) (mid : Reading) (old : WorldView) (new : Played) (a b : Option (List ℕ)) where
-  unread_by : (stop : Stop) → (mid.number ≤ 1000000 → StopsReading mid stop) → Wrote (λ printed. IsOfPart text mid.rest mid.number old printed new) a b → (let r : Result (Unit {0}) Stop = Err stop in EndsIn r (Ends text old new.view r) a b)
-  unread_by Unwritten h k = (k.0, part_ran text mid.rest mid.number old k.0 new k.1)
-  unread_by NoMemory h k = parts_ran text mid.rest mid.number old new a b k
+module _ (text rest : Option (List ℕ)) (count : ℕ) (old : WorldView) (new : Played) (a b : Option (List ℕ)) where
+  unread_by : (stop : Stop) → (count ≤ 1000000 → StopsReading rest count stop) → Wrote (λ printed. IsOfPart text rest count old printed new) a b → (let r : Result (Unit {0}) Stop = Err stop in EndsIn r (Ends text old new.view r) a b)
+  unread_by Unwritten h k = (k.0, part_ran text rest count old k.0 new k.1)
+  unread_by NoMemory h k = parts_ran text rest count old new a b k
   unread_by (BadStep at) h k =
-      wrote_as (λ printed. IsOfPart text mid.rest mid.number old printed new) (Ends text old new.view (Err (BadStep at))) a b
-      (λ printed f. let s = h f.few in (done_before text mid.rest mid.number at old new printed s.0 f, s.1)) k
+      wrote_as (λ printed. IsOfPart text rest count old printed new) (Ends text old new.view (Err (BadStep at))) a b
+      (λ printed f. let s = h f.few in (done_before text rest count at old new printed s.0 f, s.1)) k
   unread_by (Unread at) h k =
-      wrote_as (λ printed. IsOfPart text mid.rest mid.number old printed new) (Ends text old new.view (Err (Unread at))) a b
-      (λ printed f. done_before text mid.rest mid.number at old new printed (h f.few) f) k
+      wrote_as (λ printed. IsOfPart text rest count old printed new) (Ends text old new.view (Err (Unread at))) a b
+      (λ printed f. done_before text rest count at old new printed (h f.few) f) k
 
-  pub exit_unread : (r : Result (Unit {0}) Stop) (stop : Stop) → IsErr r × IsErrAnd r (λ e. e ≡ stop) → (mid.number ≤ 1000000 → StopsReading mid stop) → Wrote (λ printed. IsOfPart text mid.rest mid.number old printed new) a b → EndsIn r (Ends text old new.view r) a b
+  pub exit_unread : (r : Result (Unit {0}) Stop) (stop : Stop) → IsErr r × IsErrAnd r (λ e. e ≡ stop) → (count ≤ 1000000 → StopsReading rest count stop) → Wrote (λ printed. IsOfPart text rest count old printed new) a b → EndsIn r (Ends text old new.view r) a b
   exit_unread (Ok x) stop exit h k = let none = exit.0 in cc
-  exit_unread (Err e) stop exit h k = unread_by e (λ few. subst (StopsReading mid) (sym exit.1) (h few)) k
+  exit_unread (Err e) stop exit h k = unread_by e (λ few. subst (StopsReading rest count) (sym exit.1) (h few)) k
 
   -- that behind the last of them
-  pub last_unread : (at number : ℕ) → number ≡ mid.number → at ≡ min (number + 1) 18446744073709551615 → Wrote (λ printed. IsOfPart text mid.rest mid.number old printed new) a b → Wrote (IsDoneBefore text at old new.view) a b
+  pub last_unread : (at number : ℕ) → number ≡ count → at ≡ min (number + 1) 18446744073709551615 → Wrote (λ printed. IsOfPart text rest count old printed new) a b → Wrote (IsDoneBefore text at old new.view) a b
   last_unread at number is next k =
-      wrote_as (λ printed. IsOfPart text mid.rest mid.number old printed new) (IsDoneBefore text at old new.view) a b
-      (λ printed f. done_before text mid.rest mid.number at old new printed (next_line at number mid.number is next f.few) f) k
+      wrote_as (λ printed. IsOfPart text rest count old printed new) (IsDoneBefore text at old new.view) a b
+      (λ printed f. done_before text rest count at old new printed (next_line at number count is next f.few) f) k
 
 -- a line breaks off behind the others
 module _ (text : Option (List ℕ)) (mid after : Reading) (old : WorldView) (w new : Played) (a b c : Option (List ℕ)) where
@@ -347,12 +347,6 @@ module _ (text : Option (List ℕ)) (old new : WorldView) where
   some_end a b (Err NoMemory) h = (h.0, h.1)
   some_end a b (Err Unwritten) h = h
 
-  -- the last lines can't be written
-  pub exit_unflushed : (a b c : Option (List ℕ)) (ended r : Result (Unit {0}) Stop) → IsErr r × IsErrAnd r (λ e. e ≡ Unwritten) → EndsIn ended (Ends text old new ended) a b → EndsIn r (Ends text old new r) a c
-  exit_unflushed a b c ended (Ok x) exit h = let none = exit.0 in cc
-  exit_unflushed a b c ended (Err e) exit h =
-      subst (λ s. (let r : Result (Unit {0}) Stop = Err s in EndsIn r (Ends text old new r) a c)) (sym exit.1) (some_end a b ended h)
-
   -- what was written stays written
   pub ends_kept : (a b c : Option (List ℕ)) (r : Result (Unit {0}) Stop) → EndsIn r (Ends text old new r) a b → Keeps b c → EndsIn r (Ends text old new r) a c
   ends_kept a b c (Ok x) h k = wrote_kept (Ends text old new (Ok x)) a b c h k
@@ -380,6 +374,12 @@ module _ (text : Option (List ℕ)) (old new : WorldView) where
   -- a script that came to its end
   pub all_written : (a b : Option (List ℕ)) → Wrote (Ends text old new (Ok tt)) a b → Wrote (IsOfScript text old) a b
   all_written a b h = wrote_as (Ends text old new (Ok tt)) (IsOfScript text old) a b (λ printed f. f.0) h
+
+-- the last lines can't be written
+pub exit_unflushed : (text other : Option (List ℕ)) (old new : WorldView) (a b c : Option (List ℕ)) (ended r : Result (Unit {0}) Stop) → IsErr r × IsErrAnd r (λ e. e ≡ Unwritten) → EndsIn ended (Ends other old new ended) a b → EndsIn r (Ends text old new r) a c
+exit_unflushed text other old new a b c ended (Ok x) exit h = let none = exit.0 in cc
+exit_unflushed text other old new a b c ended (Err e) exit h =
+    subst (λ s. (let r : Result (Unit {0}) Stop = Err s in EndsIn r (Ends text old new r) a c)) (sym exit.1) (some_end other old new a b ended h)
 
 -- ---- where nothing is in doubt
 

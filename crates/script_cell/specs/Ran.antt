@@ -20,7 +20,7 @@ use Rattle.step_words.specs.declared.steps.Parsed.TheVariants as parsed
 use Rattle.step_words.specs.Readings.{IsParsed}
 use Rattle.std.specs.Io.KnownBytes.{Appends}
 use Rattle.script_cell.specs.Stops.{status_of}
-use Rattle.script_cell.specs.Texts.{Reading, Passes}
+use Rattle.script_cell.specs.Texts.{Passes}
 
 -- the lines of a run, and between them refusals of lines that are no steps for a word in them
 abbrev pub Adds : List Line → List Line → Type 0
@@ -62,12 +62,12 @@ IsNoStep rest number =
     (line : List ℕ) × (after : Option (List ℕ)) × Passes rest (line ∷ []) after
     × (IsParsed (utf8_lossy line) parsed.Bad ⊎ ((1048576 < length line) ⊎ (1000000 < number)))
 
--- no line was read, and that of this number is no step, or can't be read
-abbrev pub StopsReading : Reading → Stop → Type 0
-StopsReading old (BadStep number) = (number ≡ old.number + 1) × IsNoStep old.rest number
-StopsReading old (Unread number) = number ≡ old.number + 1
-StopsReading old NoMemory = ⊤
-StopsReading old Unwritten = ⊤
+-- of a text of which so many lines were read, no more was: the next is no step, or can't be read
+abbrev pub StopsReading : Option (List ℕ) → ℕ → Stop → Type 0
+StopsReading rest count (BadStep number) = (number ≡ count + 1) × IsNoStep rest number
+StopsReading rest count (Unread number) = number ≡ count + 1
+StopsReading rest count NoMemory = ⊤
+StopsReading rest count Unwritten = ⊤
 
 -- the lines before that of this number were done, each of them whole, and nothing behind them
 pub record IsDoneBefore (text : Option (List ℕ)) (number : ℕ) (old new : WorldView) (printed : List Line) : Type 0 where

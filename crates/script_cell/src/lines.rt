@@ -132,7 +132,7 @@ impl<R: Read + Drop> ScriptLines<R> {
     /// step.
     pub(crate) fn advance(&mut self) -> Result<bool, Stop>
         ensures advances { IfOk result (λ is_there. Advances is_there self.old self.new) }
-        ensures stopped { IfErr result (λ stop. self.old.number ≤ 1000000 → StopsReading self.old stop) }
+        ensures stopped { IfErr result (λ stop. self.old.number ≤ 1000000 → StopsReading self.old.rest self.old.number stop) }
     {
         self.number = self.number.saturating_add(1);
         if self.fill()? == 0 {

@@ -106,9 +106,7 @@ fn run_lines<R: Records + Drop, I: Read + Drop, W: Write, E: Write + Drop>(
         if !advance(lines, output)? {
             return Ok(());
         }
-        let done = run_line(alloc, world, lines, &mut delivered, output);
-        trace.tell(world.messages());
-        done?;
+        run_told(alloc, world, lines, &mut delivered, output, trace)?;
     }
     Err(Stop::Unread(lines.number().saturating_add(1)))
 }
@@ -119,13 +117,30 @@ fn advance<I: Read + Drop, W: Write>(
     output: &mut W,
 ) -> Result<bool, Stop>
     ensures advances { IfOk result (λ is_there. Advances is_there lines.old lines.new) }
-    ensures stopped { IfErr result (λ stop. lines.old.number ≤ 1000000 → StopsReading lines.old stop) }
+    ensures stopped { IfErr result (λ stop. lines.old.number ≤ 1000000 → StopsReading lines.old.rest lines.old.number stop) }
     ensures kept { Keeps (W.contents output.old) (W.contents output.new) }
 {
     if lines.is_used_up() {
         output.flush()?;
     }
     lines.advance()
+}
+
+// Does what the line asks for that was read last, and tells of the messages that it sent.
+fn run_told<R: Records + Drop, I: Read + Drop, W: Write, E: Write + Drop>(
+    alloc: Global,
+    world: &mut World<R>,
+    lines: &ScriptLines<I>,
+    delivered: &mut Deliveries,
+    output: &mut W,
+    trace: &mut Trace<E>,
+) -> Result<(), Stop>
+    requires { length lines.now.line ≤ 1048576 }
+    ensures { EndsAs result (λ _ printed. DoesLine (played world.old delivered.old) lines.now.line printed (played world.new delivered.new)) (BreaksLine lines.now.line lines.now.number (played world.old delivered.old) (played world.new delivered.new)) (W.contents output.old) (W.contents output.new) }
+{
+    let done = run_line(alloc, world, lines, delivered, output);
+    trace.tell(world.messages());
+    done
 }
 
 // Does what the line asks for that was read last.
