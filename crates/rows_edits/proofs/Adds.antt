@@ -1,5 +1,5 @@
 -- What an INSERT makes of the rows that leaves them where the key is there.
-use Rattle.std.proofs.Common.{◌≡◌, ◌≢◌, inl, inr, ℕ, ℤ, Bool, true, false, List, [], ◌∷◌, ◌++◌, Option, Some, None, Ok, Err, Result, refl, sym, ap, ◌∙◌, subst}
+use Rattle.std.proofs.Common.{◌≡◌, ◌≢◌, ◌⊎◌, inl, inr, ℕ, ℤ, Bool, true, false, List, [], ◌∷◌, ◌++◌, Option, Some, None, Ok, Err, Result, refl, sym, ap, ◌∙◌, subst}
 use Rattle.std.specs.Prelude.{MatchBool, if◌then◌else◌, ◌/◌, length}
 use Rattle.std.specs.List.{AllByRecursion}
 use Rattle.std.specs.List.Sorted.{IsPermutation}
@@ -55,11 +55,11 @@ module _ (limit : Option ℕ) (table : Table) (params : Row) (db : Trees) (value
     pub fits : cast_row table new ≡ new
     pub keyed : is_int (rowid new) ≡ true
 
-  -- a row more, or nothing
-  pub data Added (next : Trees) : Type 0 where
-    pub added : ((r : Row) → Has es r → clash r ≡ false) → IsPermutation (es ++ new ∷ []) (next table.tree) → IsShaped shape.Table (next table.tree)
-        → AllByRecursion (λ (t : Table). t.tree ≢ table.tree → next t.tree ≡ db t.tree) the_schema.tables → Added next
-    pub there : (r : Row) → Has es r → clash r ≡ true → next ≡ db → Added next
+  -- a row more, where none has its key; or nothing, where one has
+  abbrev pub Added : Trees → Type 0
+  Added next =
+      (((r : Row) → Has es r → clash r ≡ false) × IsPermutation (es ++ new ∷ []) (next table.tree) × IsShaped shape.Table (next table.tree) × AllByRecursion (λ (t : Table). t.tree ≢ table.tree → next t.tree ≡ db t.tree) the_schema.tables)
+      ⊎ ((r : Row) × Has es r × (clash r ≡ true) × (next ≡ db))
 
   module _ (how : CanAdd) where
     put : (written : Written) → Puts task new db (Ok written) → ((r : Row) → Has es r → clash r ≡ false) → Added written.trees
@@ -71,7 +71,7 @@ module _ (limit : Option ℕ) (table : Table) (params : Row) (db : Trees) (value
         let bare : edited.0 table.tree ≡ put_row new es = applies.rows ∙ ap (λ n. put_row n es) how.fits in
         let free : is_taken es new ≡ false = ap (is_taken es) (sym how.fits) ∙ not-true _ (and_parts _ _ applies.fresh).0 in
         subst Added (sym trees)
-        (added none (subst (IsPermutation (es ++ new ∷ [])) (sym bare) (put_fresh new es free)) (subst (IsShaped shape.Table) (sym bare) (IsShaped-put_row new es how.keyed how.shaped)) applies.tables)
+        (inl (none, subst (IsPermutation (es ++ new ∷ [])) (sym bare) (put_fresh new es free), subst (IsShaped shape.Table) (sym bare) (IsShaped-put_row new es how.keyed how.shaped), applies.tables))
 
     meet : (written : Written) (found : List Row) → AreConflicts (Some target) the_schema.indexes table es new found → Meets task (Upserts task Abort new db []) new db (record { target = Some target; update = None }) found (Ok written) → Added written.trees
     meet written [] are did =
@@ -82,7 +82,7 @@ module _ (limit : Option ℕ) (table : Table) (params : Row) (db : Trees) (value
         clear (x ∷ more) h = h
     meet written (row ∷ more) are did =
         let r = are.sound row (inl refl) in
-        there r.0 r.1 r.2 (ap (λ (it : Written). it.trees) (same_value did))
+        inr (r.0, r.1, r.2, ap (λ (it : Written). it.trees) (same_value did))
 
     judge : (written : Written) (verdict : Option Refusal) → Judged task Abort clauses new db verdict (Ok written) → Added written.trees
     judge written None did = meet written did.0 did.1 did.2

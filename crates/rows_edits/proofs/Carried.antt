@@ -86,9 +86,15 @@ no_more : (es : Parents) → es ++ [] ≡ es
 no_more [] = refl
 no_more (e ∷ es) = ap (λ xs. e ∷ xs) (no_more es)
 
--- all were put
-pub all_put : (all : Parents) (a b : State) → Along all [] a b → HasCleanDisk b → PutsChildren all a b
-all_put all a b along clean = subst (λ (es : Parents). PutsChildren es a b) (sym (no_more along.front) ∙ along.whole) (along.put clean)
+-- all were put, where none is left
+pub all_put : (all left : Parents) (a b : State) → Along all left a b → left ≡ [] → HasCleanDisk b → PutsChildren all a b
+all_put all left a b along none clean =
+    let whole : along.front ≡ all = sym (no_more along.front) ∙ ap (λ es. along.front ++ es) (sym none) ∙ along.whole in
+    subst (λ (es : Parents). PutsChildren es a b) whole (along.put clean)
+
+-- a put that failed
+pub stays_on : (all left : Parents) (a b c : State) → Along all left a b → (HasCleanDisk c → KeepsCommit b c) → Survives b c (λ _. ⊥) → StaysInside a c
+stays_on all left a b c along kept survives = stays_then a b c along.stays (record { kept = kept; survives = survives })
 
 -- ---- the fifth table is made
 

@@ -99,8 +99,9 @@ module _ (c p : List ℕ) where
       pub added : Added new_state.now
 
     still : (next : Database) → next.schema ≡ the_schema → IsDatabase next → Added next → IsStore next
-    still next schema sound (adds.added none rows shaped others) = still_store 7 old.now next store schema sound shaped others
-    still next schema sound (adds.there r h t same) =
+    still next schema sound (inl a) = still_store 7 old.now next store schema sound a.2 a.3
+    still next schema sound (inr b) =
+        let same = b.3 in
         still_store 7 old.now next store schema sound (subst (λ (d : Trees). IsShaped shape.Table (d 7)) (sym same) store.children)
         (λ _. ap (λ (d : Trees). d 0) same, λ _. ap (λ (d : Trees). d 1) same, λ _. ap (λ (d : Trees). d 4) same, λ _. ap (λ (d : Trees). d 5) same, λ _. ap (λ (d : Trees). d 7) same, tt)
 
@@ -168,12 +169,12 @@ child_there c p named parent_named parent child parent_is child_is old new_state
   where
     told : (store : IsStore old.now) → ChildPut c p old new_state store → (version : Version) (rows : Rows) (entries : Parents) → HasNoOther entries c p → SaysWith version (tables_of old.now.trees) rows entries
         → Holds (slice_cmp nat_cmp) (λ r. child_in (child_shown r)) (old.now.trees 7) entries → Added c p old new_state store new_state.now → SaysWith version (tables_of new_state.now.trees) rows (insert_entry (slice_cmp nat_cmp) entries c p)
-    told store put version rows entries fit said held (adds.added none perm shaped others) =
-        let free = absent c p old new_state store named parent_named entries held fit none in
+    told store put version rows entries fit said held (inl a) =
+        let free = absent c p old new_state store named parent_named entries held fit a.0 in
         let more = holds_more (slice_cmp nat_cmp) nat_list_cmp_total (λ r. child_in (child_shown r)) (old.now.trees 7) entries (new c p old new_state store) c p held (says_new c p old new_state store named parent_named entries held fit) free in
-        let next = holds_permuted (slice_cmp nat_cmp) nat_list_cmp_total (λ r. child_in (child_shown r)) (old.now.trees 7 ++ new c p old new_state store ∷ []) (new_state.now.trees 7) (insert_entry (slice_cmp nat_cmp) entries c p) perm more in
-        children_say old.now new_state.now (new_state.now.trees 7) version rows entries said (record { store = put.store_is; tree = refl; others = others }) _ (shown_as_held (slice_cmp nat_cmp) child_in child_shown (new_state.now.trees 7) _ next)
-    told store put version rows entries fit said held (adds.there r h t same) =
-        let found = present c p old new_state store named parent_named entries held fit r h t in
+        let next = holds_permuted (slice_cmp nat_cmp) nat_list_cmp_total (λ r. child_in (child_shown r)) (old.now.trees 7 ++ new c p old new_state store ∷ []) (new_state.now.trees 7) (insert_entry (slice_cmp nat_cmp) entries c p) a.1 more in
+        children_say old.now new_state.now (new_state.now.trees 7) version rows entries said (record { store = put.store_is; tree = refl; others = a.3 }) _ (shown_as_held (slice_cmp nat_cmp) child_in child_shown (new_state.now.trees 7) _ next)
+    told store put version rows entries fit said held (inr b) =
+        let found = present c p old new_state store named parent_named entries held fit b.0 b.1 b.2 in
         subst (SaysWith version (tables_of new_state.now.trees) rows) (sym (put_there (slice_cmp nat_cmp) nat_list_cmp_total c p entries held.sorted found))
-        (subst (λ (d : Trees). SaysWith version (tables_of d) rows entries) (sym same) said)
+        (subst (λ (d : Trees). SaysWith version (tables_of d) rows entries) (sym b.3) said)

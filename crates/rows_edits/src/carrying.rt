@@ -27,6 +27,7 @@ fn set_version<S: Alter>(tx: &mut Transaction<'_, S>, epoch: u64) -> Result<(), 
 }
 
 // Puts all these names under their parents.
+#[tactic(auto, using(crate::proofs::Carried::all_put, crate::proofs::Carried::stays_on, crate::proofs::Carried::along_start))]
 fn put_children<S: Alter>(
     tx: &mut Transaction<'_, S>,
     children: &Table<Name, Name>,

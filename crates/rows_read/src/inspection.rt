@@ -18,6 +18,7 @@ use std::alloc::Global;
 /// Tests a store by the name of its cell and by the rules of its own version, and counts what it holds. It writes
 /// nothing: the clause `quiet`, whatever the answer. `Damaged` is a store of another schema, or of rows that break a
 /// rule; `Refused` is the store's own refusal.
+#[tactic(auto, using(crate::proofs::InspectLemmas::quiet_as, crate::proofs::InspectLemmas::quiet_still, crate::proofs::InspectLemmas::none_damaged, crate::proofs::InspectLemmas::said_damaged, crate::proofs::InspectLemmas::unsaid_damaged, crate::proofs::InspectLemmas::is_sound_as))]
 pub fn inspect<S: Alter>(
     alloc: Global,
     conn: &mut Connection<S>,

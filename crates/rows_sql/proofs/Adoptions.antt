@@ -1,5 +1,5 @@
 -- What becomes of a database that is taken over.
-use Rattle.std.proofs.Common.{◌≡◌, ◌≤◌, Bool, true, false, List, [], ◌∷◌, inl, inr, refl, sym, ap, ◌∙◌, subst, arith, true≢false, Result, Ok, Err, ℕ, ◌++◌, length, append_assoc}
+use Rattle.std.proofs.Common.{◌≡◌, ◌≢◌, ◌≤◌, Bool, true, false, List, [], ◌∷◌, inl, inr, refl, sym, ap, ◌∙◌, subst, arith, true≢false, Result, Ok, Err, ℕ, ◌++◌, length, append_assoc}
 use Rattle.std.specs.Prelude.{IsTrue, IfOk, IfErr}
 use Rattle.sqlite_trees.specs.declared.store.Store.{Ghosts}
 use Rattle.sqlite_trees.specs.Objects.{catalog_tree, IsListed}
@@ -19,8 +19,12 @@ use Rattle.rows_cell.specs.Rows.{StoredNodes}
 use Rattle.rows_cell.specs.Opening.{opening}
 use Rattle.settings_core.specs.Settings.{Settled}
 use Rattle.rows_schema.specs.OurSchema.{first_schema, the_schema}
-use Rattle.rows_read.specs.Held.{Says}
-use Rattle.rows_read.specs.Ready.{tables_of, IsReady, IsStill, Quiet}
+use Rattle.rows_cell.specs.Sound.{sound}
+use Rattle.rows_schema.specs.declared.ours.Version.{Version}
+use Rattle.rows_schema.specs.declared.ours.Version.TheVariants.{First, Second}
+use Rattle.rows_schema.specs.Versions.{schema_of}
+use Rattle.rows_read.specs.Held.{Says, SaysAs}
+use Rattle.rows_read.specs.Ready.{tables_of, tables_as, IsReady, IsStill, Quiet}
 use Rattle.rows_read.proofs.OneSchema.{one_database}
 use Rattle.rows_edits.specs.Ongoing.{IsStore}
 use Rattle.rows_edits.specs.Creation.{no_schema, puts_of, IsMade, MayOpen}
@@ -145,6 +149,17 @@ module _ {S : Type 0} (g : Ghosts S) (settings : Settled) (old new : Held S) (at
     }
 
 -- ---- what it was taken over as
+
+-- ---- what isn't taken over
+
+pub foreign_none : (cell : List ℕ) (db : Database) (schema : Schema) → ((version : Version) → schema ≢ schema_of version) → schema ≡ db.schema → db.schema ≢ no_schema → IsForeign cell db
+foreign_none cell db schema none same some = inl (λ e. none Second (same ∙ e), some, λ e. none First (same ∙ e))
+
+pub foreign_store : (cell : List ℕ) (db : Database) → db.schema ≡ the_schema → ((rows : Rows) → ¬ Says (tables_of db.trees) rows) → IsForeign cell db
+foreign_store cell db ours none = inr (inl (ours, none))
+
+pub foreign_first : (cell : List ℕ) (db : Database) → db.schema ≡ first_schema → ((rows : Rows) → SaysAs First (tables_as First db.trees) rows → sound cell rows ≡ false) → IsForeign cell db
+foreign_first cell db first none = inr (inr (first, none))
 
 no_tables : (a : Schema) → a ≡ no_schema → a ≡ the_schema → ⊥
 no_tables a n t = let e : 0 ≡ 5 = ap (λ (s : Schema). length s.tables) (sym n ∙ t) in omega (arith, e)

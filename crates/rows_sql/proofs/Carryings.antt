@@ -1,11 +1,13 @@
 -- What becomes of a store of the first version that is taken over.
-use Rattle.std.proofs.Common.{◌≡◌, ◌≤◌, ◌<◌, ℕ, List, true, false, inl, inr, refl, sym, ap, ◌∙◌, subst, arith, Result, Ok, Err}
-use Rattle.std.specs.Prelude.{IsTrue, IfOk, IfErr, OnOk}
+use Rattle.std.proofs.Common.{◌≡◌, ◌≤◌, ◌<◌, ◌+◌, ◌==◌, ℕ, List, true, false, inl, inr, refl, sym, ap, ◌∙◌, subst, arith, Result, Ok, Err}
+use Rattle.std.specs.Prelude.{IsTrue, IfOk, IfErr, OnOk, nat_le}
+use Rattle.std.proofs.lemmas.Bool.{and_parts}
+use Rattle.std.proofs.lemmas.Bool.Decides.{nat_tests}
 use Rattle.node_core.specs.Limits.{number_limit}
 use Rattle.sqlite_trees.specs.declared.store.Store.{Ghosts}
 use Rattle.sqlite.specs.Tree.{Trees}
 use Rattle.sqlite.specs.Effect.{Database}
-use Rattle.sqlite.specs.State.{State, HasCleanDisk}
+use Rattle.sqlite.specs.State.{State, HasCleanDisk, Survives}
 use Rattle.sqlite.specs.Held.{Held, state}
 use Rattle.rows_cell.specs.Sound.{sound}
 use Rattle.rows_cell.specs.declared.tables.Rows.{Rows}
@@ -14,10 +16,50 @@ use Rattle.rows_schema.specs.OurSchema.{first_schema}
 use Rattle.rows_schema.specs.declared.ours.Version.TheVariants.{First}
 use Rattle.rows_read.specs.Held.{Says, SaysAs}
 use Rattle.rows_read.specs.Ready.{tables_of, tables_as, IsReadyAs, IsStillAs, QuietAs}
-use Rattle.rows_edits.specs.Carrying.{IsFirstStore}
+use Rattle.rows_read.specs.Children.{Parents, children_of}
+use Rattle.rows_edits.specs.Carrying.{IsFirstStore, IsCarried, MayCarry}
 use Rattle.rows_edits.specs.Creation.{IsStoreOf}
 use Rattle.rows_sql.specs.Adopting.{IsAnew, SaysFirst, Takes, IsAtItsEnd, IsTaken, IsLeftAlone, carried}
 use Rattle.rows_sql.specs.Carrying.{Becomes, Remains}
+
+-- a sound store's epoch that isn't at its end lies below it
+pub epoch_low : (cell : List ℕ) (rows : Rows) → sound cell rows ≡ true → (rows.epoch == number_limit) ≡ false → rows.epoch < number_limit
+epoch_low cell rows fits apart =
+    let a = (and_parts _ _ fits).0 in
+    let b = (and_parts _ _ a).0 in
+    let c = (and_parts _ _ b).0 in
+    let d = (and_parts _ _ c).0 in
+    let low : nat_le rows.epoch number_limit ≡ true = (and_parts _ _ d).1 in
+    below rows.epoch number_limit low apart
+  where
+    below : (n m : ℕ) → nat_le n m ≡ true → (n == m) ≡ false → n < m
+    below n m low apart = grind (arith, nat_tests)
+
+pub epoch_last : (n m : ℕ) → (n == m) ≡ true → n ≡ m
+epoch_last n m h = grind (arith, nat_tests)
+
+-- what the carrying over of rows leaves
+module _ {S : Type 0} (g : Ghosts S) (rows : Rows) (children : Parents) (epoch : ℕ) (old new : Held S) (are : children ≡ children_of rows.nodes) (next : epoch ≡ rows.epoch + 1) (survives : Survives (state g old) (state g new) (MayCarry children epoch (state g old))) where
+  carried_is : record rows { epoch = epoch } ≡ carried rows
+  carried_is = ap (λ n. record rows { epoch = n }) next
+
+  pub becomes : new.in_transaction ≡ false → (HasCleanDisk (state g new) → IsCarried children epoch (state g old) (state g new)) → Becomes g rows old new
+  becomes ended did = record {
+    idle = ended;
+    clean = survives.clean;
+    is_open = λ clean. (did clean).is_open;
+    committed = λ clean. (did clean).committed;
+    store = λ clean first said. subst (λ (r : Rows). IsStoreOf r (state g new).now) carried_is ((did clean).carried first rows said (sym are));
+  }
+
+  pub remains : Remains g rows old new
+  remains = record {
+    clean = survives.clean;
+    crash = λ clean first said db may. elim (survives.crash clean db may) [
+      | inl b ↦ inl b
+      | inr m ↦ inr (subst (λ (r : Rows). Says (tables_of db) r) carried_is (m first rows said (sym are)))
+    ];
+  }
 
 module _ {S : Type 0} (g : Ghosts S) (settings : Settled) (old mid : Held S) (at : IsAnew (state g old)) (first : (state g old).now.schema ≡ first_schema) (q : QuietAs First g old mid) where
   was : HasCleanDisk (state g mid) → HasCleanDisk (state g old)

@@ -126,6 +126,7 @@ fn take_store<S: Alter>(
 
 /// Takes the rows of a database over: those of a store as they are; one of the first version is carried over; and where
 /// there is no table, a new store is made.
+#[tactic(auto, using(crate::proofs::Adoptions::foreign_none, crate::proofs::Adoptions::foreign_store, crate::proofs::Adoptions::foreign_first))]
 pub(crate) fn take_over<S: Alter>(
     alloc: Global,
     conn: &mut Connection<S>,

@@ -12,7 +12,6 @@ ghost use Rattle.rows_read.specs.Ready.{IsReadyAs, IsStillAs, QuietAs, tables_as
 ghost use Rattle.rows_sql.specs.Adopting.{IsAnew, SaysFirst, IsAtItsEnd, IsTaken, IsLeftAlone, carried};
 ghost use Rattle.rows_sql.specs.Carrying.{Becomes, Remains};
 
-use names_cell::Component;
 use node_core::NUMBER_LIMIT;
 use rows_cell::{Rows, StoreFault, is_sound};
 use rows_edits::carry_over;
@@ -26,17 +25,17 @@ use std::alloc::Global;
 fn load_first<S: Alter>(
     alloc: Global,
     conn: &mut Connection<S>,
-    cell: &Component,
+    settings: &Settings,
 ) -> Result<Rows, StoreFault>
     ensures rows { HasCleanDisk (state S.Store conn.new) → IsReadyAs First (state S.Store conn.old) → IfOk result (λ rows. SaysAs First (tables_as First (state S.Store conn.old).now.trees) rows) }
-    ensures fits { IfOk result (λ rows. (sound cell.now rows ≡ true) × (rows.epoch < number_limit)) }
-    ensures damaged { HasCleanDisk (state S.Store conn.new) → IsReadyAs First (state S.Store conn.old) → result ≡ Err StoreFault.Damaged → (rows : Held) → SaysAs First (tables_as First (state S.Store conn.old).now.trees) rows → sound cell.now rows ≡ false }
-    ensures full { HasCleanDisk (state S.Store conn.new) → IsReadyAs First (state S.Store conn.old) → result ≡ Err StoreFault.Exhausted → (rows : Held) × SaysAs First (tables_as First (state S.Store conn.old).now.trees) rows × (sound cell.now rows ≡ true) × (rows.epoch ≡ number_limit) }
+    ensures fits { IfOk result (λ rows. (sound settings.now.cell rows ≡ true) × (rows.epoch < number_limit)) }
+    ensures damaged { HasCleanDisk (state S.Store conn.new) → IsReadyAs First (state S.Store conn.old) → result ≡ Err StoreFault.Damaged → (rows : Held) → SaysAs First (tables_as First (state S.Store conn.old).now.trees) rows → sound settings.now.cell rows ≡ false }
+    ensures full { HasCleanDisk (state S.Store conn.new) → IsReadyAs First (state S.Store conn.old) → result ≡ Err StoreFault.Exhausted → (rows : Held) × SaysAs First (tables_as First (state S.Store conn.old).now.trees) rows × (sound settings.now.cell rows ≡ true) × (rows.epoch ≡ number_limit) }
     ensures quiet { QuietAs First S.Store conn.old conn.new }
     ensures still { HasCleanDisk (state S.Store conn.new) → IsReadyAs First (state S.Store conn.old) → OnOk result (IsStillAs First (state S.Store conn.old) (state S.Store conn.new)) }
 {
     let rows = load_as(alloc, conn, Version::First)?;
-    if !is_sound(alloc, cell, &rows)? {
+    if !is_sound(alloc, settings.cell(), &rows)? {
         return Err(StoreFault::Damaged);
     }
     if rows.epoch == NUMBER_LIMIT {
@@ -80,6 +79,6 @@ pub(crate) fn take_first<S: Alter>(
     ensures why { HasCleanDisk (state S.Store conn.new) → result ≡ Err StoreFault.Damaged → (rows : Held) → SaysAs First (tables_as First (state S.Store conn.old).now.trees) rows → sound settings.now.cell rows ≡ false }
     ensures full { HasCleanDisk (state S.Store conn.new) → result ≡ Err StoreFault.Exhausted → IsAtItsEnd settings.now.cell (state S.Store conn.old).now }
 {
-    let rows = load_first(alloc, conn, settings.cell())?;
+    let rows = load_first(alloc, conn, settings)?;
     carry(alloc, conn, rows)
 }
