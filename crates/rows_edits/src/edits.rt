@@ -98,11 +98,7 @@ pub(crate) fn put_child<S: Alter>(
 }
 
 // Puts the row of a node.
-fn put_entry<S: Alter>(
-    tx: &mut Transaction<'_, S>,
-    name: &Name,
-    view: &View,
-) -> Result<(), Error>
+fn put_entry<S: Alter>(tx: &mut Transaction<'_, S>, name: &Name, view: &View) -> Result<(), Error>
     ensures same { tx.new.conn.ghost_name ≡ tx.old.conn.ghost_name }
     ensures ok { HasCleanDisk (state S.Store tx.new.conn.now) → OnOk result (PutsEntry name.now view.now (state S.Store tx.old.conn.now) (state S.Store tx.new.conn.now)) }
     ensures kept { HasCleanDisk (state S.Store tx.new.conn.now) → KeepsCommit (state S.Store tx.old.conn.now) (state S.Store tx.new.conn.now) }

@@ -22,6 +22,7 @@ use sqlite::{Alter, Connection};
 use std::alloc::Global;
 
 // The rows of a store of the first version, where a cell of this name may have them, and its epoch can go on.
+#[tactic(auto, using(crate::proofs::Carryings::epoch_low, crate::proofs::Carryings::epoch_last))]
 fn load_first<S: Alter>(
     alloc: Global,
     conn: &mut Connection<S>,
@@ -45,11 +46,7 @@ fn load_first<S: Alter>(
 }
 
 // Carries a store over that says these rows.
-fn carry<S: Alter>(
-    alloc: Global,
-    conn: &mut Connection<S>,
-    rows: Rows,
-) -> Result<Rows, StoreFault>
+fn carry<S: Alter>(alloc: Global, conn: &mut Connection<S>, rows: Rows) -> Result<Rows, StoreFault>
     requires idle { conn.old.in_transaction ≡ false }
     requires below { rows.epoch < number_limit }
     ensures ok { IfOk result (λ next. (next ≡ carried rows) × Becomes S.Store rows conn.old conn.new) }

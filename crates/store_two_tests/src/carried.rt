@@ -1,5 +1,5 @@
 //! Stores of the first version that are taken over.
-use crate::made::{Store, FOUR, ROWS, closed, is_said, made, opened_in_memory};
+use crate::made::{FOUR, ROWS, Store, closed, is_said, made, opened_in_memory};
 use rows_cell::StoreFault;
 use rows_sql::SqlRecords;
 use settings_core::Settings;

@@ -75,12 +75,7 @@ pub(crate) fn made(alloc: Global, statements: &[&str]) -> Result<Option<Files<Me
 
 fn tested(alloc: Global, files: &Files<Memory>) -> Option<Result<Counts, StoreFault>> {
     let cell = Component::parse(alloc, "c").ok()?;
-    Some(inspect_file(
-        alloc,
-        files.db.bytes(),
-        files.log.bytes(),
-        &cell,
-    ))
+    Some(inspect_file(alloc, files.db.bytes(), files.log.bytes(), &cell))
 }
 
 /// What a test says of files; none where memory is missing.

@@ -12,11 +12,7 @@ const NO_STORE: &str = "no store";
 // A name, the statements that make the store, and the line that is said of it.
 const STORES: &[(&str, &[&str], &str)] = &[
     ("the first version", &[FOUR, ROWS], SOUND),
-    (
-        "the second version",
-        &[FOUR, CHILDREN, ROWS, SECOND],
-        SOUND,
-    ),
+    ("the second version", &[FOUR, CHILDREN, ROWS, SECOND], SOUND),
     (
         "the second version without its table",
         &[FOUR, ROWS, "UPDATE meta SET version = 2"],
@@ -29,24 +25,12 @@ const STORES: &[(&str, &[&str], &str)] = &[
     ),
     (
         "version 1 in five tables",
-        &[
-            FOUR,
-            CHILDREN,
-            ROWS,
-            SECOND,
-            "UPDATE meta SET version = 1",
-        ],
+        &[FOUR, CHILDREN, ROWS, SECOND, "UPDATE meta SET version = 1"],
         DAMAGED,
     ),
     (
         "version 3",
-        &[
-            FOUR,
-            CHILDREN,
-            ROWS,
-            SECOND,
-            "UPDATE meta SET version = 3",
-        ],
+        &[FOUR, CHILDREN, ROWS, SECOND, "UPDATE meta SET version = 3"],
         DAMAGED,
     ),
     (
