@@ -36,7 +36,7 @@ fn main(rt: HostRuntime) -> Result<()> {
     Ok(())
 }
 
-// Asks the client for something, carries what it sends to the master, and prints who answers.
+// Asks the client for something, and prints who answers.
 fn ask(
     rt: &HostRuntime,
     cell: &mut Cell<ListRecords>,
@@ -44,16 +44,26 @@ fn ask(
     ask: &Ask,
 ) -> Result<()> {
     let asked = client.ask(0, ask)?;
-    match &asked.outcome {
+    let who = answered(cell, client, &asked.outcome)?;
+    println!(rt; "{who}")?;
+    Ok(())
+}
+
+// Carries what the client sends to the master.
+fn answered(
+    cell: &mut Cell<ListRecords>,
+    client: &mut Client,
+    outcome: &Outcome,
+) -> Result<&'static str> {
+    match outcome {
         Outcome::Sent(request) => {
             carry(cell, client, request)?;
-            println!(rt; "the master answers")?;
+            Ok("the master answers")
         }
-        Outcome::Served(_) => println!(rt; "the cache serves")?,
-        Outcome::Answered => println!(rt; "the client answers")?,
-        Outcome::Refused(fault) => println!(rt; "refused as {}", fault.name())?,
+        Outcome::Served(_) => Ok("the cache serves"),
+        Outcome::Answered => Ok("the client answers"),
+        Outcome::Refused(fault) => Ok(fault.name()),
     }
-    Ok(())
 }
 
 // Opens /ls/c/f to read it, and makes it where it isn't there.
