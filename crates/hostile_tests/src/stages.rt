@@ -2,7 +2,7 @@
 use crate::clients::show_client;
 use crate::looks::Look;
 use crate::masters::show_master;
-use client_core::{Ask, Client, Outcome};
+use client_core::{Ask, Asked, Beaten, Client, Outcome};
 use messages_cell::{Out, Request};
 use names_cell::{Name, Principal};
 use node_core::Line;
@@ -103,8 +103,8 @@ impl Stage {
     fn ask(&mut self, number: u64, ask: &Ask) -> Result<(), Fail> {
         let own = self.own;
         let client = self.client(number).ok_or("client")?;
-        let asked = client.ask(own, ask)?;
-        match asked.outcome {
+        let Asked { outcome, .. } = client.ask(own, ask)?;
+        match outcome {
             Outcome::Sent(request) => self.send(request),
             _ => Ok(()),
         }
@@ -113,8 +113,8 @@ impl Stage {
     fn beat(&mut self, number: u64) -> Result<(), Fail> {
         let own = self.own;
         let client = self.client(number).ok_or("client")?;
-        let beaten = client.beat(own)?;
-        match beaten.request {
+        let Beaten { request, .. } = client.beat(own)?;
+        match request {
             Some(request) => self.send(request),
             None => Ok(()),
         }
