@@ -45,12 +45,11 @@ pub(crate) fn opening(alloc: Global) -> Result<Ask> {
 }
 
 fn opening_by(alloc: Global, mode: Mode) -> Result<Open, Fault> {
-    let create = Some(new_file(alloc)?);
     let name = Name::parse(alloc, "/ls/c/f")?;
     Ok(Open {
         name,
         mode,
-        create,
+        create: Some(new_file(alloc)?),
         delay: 0,
         events: Events::none(),
     })

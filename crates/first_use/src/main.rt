@@ -49,7 +49,9 @@ fn begin(cell: &mut Master, client: &mut Client) -> Result<&'static str, Fault> 
 
 fn open(alloc: Global, cell: &mut Master, client: &mut Client) -> Result<&'static str> {
     let opening = opening(alloc)?;
-    Ok(ask(cell, client, &opening)?)
+    let answer = ask(cell, client, &opening);
+    drop(opening);
+    Ok(answer?)
 }
 
 fn read(cell: &mut Master, client: &mut Client) -> Result<&'static str, Fault> {
