@@ -18,13 +18,18 @@ pub(crate) fn new_master(alloc: Global) -> Result<Master> {
     let records = new_records(alloc)?;
     match Cell::up(alloc, records, 12_000, 0) {
         Ok(cell) => Ok(cell),
-        Err((fault, _)) => Err(fault.into()),
+        Err((fault, records)) => {
+            drop(records);
+            Err(fault.into())
+        }
     }
 }
 
 fn new_records(alloc: Global) -> Result<ListRecords> {
     let settings = Settings::standard(alloc)?;
-    Ok(ListRecords::new(alloc, &settings)?)
+    let records = ListRecords::new(alloc, &settings);
+    drop(settings);
+    Ok(records?)
 }
 
 /// Client 1, which speaks for ann.

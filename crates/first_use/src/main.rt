@@ -1,12 +1,14 @@
 //! A master and a client in one process: a file is made and read, and read again out of the client's cache.
 #![tactic(auto)]
 
+mod gives;
 mod made;
 
 use anyhow::Result;
 use client_core::{Ask, Client, NodeCall, Outcome};
+use gives::{give_swept, give_taken};
 use made::{Master, new_client, new_master, opening};
-use messages_cell::{Out, Request};
+use messages_cell::Request;
 use node_core::Fault;
 use std::alloc::Global;
 
@@ -39,12 +41,18 @@ fn read_twice(alloc: Global, cell: &mut Master, client: &mut Client) -> Result<A
 }
 
 // The client gets its session.
-fn begin(cell: &mut Master, client: &mut Client) -> Result<&'static str, Fault> {
+fn begin(cell: &mut Master, client: &mut Client) -> Result<(), Fault> {
     let beaten = client.beat(0)?;
-    match &beaten.request {
-        Some(start) => carry(cell, client, start),
-        None => Ok("nobody answers"),
+    let begun = start(cell, client, &beaten.request);
+    drop(beaten);
+    begun
+}
+
+fn start(cell: &mut Master, client: &mut Client, start: &Option<Request>) -> Result<(), Fault> {
+    if let Some(start) = start {
+        carry(cell, client, start)?;
     }
+    Ok(())
 }
 
 fn open(alloc: Global, cell: &mut Master, client: &mut Client) -> Result<&'static str> {
@@ -55,12 +63,21 @@ fn open(alloc: Global, cell: &mut Master, client: &mut Client) -> Result<&'stati
 }
 
 fn read(cell: &mut Master, client: &mut Client) -> Result<&'static str, Fault> {
-    ask(cell, client, &Ask::Node(1, NodeCall::Read))
+    let read = Ask::Node(1, NodeCall::Read);
+    let answer = ask(cell, client, &read);
+    drop(read);
+    answer
 }
 
 fn ask(cell: &mut Master, client: &mut Client, ask: &Ask) -> Result<&'static str, Fault> {
     let asked = client.ask(0, ask)?;
-    match &asked.outcome {
+    let who = answer(cell, client, &asked.outcome);
+    drop(asked);
+    who
+}
+
+fn answer(cell: &mut Master, client: &mut Client, by: &Outcome) -> Result<&'static str, Fault> {
+    match by {
         Outcome::Sent(request) => carry(cell, client, request),
         Outcome::Served(_) => Ok("the cache serves"),
         Outcome::Answered => Ok("the client answers"),
@@ -69,16 +86,7 @@ fn ask(cell: &mut Master, client: &mut Client, ask: &Ask) -> Result<&'static str
 }
 
 fn carry(cell: &mut Master, client: &mut Client, request: &Request) -> Result<&'static str, Fault> {
-    let taken = cell.take(0, request)?;
-    give(client, taken.outs.as_slice())?;
-    let swept = cell.sweep(0)?;
-    give(client, swept.outs.as_slice())?;
+    give_taken(client, cell.take(0, request)?)?;
+    give_swept(client, cell.sweep(0)?)?;
     Ok("the master answers")
-}
-
-fn give(client: &mut Client, outs: &[Out]) -> Result<(), Fault> {
-    for out in outs {
-        client.give(0, out)?;
-    }
-    Ok(())
 }
