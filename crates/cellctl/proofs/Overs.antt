@@ -1,6 +1,5 @@
 -- What a run over a store leaves, from what its calls say.
-use Rattle.std.proofs.Common.{◌≡◌, ◌≤◌, ℕ, List, [], ◌∷◌, Option, Result, Ok, Err, refl, sym, ap, subst, ◌∙◌, arith}
-use Rattle.std.specs.Prelude.{IfOk}
+use Rattle.std.proofs.Common.{◌≡◌, ◌≤◌, ℕ, List, [], ◌∷◌, Option, refl, sym, ap, subst, ◌∙◌, arith}
 use Rattle.sqlite_disk.specs.declared.Disk.{Ghosts}
 use Rattle.sqlite_disk.specs.declared.Files.{Files}
 use Rattle.sqlite_wal.specs.Recovery.{Image}
@@ -8,7 +7,6 @@ use Rattle.sqlite_trees.specs.View.{doubt}
 use Rattle.sqlite.specs.State.{State, HasCleanDisk}
 use Rattle.sqlite.specs.Start.{FindsIn}
 use Rattle.settings_core.specs.Settings.{Settled}
-use Rattle.rows_cell.specs.declared.tables.Rows.{Rows}
 use Rattle.rows_cell.specs.Stores.{Store}
 use Rattle.world_core.specs.World.{WorldView, IsUndoubted, opened, store_in}
 use Rattle.script_cell.specs.Ran.{EndsWith, EndsSurely}
@@ -40,4 +38,16 @@ module _ {D : Type 0} (g : Ghosts D) (settings : Settled) (had : State) (text : 
       }
 
 pub ran_at : {D : Type 0} (g : Ghosts D) (settings : Settled) (had : State) (held : Image) (text : Option (List ℕ)) (status : ℕ) (files : Files D) (a b : Option (List ℕ)) → (HasCleanDisk had → FindsIn held had) → RanOver g settings had text status files a b → RanAt g settings held text status files a b
-ran_at g settings had held text status files a b finds ran = (had, finds ran.clean, ran)
+ran_at g settings had held text status files a b finds ran =
+    let found = finds ran.clean in
+    record {
+      had = had.committed;
+      holds = found.holds;
+      reads = found.reads;
+      listed = ran.adopts.has.listed;
+      first = ran.first;
+      last = ran.last;
+      takes = ran.adopts.takes;
+      ran = ran.ran;
+      stands = ran.stands;
+    }

@@ -1,16 +1,18 @@
 -- What a run over the store in two files did.
-use Rattle.std.specs.Prelude.{ℕ, List, [], ◌∷◌, Option}
+use Rattle.std.specs.Prelude.{◌≡◌, ℕ, List, [], ◌∷◌, Option}
 use Rattle.sqlite_disk.specs.declared.Disk.{Ghosts}
 use Rattle.sqlite_disk.specs.declared.Files.{Files}
 use Rattle.sqlite_wal.specs.Recovery.{Image}
 use Rattle.sqlite.specs.State.{State, HasCleanDisk}
-use Rattle.sqlite.specs.Start.{FindsIn}
+use Rattle.sqlite.specs.Tree.{Trees}
+use Rattle.sqlite.specs.Effect.{Database, IsDatabase}
+use Rattle.sqlite.specs.Files.{HoldsDatabase, AreFoundIn}
 use Rattle.settings_core.specs.Settings.{Settled}
 use Rattle.rows_cell.specs.declared.tables.Rows.{Rows}
 use Rattle.rows_cell.specs.Stores.{Store}
 use Rattle.world_core.specs.World.{WorldView, opened}
 use Rattle.script_cell.specs.Ran.{EndsWith, EndsSurely}
-use Rattle.rows_sql.specs.Adopting.{Adopts}
+use Rattle.rows_sql.specs.Adopting.{Adopts, Takes}
 use Rattle.rows_sql.specs.Closed.{StandsAlone}
 
 -- a store of these rows that was just taken over: a crash leaves them, nothing was refused, nothing is in doubt
@@ -27,6 +29,14 @@ pub record RanOver {D : Type 0} (g : Ghosts D) (settings : Settled) (had : State
   pub ran : EndsWith status (EndsSurely text (opened (taken settings first) settings.lease) last) before after
   pub stands : StandsAlone g files last.world.rows
 
--- the same over the store that these files held
-abbrev pub RanAt : {D : Type 0} → Ghosts D → Settled → Image → Option (List ℕ) → ℕ → Files D → Option (List ℕ) → Option (List ℕ) → Type 0
-RanAt g settings held text status files before after = (had : State) × FindsIn held had × RanOver g settings had text status files before after
+-- the same over the database that these files held
+pub record RanAt {D : Type 0} (g : Ghosts D) (settings : Settled) (held : Image) (text : Option (List ℕ)) (status : ℕ) (files : Files D) (before after : Option (List ℕ)) : Type 0 where
+  pub had : Database
+  pub holds : (db : Trees) → HoldsDatabase held db → had.trees ≡ db
+  pub reads : AreFoundIn held had.trees
+  pub listed : IsDatabase had
+  pub first : Rows
+  pub last : WorldView
+  pub takes : Takes settings had first
+  pub ran : EndsWith status (EndsSurely text (opened (taken settings first) settings.lease) last) before after
+  pub stands : StandsAlone g files last.world.rows
