@@ -30,6 +30,7 @@ Calls; H is the client's own handle number, 1, 2, .. in the order in which its O
   open NAME MODE may|must dir permanent|ephemeral [acl R W C]
                     the same with a directory, which goes once it is empty too
   open .. delay N   each of these, with a handle of a lock-delay of N milliseconds
+  open .. events E  each of these, with a handle whose client is told of events; E is some letters of mdlx, in this order
   close H           closes the handle
   poison H          every later call on the handle but close is refused
   read H            the content and the numbers of the node

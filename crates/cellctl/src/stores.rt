@@ -18,6 +18,9 @@ use world_cell::World;
 /// How many bytes are written at once.
 const WRITE_SIZE: usize = 0x4_0000;
 
+/// A log of fewer bytes holds no page: 32 are its own head, and 24 that of its first page.
+const FIRST_PAGE_AT: u64 = 56;
+
 /// Runs the script of standard input over the store in the file at a path, which is made where there is none, or over a new
 /// store in memory. Where it can't be opened, taken over or closed, the words of it go to the standard error, and the status
 /// is 3.
@@ -121,7 +124,7 @@ fn run_real(rt: &HostRuntime, settings: &Settings, path: &str, is_traced: bool) 
     }
 }
 
-// Tells why a store isn't closed, and answers the status. While its files are held, a log without bytes is removed: so
+// Tells why a store isn't closed, and answers the status. While its files are held, a log that holds no page is removed: so
 // nothing is left behind of a store that is refused.
 fn left_open(rt: &HostRuntime, path: &str, log: &str, unclosed: Unclosed<File>) -> u8
     ensures { IsExit result }
@@ -150,7 +153,7 @@ fn left_open(rt: &HostRuntime, path: &str, log: &str, unclosed: Unclosed<File>) 
 
 fn remove_empty(rt: &HostRuntime, path: &str) {
     if let Ok(found) = fs::symlink_metadata(rt, path) {
-        if found.is_file() && found.len() == 0 {
+        if found.is_file() && found.len() < FIRST_PAGE_AT {
             let _ = fs::remove_file(rt, path);
         }
     }
