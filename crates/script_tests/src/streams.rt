@@ -32,17 +32,8 @@ impl<'a> Read for Trickle<'a> {
                 self.left = rest;
                 Ok(1)
             }
-            _ => self.end(),
-        }
-    }
-}
-
-impl<'a> Trickle<'a> {
-    fn end(&self) -> io::Result<usize> {
-        if self.fails {
-            Err(io::Error::other("nothing is left"))
-        } else {
-            Ok(0)
+            _ if self.fails => Err(io::Error::other("nothing is left")),
+            _ => Ok(0),
         }
     }
 }
