@@ -4,6 +4,7 @@ ghost use Rattle.cellctl.specs.Exits.{IsExit};
 
 use crate::check::check_store;
 use crate::exits::{unread_status, unwritten_status};
+use crate::serves::serve_path;
 use crate::settings::settings;
 use crate::stores::run_over;
 use crate::words::program;
@@ -50,13 +51,17 @@ fn run_command(rt: &HostRuntime, words: Args) -> Result<u8>
     }
 }
 
-// Of the two subcommands one is there.
+// Of the subcommands one is there.
 fn do_command(rt: &HostRuntime, matches: &ArgMatches<'_>) -> Result<u8>
     ensures { IfOk result IsExit }
 {
     if let Some(found) = matches.subcommand_matches("check") {
         let path = found.get_str("FILE").unwrap_or_default();
         return check(rt, found.get_str("settings"), path);
+    }
+    if let Some(found) = matches.subcommand_matches("serve") {
+        let path = found.get_str("store").unwrap_or_default();
+        return serve_path(rt, found.get_str("settings"), path);
     }
     match matches.subcommand_matches("run") {
         Some(found) => {

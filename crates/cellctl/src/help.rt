@@ -1,4 +1,4 @@
-//! What help says of scripts.
+//! What help says of scripts, of stores and of frames.
 
 /// The version of the program.
 pub(crate) const VERSION: &str = "0.1.0";
@@ -95,4 +95,37 @@ Exit status:
   1                 the output can't be written
   2                 a wrong command line, or settings that aren't any
   3                 it is refused
+  4                 memory ran out";
+
+/// The frames by which a program hosts a master, and a first exchange.
+pub(crate) const FRAMES: &str = "\
+Frames on standard input, and what is told of each on standard output, with nothing between them. A frame is the number of
+its bytes in four, big-endian, and then 01, a byte for its kind, and its fields. Moments are the caller's, eight bytes in
+milliseconds. On standard input, 1,048,576 bytes at most:
+  00 MOMENT         a master comes up
+  01 MOMENT MESSAGE a message of a client comes to it, all its bytes
+  02 MOMENT         the master does what there is to do
+  03                the master is gone; the end of the input does the same
+On standard output, to each frame in its turn:
+  00 TEXT           a line, its length in four bytes before it
+  01 CLIENT MESSAGE a message, and the client that it is for, in eight bytes
+  02 FAULT          this was no frame: 00 no memory, 01 too long, 02 cut off, 03 bytes behind it, 04 another version,
+                    05 no such kind, 06 a number out of its range, 07 not a name; nothing has changed
+  03                all that is told of the frame stands before
+All that is told is committed before, and written before more is read. docs/FORMATS.md has the bytes of messages.
+
+A first exchange: a master comes up at moment 1000, and client 1 begins a session for ann.
+  to    0000000a0100 00000000000003e8
+  from  0000000a0100 00000004 75702031                                          up 1
+        000000020103
+  to    000000230101 00000000000003e8 0100 0000000000000001 0000000000000001 00000003 616e6e
+  from  0000000f0100 00000009 737461727465642031                                started 1
+        0000002c0101 0000000000000001 0100 0000000000000001 0000000000000001 0000000000000001 0000000000002ee0
+        000000020103
+
+Exit status:
+  0                 the end of the input was reached
+  1                 the input can't be read, or the output can't be written
+  2                 a wrong command line, or settings that aren't any
+  3                 the store can't be opened or closed, or holds no rows of a cell
   4                 memory ran out";

@@ -1,4 +1,5 @@
-//! Runs scripts against a cell: its steps on standard input, what happens on standard output. Tests the stores of cells.
+//! Runs scripts against a cell: its steps on standard input, what happens on standard output. Tests the
+//! stores of cells, and serves a cell to a program.
 #![tactic(auto)]
 
 mod check;
@@ -6,6 +7,7 @@ mod commands;
 mod exits;
 mod help;
 mod runs;
+mod serves;
 mod settings;
 mod stores;
 mod words;

@@ -126,7 +126,7 @@ fn run_real(rt: &HostRuntime, settings: &Settings, path: &str, is_traced: bool) 
 
 // Tells why a store isn't closed, and answers the status. While its files are held, a log that holds no page is removed: so
 // nothing is left behind of a store that is refused.
-fn left_open(rt: &HostRuntime, path: &str, log: &str, unclosed: Unclosed<File>) -> u8
+pub(crate) fn left_open(rt: &HostRuntime, path: &str, log: &str, unclosed: Unclosed<File>) -> u8
     ensures { IsExit result }
 {
     match unclosed {
@@ -169,7 +169,7 @@ fn refused(rt: &HostRuntime, fault: StoreFault) -> u8
     }
 }
 
-fn unfound_status(kind: io::ErrorKind) -> u8
+pub(crate) fn unfound_status(kind: io::ErrorKind) -> u8
     ensures { IsExit result }
 {
     match kind {

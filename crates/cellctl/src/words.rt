@@ -1,17 +1,17 @@
 //! The words of the command line.
-use crate::help::{SCRIPTS, STORES, VERSION};
+use crate::help::{FRAMES, SCRIPTS, STORES, VERSION};
 use clap::{Arg, ArgAction, Command};
 use std::alloc::{AllocError, Global};
 
-/// The program, with its two subcommands.
+/// The program, with its subcommands.
 pub(crate) fn program<'a>(alloc: Global) -> Result<Command<'a>, AllocError> {
     let run = run_words(alloc)?;
-    with_check(alloc, with_run(alloc, run)?)
+    with_serve(alloc, with_check(alloc, with_run(alloc, run)?)?)
 }
 
 fn with_run<'a>(alloc: Global, run: Command<'a>) -> Result<Command<'a>, AllocError> {
     Command::new(alloc, "cellctl")
-        .about("Runs scripts against a cell, and tests its stores")
+        .about("Runs scripts against a cell, tests its stores, and serves it to a program")
         .version(VERSION)
         .subcommand_required(true)
         .subcommand(run)
@@ -20,6 +20,16 @@ fn with_run<'a>(alloc: Global, run: Command<'a>) -> Result<Command<'a>, AllocErr
 fn with_check<'a>(alloc: Global, program: Command<'a>) -> Result<Command<'a>, AllocError> {
     match check_words(alloc) {
         Ok(check) => program.subcommand(check),
+        Err(error) => {
+            drop(program);
+            Err(error)
+        }
+    }
+}
+
+fn with_serve<'a>(alloc: Global, program: Command<'a>) -> Result<Command<'a>, AllocError> {
+    match serve_words(alloc) {
+        Ok(serve) => program.subcommand(serve),
         Err(error) => {
             drop(program);
             Err(error)
@@ -50,6 +60,26 @@ fn check_about<'a>(alloc: Global) -> Command<'a> {
     Command::new(alloc, "check")
         .about("Tests the store in a SQLite file, and counts what it holds")
         .after_help(STORES)
+}
+
+fn serve_words<'a>(alloc: Global) -> Result<Command<'a>, AllocError> {
+    let serve = serve_about(alloc).arg(settings_word(alloc))?;
+    serve.arg(served_word(alloc))
+}
+
+fn serve_about<'a>(alloc: Global) -> Command<'a> {
+    Command::new(alloc, "serve")
+        .about("Answers the frames of a program that carries the messages of clients")
+        .after_help(FRAMES)
+}
+
+fn served_word<'a>(alloc: Global) -> Arg<'a> {
+    Arg::new(alloc, "store")
+        .long("store")
+        .value_name("FILE")
+        .help("The SQLite file of the store, which is made where there is none")
+        .required(true)
+        .action(ArgAction::Set)
 }
 
 fn settings_word<'a>(alloc: Global) -> Arg<'a> {
