@@ -1,0 +1,260 @@
+//! Worlds over a store in files that stop at each of their calls in turn: the rows of the files, opened again, are those before
+//! the step that was refused, or those behind its one commit.
+ghost use Rattle.std.specs.Prelude.{IsTrue};
+ghost use Rattle.sqlite_disk.specs.Memory.{memory_is_usable};
+ghost use Rattle.sqlite_disk.specs.Fuse.{inner_of, IsFresh};
+
+use crate::plays::{End, new_play};
+use rows_cell::{ListRecords, Records};
+use rows_sql::SqlRecords;
+use rows_text::text_of;
+use settings_core::Settings;
+use sqlite::{Connection, FileStore, Files, Options};
+use sqlite_disk::{Disk, Fuse, Memory};
+use std::alloc::Global;
+use std::process::Abort;
+use std::test::Fail;
+use step_words::{Parsed, read_step};
+use world_cell::World;
+use world_clients::Step;
+
+type Stopping = Fuse<Memory>;
+
+// What of the files goes through how many calls.
+#[derive(Clone, Copy)]
+enum Stops {
+    Log,
+    Database,
+}
+
+fn disk(alloc: Global, calls: u64) -> Stopping
+    ensures usable { IsTrue (memory_is_usable (inner_of result)) }
+    ensures fresh { IsFresh result }
+{
+    Fuse::new(Memory::new(alloc), calls)
+}
+
+fn files(alloc: Global, stops: Stops, calls: u64) -> Files<Stopping>
+    ensures log { IsTrue (memory_is_usable (inner_of result.log)) × IsFresh result.log }
+    ensures db { IsTrue (memory_is_usable (inner_of result.db)) × IsFresh result.db }
+{
+    let (log, db) = match stops {
+        Stops::Log => (calls, u64::MAX),
+        Stops::Database => (u64::MAX, calls),
+    };
+    Files {
+        log: disk(alloc, log),
+        db: disk(alloc, db),
+    }
+}
+
+// How far a run came: how many steps were done, and whether the store refused the next one.
+type Came = (usize, bool);
+
+fn world_ran(
+    alloc: Global,
+    records: SqlRecords<FileStore<Stopping>>,
+    settings: &Settings,
+    steps: &[Step],
+) -> (Came, SqlRecords<FileStore<Stopping>>) {
+    let mut world = World::new(alloc, records, settings);
+    let mut came = (0usize, false);
+    for step in steps {
+        if !came.1 {
+            match world.step(step) {
+                Ok(lines) => {
+                    drop(lines);
+                    came.0 = came.0.saturating_add(1);
+                }
+                Err(_) => came.1 = true,
+            }
+        }
+    }
+    (came, world.close())
+}
+
+fn adopted(
+    alloc: Global,
+    conn: Connection<FileStore<Stopping>>,
+    steps: &[Step],
+) -> Result<(Came, FileStore<Stopping>), Fail> {
+    let settings = Settings::standard(alloc)?;
+    match SqlRecords::adopt(alloc, conn, &settings) {
+        Ok(records) => {
+            let (came, records) = world_ran(alloc, records, &settings, steps);
+            Ok((came, records.release().into_store()))
+        }
+        Err((_fault, store)) => Ok(((0, true), store)),
+    }
+}
+
+// Runs the steps over new files that stop, and gives the files as they are left.
+fn ran(
+    alloc: Global,
+    stops: Stops,
+    calls: u64,
+    steps: &[Step],
+) -> Result<(Came, Files<Stopping>), Fail> {
+    match Connection::open_files(alloc, files(alloc, stops, calls), Options::new(7)) {
+        Ok(conn) => {
+            let (came, store) = adopted(alloc, conn, steps)?;
+            Ok((came, store.close()))
+        }
+        Err((_error, left)) => Ok(((0, true), left.into_files())),
+    }
+}
+
+fn memory_of(alloc: Global, bytes: &[u8]) -> Result<Memory, Fail> {
+    let mut memory = Memory::new(alloc);
+    memory.set_len(bytes.len())?;
+    memory.write_at(0, bytes)?;
+    Ok(memory)
+}
+
+// The files, opened again on a disk that doesn't stop.
+fn opened(alloc: Global, files: &Files<Stopping>) -> Result<Connection<FileStore<Memory>>, Fail> {
+    let files = Files {
+        log: memory_of(alloc, files.log.inner().bytes())?,
+        db: memory_of(alloc, files.db.inner().bytes())?,
+    };
+    if !files.log.may_be_used() || !files.db.may_be_used() {
+        return Err(Fail::from("usable"));
+    }
+    Ok(
+        Connection::open_files(alloc, files, Options::new(7))
+            .ok()
+            .ok_or("opened")?,
+    )
+}
+
+// The rows that the files hold.
+fn rows_in(alloc: Global, files: &Files<Stopping>) -> Result<String, Fail> {
+    let settings = Settings::standard(alloc)?;
+    let conn = opened(alloc, files)?;
+    let records = SqlRecords::adopt(alloc, conn, &settings).ok();
+    let mut records = records.ok_or("adopted")?;
+    let rows = records.load()?;
+    Ok(text_of(alloc, &rows)?)
+}
+
+fn steps_of(alloc: Global, script: &str) -> Result<Vec<Step>, Fail> {
+    let mut steps = Vec::new(alloc);
+    for line in script.split("; ") {
+        match read_step(alloc, line)? {
+            Parsed::Step(step) => steps.push(step)?,
+            _ => return Err(Fail::from("no step")),
+        }
+    }
+    Ok(steps)
+}
+
+// The rows of a list behind so many of the steps.
+fn rows_behind(alloc: Global, steps: &[Step], count: usize) -> Result<String, Fail> {
+    let settings = Settings::standard(alloc)?;
+    let records = ListRecords::new(alloc, &settings)?;
+    let mut world = World::new(alloc, records, &settings);
+    for step in steps.iter().take(count) {
+        drop(world.step(step)?);
+    }
+    let mut records = world.close();
+    let rows = records.load()?;
+    Ok(text_of(alloc, &rows)?)
+}
+
+fn all_rows(alloc: Global, steps: &[Step]) -> Result<Vec<String>, Fail> {
+    let mut texts = Vec::new(alloc);
+    for count in 0..=steps.len() {
+        texts.push(rows_behind(alloc, steps, count)?)?;
+    }
+    Ok(texts)
+}
+
+// Whether the files hold the rows behind that many steps, or one more where the store refused that one.
+fn is_whole(
+    alloc: Global,
+    files: &Files<Stopping>,
+    came: Came,
+    texts: &[String],
+) -> Result<bool, Fail> {
+    let (count, is_refused) = came;
+    let rows = rows_in(alloc, files)?;
+    let before = texts.get(count).ok_or("before")?;
+    if rows.as_str() == before.as_str() {
+        return Ok(true);
+    }
+    let behind = texts.get(count.saturating_add(1));
+    Ok(is_refused && behind.is_some_and(|text| text.as_str() == rows.as_str()))
+}
+
+// How many stops there were until a run ended without one, and how many of them came in a step of the world; none where the
+// files held something else.
+fn stopped(
+    alloc: Global,
+    stops: Stops,
+    steps: &[Step],
+    texts: &[String],
+) -> Result<Option<(u64, u64)>, Fail> {
+    let mut in_steps = 0u64;
+    for calls in 0..100_000u64 {
+        let (came, files) = ran(alloc, stops, calls, steps)?;
+        if !is_whole(alloc, &files, came, texts)? {
+            return Ok(None);
+        }
+        if !came.1 {
+            return Ok(Some((calls, in_steps)));
+        }
+        if came.0 > 0 {
+            in_steps = in_steps.saturating_add(1);
+        }
+    }
+    Ok(None)
+}
+
+// Two sessions, a file, writes, a directory, an ephemeral node, a lock and who gets it next; another master, a delete, the
+// ephemeral node that goes; and a crash in the step by which a session ends that holds a lock.
+const SCRIPT: &str =
+    "up 0; join 1 ann; join 2 bob; beat 1; beat 2; settle; ask 1 open /ls/c/f rw must file permanent 61; settle; ask 2 open /ls/c/f rw; settle; ask 1 set 1 62; settle; ask 2 open /ls/c/d rw must dir permanent; settle; ask 1 open /ls/c/e rw must file ephemeral 63; settle; ask 1 acquire 1 x; settle; ask 2 acquire 1 x; settle; ask 1 release 1; settle; down; up 0; beat 1; beat 2; settle; beat 1; beat 2; settle; beat 1; beat 2; settle; ask 1 set 1 64; settle; ask 2 delete 2; settle; ask 2 release 1; settle; ask 1 close 2; settle; tick 60000 60000; beat 1; beat 2; settle; ask 1 acquire 1 s; settle; tick 12000 12000; cut sweep kept";
+
+// The script with each settling written out, and its lines.
+fn written_out(alloc: Global) -> Result<(String, String), Fail> {
+    let settings = Settings::standard(alloc)?;
+    let mut play = new_play(alloc, ListRecords::new(alloc, &settings)?, 0, End::Before)?;
+    play.run(SCRIPT)?;
+    let steps = play.steps.as_str().strip_prefix("; ").ok_or("steps")?;
+    let steps = String::from_str(alloc, steps)?;
+    Ok((steps, play.lines))
+}
+
+// What the script has to print, so that it does all that it is to do.
+const LINES: &[&str] = &[
+    "applied 1 1 put /ls/c/f",
+    "applied 2 2 put /ls/c/d",
+    "put /ls/c/e file 6 1 1 base base base ephemeral",
+    "locked 1 4 x 1",
+    "freed 1 4; locked 2 4 x 2",
+    "up 2",
+    "recovered",
+    "gone /ls/c/d",
+    "applied 0 0 gone /ls/c/e",
+    "locked 1 4 s 3",
+    "down",
+];
+
+// What stops, and how often it does at least, in a step of the world.
+const STOPS: &[(&str, Stops, u64)] = &[("log", Stops::Log, 50), ("database", Stops::Database, 0)];
+
+#[test]
+fn stores_that_stop(rt: HostRuntime) -> Result<(), Fail> {
+    let (script, lines) = written_out(rt.alloc())?;
+    for line in LINES {
+        assert!(rt; lines.as_str().contains(line), "{line} in {lines}");
+    }
+    let steps = steps_of(rt.alloc(), script.as_str())?;
+    let texts = all_rows(rt.alloc(), steps.as_slice())?;
+    for (name, stops, least) in STOPS {
+        let told = stopped(rt.alloc(), *stops, steps.as_slice(), texts.as_slice())?;
+        let (all, in_steps) = told.ok_or("other rows")?;
+        assert!(rt; in_steps >= *least, "{all} and {in_steps} of {name}");
+    }
+    Ok(())
+}
