@@ -27,10 +27,7 @@ fn push_lock(text: &mut String, key: &LockKey, row: &LockRow) -> Result<(), Allo
     let state = state_text(row.state);
     let (instance, client, handle) = (key.instance, key.client, key.handle);
     let delay = row.delay;
-    write!(
-        text,
-        "lock {instance} {client} {handle} {state} {delay}\n"
-    )
+    write!(text, "lock {instance} {client} {handle} {state} {delay}\n")
 }
 
 /// All that the rows hold, a line for each, but for the cell's name and its secret, which nothing changes. Refused for want of

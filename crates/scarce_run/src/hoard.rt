@@ -88,7 +88,10 @@ impl Hoard {
         if let Ok(plug) = bytes(self.alloc, PLUG - 16) {
             self.plug = plug;
         }
-        self.room = self.room.saturating_add((self.room / 256) * 16).saturating_add(16);
+        self.room = self
+            .room
+            .saturating_add((self.room / 256) * 16)
+            .saturating_add(16);
     }
 
     /// Gives the purse back.
@@ -139,7 +142,11 @@ fn take_halves(alloc: Global, blocks: &mut Vec<Vec<u8>>, greatest: usize, smalle
 // The same of the small sizes, each of which has a list of its own.
 fn take_small(alloc: Global, blocks: &mut Vec<Vec<u8>>) {
     for step in 0..128usize {
-        take_size(alloc, blocks, 2048usize.saturating_sub(step.saturating_mul(16)));
+        take_size(
+            alloc,
+            blocks,
+            2048usize.saturating_sub(step.saturating_mul(16)),
+        );
     }
 }
 

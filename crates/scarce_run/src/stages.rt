@@ -132,7 +132,10 @@ impl<'a> Stage<'a> {
 
     // A keeper's call, what it prints, and what it sends.
     fn errand<W: Wait>(&mut self, rt: &W, client: u64, errand: Errand<'_>) -> Result<(), Stop> {
-        let kept = self.seats.of(client).tried(rt, self.hoard, &self.name, errand)?;
+        let kept = self
+            .seats
+            .of(client)
+            .tried(rt, self.hoard, &self.name, errand)?;
         match kept {
             Kept::Beaten(Beaten { lines, request }) => {
                 self.print_all(&lines)?;

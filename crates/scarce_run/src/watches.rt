@@ -34,8 +34,7 @@ struct Passes<'a, O: Opening, I: Ledger, A: Ledger, E: Ledger, C: Ledger> {
     passes: &'a mut [Pass<I, A, E, C>],
 }
 
-impl<O: Opening, I: Ledger, A: Ledger, E: Ledger, C: Ledger> Desk
-    for Passes<'_, O, I, A, E, C> {
+impl<O: Opening, I: Ledger, A: Ledger, E: Ledger, C: Ledger> Desk for Passes<'_, O, I, A, E, C> {
     fn call<W: Wait>(&mut self, rt: &W, client: u64, event: Event) -> Result<Receipt, Fault> {
         match self.passes.get_mut(client.saturating_sub(1) as usize) {
             Some(pass) => self.watch.call(rt, pass, event),
@@ -97,10 +96,7 @@ fn run_with<O: Opening, I: Ledger, A: Ledger, E: Ledger, C: Ledger, W: Wait>(
     requires calls { (blanks.calls.name ≡ C.name) × (blanks.calls.parts ≡ C.parts) × (C.parts ≡ 2) }
 {
     let (watch, mut passes) = match Watch::<ListRecords, O, I, A, E, C>::open(
-        alloc,
-        cell,
-        SEATS,
-        blanks,
+        alloc, cell, SEATS, blanks,
     ) {
         Ok(opened) => opened,
         Err(_) => return Err(Stop::NoMemory),
@@ -248,7 +244,11 @@ fn have_same_entries(trail: &[Entry], other: &[Entry]) -> bool {
 }
 
 fn are_same<T: Alike>(all: &[T], others: &[T]) -> bool {
-    all.len() == others.len() && all.iter().zip(others.iter()).all(|(one, other)| one.is_same(other))
+    all.len() == others.len()
+        && all
+            .iter()
+            .zip(others.iter())
+            .all(|(one, other)| one.is_same(other))
 }
 
 // All that the records of a cell hold.

@@ -176,14 +176,7 @@ pub(crate) fn run(
     let settings = settings_of(alloc, *lease)?;
     let steps = steps_of(alloc, *steps)?;
     let mut world = new_world(alloc, &settings)?;
-    let text = play(
-        alloc,
-        hoard,
-        &settings,
-        &mut world,
-        steps.as_slice(),
-        spent,
-    );
+    let text = play(alloc, hoard, &settings, &mut world, steps.as_slice(), spent);
     let is_alike = ends_alike(alloc, &settings, world, steps.as_slice());
     if is_alike? {
         text
