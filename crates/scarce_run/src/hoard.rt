@@ -30,7 +30,9 @@ pub(crate) struct Hoard {
     plug: Vec<u8>,
     // What is left to the next call, in bytes.
     room: usize,
+    calls: u64,
     refused: u64,
+    last: u64,
     late: u64,
 }
 
@@ -44,7 +46,9 @@ impl Hoard {
             crumbs: Vec::new(alloc),
             plug: Vec::new(alloc),
             room: 0,
+            calls: 0,
             refused: 0,
+            last: 0,
             late: 0,
         }
     }
@@ -63,7 +67,9 @@ impl Hoard {
             crumbs,
             plug: Vec::new(alloc),
             room: 0,
+            calls: 0,
             refused: 0,
+            last: 0,
             late: 0,
         })
     }
@@ -88,10 +94,7 @@ impl Hoard {
         if let Ok(plug) = bytes(self.alloc, PLUG - 16) {
             self.plug = plug;
         }
-        self.room = self
-            .room
-            .saturating_add((self.room / 256) * 16)
-            .saturating_add(16);
+        self.room = self.room.saturating_add(self.room / 16).saturating_add(16);
     }
 
     /// Gives the purse back.
@@ -102,8 +105,10 @@ impl Hoard {
 
     /// A call was done in this turn, counted from 0.
     pub(crate) fn done(&mut self, turn: u64) {
+        self.calls = self.calls.saturating_add(1);
         if turn > 0 {
             self.refused = self.refused.saturating_add(1);
+            self.last = self.calls;
         }
     }
 
@@ -115,6 +120,11 @@ impl Hoard {
     /// How many calls were refused before they were done.
     pub(crate) fn refused(&self) -> u64 {
         self.refused
+    }
+
+    /// The last of these, counted from 1 among all calls.
+    pub(crate) fn last(&self) -> u64 {
+        self.last
     }
 
     /// How often a keeper fell late.

@@ -56,20 +56,20 @@ fn asked(input: &[u8]) -> Result<Option<(usize, usize)>, Stop> {
     }
 }
 
-// A row of which something else refuses one request. Enough is that a step was refused.
+// A row of which something else refuses one request: the step that was refused. Enough is that there is one.
 fn run_one(alloc: Global, place: usize, behind: usize) -> Result<Report, Stop> {
     let row: &Row = ROWS.get(place).ok_or(Stop::Wrong("no such row"))?;
     let mut hoard = Hoard::idle(alloc);
     let text = worlds::run(alloc, &mut hoard, row, REFUSED.saturating_sub(behind))?;
-    let is_enough = hoard.refused() > 0;
+    let step = hoard.last();
     let plain = worlds::run(alloc, &mut hoard, row, 0)?;
     if text.as_str() != plain.as_str() {
         return Err(Stop::Wrong("other lines"));
     }
     Ok(Report {
-        lines: String::new(alloc),
+        lines: format!(in alloc; "step {step}\n")?,
         counts: String::new(alloc),
-        is_enough,
+        is_enough: step > 0,
     })
 }
 

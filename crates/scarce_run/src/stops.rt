@@ -12,24 +12,18 @@ pub(crate) enum Stop {
 }
 
 impl From<AllocError> for Stop {
-    ghost from_gives = { λ _ _. ⊤ };
-
     fn from(_error: AllocError) -> Stop {
         Stop::NoMemory
     }
 }
 
 impl<T: Drop> From<AllocFailed<T>> for Stop {
-    ghost from_gives = { λ _ _. ⊤ };
-
     fn from(_error: AllocFailed<T>) -> Stop {
         Stop::NoMemory
     }
 }
 
 impl From<Fault> for Stop {
-    ghost from_gives = { λ _ _. ⊤ };
-
     fn from(fault: Fault) -> Stop {
         match fault {
             Fault::NoMemory => Stop::NoMemory,
