@@ -178,8 +178,9 @@ pub(crate) fn run(
     let mut world = new_world(alloc, &settings)?;
     let text = play(alloc, hoard, &settings, &mut world, steps.as_slice(), spent);
     let is_alike = ends_alike(alloc, &settings, world, steps.as_slice());
+    let text = text?;
     if is_alike? {
-        text
+        Ok(text)
     } else {
         Err(Stop::Wrong("the run ends otherwise"))
     }
