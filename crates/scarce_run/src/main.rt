@@ -89,7 +89,7 @@ impl Report {
     // What keepers, viewers and a watch did, each call refused all memory at first.
     fn add_calls(&mut self, told: &Told, refused: u64, late: u64) -> Result<(), Stop> {
         let text = told.text.as_str();
-        let totals = &told.closed.totals;
+        let totals = &told.totals;
         let (issued, held, acknowledged) = (totals.issued, totals.held, totals.acknowledged);
         write!(
             self.lines,
@@ -127,7 +127,7 @@ fn run_all<W: Wait>(rt: &W, alloc: Global) -> Result<Report, Stop> {
     let before = hoard.refused();
     let told = watches::run(rt, alloc, &mut hoard, &settings, SCRIPT)?;
     report.add_calls(&told, hoard.refused().saturating_sub(before), hoard.late())?;
-    if !are_alike(alloc, plain, told)? {
+    if !are_alike(&plain, &told) {
         return Err(Stop::Wrong("the watch ends otherwise"));
     }
     Ok(report)

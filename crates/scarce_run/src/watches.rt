@@ -8,6 +8,7 @@ use crate::stages::{Desk, Stage};
 use crate::stops::Stop;
 use node_core::Fault;
 use over_core::Cell;
+use rights_core::Totals;
 use rows_cell::{ListRecords, Records};
 use rows_text::text_of;
 use same_cell::Alike;
@@ -21,11 +22,13 @@ use watch_cell::{Blanks, Closed, Entry, Event, Opening, Pass, Receipt, Watch};
 /// The clients, each with a pass.
 const SEATS: u64 = 2;
 
-/// What a script printed, and the cell, the trail and the totals behind it.
+/// What a script printed, and what a closed watch holds: the entries of its trail, the totals and the rows.
 #[derive(Drop)]
 pub(crate) struct Told {
     pub text: String,
-    pub closed: Closed<ListRecords>,
+    pub trail: Vec<Entry>,
+    pub totals: Totals,
+    pub rows: String,
 }
 
 // The watch and its passes.
@@ -99,7 +102,10 @@ fn run_with<O: Opening, I: Ledger, A: Ledger, E: Ledger, C: Ledger, W: Wait>(
         alloc, cell, SEATS, blanks,
     ) {
         Ok(opened) => opened,
-        Err(_) => return Err(Stop::NoMemory),
+        Err(refused) => {
+            drop(refused);
+            return Err(Stop::NoMemory);
+        }
     };
     let mut desk = Passes {
         watch: &watch,
@@ -110,7 +116,7 @@ fn run_with<O: Opening, I: Ledger, A: Ledger, E: Ledger, C: Ledger, W: Wait>(
         watch: _,
         passes: _,
     } = desk;
-    end(rt, hoard, watch, passes, text)
+    end(rt, alloc, hoard, watch, passes, text)
 }
 
 fn with_seats<W: Wait, D: Desk>(
@@ -140,6 +146,7 @@ fn on_stage<W: Wait, D: Desk>(
 // The second pass is retired, and the watch closed with the first.
 fn end<O: Opening, I: Ledger, A: Ledger, E: Ledger, C: Ledger, W: Wait>(
     rt: &W,
+    alloc: Global,
     hoard: &mut Hoard,
     watch: Watch<ListRecords, O, I, A, E, C>,
     mut passes: Vec<Pass<I, A, E, C>>,
@@ -148,12 +155,37 @@ fn end<O: Opening, I: Ledger, A: Ledger, E: Ledger, C: Ledger, W: Wait>(
     if let Some(second) = passes.pop() {
         retire(rt, hoard, &watch, second);
     }
-    let closed = close(rt, hoard, watch, passes);
-    let text = text?;
-    match closed {
-        Some(closed) => Ok(Told { text, closed }),
+    match close(rt, hoard, watch, passes) {
+        Some(closed) => told(alloc, text, closed),
         None => Err(Stop::Wrong("a close")),
     }
+}
+
+// All that the records of a cell hold.
+fn text_in(alloc: Global, cell: Cell<ListRecords>) -> Result<String, Stop> {
+    let mut records = cell.down();
+    let rows = records.load().map_err(|_| Stop::NoMemory)?;
+    Ok(text_of(alloc, &rows)?)
+}
+
+fn told(
+    alloc: Global,
+    text: Result<String, Stop>,
+    closed: Closed<ListRecords>,
+) -> Result<Told, Stop> {
+    let Closed {
+        cell,
+        trail,
+        totals,
+    } = closed;
+    let rows = text_in(alloc, cell)?;
+    let text = text?;
+    Ok(Told {
+        text,
+        trail,
+        totals,
+        rows,
+    })
 }
 
 // Tries to retire a pass until it isn't refused.
@@ -251,31 +283,10 @@ fn are_same<T: Alike>(all: &[T], others: &[T]) -> bool {
             .all(|(one, other)| one.is_same(other))
 }
 
-// All that the records of a cell hold.
-fn text_in(alloc: Global, cell: Cell<ListRecords>) -> Result<String, Stop> {
-    let mut records = cell.down();
-    let rows = records.load().map_err(|_| Stop::NoMemory)?;
-    Ok(text_of(alloc, &rows)?)
-}
-
-fn hold_same_rows(
-    alloc: Global,
-    cell: Cell<ListRecords>,
-    other: Cell<ListRecords>,
-) -> Result<bool, Stop> {
-    let text = text_in(alloc, cell)?;
-    let other = text_in(alloc, other)?;
-    Ok(text.as_str() == other.as_str())
-}
-
 /// Whether two runs printed the same, with the same entries in their trails, the same totals and the same rows.
-pub(crate) fn are_alike(alloc: Global, told: Told, other: Told) -> Result<bool, Stop> {
-    let is_same = told.text.as_str() == other.text.as_str()
-        && told.closed.totals == other.closed.totals
-        && have_same_entries(told.closed.trail.as_slice(), other.closed.trail.as_slice());
-    let Told { closed, .. } = told;
-    let Told { closed: others, .. } = other;
-    let Closed { cell, .. } = closed;
-    let Closed { cell: other, .. } = others;
-    Ok(hold_same_rows(alloc, cell, other)? && is_same)
+pub(crate) fn are_alike(told: &Told, other: &Told) -> bool {
+    told.text.as_str() == other.text.as_str()
+        && told.rows.as_str() == other.rows.as_str()
+        && told.totals == other.totals
+        && have_same_entries(told.trail.as_slice(), other.trail.as_slice())
 }

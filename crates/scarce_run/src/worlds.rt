@@ -70,21 +70,24 @@ fn are_alike(world: &World<ListRecords>, other: &World<ListRecords>) -> bool {
             .all(|(message, other)| is_same_message(message, other))
 }
 
-// All that the records hold.
-fn text_in(alloc: Global, mut records: ListRecords) -> Result<String, Stop> {
-    let rows = records.load().map_err(|_| Stop::NoMemory)?;
-    Ok(text_of(alloc, &rows)?)
+// Whether a world is as a twin behind these steps.
+fn is_as_twin(
+    alloc: Global,
+    settings: &Settings,
+    world: &World<ListRecords>,
+    steps: &[Step],
+) -> Result<bool, Stop> {
+    let other = twin(alloc, settings, steps)?;
+    let is_alike = are_alike(world, &other);
+    drop(other);
+    Ok(is_alike)
 }
 
-// Whether the records of two worlds hold the same rows.
-fn hold_same_rows(
-    alloc: Global,
-    world: World<ListRecords>,
-    other: World<ListRecords>,
-) -> Result<bool, Stop> {
-    let text = text_in(alloc, world.close())?;
-    let other = text_in(alloc, other.close())?;
-    Ok(text.as_str() == other.as_str())
+// All that the records of a world hold.
+fn text_in(alloc: Global, world: World<ListRecords>) -> Result<String, Stop> {
+    let mut records = world.close();
+    let rows = records.load().map_err(|_| Stop::NoMemory)?;
+    Ok(text_of(alloc, &rows)?)
 }
 
 fn write_told(text: &mut String, told: &Result<Items<Line>, Fault>) -> Result<(), Stop> {
@@ -117,7 +120,7 @@ fn tried(
             hoard.done(turn);
             return Ok(told);
         }
-        if !are_alike(world, &twin(alloc, settings, before)?) {
+        if !is_as_twin(alloc, settings, world, before)? {
             return Err(Stop::Wrong("a refused step changed the world"));
         }
     }
@@ -151,20 +154,6 @@ fn play(
     Ok(text)
 }
 
-// Whether a world behind all steps is as a twin that was never refused.
-fn ends_alike(
-    alloc: Global,
-    settings: &Settings,
-    world: World<ListRecords>,
-    steps: &[Step],
-) -> Result<bool, Stop> {
-    let other = twin(alloc, settings, steps)?;
-    if !are_alike(&world, &other) {
-        return Ok(false);
-    }
-    hold_same_rows(alloc, world, other)
-}
-
 /// What a row prints. Between its preparation and its first step so many requests for memory are made.
 pub(crate) fn run(
     alloc: Global,
@@ -177,9 +166,11 @@ pub(crate) fn run(
     let steps = steps_of(alloc, *steps)?;
     let mut world = new_world(alloc, &settings)?;
     let text = play(alloc, hoard, &settings, &mut world, steps.as_slice(), spent);
-    let is_alike = ends_alike(alloc, &settings, world, steps.as_slice());
+    let is_alike = is_as_twin(alloc, &settings, &world, steps.as_slice());
+    let rows = text_in(alloc, world);
     let text = text?;
-    if is_alike? {
+    let other = text_in(alloc, twin(alloc, &settings, steps.as_slice())?)?;
+    if is_alike? && rows?.as_str() == other.as_str() {
         Ok(text)
     } else {
         Err(Stop::Wrong("the run ends otherwise"))
