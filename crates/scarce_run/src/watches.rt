@@ -156,7 +156,7 @@ fn end<O: Opening, I: Ledger, A: Ledger, E: Ledger, C: Ledger, W: Wait>(
         retire(rt, hoard, &watch, second);
     }
     match close(rt, hoard, watch, passes) {
-        Some(closed) => told(alloc, text, closed),
+        Some(closed) => gathered(alloc, text, closed),
         None => Err(Stop::Wrong("a close")),
     }
 }
@@ -168,7 +168,7 @@ fn text_in(alloc: Global, cell: Cell<ListRecords>) -> Result<String, Stop> {
     Ok(text_of(alloc, &rows)?)
 }
 
-fn told(
+fn gathered(
     alloc: Global,
     text: Result<String, Stop>,
     closed: Closed<ListRecords>,
