@@ -112,9 +112,11 @@ impl Hoard {
         }
     }
 
-    /// A keeper fell late.
-    pub(crate) fn fell_late(&mut self) {
-        self.late = self.late.saturating_add(1);
+    /// A keeper was refused; whether it fell late.
+    pub(crate) fn count_late(&mut self, fell: bool) {
+        if fell {
+            self.late = self.late.saturating_add(1);
+        }
     }
 
     /// How many calls were refused before they were done.

@@ -93,7 +93,10 @@ impl Seat {
                 keeper,
                 viewers,
             }),
-            Err(_) => Err(Stop::NoMemory),
+            Err(client) => {
+                drop(client);
+                Err(Stop::NoMemory)
+            }
         }
     }
 
@@ -129,6 +132,25 @@ impl Seat {
         Err(Stop::Wrong("a viewer is always refused"))
     }
 
+    // One try of a call, with no more memory than is left to it.
+    fn call<W: Wait>(
+        &mut self,
+        rt: &W,
+        hoard: &mut Hoard,
+        errand: Errand<'_>,
+    ) -> Result<Kept, Fault> {
+        hoard.leave();
+        let told = attempt(rt, &mut self.keeper, errand);
+        hoard.relax();
+        told
+    }
+
+    // Whether the viewer still sees what it saw.
+    fn shows(&mut self, name: &Name, before: &str) -> Result<bool, Stop> {
+        let shown = self.shown(name)?;
+        Ok(shown.as_str() == before)
+    }
+
     /// Tries a call until it isn't refused memory. While it is refused the viewer sees what it saw before, also where the keeper is
     /// late.
     pub(crate) fn tried<W: Wait>(
@@ -142,17 +164,15 @@ impl Seat {
         hoard.begin();
         for turn in 0..TURN_END {
             let was_late = self.keeper.late();
-            hoard.leave();
-            let told = attempt(rt, &mut self.keeper, errand);
-            hoard.relax();
-            if !matches!(told, Err(Fault::NoMemory)) {
-                hoard.done(turn);
-                return Ok(told?);
+            match self.call(rt, hoard, errand) {
+                Ok(kept) => {
+                    hoard.done(turn);
+                    return Ok(kept);
+                }
+                Err(Fault::NoMemory) => hoard.count_late(!was_late && self.keeper.late()),
+                Err(fault) => return Err(Stop::from(fault)),
             }
-            if self.keeper.late() && !was_late {
-                hoard.fell_late();
-            }
-            if self.shown(name)?.as_str() != before.as_str() {
+            if !self.shows(name, before.as_str())? {
                 return Err(Stop::Wrong("a viewer saw what wasn't published"));
             }
         }

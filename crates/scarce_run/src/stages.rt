@@ -2,7 +2,7 @@
 use crate::hoard::{Hoard, TURN_END};
 use crate::keepers::{Errand, Seats};
 use crate::stops::Stop;
-use client_core::{Ask, Asked, Beaten, Outcome};
+use client_core::{Asked, Beaten, Given, Outcome};
 use messages_cell::{Out, Request};
 use names_cell::Name;
 use node_core::{Fault, Line};
@@ -12,6 +12,7 @@ use std::alloc::Global;
 use std::collections::VecDeque;
 use std::sync::Wait;
 use step_words::{Parsed, read_step};
+use sweep_laws::Swept;
 use watch_cell::{Event, Receipt};
 use world_clients::Step;
 
@@ -60,9 +61,13 @@ fn tried<W: Wait, D: Desk>(
         hoard.leave();
         let told = desk.call(rt, client, again);
         hoard.relax();
-        if !matches!(told, Err(Fault::NoMemory)) {
-            hoard.done(turn);
-            return Ok(told?);
+        match told {
+            Ok(receipt) => {
+                hoard.done(turn);
+                return Ok(receipt);
+            }
+            Err(Fault::NoMemory) => {}
+            Err(fault) => return Err(Stop::from(fault)),
         }
         if desk.receipts(client) != receipts {
             return Err(Stop::Wrong("a refused call has a receipt"));
@@ -107,12 +112,26 @@ impl<'a> Stage<'a> {
         match words {
             "look 1" => self.look(1),
             "look 2" => self.look(2),
-            _ => match read_step(self.alloc, words)? {
-                Parsed::Settle => self.settle(rt, desk),
-                Parsed::Step(Step::Ask(client, asked)) => self.ask(rt, client, &asked),
-                Parsed::Step(Step::Beat(client)) => self.beat(rt, client),
-                _ => Err(Stop::Wrong("a script's words")),
-            },
+            _ => {
+                let parsed = read_step(self.alloc, words)?;
+                let told = self.parsed(rt, desk, &parsed);
+                drop(parsed);
+                told
+            }
+        }
+    }
+
+    fn parsed<W: Wait, D: Desk>(
+        &mut self,
+        rt: &W,
+        desk: &mut D,
+        parsed: &Parsed,
+    ) -> Result<(), Stop> {
+        match parsed {
+            Parsed::Settle => self.settle(rt, desk),
+            Parsed::Step(Step::Ask(client, asked)) => self.errand(rt, *client, Errand::Ask(asked)),
+            Parsed::Step(Step::Beat(client)) => self.errand(rt, *client, Errand::Beat),
+            _ => Err(Stop::Wrong("a script's words")),
         }
     }
 
@@ -122,31 +141,15 @@ impl<'a> Stage<'a> {
         Ok(())
     }
 
-    fn beat<W: Wait>(&mut self, rt: &W, client: u64) -> Result<(), Stop> {
-        self.errand(rt, client, Errand::Beat)
-    }
-
-    fn ask<W: Wait>(&mut self, rt: &W, client: u64, asked: &Ask) -> Result<(), Stop> {
-        self.errand(rt, client, Errand::Ask(asked))
-    }
-
     // A keeper's call, what it prints, and what it sends.
     fn errand<W: Wait>(&mut self, rt: &W, client: u64, errand: Errand<'_>) -> Result<(), Stop> {
         let kept = self
             .seats
             .of(client)
             .tried(rt, self.hoard, &self.name, errand)?;
-        match kept {
-            Kept::Beaten(Beaten { lines, request }) => {
-                self.print_all(&lines)?;
-                self.send(client, request)
-            }
-            Kept::Asked(Asked { lines, outcome }) => {
-                self.print_all(&lines)?;
-                self.send(client, sent(outcome))
-            }
-            Kept::Given(given) => self.print_all(&given.lines),
-        }
+        let (lines, request) = parts(kept);
+        self.send(client, request)?;
+        self.print_all(&lines)
     }
 
     fn send(&mut self, client: u64, request: Option<Request>) -> Result<(), Stop> {
@@ -162,7 +165,7 @@ impl<'a> Stage<'a> {
             if let Some(letter) = self.mail.pop_front() {
                 self.deliver(rt, desk, letter)?;
             }
-            if self.call(rt, desk, 1, &Event::Sweep(0))? && self.mail.is_empty() {
+            if self.call(rt, desk, 1, Event::Sweep(0))? && self.mail.is_empty() {
                 return Ok(());
             }
         }
@@ -177,10 +180,14 @@ impl<'a> Stage<'a> {
     ) -> Result<(), Stop> {
         match letter {
             Letter::In(client, request) => {
-                self.call(rt, desk, client, &Event::Take(0, request))?;
+                self.call(rt, desk, client, Event::Take(0, request))?;
                 Ok(())
             }
-            Letter::Out(out) => self.errand(rt, out.client().get(), Errand::Give(&out)),
+            Letter::Out(out) => {
+                let told = self.errand(rt, out.client().get(), Errand::Give(&out));
+                drop(out);
+                told
+            }
         }
     }
 
@@ -190,15 +197,26 @@ impl<'a> Stage<'a> {
         rt: &W,
         desk: &mut D,
         client: u64,
-        event: &Event,
+        event: Event,
     ) -> Result<bool, Stop> {
-        let receipt = tried(rt, self.hoard, desk, client, event)?;
-        let reply = receipt.reply();
+        let told = tried(rt, self.hoard, desk, client, &event);
+        drop(event);
+        let receipt = told?;
+        let is_quiet = receipt.reply().quiet;
+        let posted = self.post(receipt.reply());
+        drop(receipt);
+        posted?;
+        Ok(is_quiet)
+    }
+
+    // What a call printed, and what it sent.
+    fn post(&mut self, reply: &Swept) -> Result<(), Stop> {
         self.print_all(&reply.lines)?;
         for out in reply.outs.as_slice() {
-            self.mail.push_back(Letter::Out(out.clone()?))?;
+            let out = out.clone()?;
+            self.mail.push_back(Letter::Out(out))?;
         }
-        Ok(reply.quiet)
+        Ok(())
     }
 
     fn print_all(&mut self, lines: &Items<Line>) -> Result<(), Stop> {
@@ -209,10 +227,22 @@ impl<'a> Stage<'a> {
     }
 }
 
+// The lines of a call, and the message for the master.
+fn parts(kept: Kept) -> (Items<Line>, Option<Request>) {
+    match kept {
+        Kept::Beaten(Beaten { lines, request }) => (lines, request),
+        Kept::Asked(Asked { lines, outcome }) => (lines, sent(outcome)),
+        Kept::Given(Given { lines, refused: _ }) => (lines, None),
+    }
+}
+
 // The message that was sent.
 fn sent(outcome: Outcome) -> Option<Request> {
     match outcome {
         Outcome::Sent(request) => Some(request),
-        _ => None,
+        outcome => {
+            drop(outcome);
+            None
+        }
     }
 }

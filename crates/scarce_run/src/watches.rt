@@ -60,7 +60,10 @@ fn new_cell(alloc: Global, settings: &Settings) -> Result<Cell<ListRecords>, Sto
     let records = ListRecords::new(alloc, settings)?;
     match Cell::up(alloc, records, settings.lease(), 0) {
         Ok(cell) => Ok(cell),
-        Err(_) => Err(Stop::NoMemory),
+        Err(refused) => {
+            drop(refused);
+            Err(Stop::NoMemory)
+        }
     }
 }
 

@@ -26,13 +26,21 @@ pub(crate) fn settings_of(alloc: Global, lease: u64) -> Result<Settings, Stop> {
     Settings::new(alloc, cell, lease, &[ann, bob], secret).map_err(|_| Stop::NoMemory)
 }
 
+fn step_of(alloc: Global, line: &str) -> Result<Step, Stop> {
+    match read_step(alloc, line)? {
+        Parsed::Step(step) => Ok(step),
+        parsed => {
+            drop(parsed);
+            Err(Stop::Wrong("a row's words"))
+        }
+    }
+}
+
 fn steps_of(alloc: Global, row: &str) -> Result<Vec<Step>, Stop> {
     let mut steps = Vec::new(alloc);
     for line in row.split("; ") {
-        match read_step(alloc, line)? {
-            Parsed::Step(step) => steps.push(step)?,
-            _ => return Err(Stop::Wrong("a row's words")),
-        }
+        let step = step_of(alloc, line)?;
+        steps.push(step)?;
     }
     Ok(steps)
 }
@@ -116,9 +124,12 @@ fn tried(
         hoard.leave();
         let told = world.step(step);
         hoard.relax();
-        if !matches!(told, Err(Fault::NoMemory)) {
-            hoard.done(turn);
-            return Ok(told);
+        match told {
+            Err(Fault::NoMemory) => {}
+            told => {
+                hoard.done(turn);
+                return Ok(told);
+            }
         }
         if !is_as_twin(alloc, settings, world, before)? {
             return Err(Stop::Wrong("a refused step changed the world"));
