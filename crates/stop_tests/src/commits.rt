@@ -38,9 +38,12 @@ const COMMITS: &[(&str, u64, &str, &str)] = &[
 fn prints(alloc: Global, number: u64, script: &str, lines: &str) -> Result<bool, Fail> {
     let settings = Settings::standard(alloc)?;
     let records = FailAt::new(ListRecords::new(alloc, &settings)?, number);
-    let mut play = new_play(alloc, records, 0, End::Before)?;
-    play.run(script)?;
-    Ok(play.lines.as_str() == lines)
+    let mut play = new_play(alloc, records, &settings, 0, End::Before);
+    let ran = play.run(script);
+    let is_same = play.lines.as_str() == lines;
+    drop(play);
+    ran?;
+    Ok(is_same)
 }
 
 #[test]

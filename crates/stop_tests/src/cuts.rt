@@ -1,13 +1,13 @@
 //! Runs whose ups and sweeps are cut by a crash, each in turn, its commit kept or lost: the rows are those before the event or
 //! those behind it, and the next master comes up by them.
-use crate::plays::{End, Play, new_play};
+use crate::plays::{End, Play, new_play, rows_behind};
 use node_core::Line;
-use rows_cell::{ListRecords, Records};
-use rows_text::text_of;
+use rows_cell::ListRecords;
 use settings_core::Settings;
 use std::alloc::Global;
 use std::process::Abort;
 use std::test::Fail;
+use world_cell::World;
 use world_clients::{Commit, Step};
 
 // Two clients with a handle each on /ls/c/f.
@@ -41,17 +41,9 @@ const CUTS: &[(&str, &str, &str, u64)] = &[
 // The rows and the lines of a run that ends at an event, and whether it came to it.
 type Ended = (String, String, bool);
 
-fn rows_of(alloc: Global, play: Play<ListRecords>) -> Result<Ended, Fail> {
-    let Play {
-        world,
-        lines,
-        is_over,
-        ..
-    } = play;
-    let mut records = world.close();
-    let rows = records.load()?;
-    let text = text_of(alloc, &rows)?;
-    Ok((text, lines, is_over))
+fn run_both(play: &mut Play<ListRecords>, scripts: (&str, &str)) -> Result<(), Fail> {
+    play.run(scripts.0.trim_end_matches("; "))?;
+    play.run(scripts.1)
 }
 
 fn played(
@@ -62,28 +54,48 @@ fn played(
 ) -> Result<Play<ListRecords>, Fail> {
     let settings = Settings::standard(alloc)?;
     let records = ListRecords::new(alloc, &settings)?;
-    let mut play = new_play(alloc, records, last, end)?;
-    play.run(scripts.0.trim_end_matches("; "))?;
-    play.run(scripts.1)?;
-    Ok(play)
+    let mut play = new_play(alloc, records, &settings, last, end);
+    match run_both(&mut play, scripts) {
+        Ok(()) => Ok(play),
+        Err(fail) => {
+            drop(play);
+            Err(fail)
+        }
+    }
 }
 
 fn ended(alloc: Global, scripts: (&str, &str), last: u64, end: End) -> Result<Ended, Fail> {
     let play = played(alloc, scripts, last, end)?;
-    rows_of(alloc, play)
+    let Play {
+        world,
+        lines,
+        is_over,
+        ..
+    } = play;
+    let text = rows_behind(alloc, world.close())?;
+    Ok((text, lines, is_over))
 }
 
-// Whether the master is gone, and the next one comes up by the rows that are left.
-fn goes_on(alloc: Global, scripts: (&str, &str), last: u64, commit: Commit) -> Result<bool, Fail> {
-    let mut play = played(alloc, scripts, last, End::Cut(commit))?;
-    if play.world.is_up() {
-        return Ok(false);
+// Whether the master is gone, and the next one comes up.
+fn comes_up(world: &mut World<ListRecords>) -> bool {
+    if world.is_up() {
+        return false;
     }
-    let told = play.world.step(&Step::Up(0));
-    Ok(match told {
+    let step = Step::Up(0);
+    let told = world.step(&step);
+    drop(step);
+    match told {
         Ok(lines) => matches!(lines.as_slice(), [Line::Up(_)]),
         Err(_) => false,
-    })
+    }
+}
+
+// The same, by the rows that a cut event leaves.
+fn goes_on(alloc: Global, scripts: (&str, &str), last: u64, commit: Commit) -> Result<bool, Fail> {
+    let mut play = played(alloc, scripts, last, End::Cut(commit))?;
+    let goes_on = comes_up(&mut play.world);
+    drop(play);
+    Ok(goes_on)
 }
 
 // Whether an event that is cut leaves the rows before it, or those behind it; none where there is no such event.

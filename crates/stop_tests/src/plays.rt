@@ -2,6 +2,7 @@
 use node_core::{Fault, Line};
 use plain::Items;
 use rows_cell::Records;
+use rows_text::text_of;
 use settings_core::Settings;
 use std::alloc::Global;
 use std::test::Fail;
@@ -39,18 +40,25 @@ pub(crate) struct Play<R: Records> {
     pub(crate) is_over: bool,
 }
 
+// What a settling does next.
+#[derive(Clone, Copy)]
+enum Turn {
+    Take(u64),
+    Give(u64),
+    Sweep,
+}
+
 /// A new world over records; its run ends at the event of this number.
 pub(crate) fn new_play<R: Records + Drop>(
     alloc: Global,
     records: R,
+    settings: &Settings,
     last: u64,
     end: End,
-) -> Result<Play<R>, Fail> {
-    let settings = Settings::standard(alloc)?;
-    let world = World::new(alloc, records, &settings);
-    Ok(Play {
+) -> Play<R> {
+    Play {
         alloc,
-        world,
+        world: World::new(alloc, records, settings),
         delivered: Vec::new(alloc),
         lines: String::new(alloc),
         steps: String::new(alloc),
@@ -58,7 +66,22 @@ pub(crate) fn new_play<R: Records + Drop>(
         last,
         end,
         is_over: false,
-    })
+    }
+}
+
+fn text_in<R: Records>(alloc: Global, records: &mut R) -> Result<String, Fail> {
+    let rows = records.load()?;
+    Ok(text_of(alloc, &rows)?)
+}
+
+/// All that records hold.
+pub(crate) fn rows_behind<R: Records + Drop>(
+    alloc: Global,
+    mut records: R,
+) -> Result<String, Fail> {
+    let text = text_in(alloc, &mut records);
+    drop(records);
+    text
 }
 
 impl<R: Records + Drop> Play<R> {
@@ -100,16 +123,21 @@ impl<R: Records + Drop> Play<R> {
         }
     }
 
+    // A step, and what it prints.
+    fn make(&mut self, step: Step) -> Result<(), Fail> {
+        let told = self.world.step(&step);
+        drop(step);
+        self.tell(told)
+    }
+
     fn up(&mut self, moment: u64) -> Result<(), Fail> {
         if !self.comes() {
             return Ok(());
         }
-        let step = match self.cut() {
+        self.make(match self.cut() {
             Some(commit) => Step::CutUp(moment, commit),
             None => Step::Up(moment),
-        };
-        let told = self.world.step(&step);
-        self.tell(told)
+        })
     }
 
     // Whether there may be more to do.
@@ -118,8 +146,7 @@ impl<R: Records + Drop> Play<R> {
             return Ok(false);
         }
         if let Some(commit) = self.cut() {
-            let told = self.world.step(&Step::CutSweep(commit));
-            self.tell(told)?;
+            self.make(Step::CutSweep(commit))?;
             return Ok(false);
         }
         match self.world.sweep() {
@@ -146,18 +173,18 @@ impl<R: Records + Drop> Play<R> {
         Ok(())
     }
 
-    // The lowest message that was never delivered, by the step that delivers it.
-    fn next(&self) -> Option<Step> {
+    // The lowest message that was never delivered, or a sweep.
+    fn next(&self) -> Turn {
         for (place, message) in self.world.messages().iter().enumerate() {
             if !self.delivered.get(place).copied().unwrap_or(false) {
                 let number = (place as u64).saturating_add(1);
-                return Some(match message {
-                    Message::ToMaster(_) => Step::Take(number),
-                    Message::ToClient(_) => Step::Give(number),
-                });
+                return match message {
+                    Message::ToMaster(_) => Turn::Take(number),
+                    Message::ToClient(_) => Turn::Give(number),
+                };
             }
         }
-        None
+        Turn::Sweep
     }
 
     fn write(&mut self, step: &str) -> Result<(), Fail> {
@@ -166,36 +193,36 @@ impl<R: Records + Drop> Play<R> {
         Ok(())
     }
 
-    // A step of a settling.
-    fn write_turn(&mut self, step: &Option<Step>) -> Result<(), Fail> {
-        let text = match step {
-            Some(Step::Take(number)) => format!(in self.alloc; "take {number}")?,
-            Some(Step::Give(number)) => format!(in self.alloc; "give {number}")?,
-            _ => format!(in self.alloc; "sweep")?,
+    fn write_turn(&mut self, turn: Turn) -> Result<(), Fail> {
+        let text = match turn {
+            Turn::Take(number) => format!(in self.alloc; "take {number}")?,
+            Turn::Give(number) => format!(in self.alloc; "give {number}")?,
+            Turn::Sweep => format!(in self.alloc; "sweep")?,
         };
         self.write(text.as_str())
     }
 
-    fn deliver(&mut self, step: &Step) -> Result<(), Fail> {
-        if let Step::Take(number) | Step::Give(number) = step {
-            self.note(*number)?;
+    // Whether there may be more to do.
+    fn turn(&mut self, turn: Turn) -> Result<bool, Fail> {
+        match turn {
+            Turn::Take(number) => {
+                self.note(number)?;
+                self.make(Step::Take(number))?;
+            }
+            Turn::Give(number) => {
+                self.note(number)?;
+                self.make(Step::Give(number))?;
+            }
+            Turn::Sweep => return self.sweep(),
         }
-        let told = self.world.step(step);
-        self.tell(told)
+        Ok(true)
     }
 
     fn settle(&mut self) -> Result<(), Fail> {
         for _ in 0..TURN_END {
-            let next = self.next();
-            self.write_turn(&next)?;
-            let is_done = match next {
-                Some(step) => {
-                    self.deliver(&step)?;
-                    false
-                }
-                None => !self.sweep()?,
-            };
-            if is_done {
+            let turn = self.next();
+            self.write_turn(turn)?;
+            if !self.turn(turn)? {
                 return Ok(());
             }
         }
@@ -209,21 +236,39 @@ impl<R: Records + Drop> Play<R> {
                 self.sweep()?;
                 Ok(())
             }
-            step => self.deliver(step),
+            Step::Take(number) => {
+                self.turn(Turn::Take(*number))?;
+                Ok(())
+            }
+            Step::Give(number) => {
+                self.turn(Turn::Give(*number))?;
+                Ok(())
+            }
+            step => {
+                let told = self.world.step(step);
+                self.tell(told)
+            }
+        }
+    }
+
+    fn parsed(&mut self, line: &str, parsed: &Parsed) -> Result<(), Fail> {
+        match parsed {
+            Parsed::Step(step) => {
+                self.write(line)?;
+                self.step(step)
+            }
+            Parsed::Settle => self.settle(),
+            Parsed::Nothing => Ok(()),
+            Parsed::Refused(fault) => self.print(&Line::Refused(*fault)),
+            Parsed::Bad => Err(Fail::from("a bad step")),
         }
     }
 
     fn line(&mut self, line: &str) -> Result<(), Fail> {
-        match read_step(self.alloc, line)? {
-            Parsed::Step(step) => {
-                self.write(line)?;
-                self.step(&step)
-            }
-            Parsed::Settle => self.settle(),
-            Parsed::Nothing => Ok(()),
-            Parsed::Refused(fault) => self.print(&Line::Refused(fault)),
-            Parsed::Bad => Err(Fail::from("a bad step")),
-        }
+        let parsed = read_step(self.alloc, line)?;
+        let told = self.parsed(line, &parsed);
+        drop(parsed);
+        told
     }
 
     /// The lines of a script, up to the event at which the run ends.

@@ -4,10 +4,9 @@ ghost use Rattle.std.specs.Prelude.{IsTrue};
 ghost use Rattle.sqlite_disk.specs.Memory.{memory_is_usable};
 ghost use Rattle.sqlite_disk.specs.Fuse.{inner_of, IsFresh};
 
-use crate::plays::{End, new_play};
-use rows_cell::{ListRecords, Records};
+use crate::plays::{End, Play, new_play, rows_behind};
+use rows_cell::ListRecords;
 use rows_sql::SqlRecords;
-use rows_text::text_of;
 use settings_core::Settings;
 use sqlite::{Connection, FileStore, Files, Options};
 use sqlite_disk::{Disk, Fuse, Memory};
@@ -76,15 +75,15 @@ fn world_ran(
 fn adopted(
     alloc: Global,
     conn: Connection<FileStore<Stopping>>,
+    settings: &Settings,
     steps: &[Step],
-) -> Result<(Came, FileStore<Stopping>), Fail> {
-    let settings = Settings::standard(alloc)?;
-    match SqlRecords::adopt(alloc, conn, &settings) {
+) -> (Came, FileStore<Stopping>) {
+    match SqlRecords::adopt(alloc, conn, settings) {
         Ok(records) => {
-            let (came, records) = world_ran(alloc, records, &settings, steps);
-            Ok((came, records.release().into_store()))
+            let (came, records) = world_ran(alloc, records, settings, steps);
+            (came, records.release().into_store())
         }
-        Err((_fault, store)) => Ok(((0, true), store)),
+        Err((_fault, store)) => ((0, true), store),
     }
 }
 
@@ -93,14 +92,15 @@ fn ran(
     alloc: Global,
     stops: Stops,
     calls: u64,
+    settings: &Settings,
     steps: &[Step],
-) -> Result<(Came, Files<Stopping>), Fail> {
+) -> (Came, Files<Stopping>) {
     match Connection::open_files(alloc, files(alloc, stops, calls), Options::new(7)) {
         Ok(conn) => {
-            let (came, store) = adopted(alloc, conn, steps)?;
-            Ok((came, store.close()))
+            let (came, store) = adopted(alloc, conn, settings, steps);
+            (came, store.close())
         }
-        Err((_error, left)) => Ok(((0, true), left.into_files())),
+        Err((_error, left)) => ((0, true), left.into_files()),
     }
 }
 
@@ -128,62 +128,83 @@ fn opened(alloc: Global, files: &Files<Stopping>) -> Result<Connection<FileStore
 }
 
 // The rows that the files hold.
-fn rows_in(alloc: Global, files: &Files<Stopping>) -> Result<String, Fail> {
-    let settings = Settings::standard(alloc)?;
+fn rows_in(alloc: Global, files: &Files<Stopping>, settings: &Settings) -> Result<String, Fail> {
     let conn = opened(alloc, files)?;
-    let records = SqlRecords::adopt(alloc, conn, &settings).ok();
-    let mut records = records.ok_or("adopted")?;
-    let rows = records.load()?;
-    Ok(text_of(alloc, &rows)?)
+    let records = SqlRecords::adopt(alloc, conn, settings).ok();
+    rows_behind(alloc, records.ok_or("adopted")?)
+}
+
+fn step_of(alloc: Global, line: &str) -> Result<Step, Fail> {
+    match read_step(alloc, line)? {
+        Parsed::Step(step) => Ok(step),
+        parsed => {
+            drop(parsed);
+            Err(Fail::from("no step"))
+        }
+    }
 }
 
 fn steps_of(alloc: Global, script: &str) -> Result<Vec<Step>, Fail> {
     let mut steps = Vec::new(alloc);
     for line in script.split("; ") {
-        match read_step(alloc, line)? {
-            Parsed::Step(step) => steps.push(step)?,
-            _ => return Err(Fail::from("no step")),
-        }
+        let step = step_of(alloc, line)?;
+        steps.push(step)?;
     }
     Ok(steps)
 }
 
 // The rows of a list behind so many of the steps.
-fn rows_behind(alloc: Global, steps: &[Step], count: usize) -> Result<String, Fail> {
-    let settings = Settings::standard(alloc)?;
-    let records = ListRecords::new(alloc, &settings)?;
-    let mut world = World::new(alloc, records, &settings);
+fn listed(
+    alloc: Global,
+    settings: &Settings,
+    steps: &[Step],
+    count: usize,
+) -> Result<String, Fail> {
+    let records = ListRecords::new(alloc, settings)?;
+    let mut world = World::new(alloc, records, settings);
     for step in steps.iter().take(count) {
-        drop(world.step(step)?);
+        drop(world.step(step));
     }
-    let mut records = world.close();
-    let rows = records.load()?;
-    Ok(text_of(alloc, &rows)?)
+    rows_behind(alloc, world.close())
 }
 
-fn all_rows(alloc: Global, steps: &[Step]) -> Result<Vec<String>, Fail> {
+fn all_rows(alloc: Global, settings: &Settings, steps: &[Step]) -> Result<Vec<String>, Fail> {
     let mut texts = Vec::new(alloc);
     for count in 0..=steps.len() {
-        texts.push(rows_behind(alloc, steps, count)?)?;
+        let text = listed(alloc, settings, steps, count)?;
+        texts.push(text)?;
     }
     Ok(texts)
 }
 
-// Whether the files hold the rows behind that many steps, or one more where the store refused that one.
-fn is_whole(
-    alloc: Global,
-    files: &Files<Stopping>,
-    came: Came,
-    texts: &[String],
-) -> Result<bool, Fail> {
+// Whether these are the rows behind that many steps, or one more where the store refused that one.
+fn is_whole(rows: &str, came: Came, texts: &[String]) -> bool {
     let (count, is_refused) = came;
-    let rows = rows_in(alloc, files)?;
-    let before = texts.get(count).ok_or("before")?;
-    if rows.as_str() == before.as_str() {
-        return Ok(true);
+    if texts.get(count).is_some_and(|text| text.as_str() == rows) {
+        return true;
     }
     let behind = texts.get(count.saturating_add(1));
-    Ok(is_refused && behind.is_some_and(|text| text.as_str() == rows.as_str()))
+    is_refused && behind.is_some_and(|text| text.as_str() == rows)
+}
+
+// How far a run came with so many calls; none where the files then hold other rows than they may.
+fn tried(
+    alloc: Global,
+    stops: Stops,
+    calls: u64,
+    settings: &Settings,
+    steps: &[Step],
+    texts: &[String],
+) -> Result<Option<Came>, Fail> {
+    let (came, files) = ran(alloc, stops, calls, settings, steps);
+    let rows = rows_in(alloc, &files, settings);
+    drop(files);
+    let rows = rows?;
+    Ok(if is_whole(rows.as_str(), came, texts) {
+        Some(came)
+    } else {
+        None
+    })
 }
 
 // How many stops there were until a run ended without one, and how many of them came in a step of the world; none where the
@@ -191,20 +212,17 @@ fn is_whole(
 fn stopped(
     alloc: Global,
     stops: Stops,
+    settings: &Settings,
     steps: &[Step],
     texts: &[String],
 ) -> Result<Option<(u64, u64)>, Fail> {
     let mut in_steps = 0u64;
     for calls in 0..100_000u64 {
-        let (came, files) = ran(alloc, stops, calls, steps)?;
-        if !is_whole(alloc, &files, came, texts)? {
-            return Ok(None);
-        }
-        if !came.1 {
-            return Ok(Some((calls, in_steps)));
-        }
-        if came.0 > 0 {
-            in_steps = in_steps.saturating_add(1);
+        match tried(alloc, stops, calls, settings, steps, texts)? {
+            None => return Ok(None),
+            Some((_, false)) => return Ok(Some((calls, in_steps))),
+            Some((0, true)) => {}
+            Some(_) => in_steps = in_steps.saturating_add(1),
         }
     }
     Ok(None)
@@ -216,13 +234,14 @@ const SCRIPT: &str =
     "up 0; join 1 ann; join 2 bob; beat 1; beat 2; settle; ask 1 open /ls/c/f rw must file permanent 61; settle; ask 2 open /ls/c/f rw; settle; ask 1 set 1 62; settle; ask 2 open /ls/c/d rw must dir permanent; settle; ask 1 open /ls/c/e rw must file ephemeral 63; settle; ask 1 acquire 1 x; settle; ask 2 acquire 1 x; settle; ask 1 release 1; settle; down; up 0; beat 1; beat 2; settle; beat 1; beat 2; settle; beat 1; beat 2; settle; ask 1 set 1 64; settle; ask 2 delete 2; settle; ask 2 release 1; settle; ask 1 close 2; settle; tick 60000 60000; beat 1; beat 2; settle; ask 1 acquire 1 s; settle; tick 12000 12000; cut sweep kept";
 
 // The script with each settling written out, and its lines.
-fn written_out(alloc: Global) -> Result<(String, String), Fail> {
-    let settings = Settings::standard(alloc)?;
-    let mut play = new_play(alloc, ListRecords::new(alloc, &settings)?, 0, End::Before)?;
-    play.run(SCRIPT)?;
-    let steps = play.steps.as_str().strip_prefix("; ").ok_or("steps")?;
-    let steps = String::from_str(alloc, steps)?;
-    Ok((steps, play.lines))
+fn written_out(alloc: Global, settings: &Settings) -> Result<(String, String), Fail> {
+    let records = ListRecords::new(alloc, settings)?;
+    let mut play = new_play(alloc, records, settings, 0, End::Before);
+    let ran = play.run(SCRIPT);
+    let Play { steps, lines, .. } = play;
+    ran?;
+    let words = steps.as_str().strip_prefix("; ").ok_or("steps")?;
+    Ok((String::from_str(alloc, words)?, lines))
 }
 
 // What the script has to print, so that it does all that it is to do.
@@ -245,14 +264,21 @@ const STOPS: &[(&str, Stops, u64)] = &[("log", Stops::Log, 50), ("database", Sto
 
 #[test]
 fn stores_that_stop(rt: HostRuntime) -> Result<(), Fail> {
-    let (script, lines) = written_out(rt.alloc())?;
+    let settings = Settings::standard(rt.alloc())?;
+    let (script, lines) = written_out(rt.alloc(), &settings)?;
     for line in LINES {
         assert!(rt; lines.as_str().contains(line), "{line} in {lines}");
     }
     let steps = steps_of(rt.alloc(), script.as_str())?;
-    let texts = all_rows(rt.alloc(), steps.as_slice())?;
+    let texts = all_rows(rt.alloc(), &settings, steps.as_slice())?;
     for (name, stops, least) in STOPS {
-        let told = stopped(rt.alloc(), *stops, steps.as_slice(), texts.as_slice())?;
+        let told = stopped(
+            rt.alloc(),
+            *stops,
+            &settings,
+            steps.as_slice(),
+            texts.as_slice(),
+        )?;
         let (all, in_steps) = told.ok_or("other rows")?;
         assert!(rt; in_steps >= *least, "{all} and {in_steps} of {name}");
     }
