@@ -7,5 +7,3 @@ mod commits;
 mod cuts;
 #[cfg(test)]
 mod plays;
-#[cfg(test)]
-mod stores;

@@ -30,8 +30,6 @@ pub(crate) struct Play<R: Records> {
     delivered: Vec<bool>,
     /// The lines, each behind a `; `.
     pub(crate) lines: String,
-    /// The steps, those of each settling written out, each behind a `; `.
-    pub(crate) steps: String,
     // How many events there were.
     events: u64,
     // The event at which the run ends, counted from 1.
@@ -61,7 +59,6 @@ pub(crate) fn new_play<R: Records + Drop>(
         world: World::new(alloc, records, settings),
         delivered: Vec::new(alloc),
         lines: String::new(alloc),
-        steps: String::new(alloc),
         events: 0,
         last,
         end,
@@ -187,21 +184,6 @@ impl<R: Records + Drop> Play<R> {
         Turn::Sweep
     }
 
-    fn write(&mut self, step: &str) -> Result<(), Fail> {
-        self.steps.push_str("; ")?;
-        self.steps.push_str(step)?;
-        Ok(())
-    }
-
-    fn write_turn(&mut self, turn: Turn) -> Result<(), Fail> {
-        let text = match turn {
-            Turn::Take(number) => format!(in self.alloc; "take {number}")?,
-            Turn::Give(number) => format!(in self.alloc; "give {number}")?,
-            Turn::Sweep => format!(in self.alloc; "sweep")?,
-        };
-        self.write(text.as_str())
-    }
-
     // Whether there may be more to do.
     fn turn(&mut self, turn: Turn) -> Result<bool, Fail> {
         match turn {
@@ -221,7 +203,6 @@ impl<R: Records + Drop> Play<R> {
     fn settle(&mut self) -> Result<(), Fail> {
         for _ in 0..TURN_END {
             let turn = self.next();
-            self.write_turn(turn)?;
             if !self.turn(turn)? {
                 return Ok(());
             }
@@ -251,12 +232,9 @@ impl<R: Records + Drop> Play<R> {
         }
     }
 
-    fn parsed(&mut self, line: &str, parsed: &Parsed) -> Result<(), Fail> {
+    fn parsed(&mut self, parsed: &Parsed) -> Result<(), Fail> {
         match parsed {
-            Parsed::Step(step) => {
-                self.write(line)?;
-                self.step(step)
-            }
+            Parsed::Step(step) => self.step(step),
             Parsed::Settle => self.settle(),
             Parsed::Nothing => Ok(()),
             Parsed::Refused(fault) => self.print(&Line::Refused(*fault)),
@@ -266,7 +244,7 @@ impl<R: Records + Drop> Play<R> {
 
     fn line(&mut self, line: &str) -> Result<(), Fail> {
         let parsed = read_step(self.alloc, line)?;
-        let told = self.parsed(line, &parsed);
+        let told = self.parsed(&parsed);
         drop(parsed);
         told
     }
