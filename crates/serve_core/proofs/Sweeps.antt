@@ -1,5 +1,6 @@
 -- One sweep more.
-use Rattle.std.proofs.Common.{◌≡◌, ℕ, List, [], ◌∷◌, ◌++◌, true, false, refl, sym, ap, ◌∙◌, subst}
+use Rattle.std.proofs.Common.{◌≡◌, ℕ, ◌+◌, List, [], ◌∷◌, ◌++◌, length, true, false, refl, sym, ap, ◌∙◌, subst, arith}
+use Rattle.std.proofs.lemmas.List.{length_push}
 use Rattle.std.specs.Prelude.{◌⊎◌, Ok, Err}
 use Rattle.rows_cell.specs.Stores.{IsCommitted, IsRefused}
 use Rattle.node_core.specs.declared.refusals.Fault.{Fault}
@@ -8,7 +9,7 @@ use Rattle.sweep_laws.specs.Kept.{CellState}
 use Rattle.sweep_laws.specs.Sweep.{sweep_step, sweep_edits}
 use Rattle.serve_core.specs.declared.settling.Settled.{Settled}
 use Rattle.serve_core.specs.declared.settling.End.TheVariants.{Quiet, Refused, Unfinished}
-use Rattle.serve_core.specs.Serving.{SweepsOnce, SweepsTo, AreBusy, EndsIn}
+use Rattle.serve_core.specs.Serving.{SweepsOnce, SweepsTo, AreBusy, sweep_limit, EndsIn}
 
 pub one_more : (now : ℕ) (old mid new : CellState) (sweeps : List Swept) (swept : Swept) → SweepsTo now old sweeps mid → SweepsOnce now mid swept new
     → SweepsTo now old (sweeps ++ swept ∷ []) new
@@ -54,11 +55,22 @@ ends_refused now old mid new before room fault result g why kept same given =
     let P : Settled → Type 0 = λ r. EndsIn now old r.sweeps r.end new in
     subst P (sym given) (mid, told.0, told.1, record { why = why; master = kept })
 
-pub ends_late : (now : ℕ) (old new : CellState) (sweeps : List Swept) (result : Settled) → Going now old sweeps new → result ≡ record { sweeps = sweeps; end = Unfinished }
-    → EndsIn now old result.sweeps result.end new
-ends_late now old new sweeps result g given =
+-- one sweep more was counted
+pub counts_more : (before room after : List Swept) (swept : Swept) (count : ℕ) → length before ≡ count → room ≡ before → after ≡ room ++ swept ∷ [] → length after ≡ count + 1
+counts_more before room after swept count many same e =
+    let longer : length after ≡ length (before ++ swept ∷ []) = ap (λ (u : List Swept). length u) (e ∙ ap (λ (u : List Swept). u ++ swept ∷ []) same) in
+    let one : length (before ++ swept ∷ []) ≡ length before + 1 = length_push before swept in
+    omega arith
+
+pub begins_counting : (sweeps : List Swept) → sweeps ≡ [] → length sweeps ≡ 0
+begins_counting sweeps empty = ap (λ (u : List Swept). length u) empty
+
+-- as many were made as are made
+pub ends_late : (now : ℕ) (old new : CellState) (sweeps : List Swept) (result : Settled) → Going now old sweeps new → length sweeps ≡ sweep_limit
+    → result ≡ record { sweeps = sweeps; end = Unfinished } → EndsIn now old result.sweeps result.end new
+ends_late now old new sweeps result g many given =
     let P : Settled → Type 0 = λ r. EndsIn now old r.sweeps r.end new in
-    subst P (sym given) (g.done, g.busy)
+    subst P (sym given) (g.done, g.busy, many)
 
 pub begins : (now : ℕ) (old : CellState) (sweeps : List Swept) → sweeps ≡ [] → Going now old sweeps old
 begins now old sweeps empty =

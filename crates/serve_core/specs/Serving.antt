@@ -1,5 +1,5 @@
 -- What a master answers: steps by messages, and sweeps until one is quiet.
-use Rattle.std.specs.Prelude.{◌≡◌, ◌≢◌, ◌⊎◌, ℕ, true, false, List, [], ◌∷◌, ◌++◌, Ok, Err}
+use Rattle.std.specs.Prelude.{◌≡◌, ◌≢◌, ◌⊎◌, ℕ, true, false, List, [], ◌∷◌, ◌++◌, length, Ok, Err}
 use Rattle.std.specs.List.{AllByRecursion}
 use Rattle.node_core.specs.declared.refusals.Fault.{Fault}
 use Rattle.node_core.specs.declared.refusals.Fault.TheVariants.{NoMemory}
@@ -33,12 +33,16 @@ pub record StopsAt (now : ℕ) (old : CellState) (fault : Fault) (new : CellStat
   pub why : (sweep_step old.master now ≡ Err fault × new ≡ old) ⊎ IsRefused fault (sweep_edits old.master now) old.store new.store
   pub master : new.master ≡ old.master
 
--- sweeps until one is quiet, or until one is refused
+-- the most sweeps that are made for one message
+abbrev pub sweep_limit : ℕ
+sweep_limit = 18446744073709551615
+
+-- sweeps until one is quiet, or until one is refused, or as many as are made
 abbrev pub EndsIn : ℕ → CellState → List Swept → End → CellState → Type 0
 EndsIn now old sweeps Quiet new =
     (busy : List Swept) × (last : Swept) × (sweeps ≡ busy ++ last ∷ []) × AreBusy busy × (last.quiet ≡ true) × SweepsTo now old sweeps new
 EndsIn now old sweeps (Refused fault) new = (mid : CellState) × SweepsTo now old sweeps mid × AreBusy sweeps × StopsAt now mid fault new
-EndsIn now old sweeps Unfinished new = SweepsTo now old sweeps new × AreBusy sweeps
+EndsIn now old sweeps Unfinished new = SweepsTo now old sweeps new × AreBusy sweeps × (length sweeps ≡ sweep_limit)
 
 -- the message was taken, and what it began is done by sweeps of the same master; or it was refused, and nothing is changed
 abbrev pub Answers : ℕ → Request → CellState → Answered → CellState → Type 0

@@ -31,7 +31,7 @@ pub fn settle<R: Records>(alloc: Global, cell: &mut Cell<R>, now: u64) -> Settle
     ensures { EndsIn now cell.old result.sweeps result.end cell.new }
 {
     let mut sweeps = Vec::new(alloc);
-    for _ in 0..u64::MAX {
+    for _done in 0..u64::MAX {
         match cell.sweep_with_room(now, &mut sweeps) {
             Ok(swept) => {
                 let quiet = swept.quiet;

@@ -1,0 +1,80 @@
+-- Blocks in a stream, one behind the other.
+use Rattle.std.proofs.Common.{◌≡◌, ℕ, suc, ◌+◌, ◌^◌, ◌<◌, ◌≤◌, Bool, true, false, cond, List, [], ◌∷◌, ◌++◌, length, take, drop, get_or, Option, Some, Result, Ok, Err, refl, sym, ap, subst, ◌∙◌, append_assoc, arith}
+use Rattle.std.specs.Prelude.{◌==◌, if◌then◌else◌, nat_lt}
+use Rattle.std.proofs.lemmas.Bool.{le-ltb, lt-ltb, eqb-true}
+use Rattle.std.proofs.lemmas.List.{take_at, drop_at, length-append}
+use Rattle.byteorder.specs.Endian.{big_bytes, big_number}
+use Rattle.byteorder.specs.Numbers.{big_from-append, big_number-reads_back, length-bytes_high_first}
+use Rattle.wire_core.specs.declared.faults.WireFault.{WireFault}
+use Rattle.wire_core.specs.declared.faults.WireFault.TheVariants.{TooLong, Cut, BadVersion}
+use Rattle.wire_core.specs.Forms.{◌>>=◌, Form, counted, version, version_at}
+use Rattle.wire_core.proofs.FormLaws.{IsBytes, IsForm, Takes, bind_ok}
+use Rattle.frame_core.specs.Blocks.{versioned, block_limit, block_at, next_block}
+
+-- ---- the version in front
+
+chosen : {A : Type 0} (b : Bool) (x y : A) → cond b (Ok x) (Err BadVersion) ≡ Ok y → (b ≡ true) × (x ≡ y)
+chosen true x y e = (refl, cc)
+chosen false x y e = absurd cc
+
+version_read : (bytes rest : List ℕ) → version_at bytes ≡ Ok rest → bytes ≡ version ∷ rest
+version_read [] rest e = absurd cc
+version_read (b ∷ bytes) rest e =
+    let g = chosen (b == version) bytes rest e in
+    ap (λ (n : ℕ). n ∷ bytes) (eqb-true b version g.0) ∙ ap (λ (u : List ℕ). version ∷ u) g.1
+
+IsBytes-rest : (b : ℕ) (bytes : List ℕ) → IsBytes (b ∷ bytes) → IsBytes bytes
+IsBytes-rest b bytes h i = h (suc i)
+
+pub versioned_form : {X : Type 0} {f : Form X} → IsForm f → IsForm (versioned f)
+versioned_form {f = f} p = record {
+  takes = λ bytes x rest fits e.
+      let b = bind_ok (version_at bytes) (λ rest. f.read rest) (x, rest) e in
+      let head = version_read bytes b.0 b.1 in
+      let P : List ℕ → Type 0 = λ u. IsBytes u in
+      let others : IsBytes b.0 = IsBytes-rest version b.0 (subst P head fits) in
+      let s = p.takes b.0 x rest others b.2 in
+      record { holds = s.holds; parts = head ∙ ap (λ (u : List ℕ). version ∷ u) s.parts; others = s.others };
+  again = λ x rest holds short. p.again x rest holds (omega (arith, short));
+}
+
+-- ---- what stands at the front of a stream
+
+pub next_long : (xs : List ℕ) → 4 ≤ length xs → next_block xs ≡ Some (block_at (big_number 4 (take 4 xs)) (drop 4 xs))
+next_long [] le = absurd (omega (arith, le))
+next_long (x ∷ xs) le =
+    ap (λ (b : Bool). Some (cond b (Err Cut, []) (block_at (big_number 4 (take 4 (x ∷ xs))) (drop 4 (x ∷ xs))))) (le-ltb (length (x ∷ xs)) 4 le)
+
+pub next_short : (xs : List ℕ) → 0 < length xs → length xs < 4 → next_block xs ≡ Some (Err Cut, [])
+next_short [] some lt = absurd (omega (arith, some))
+next_short (x ∷ xs) some lt =
+    ap (λ (b : Bool). Some (cond b (Err Cut, []) (block_at (big_number 4 (take 4 (x ∷ xs))) (drop 4 (x ∷ xs))))) (lt-ltb (length (x ∷ xs)) 4 lt)
+
+-- the count stands in the first four bytes
+pub next_counted : (head rest text : List ℕ) → length head ≡ 4 → text ≡ head ++ rest → next_block text ≡ Some (block_at (big_number 4 head) rest)
+next_counted head rest text four e =
+    let long : 4 ≤ length (head ++ rest) = omega (arith, length-append head rest) in
+    ap (λ (u : List ℕ). next_block u) e ∙ next_long (head ++ rest) long
+    ∙ ap (λ (u : List ℕ). Some (block_at (big_number 4 u) (drop 4 (head ++ rest)))) (take_at head rest 4 four)
+    ∙ ap (λ (u : List ℕ). Some (block_at (big_number 4 head) u)) (drop_at head rest 4 four)
+
+pub block_over : (count : ℕ) (bytes : List ℕ) → block_limit < count → block_at count bytes ≡ (Err TooLong, drop count bytes)
+block_over count bytes lt = rw (lt-ltb block_limit count lt) refl
+
+pub block_cut : (count : ℕ) (bytes : List ℕ) → count ≤ block_limit → length bytes < count → block_at count bytes ≡ (Err Cut, [])
+block_cut count bytes le lt = rw (le-ltb block_limit count le, lt-ltb (length bytes) count lt) refl
+
+pub block_whole : (count : ℕ) (bytes rest : List ℕ) → count ≤ block_limit → length bytes ≡ count → block_at count (bytes ++ rest) ≡ (Ok bytes, rest)
+block_whole count bytes rest le len =
+    let long : nat_lt (length (bytes ++ rest)) count ≡ false = le-ltb _ _ (omega (arith, length-append bytes rest)) in
+    rw (le-ltb block_limit count le, long, take_at bytes rest count len, drop_at bytes rest count len) refl
+
+number_back : (x : ℕ) → x < 256 ^ 4 → big_number 4 (big_bytes 4 x) ≡ x
+number_back x lt = sym (big_from-append 4 (big_bytes 4 x) [] (omega (arith, length-bytes_high_first 4 x))) ∙ big_number-reads_back 4 x [] lt
+
+pub framed_next : (bytes rest : List ℕ) → length bytes ≤ block_limit → next_block (counted.write bytes ++ rest) ≡ Some (Ok bytes, rest)
+framed_next bytes rest le =
+    let fits : length bytes < 256 ^ 4 = omega (arith, le) in
+    next_counted (big_bytes 4 (length bytes)) (bytes ++ rest) (counted.write bytes ++ rest) (length-bytes_high_first 4 (length bytes)) (append_assoc (big_bytes 4 (length bytes)) bytes rest)
+    ∙ ap (λ (n : ℕ). Some (block_at n (bytes ++ rest))) (number_back (length bytes) fits)
+    ∙ ap (λ (p : Result (List ℕ) WireFault × List ℕ). Some p) (block_whole (length bytes) bytes rest le refl)

@@ -1,0 +1,5 @@
+pub mod BlockLaws
+pub mod FrameLaws
+pub mod ToldLaws
+pub mod Readings
+pub mod Writings

@@ -1,0 +1,46 @@
+//! Of which kind a frame is: the byte behind its version.
+ghost use Rattle.std.specs.Prelude.{◌≡◌};
+ghost use Rattle.frame_core.specs.Told.{fault_place};
+
+use wire_core::WireFault;
+
+/// Of which kind a frame is that a master is sent.
+#[derive(Clone, Copy)]
+pub enum FrameKind {
+    Up,
+    Message,
+    Tick,
+    Down,
+}
+
+pub(crate) const FRAME_KINDS: [FrameKind; 4] = [
+    FrameKind::Up,
+    FrameKind::Message,
+    FrameKind::Tick,
+    FrameKind::Down,
+];
+
+/// Of which kind a frame is that a master sends.
+#[derive(Clone, Copy)]
+pub enum ToldKind {
+    Line,
+    Message,
+    Bad,
+    End,
+}
+
+// The place of a fault among all of them.
+pub(crate) fn place_of(fault: WireFault) -> u8
+    ensures { result ≡ fault_place fault }
+{
+    match fault {
+        WireFault::NoMemory => 0,
+        WireFault::TooLong => 1,
+        WireFault::Cut => 2,
+        WireFault::Extra => 3,
+        WireFault::BadVersion => 4,
+        WireFault::BadKind => 5,
+        WireFault::BadNumber => 6,
+        WireFault::BadText => 7,
+    }
+}

@@ -1,0 +1,66 @@
+//! What a master tells the program that started it.
+ghost use Rattle.std.specs.Prelude.{◌≡◌, ◌∷◌, ◌++◌};
+ghost use Rattle.plain.specs.Results.{Gives};
+ghost use Rattle.messages_cell.specs.Messages.{out_client};
+ghost use Rattle.wire_core.specs.Forms.{Form};
+ghost use Rattle.frame_core.specs.Blocks.{framed};
+ghost use Rattle.frame_core.specs.Told.{told};
+
+use crate::blocks::{bytes_of, write_framed};
+use crate::kinds::place_of;
+use byteorder::{BigEndian, ByteOrder};
+use messages_cell::Out;
+use plain::Bytes;
+use std::alloc::Global;
+use tags_cell::ClientNumber;
+use wire_core::{WireFault, write_out};
+
+/// What a master tells the program that started it.
+#[derive(Drop)]
+pub enum Told {
+    /// A line that is printed, its text without LF.
+    Line(Bytes),
+    /// A message, and the client that it goes to.
+    Message(ClientNumber, Out),
+    /// What was sent is no frame.
+    Bad(WireFault),
+    /// All of a frame is answered.
+    End,
+}
+
+/// The bytes of a line, with their number in front. Refused is a frame of 2^32 bytes or more.
+#[tactic(auto, unfolding(wire_core::specs::Fields::block, crate::specs::Told::told))]
+pub fn write_line(alloc: Global, text: &[u8]) -> Result<Bytes, WireFault>
+    ensures { Gives WireFault.NoMemory result (framed told (Told.Line text.now)) }
+{
+    let mut count = [0; 8];
+    BigEndian::write_u64(&mut count, text.len() as u64);
+    write_framed(alloc, 0, &count[4..], text)
+}
+
+/// The bytes of a message to its client, with their number in front. Refused is a frame of 2^32 bytes or more.
+pub fn write_message(alloc: Global, message: &Out) -> Result<Bytes, WireFault>
+    ensures { Gives WireFault.NoMemory result (framed told (Told.Message (out_client message.now) message.now)) }
+{
+    let client = bytes_of(message.client().get());
+    match write_out(alloc, message) {
+        Ok(bytes) => write_framed(alloc, 1, &client, bytes.as_slice()),
+        Err(fault) => Err(fault),
+    }
+}
+
+/// The bytes by which it is told that a frame is none, with their number in front.
+#[tactic(auto, unfolding(crate::specs::Told::told))]
+pub fn write_bad(alloc: Global, fault: WireFault) -> Result<Bytes, WireFault>
+    ensures { Gives WireFault.NoMemory result (framed told (Told.Bad fault)) }
+{
+    write_framed(alloc, 2, &[place_of(fault)], &[])
+}
+
+/// The bytes of the mark behind all that is told of a frame, with their number in front.
+#[tactic(auto, unfolding(crate::specs::Told::told))]
+pub fn write_end(alloc: Global) -> Result<Bytes, WireFault>
+    ensures { Gives WireFault.NoMemory result (framed told Told.End) }
+{
+    write_framed(alloc, 3, &[], &[])
+}

@@ -1,0 +1,83 @@
+-- What is told of a frame, and its bytes.
+use Rattle.std.specs.Prelude.{◌≡◌, ℕ, List, [], ◌∷◌, ◌++◌, map, Ok}
+use Rattle.node_core.specs.declared.refusals.Fault.{Fault}
+use Rattle.node_core.specs.declared.lines.Line.{Line}
+use Rattle.node_core.specs.declared.lines.Line.TheVariants as lines
+use Rattle.node_core.specs.Texts.{line_text}
+use Rattle.messages_cell.specs.declared.outs.Out.{Out}
+use Rattle.messages_cell.specs.Messages.{out_client}
+use Rattle.sweep_laws.specs.declared.swept.Swept.{Swept}
+use Rattle.wire_core.specs.declared.faults.WireFault.{WireFault}
+use Rattle.frame_core.specs.declared.tellings.Told.{Told}
+use Rattle.frame_core.specs.declared.tellings.Told.TheVariants as tells
+use Rattle.frame_core.specs.Blocks.{framed}
+use Rattle.frame_core.specs.Told.{told}
+use Rattle.serve_core.specs.declared.settling.End.{End}
+use Rattle.serve_core.specs.declared.settling.End.TheVariants as ends
+use Rattle.serve_core.specs.declared.settling.Settled.{Settled}
+use Rattle.serve_core.specs.declared.answers.Answered.{Answered}
+use Rattle.serve_core.specs.declared.answers.Answered.TheVariants as answers
+use Rattle.serve_cell.specs.declared.seats.Reply.{Reply}
+use Rattle.serve_cell.specs.declared.seats.Reply.TheVariants as replies
+
+-- ---- what is told
+
+abbrev pub line_told : Line → Told
+line_told line = tells.Line (line_text line)
+
+abbrev pub out_told : Out → Told
+out_told message = tells.Message (out_client message) message
+
+abbrev pub refusal_told : Fault → List Told
+refusal_told fault = line_told (lines.Refused fault) ∷ []
+
+abbrev pub bad_told : WireFault → List Told
+bad_told fault = tells.Bad fault ∷ []
+
+-- the mark behind all that is told of a frame
+abbrev pub mark_told : List Told
+mark_told = tells.End ∷ []
+
+-- of a step its lines, and then its messages
+abbrev pub step_told : List Line → List Out → List Told
+step_told printed sent = map line_told printed ++ map out_told sent
+
+abbrev pub sweeps_told : List Swept → List Told
+sweeps_told [] = []
+sweeps_told (swept ∷ rest) = step_told swept.lines swept.outs ++ sweeps_told rest
+
+-- a refused sweep is told of as a line
+abbrev pub end_told : End → List Told
+end_told ends.Quiet = []
+end_told (ends.Refused fault) = refusal_told fault
+end_told ends.Unfinished = []
+
+abbrev pub settled_told : Settled → List Told
+settled_told settled = sweeps_told settled.sweeps ++ end_told settled.end
+
+abbrev pub answered_told : Answered → List Told
+answered_told (answers.Refused fault) = refusal_told fault
+answered_told (answers.Taken taken settled) = step_told taken.lines taken.outs ++ settled_told settled
+
+abbrev pub reply_told : Reply → List Told
+reply_told (replies.Bad fault) = bad_told fault
+reply_told (replies.Refused fault) = refusal_told fault
+reply_told (replies.Came epoch settled) = line_told (lines.Up epoch) ∷ settled_told settled
+reply_told (replies.Answered answered) = answered_told answered
+reply_told (replies.Swept settled) = settled_told settled
+reply_told replies.Gone = line_told lines.Down ∷ []
+
+-- all that is told of a frame, and the mark behind it
+abbrev pub all_told : Reply → List Told
+all_told reply = reply_told reply ++ mark_told
+
+-- ---- its bytes
+
+-- these are the blocks of what is told, one behind the other
+abbrev pub AreBlocks : List Told → List ℕ → Type 0
+AreBlocks [] bytes = bytes ≡ []
+AreBlocks (given ∷ rest) bytes = (here : List ℕ) × (later : List ℕ) × (framed told given ≡ Ok here) × AreBlocks rest later × (bytes ≡ here ++ later)
+
+-- what is told was put behind what was there
+abbrev pub Puts : List Told → List ℕ → List ℕ → Type 0
+Puts given old new = (bytes : List ℕ) × AreBlocks given bytes × (new ≡ old ++ bytes)

@@ -1,0 +1,130 @@
+-- Frames that come one behind the other in a stream, and the answers in another.
+use Rattle.std.specs.Prelude.{◌≡◌, ◌⊎◌, ◌≤◌, ⊤, ℕ, List, [], ◌∷◌, ◌++◌, length, take, drop, Option, Some, None, Result, Ok, Err}
+use Rattle.std.specs.Io.KnownBytes.{Appends, IsAtEnd}
+use Rattle.plain.specs.Results.{Gives}
+use Rattle.wire_core.specs.declared.faults.WireFault.{WireFault}
+use Rattle.wire_core.specs.declared.faults.WireFault.TheVariants as wire
+use Rattle.wire_core.specs.Forms.{◌>>=◌, Form, read_whole}
+use Rattle.frame_core.specs.declared.frames.Frame.{Frame}
+use Rattle.frame_core.specs.Blocks.{block_at, next_block}
+use Rattle.frame_core.specs.Frames.{frame}
+use Rattle.serve_cell.specs.declared.seats.Reply.{Reply}
+use Rattle.serve_cell.specs.declared.stops.Stop.{Stop}
+use Rattle.serve_cell.specs.declared.stops.Stop.TheVariants.{Unread, Unwritten, NoMemory}
+use Rattle.serve_cell.specs.declared.streams.Turned.{Turned}
+use Rattle.serve_cell.specs.declared.streams.Turned.TheVariants.{On, Over, Stopped}
+use Rattle.serve_cell.specs.Seats.{Hosted, Does}
+use Rattle.serve_cell.specs.Replies.{all_told, AreBlocks}
+
+-- ---- reading
+
+-- what is left of a text behind so many bytes, where it is known
+abbrev pub Drops : ℕ → Option (List ℕ) → Option (List ℕ) → Type 0
+Drops count None after = ⊤
+Drops count (Some text) None = ⊥
+Drops count (Some text) (Some rest) = rest ≡ drop count text
+
+-- the next block of a text, and what is left behind it, where it is known
+abbrev pub BlockIs : Option (List ℕ) → Result (List ℕ) WireFault → Option (List ℕ) → Type 0
+BlockIs None block after = ⊤
+BlockIs (Some text) block None = ⊥
+BlockIs (Some text) block (Some rest) = next_block text ≡ Some (block, rest)
+
+-- a block of so many bytes, or what is wrong with it, and what is left behind it
+abbrev pub BehindIs : ℕ → Option (List ℕ) → Result (List ℕ) WireFault → Option (List ℕ) → Type 0
+BehindIs count None block after = ⊤
+BehindIs count (Some text) block None = ⊥
+BehindIs count (Some text) block (Some rest) = block_at count text ≡ (block, rest)
+
+-- the bytes in front in a buffer, of which so many are a block; or what is wrong with it
+abbrev pub in_buffer : Result ℕ WireFault → List ℕ → Result (List ℕ) WireFault
+in_buffer (Ok count) buffer = Ok (take count buffer)
+in_buffer (Err fault) buffer = Err fault
+
+abbrev pub Fits : Result ℕ WireFault → List ℕ → Type 0
+Fits (Ok count) buffer = count ≤ length buffer
+Fits (Err fault) buffer = ⊤
+
+abbrev pub FoundBehind : ℕ → Result ℕ WireFault → List ℕ → Option (List ℕ) → Option (List ℕ) → Type 0
+FoundBehind count block buffer text rest = Fits block buffer × BehindIs count text (in_buffer block buffer) rest
+
+-- none is left, or the next was found
+abbrev pub FoundBlock : Option (Result ℕ WireFault) → List ℕ → Option (List ℕ) → Option (List ℕ) → Type 0
+FoundBlock None buffer text rest = IsAtEnd text
+FoundBlock (Some block) buffer text rest = Fits block buffer × BlockIs text (in_buffer block buffer) rest
+
+-- the frame of a block, or what is wrong with it
+abbrev pub frame_of : Result (List ℕ) WireFault → Result Frame WireFault
+frame_of block = block >>= λ bytes. read_whole frame bytes
+
+-- the next frame of a text, or what is wrong with it
+pub record FrameIs (text : Option (List ℕ)) (sent : Result Frame WireFault) (rest : Option (List ℕ)) : Type 0 where
+  pub block : Result (List ℕ) WireFault
+  pub next : BlockIs text block rest
+  pub read : Gives wire.NoMemory sent (frame_of block)
+
+abbrev pub FoundFrame : Option (Result Frame WireFault) → Option (List ℕ) → Option (List ℕ) → Type 0
+FoundFrame None text rest = IsAtEnd text
+FoundFrame (Some sent) text rest = FrameIs text sent rest
+
+-- ---- answering
+
+-- a frame was read, done, and answered so
+pub record Turn (lease : ℕ) (text : Option (List ℕ)) (old : Hosted) (reply : Reply) (new : Hosted) (rest : Option (List ℕ)) : Type 0 where
+  pub sent : Result Frame WireFault
+  pub next : FrameIs text sent rest
+  pub does : Does lease sent old reply new
+
+-- frames of a text were read and done, one behind the other, and answered so
+abbrev pub Turns : ℕ → Option (List ℕ) → Hosted → List Reply → Hosted → Option (List ℕ) → Type 0
+Turns lease text old [] new rest = (new ≡ old) × (rest ≡ text)
+Turns lease text old (reply ∷ replies) new rest =
+    (mid : Hosted) × (behind : Option (List ℕ)) × Turn lease text old reply mid behind × Turns lease behind mid replies new rest
+
+-- all that is told of them, in their order
+abbrev pub AreAnswers : List Reply → List ℕ → Type 0
+AreAnswers [] bytes = bytes ≡ []
+AreAnswers (reply ∷ rest) bytes = (here : List ℕ) × (later : List ℕ) × AreBlocks (all_told reply) here × AreAnswers rest later × (bytes ≡ here ++ later)
+
+-- frames were read and done, and all that is told of them was written
+pub record Served (lease : ℕ) (text : Option (List ℕ)) (old new : Hosted) (rest before after : Option (List ℕ)) : Type 0 where
+  pub replies : List Reply
+  pub bytes : List ℕ
+  pub turns : Turns lease text old replies new rest
+  pub answers : AreAnswers replies bytes
+  pub written : Appends before after bytes
+
+-- one frame more was done, or none
+abbrev pub MaybeOne : ℕ → Option (List ℕ) → Hosted → Hosted → Type 0
+MaybeOne lease text old new = (new ≡ old) ⊎ ((reply : Reply) × (rest : Option (List ℕ)) × Turn lease text old reply new rest)
+
+-- all frames of a text were done and answered; or those before one that couldn't be read; or those before one that may
+-- be done, whose answer found no memory; or frames were done, the answer to one of which couldn't be written
+abbrev pub Ends : ℕ → Option (List ℕ) → Hosted → Result (Unit {0}) Stop → Hosted → Option (List ℕ) → Option (List ℕ) → Type 0
+Ends lease text old (Ok x) new before after = (rest : Option (List ℕ)) × Served lease text old new rest before after × IsAtEnd rest
+Ends lease text old (Err Unread) new before after = (rest : Option (List ℕ)) × Served lease text old new rest before after
+Ends lease text old (Err NoMemory) new before after =
+    (mid : Hosted) × (rest : Option (List ℕ)) × Served lease text old mid rest before after × MaybeOne lease rest mid new
+Ends lease text old (Err Unwritten) new before after = (replies : List Reply) × (rest : Option (List ℕ)) × Turns lease text old replies new rest
+
+-- what one turn did: a frame was answered, or none is left; or it stopped so
+abbrev pub TakesTurn : ℕ → Option (List ℕ) → Hosted → Turned → Hosted → Option (List ℕ) → Option (List ℕ) → Option (List ℕ) → Type 0
+TakesTurn lease text old On new rest before after =
+    (reply : Reply) × (bytes : List ℕ) × Turn lease text old reply new rest × AreBlocks (all_told reply) bytes × Appends before after bytes
+TakesTurn lease text old Over new rest before after = IsAtEnd text × (new ≡ old) × (after ≡ before)
+TakesTurn lease text old (Stopped Unread) new rest before after = (new ≡ old) × (after ≡ before)
+TakesTurn lease text old (Stopped NoMemory) new rest before after = MaybeOne lease text old new × (after ≡ before)
+TakesTurn lease text old (Stopped Unwritten) new rest before after = (reply : Reply) × Turn lease text old reply new rest
+
+-- all that is told of a frame was written; or there is no memory for it, or it can't be written
+abbrev pub IsTold : Turned → Reply → Option (List ℕ) → Option (List ℕ) → Type 0
+IsTold On reply before after = (bytes : List ℕ) × AreBlocks (all_told reply) bytes × Appends before after bytes
+IsTold Over reply before after = ⊥
+IsTold (Stopped NoMemory) reply before after = after ≡ before
+IsTold (Stopped Unwritten) reply before after = ⊤
+IsTold (Stopped Unread) reply before after = ⊥
+
+-- what was found was done, and told of so; or nothing was found
+abbrev pub DoesFound : ℕ → Option (Result Frame WireFault) → Hosted → Turned → Hosted → Option (List ℕ) → Option (List ℕ) → Type 0
+DoesFound lease None old turned new before after = (turned ≡ Over) × (new ≡ old) × (after ≡ before)
+DoesFound lease (Some sent) old turned new before after = (reply : Reply) × Does lease sent old reply new × IsTold turned reply before after

@@ -1,0 +1,150 @@
+//! The bytes of what is told.
+ghost use Rattle.std.specs.Prelude.{◌∷◌, ◌++◌, [], map, OnOk, IfOk};
+ghost use Rattle.serve_cell.specs.Replies.{line_told, out_told, refusal_told, bad_told, mark_told, step_told, sweeps_told, end_told, settled_told, answered_told, reply_told, all_told, AreBlocks, Puts};
+
+use crate::seats::Reply;
+use crate::stops::Stop;
+use frame_core::{write_bad, write_end, write_line, write_message};
+use messages_cell::Out;
+use node_core::{Fault, Line};
+use serve_core::{Answered, End, Settled};
+use std::alloc::Global;
+use sweep_laws::Swept;
+use wire_core::WireFault;
+
+/// The bytes of all that is told of a frame, and of the mark behind it.
+pub fn write_reply(alloc: Global, reply: &Reply) -> Result<Vec<u8>, Stop>
+    ensures { IfOk result (λ bytes. AreBlocks (all_told reply.now) bytes.items) }
+{
+    let mut out = Vec::new(alloc);
+    put_reply(alloc, &mut out, reply)?;
+    put_mark(alloc, &mut out)?;
+    Ok(out)
+}
+
+fn put_mark(alloc: Global, out: &mut Vec<u8>) -> Result<(), Stop>
+    ensures { OnOk result (Puts mark_told out.old.items out.new.items) }
+{
+    let block = write_end(alloc)?;
+    Ok(out.extend_from_slice(block.as_slice())?)
+}
+
+fn put_reply(alloc: Global, out: &mut Vec<u8>, reply: &Reply) -> Result<(), Stop>
+    ensures { OnOk result (Puts (reply_told reply.now) out.old.items out.new.items) }
+{
+    match reply {
+        Reply::Bad(fault) => put_bad(alloc, out, *fault),
+        Reply::Refused(fault) => put_refusal(alloc, out, *fault),
+        Reply::Came(epoch, settled) => put_arrival(alloc, out, *epoch, settled),
+        Reply::Answered(answered) => put_answered(alloc, out, answered),
+        Reply::Swept(settled) => put_settled(alloc, out, settled),
+        Reply::Gone => put_own_line(alloc, out, Line::Down),
+    }
+}
+
+fn put_bad(alloc: Global, out: &mut Vec<u8>, fault: WireFault) -> Result<(), Stop>
+    ensures { OnOk result (Puts (bad_told fault) out.old.items out.new.items) }
+{
+    let block = write_bad(alloc, fault)?;
+    Ok(out.extend_from_slice(block.as_slice())?)
+}
+
+fn put_refusal(alloc: Global, out: &mut Vec<u8>, fault: Fault) -> Result<(), Stop>
+    ensures { OnOk result (Puts (refusal_told fault) out.old.items out.new.items) }
+{
+    put_own_line(alloc, out, Line::Refused(fault))
+}
+
+fn put_own_line(alloc: Global, out: &mut Vec<u8>, line: Line) -> Result<(), Stop>
+    ensures { OnOk result (Puts (line_told line ∷ []) out.old.items out.new.items) }
+{
+    let put = put_line(alloc, out, &line);
+    drop(line);
+    put
+}
+
+// A master came up, and swept.
+fn put_arrival(alloc: Global, out: &mut Vec<u8>, epoch: u64, settled: &Settled) -> Result<(), Stop>
+    ensures { OnOk result (Puts (line_told (Line.Up epoch) ∷ settled_told settled.now) out.old.items out.new.items) }
+{
+    put_own_line(alloc, out, Line::Up(epoch))?;
+    put_settled(alloc, out, settled)
+}
+
+fn put_answered(alloc: Global, out: &mut Vec<u8>, answered: &Answered) -> Result<(), Stop>
+    ensures { OnOk result (Puts (answered_told answered.now) out.old.items out.new.items) }
+{
+    match answered {
+        Answered::Refused(fault) => put_refusal(alloc, out, *fault),
+        Answered::Taken(taken, settled) => {
+            put_step(alloc, out, taken.lines.as_slice(), taken.outs.as_slice())?;
+            put_settled(alloc, out, settled)
+        }
+    }
+}
+
+fn put_settled(alloc: Global, out: &mut Vec<u8>, settled: &Settled) -> Result<(), Stop>
+    ensures { OnOk result (Puts (settled_told settled.now) out.old.items out.new.items) }
+{
+    put_sweeps(alloc, out, settled.sweeps.as_slice())?;
+    put_end(alloc, out, settled.end)
+}
+
+fn put_end(alloc: Global, out: &mut Vec<u8>, end: End) -> Result<(), Stop>
+    ensures { OnOk result (Puts (end_told end) out.old.items out.new.items) }
+{
+    match end {
+        End::Quiet | End::Unfinished => Ok(()),
+        End::Refused(fault) => put_refusal(alloc, out, fault),
+    }
+}
+
+fn put_sweeps(alloc: Global, out: &mut Vec<u8>, sweeps: &[Swept]) -> Result<(), Stop>
+    ensures { OnOk result (Puts (sweeps_told sweeps.now) out.old.items out.new.items) }
+{
+    for swept in sweeps {
+        put_step(alloc, out, swept.lines.as_slice(), swept.outs.as_slice())?;
+    }
+    Ok(())
+}
+
+// The lines of a step, and then its messages.
+fn put_step(alloc: Global, out: &mut Vec<u8>, lines: &[Line], outs: &[Out]) -> Result<(), Stop>
+    ensures { OnOk result (Puts (step_told lines.now outs.now) out.old.items out.new.items) }
+{
+    put_lines(alloc, out, lines)?;
+    put_outs(alloc, out, outs)
+}
+
+fn put_lines(alloc: Global, out: &mut Vec<u8>, lines: &[Line]) -> Result<(), Stop>
+    ensures { OnOk result (Puts (map line_told lines.now) out.old.items out.new.items) }
+{
+    for line in lines {
+        put_line(alloc, out, line)?;
+    }
+    Ok(())
+}
+
+fn put_outs(alloc: Global, out: &mut Vec<u8>, outs: &[Out]) -> Result<(), Stop>
+    ensures { OnOk result (Puts (map out_told outs.now) out.old.items out.new.items) }
+{
+    for message in outs {
+        put_out(alloc, out, message)?;
+    }
+    Ok(())
+}
+
+fn put_line(alloc: Global, out: &mut Vec<u8>, line: &Line) -> Result<(), Stop>
+    ensures { OnOk result (Puts (line_told line.now ∷ []) out.old.items out.new.items) }
+{
+    let text = format!(in alloc; "{line}")?;
+    let block = write_line(alloc, text.as_str().as_bytes())?;
+    Ok(out.extend_from_slice(block.as_slice())?)
+}
+
+fn put_out(alloc: Global, out: &mut Vec<u8>, message: &Out) -> Result<(), Stop>
+    ensures { OnOk result (Puts (out_told message.now ∷ []) out.old.items out.new.items) }
+{
+    let block = write_message(alloc, message)?;
+    Ok(out.extend_from_slice(block.as_slice())?)
+}

@@ -1,0 +1,49 @@
+//! Why the frames of a stream are answered no further.
+use std::alloc::{AllocError, AllocFailed};
+use std::io;
+use wire_core::WireFault;
+
+/// Why the frames of a stream are answered no further.
+#[derive(Clone, Copy, Debug)]
+pub enum Stop {
+    /// The stream can't be read.
+    Unread,
+    /// The answers can't be written.
+    Unwritten,
+    /// There is no memory for an answer.
+    NoMemory,
+}
+
+impl From<AllocError> for Stop {
+    ghost use Rattle.std.specs.Prelude.{◌≡◌};
+    ghost use Rattle.serve_cell.specs.declared.stops.Stop.TheVariants.{NoMemory};
+
+    ghost from_gives = { λ _ e. e ≡ NoMemory };
+
+    fn from(_e: AllocError) -> Stop {
+        Stop::NoMemory
+    }
+}
+
+// An answer of 2^32 bytes or more counts as one that finds no memory.
+impl From<WireFault> for Stop {
+    ghost use Rattle.std.specs.Prelude.{◌≡◌};
+    ghost use Rattle.serve_cell.specs.declared.stops.Stop.TheVariants.{NoMemory};
+
+    ghost from_gives = { λ _ e. e ≡ NoMemory };
+
+    fn from(_e: WireFault) -> Stop {
+        Stop::NoMemory
+    }
+}
+
+impl From<io::Error> for Stop {
+    ghost use Rattle.std.specs.Prelude.{◌≡◌};
+    ghost use Rattle.serve_cell.specs.declared.stops.Stop.TheVariants.{Unwritten};
+
+    ghost from_gives = { λ _ e. e ≡ Unwritten };
+
+    fn from(_e: io::Error) -> Stop {
+        Stop::Unwritten
+    }
+}

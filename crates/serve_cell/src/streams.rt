@@ -1,0 +1,140 @@
+//! The frames of a stream are answered one behind the other.
+ghost use Rattle.std.specs.Prelude.{◌≡◌, ◌≤◌, length, IfOk, OnOk};
+ghost use Rattle.std.specs.Io.KnownBytes.{Appends};
+ghost use Rattle.serve_cell.specs.Seats.{hosted};
+ghost use Rattle.serve_cell.specs.Streams.{Ends, TakesTurn, IsTold, DoesFound};
+
+use crate::inputs::next_frame;
+use crate::outputs::write_reply;
+use crate::seats::{Reply, Seat};
+use crate::stops::Stop;
+use frame_core::{BLOCK_LIMIT, Frame};
+use rows_cell::Records;
+use std::alloc::{AllocError, Global};
+use std::io::{self, Read, Write};
+use wire_core::WireFault;
+
+/// What became of one turn.
+#[derive(Clone, Copy)]
+pub enum Turned {
+    /// A frame was answered.
+    On,
+    /// None is left.
+    Over,
+    Stopped(Stop),
+}
+
+/// Answers the frames of a stream, one behind the other, to its end: each is done, all that it changes is committed, and
+/// then all that is told of it is written and flushed, before more is read. What is no frame is told of, and changes
+/// nothing. The lease is in milliseconds.
+pub fn serve_on<R: Records, I: Read, W: Write>(
+    alloc: Global,
+    lease: u64,
+    seat: Seat<R>,
+    reader: &mut I,
+    writer: &mut W,
+) -> (Seat<R>, Result<(), Stop>)
+    requires { (1000 ≤ lease) × (lease ≤ 60000) }
+    ensures { Ends lease (I.remaining reader.old) (hosted R.store seat) result.1 (hosted R.store result.0) (W.contents writer.old) (W.contents writer.new) }
+{
+    match block_room(alloc) {
+        Ok(mut room) => serve_frames(alloc, lease, seat, reader, room.as_mut_slice(), writer),
+        Err(_) => (seat, Err(Stop::NoMemory)),
+    }
+}
+
+// Room for a block.
+fn block_room(alloc: Global) -> Result<Vec<u8>, AllocError>
+    ensures { IfOk result (λ room. length room.items ≡ 1048576) }
+{
+    let mut room = Vec::new(alloc);
+    room.resize(BLOCK_LIMIT, 0)?;
+    Ok(room)
+}
+
+fn serve_frames<R: Records, I: Read, W: Write>(
+    alloc: Global,
+    lease: u64,
+    first: Seat<R>,
+    reader: &mut I,
+    buffer: &mut [u8],
+    writer: &mut W,
+) -> (Seat<R>, Result<(), Stop>)
+    requires lease { (1000 ≤ lease) × (lease ≤ 60000) }
+    requires room { length buffer.old ≡ 1048576 }
+    ensures { Ends lease (I.remaining reader.old) (hosted R.store first) result.1 (hosted R.store result.0) (W.contents writer.old) (W.contents writer.new) }
+{
+    let mut seat = first;
+    for _turn in 0..u64::MAX {
+        let (next, turned) = serve_frame(alloc, lease, seat, reader, buffer, writer);
+        seat = next;
+        match turned {
+            Turned::On => {}
+            Turned::Over => return (seat, Ok(())),
+            Turned::Stopped(stop) => return (seat, Err(stop)),
+        }
+    }
+    (seat, Err(Stop::Unread))
+}
+
+// One frame.
+fn serve_frame<R: Records, I: Read, W: Write>(
+    alloc: Global,
+    lease: u64,
+    seat: Seat<R>,
+    reader: &mut I,
+    buffer: &mut [u8],
+    writer: &mut W,
+) -> (Seat<R>, Turned)
+    requires lease { (1000 ≤ lease) × (lease ≤ 60000) }
+    requires room { length buffer.old ≡ 1048576 }
+    ensures { TakesTurn lease (I.remaining reader.old) (hosted R.store seat) result.1 (hosted R.store result.0) (I.remaining reader.new) (W.contents writer.old) (W.contents writer.new) }
+{
+    match next_frame(alloc, reader, buffer) {
+        Ok(found) => serve_found(alloc, lease, seat, found, writer),
+        Err(stop) => (seat, Turned::Stopped(stop)),
+    }
+}
+
+// Does what was found in a stream, and tells of it.
+fn serve_found<R: Records, W: Write>(
+    alloc: Global,
+    lease: u64,
+    seat: Seat<R>,
+    found: Option<Result<Frame, WireFault>>,
+    writer: &mut W,
+) -> (Seat<R>, Turned)
+    requires { (1000 ≤ lease) × (lease ≤ 60000) }
+    ensures { DoesFound lease found (hosted R.store seat) result.1 (hosted R.store result.0) (W.contents writer.old) (W.contents writer.new) }
+{
+    match found {
+        Some(sent) => {
+            let (next, reply) = seat.take(alloc, lease, &sent);
+            drop(sent);
+            let turned = tell(alloc, &reply, writer);
+            drop(reply);
+            (next, turned)
+        }
+        None => (seat, Turned::Over),
+    }
+}
+
+// Writes all that is told of a frame, and flushes it.
+fn tell<W: Write>(alloc: Global, reply: &Reply, writer: &mut W) -> Turned
+    ensures { IsTold result reply.now (W.contents writer.old) (W.contents writer.new) }
+{
+    match write_reply(alloc, reply) {
+        Ok(bytes) => match write_bytes(writer, bytes.as_slice()) {
+            Ok(()) => Turned::On,
+            Err(_) => Turned::Stopped(Stop::Unwritten),
+        },
+        Err(_) => Turned::Stopped(Stop::NoMemory),
+    }
+}
+
+fn write_bytes<W: Write>(writer: &mut W, bytes: &[u8]) -> io::Result<()>
+    ensures { OnOk result (Appends (W.contents writer.old) (W.contents writer.new) bytes.now) }
+{
+    writer.write_all(bytes)?;
+    writer.flush()
+}

@@ -1,0 +1,221 @@
+//! A session as bytes, with what is told of each frame.
+use rows_cell::ListRecords;
+use serve_cell::{Seat, serve_on};
+use settings_core::Settings;
+use std::alloc::Global;
+use std::test::Fail;
+
+// The lease of every master, in milliseconds.
+const LEASE: u64 = 12_000;
+
+// A frame, and all that is told of it, by its bytes in hexadecimal: laid out by hand, the bytes of handles by another
+// program. In each the first four bytes are how many follow, and then stand the version and the kind.
+pub(crate) const ROWS: &[(&str, &str, &str)] = &[
+    (
+        "a master comes up",
+        "0000000a010000000000000003e8",
+        "0000000a01000000000475702031000000020103",
+    ),
+    (
+        "a session begins",
+        "00000023010100000000000003e801000000000000000001000000000000000100000003616e6e",
+        "0000000f0100000000097374617274656420310000002c0101000000000000000101000000000000000001000000000000000100000000000000010000000000002ee0000000020103",
+    ),
+    (
+        "another begins",
+        "00000023010100000000000003e801000000000000000002000000000000000100000003626f62",
+        "0000000f0100000000097374617274656420320000002c0101000000000000000201000000000000000002000000000000000100000000000000010000000000002ee0000000020103",
+    ),
+    (
+        "a file is made",
+        "00000046010100000000000007d0010200000000000000010000000000000001000000000000000100000000072f6c732f632f6603010100000000026869000000000000000000000000",
+        "000000480100000000426170706c6965642031203120707574202f6c732f632f662066696c65203420312031206261736520626173652062617365207065726d616e656e74203220363836390000006c0101000000000000000101020000000000000001000000000000000100000000000000010000000000390100000000000000010000000000000001000000000000000100000000000000040300000000000000072f6c732f632f6623708d95ec9f9fe9000000000000000400000000020103",
+    ),
+    (
+        "it is opened",
+        "0000003c010100000000000007d0010200000000000000020000000000000001000000000000000100000000072f6c732f632f66010000000000000000000000",
+        "0000006c0101000000000000000201020000000000000002000000000000000100000000000000010000000000390100000000000000010000000000000002000000000000000100000000000000040100000000000000072f6c732f632f66a9cece210313afe9000000000000000400000000020103",
+    ),
+    (
+        "a read is granted a right",
+        "00000063010100000000000007d0010200000000000000020000000000000001000000000000000202000000390100000000000000010000000000000002000000000000000100000000000000040100000000000000072f6c732f632f66a9cece210313afe900",
+        "000000190100000000136772616e74656420312032202f6c732f632f6600000066010100000000000000020102000000000000000200000000000000010000000000000002010000000000000000020000000000000000040000000000000001000000000000000100000004626173650000000462617365000000046261736500000000026869000000020103",
+    ),
+    (
+        "a change waits for it",
+        "0000007301010000000000000bb8010200000000000000010000000000000001000000000000000205000000390100000000000000010000000000000001000000000000000100000000000000040300000000000000072f6c732f632f6623708d95ec9f9fe9000000036e657701000000000000000100",
+        "000000020103",
+    ),
+    (
+        "a Beat is told of it",
+        "0000003401010000000000000bb8010100000000000000020000000000000001000000000000000200000000000000000000000000000000",
+        "000000470101000000000000000201010000000000000002000000000000000100000000000000020000000000002ee0000000010000000000000001000000072f6c732f632f6600000000000000020103",
+    ),
+    (
+        "the next one acknowledges it",
+        "0000003401010000000000000fa0010100000000000000020000000000000001000000000000000300000000000000010000000000000000",
+        "0000000d01000000000761636b656420310000004a0100000000446170706c6965642031203220707574202f6c732f632f662066696c65203420322031206261736520626173652062617365207065726d616e656e74203320366536353737000000260101000000000000000101020000000000000001000000000000000100000000000000020006000000020103",
+    ),
+    (
+        "sessions end",
+        "0000000a01020000000000004e20",
+        "0000000d010000000007656e64656420310000000d010000000007656e6465642032000000020103",
+    ),
+    (
+        "a kind that isn't there",
+        "000000020109",
+        "00000003010205000000020103",
+    ),
+    (
+        "another version",
+        "0000000a02020000000000004e20",
+        "00000003010204000000020103",
+    ),
+    ("nothing at all", "00000000", "00000003010202000000020103"),
+    (
+        "a moment that is cut off",
+        "00000003010200",
+        "00000003010202000000020103",
+    ),
+    (
+        "bytes behind a frame",
+        "00000003010300",
+        "00000003010203000000020103",
+    ),
+    (
+        "a client out of its range",
+        "0000002301010000000000004e2001000020000000000000000000000000000100000003616e6e",
+        "00000003010206000000020103",
+    ),
+    (
+        "no principal",
+        "0000002201010000000000004e20010000000000000000030000000000000001000000022e2e",
+        "00000003010207000000020103",
+    ),
+    (
+        "a message of another version",
+        "0000002301010000000000004e2002000000000000000003000000000000000100000003616e6e",
+        "00000003010204000000020103",
+    ),
+    (
+        "a message without a session",
+        "0000003401010000000000004e20010100000000000000010000000000000001000000000000000400000000000000000000000000000000",
+        "0000001a01000000001472656675736564203139204e6f53657373696f6e0000002501010000000000000001010300000000000000010000000000000001000000000000000412000000020103",
+    ),
+    (
+        "a second master",
+        "0000000a01000000000000004e20",
+        "0000001901000000001372656675736564203339204d61737465725570000000020103",
+    ),
+    (
+        "the master goes",
+        "000000020103",
+        "0000000a010000000004646f776e000000020103",
+    ),
+    (
+        "a tick without one",
+        "0000000a01020000000000004e20",
+        "0000001b01000000001572656675736564203338204d6173746572446f776e000000020103",
+    ),
+    (
+        "a message without one",
+        "0000002301010000000000004e2001000000000000000003000000000000000100000003616e6e",
+        "0000001b01000000001572656675736564203338204d6173746572446f776e000000020103",
+    ),
+    (
+        "a moment behind the last",
+        "0000000a01000020000000000000",
+        "0000001a0100000000147265667573656420313320457868617573746564000000020103",
+    ),
+    (
+        "the next one comes up",
+        "0000000a01000000000000005208",
+        "0000000a01000000000475702032000000020103",
+    ),
+];
+
+/// A new store, and no master.
+pub(crate) fn new_seat(alloc: Global) -> Result<Seat<ListRecords>, Fail> {
+    let settings = Settings::standard(alloc)?;
+    Ok(Seat::Down(ListRecords::new(alloc, &settings)?))
+}
+
+/// What is told of the frames of a stream; nothing where they weren't all answered.
+pub(crate) fn told_of(
+    alloc: Global,
+    seat: Seat<ListRecords>,
+    sent: &[u8],
+) -> (Seat<ListRecords>, Vec<u8>) {
+    let mut reader = sent;
+    let mut told: Vec<u8> = Vec::new(alloc);
+    let (next, ended) = serve_on(alloc, LEASE, seat, &mut reader, &mut told);
+    if ended.is_err() {
+        told.clear();
+    }
+    (next, told)
+}
+
+// Whether just these bytes are told of a frame, by its bytes, and the seat behind it.
+fn is_told(
+    alloc: Global,
+    seat: Seat<ListRecords>,
+    sent: &[u8],
+    wanted: &[u8],
+) -> (Seat<ListRecords>, bool) {
+    let (next, told) = told_of(alloc, seat, sent);
+    let same = told.as_slice() == wanted;
+    (next, same)
+}
+
+#[test]
+fn frame_by_frame(rt: HostRuntime) -> Result<(), Fail> {
+    let mut seat = new_seat(rt.alloc())?;
+    for (name, sent, wanted) in ROWS {
+        let sent = hex::decode(rt.alloc(), *sent)?;
+        let wanted = hex::decode(rt.alloc(), *wanted)?;
+        let (next, same) = is_told(rt.alloc(), seat, sent.as_slice(), wanted.as_slice());
+        seat = next;
+        assert!(rt; same, "{name}");
+    }
+    drop(seat);
+    Ok(())
+}
+
+/// All frames of the rows, one behind the other, and all that is told of them.
+pub(crate) fn whole(alloc: Global) -> Result<(Vec<u8>, Vec<u8>), Fail> {
+    let mut sent = Vec::new(alloc);
+    let mut told = Vec::new(alloc);
+    for (_, frame, answer) in ROWS {
+        sent.extend_from_slice(hex::decode(alloc, *frame)?.as_slice())?;
+        told.extend_from_slice(hex::decode(alloc, *answer)?.as_slice())?;
+    }
+    Ok((sent, told))
+}
+
+#[test]
+fn as_one_stream(rt: HostRuntime) -> Result<(), Fail> {
+    let (sent, wanted) = whole(rt.alloc())?;
+    let (seat, same) = is_told(
+        rt.alloc(),
+        new_seat(rt.alloc())?,
+        sent.as_slice(),
+        wanted.as_slice(),
+    );
+    drop(seat);
+    assert!(rt; same);
+    Ok(())
+}
+
+// What ends within a frame is told of as cut off, behind all that stands before it.
+#[test]
+fn cut_at_each_place(rt: HostRuntime) -> Result<(), Fail> {
+    let cut = [0u8, 0, 0, 3, 1, 2, 2, 0, 0, 0, 2, 1, 3];
+    let sent = [0u8, 0, 0, 2, 1, 3];
+    for count in 1..6 {
+        let seat = new_seat(rt.alloc())?;
+        let (seat, same) = is_told(rt.alloc(), seat, &sent[..count], cut.as_slice());
+        drop(seat);
+        assert!(rt; same, "cut behind {count}");
+    }
+    Ok(())
+}
