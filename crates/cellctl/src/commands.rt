@@ -5,6 +5,7 @@ ghost use Rattle.cellctl.specs.Exits.{IsExit};
 use crate::check::check_store;
 use crate::exits::{unread_status, unwritten_status};
 use crate::help::{SCRIPTS, STORES, VERSION};
+use crate::serves::{serve_path, serve_words};
 use crate::settings::settings;
 use crate::stores::run_over;
 use anyhow::{Context, Result, bail};
@@ -51,12 +52,16 @@ fn run_command(rt: &HostRuntime, words: Args) -> Result<u8>
     }
 }
 
-// Of the two subcommands one is there.
+// Of the subcommands one is there.
 fn do_command(rt: &HostRuntime, matches: &ArgMatches<'_>) -> Result<u8>
     ensures { IfOk result IsExit }
 {
     if let Some(found) = matches.subcommand_matches("check") {
         return check_store(rt, found.get_str("FILE").unwrap_or_default());
+    }
+    if let Some(found) = matches.subcommand_matches("serve") {
+        let path = found.get_str("store").unwrap_or_default();
+        return serve_path(rt, found.get_str("settings"), path);
     }
     match matches.subcommand_matches("run") {
         Some(found) => run_script(rt, found.get_str("settings"), found.get_str("store")),
@@ -66,10 +71,11 @@ fn do_command(rt: &HostRuntime, matches: &ArgMatches<'_>) -> Result<u8>
 
 fn cellctl<'a>(alloc: Global) -> Result<Command<'a>, AllocError> {
     Command::new(alloc, "cellctl")
-        .about("Runs scripts against a cell, and tests its stores")
+        .about("Runs scripts against a cell, tests its stores, and serves it to a program")
         .version(VERSION)
         .subcommand_required(true)
         .subcommand(run_words(alloc)?)?
+        .subcommand(serve_words(alloc)?)?
         .subcommand(check_words(alloc)?)
 }
 
