@@ -4,17 +4,17 @@ ghost use Rattle.cellctl.specs.Exits.{IsExit};
 
 use crate::exits::unwritten_status;
 use anyhow::{Context, Result, bail};
+use names_cell::Component;
 use rows_cell::{Counts, StoreFault};
 use rows_file::{inspect_file, verdict};
-use settings_core::Settings;
 use std::{fs, io};
 
-/// Tests the store at a path by the standard settings' cell, prints what is found, and answers the exit status: 0 where
-/// it is sound, 3 where it is refused, 1 where that can't be written.
-pub(crate) fn check_store(rt: &HostRuntime, path: &str) -> Result<u8>
+/// Tests the store at a path by the name of a cell, prints what is found, and answers the exit status: 0 where it is sound,
+/// 3 where it is refused, 1 where that can't be written.
+pub(crate) fn check_store(rt: &HostRuntime, cell: &Component, path: &str) -> Result<u8>
     ensures { IfOk result IsExit }
 {
-    let tested = tested(rt, path);
+    let tested = tested(rt, cell, path);
     let status = tested_status(&tested);
     if status == 4 {
         bail!("out of memory");
@@ -36,10 +36,17 @@ fn tested_status(tested: &Result<Counts, StoreFault>) -> u8
     }
 }
 
+// The files lie where a link leads, as for a run.
+fn tested(rt: &HostRuntime, cell: &Component, path: &str) -> Result<Counts, StoreFault> {
+    match fs::canonicalize(rt, path) {
+        Ok(real) => tested_at(rt, cell, real.as_str()),
+        Err(error) => Err(unread_fault(error.kind())),
+    }
+}
+
 // Reads the file and what stands beside it, and writes nothing: the database is opened in memory.
-fn tested(rt: &HostRuntime, path: &str) -> Result<Counts, StoreFault> {
+fn tested_at(rt: &HostRuntime, cell: &Component, path: &str) -> Result<Counts, StoreFault> {
     let alloc = rt.alloc();
-    let settings = Settings::standard(alloc).map_err(|_| StoreFault::NoMemory)?;
     let Some(database) = read(rt, path)? else {
         return Err(StoreFault::Damaged);
     };
@@ -47,18 +54,26 @@ fn tested(rt: &HostRuntime, path: &str) -> Result<Counts, StoreFault> {
         return Err(StoreFault::Refused);
     }
     let log = read_log(rt, format!(in alloc; "{path}-wal")?.as_str())?;
-    inspect_file(alloc, database.as_slice(), log.as_slice(), settings.cell())
+    inspect_file(alloc, database.as_slice(), log.as_slice(), cell)
 }
 
 // The bytes of a file; none where there is no such file.
 fn read(rt: &HostRuntime, path: &str) -> Result<Option<Vec<u8>>, StoreFault> {
     match fs::read(rt, path) {
         Ok(bytes) => Ok(Some(bytes)),
-        Err(error) => match error.kind() {
-            io::ErrorKind::NotFound => Ok(None),
-            io::ErrorKind::OutOfMemory => Err(StoreFault::NoMemory),
-            _ => Err(StoreFault::Refused),
+        Err(error) => match unread_fault(error.kind()) {
+            StoreFault::Damaged => Ok(None),
+            fault => Err(fault),
         },
+    }
+}
+
+// What is said of a file that can't be read: one that isn't there is no store.
+fn unread_fault(kind: io::ErrorKind) -> StoreFault {
+    match kind {
+        io::ErrorKind::NotFound => StoreFault::Damaged,
+        io::ErrorKind::OutOfMemory => StoreFault::NoMemory,
+        _ => StoreFault::Refused,
     }
 }
 

@@ -4,13 +4,12 @@ ghost use Rattle.cellctl.specs.Exits.{IsExit};
 
 use crate::check::check_store;
 use crate::exits::{unread_status, unwritten_status};
-use crate::help::{SCRIPTS, STORES, VERSION};
 use crate::settings::settings;
 use crate::stores::run_over;
+use crate::words::program;
 use anyhow::{Context, Result, bail};
+use clap::ArgMatches;
 use clap::error::{Error, ErrorKind};
-use clap::{Arg, ArgAction, ArgMatches, Command};
-use std::alloc::{AllocError, Global};
 use std::env::{self, Args};
 
 /// Does what the command line asks for, and answers the exit status: that of the script; 0 for a sound store and 3 for one
@@ -39,7 +38,7 @@ fn run_command(rt: &HostRuntime, words: Args) -> Result<u8>
 {
     let alloc = rt.alloc();
     let words: Vec<String> = words.collect(alloc).context("reading the command line")?;
-    let asked = cellctl(alloc)?.try_get_matches_from(words.as_slice());
+    let asked = program(alloc)?.try_get_matches_from(words.as_slice());
     match asked {
         Ok(matches) => do_command(rt, &matches),
         Err(error) => {
@@ -56,52 +55,21 @@ fn do_command(rt: &HostRuntime, matches: &ArgMatches<'_>) -> Result<u8>
     ensures { IfOk result IsExit }
 {
     if let Some(found) = matches.subcommand_matches("check") {
-        return check_store(rt, found.get_str("FILE").unwrap_or_default());
+        let path = found.get_str("FILE").unwrap_or_default();
+        return check(rt, found.get_str("settings"), path);
     }
     match matches.subcommand_matches("run") {
-        Some(found) => run_script(rt, found.get_str("settings"), found.get_str("store")),
-        None => run_script(rt, None, None),
+        Some(found) => {
+            let is_traced = found.get_flag("trace");
+            run_script(
+                rt,
+                found.get_str("settings"),
+                found.get_str("store"),
+                is_traced,
+            )
+        }
+        None => run_script(rt, None, None, false),
     }
-}
-
-fn cellctl<'a>(alloc: Global) -> Result<Command<'a>, AllocError> {
-    Command::new(alloc, "cellctl")
-        .about("Runs scripts against a cell, and tests its stores")
-        .version(VERSION)
-        .subcommand_required(true)
-        .subcommand(run_words(alloc)?)?
-        .subcommand(check_words(alloc)?)
-}
-
-fn run_words<'a>(alloc: Global) -> Result<Command<'a>, AllocError> {
-    let settings = Arg::new(alloc, "settings")
-        .long("settings")
-        .value_name("FILE")
-        .help("The settings of the cell, in TOML")
-        .action(ArgAction::Set);
-    let store = Arg::new(alloc, "store")
-        .long("store")
-        .value_name("FILE")
-        .help("The SQLite file of the store; without it the store stands in memory")
-        .action(ArgAction::Set);
-    Command::new(alloc, "run")
-        .about(
-            "Runs a script: its steps on standard input, the lines that they print on standard output",
-        )
-        .after_help(SCRIPTS)
-        .arg(settings)?
-        .arg(store)
-}
-
-fn check_words<'a>(alloc: Global) -> Result<Command<'a>, AllocError> {
-    let file = Arg::new(alloc, "FILE")
-        .help("The SQLite file of the store")
-        .required(true)
-        .action(ArgAction::Set);
-    Command::new(alloc, "check")
-        .about("Tests the store in a SQLite file, and counts what it holds")
-        .after_help(STORES)
-        .arg(file)
 }
 
 // Tells what stands in place of a script: what is wrong with the command line, whether or not these words can be
@@ -121,11 +89,26 @@ fn tell(rt: &HostRuntime, words: &Error) -> u8
 
 // A script of standard input, with the settings of a file or the standard ones, over the store in a file or a new one in
 // memory.
-fn run_script(rt: &HostRuntime, named: Option<&str>, store: Option<&str>) -> Result<u8>
+fn run_script(
+    rt: &HostRuntime,
+    named: Option<&str>,
+    store: Option<&str>,
+    is_traced: bool,
+) -> Result<u8>
     ensures { IfOk result IsExit }
 {
     match settings(rt, named) {
-        Ok(settings) => run_over(rt, &settings, store),
+        Ok(settings) => run_over(rt, &settings, store, is_traced),
+        Err(status) => Ok(status),
+    }
+}
+
+// The store in a file, with the settings of a file or the standard ones.
+fn check(rt: &HostRuntime, named: Option<&str>, path: &str) -> Result<u8>
+    ensures { IfOk result IsExit }
+{
+    match settings(rt, named) {
+        Ok(settings) => check_store(rt, settings.cell(), path),
         Err(status) => Ok(status),
     }
 }

@@ -30,6 +30,7 @@ Calls; H is the client's own handle number, 1, 2, .. in the order in which its O
   open NAME MODE may|must dir permanent|ephemeral [acl R W C]
                     the same with a directory, which goes once it is empty too
   open .. delay N   each of these, with a handle of a lock-delay of N milliseconds
+  open .. events E  each of these, with a handle whose client is told of events; E is some letters of mdlx, in this order
   close H           closes the handle
   poison H          every later call on the handle but close is refused
   read H            the content and the numbers of the node
@@ -60,12 +61,19 @@ Exit status:
   0                 the script ran to its end; a refused step is a line like others
   1                 a bad step, behind which nothing is done; or the output can't be written
   2                 a wrong command line, or settings that aren't any
-  3                 the store can't be opened, or holds no rows of a cell
+  3                 the store can't be opened or closed, or holds no rows of a cell
   4                 memory ran out outside a step
 
 The store is a SQLite file. Where it isn't there, or has no table, a new store is made in it; else its rows are taken as
-they are. Nobody else may write it meanwhile. A script in a file is up to 1,500 commits ahead of its lines: where such a run
-is killed, these stand in the store, and their lines weren't written.
+they are. Nobody else may write it meanwhile. Behind the script it is closed: the rows stand in that one file. A script in a
+file is up to 1,500 commits ahead of its lines: where such a run is killed, these stand in the store, and their lines weren't
+written; the log beside the file (FILE-wal) is then a part of the store.
+
+With --trace a line on standard error tells of each message that is sent: its number, from whom to whom, and its kind:
+  message 9 client 1 -> master Call read
+  message 10 master -> client 1 Reply
+A message to the master is a Start, a Beat or a Call with its word; one to a client is Started, Alive, Reply or Refused. These
+are the numbers of take and give. A settle tells of its messages when it ends.
 
 Settings are a table in TOML. A key that isn't there has its value here:
   cell       = \"c\"               a component
@@ -78,13 +86,13 @@ pub(crate) const STORES: &str = "\
 On standard output stands one of
   sound epoch E nodes N sessions S locks L
                           the store is sound; S counts the live sessions
-  refused 16 StoreDamaged it isn't that of a cell c, its rows break a rule, or it isn't there
+  refused 16 StoreDamaged it isn't that of this cell, its rows break a rule, or it isn't there
   refused 15 StoreRefused it can't be read
-Nothing is written to it.
+The cell is c, or that of the settings. Nothing is written to the store. Where FILE is a link, that is what it leads to.
 
 Exit status:
   0                 the store is sound
   1                 the output can't be written
-  2                 a wrong command line
+  2                 a wrong command line, or settings that aren't any
   3                 it is refused
   4                 memory ran out";

@@ -5,8 +5,10 @@ mod check;
 mod commands;
 mod exits;
 mod help;
+mod runs;
 mod settings;
 mod stores;
+mod words;
 
 use std::process::ExitCode;
 

@@ -23,7 +23,7 @@ enum Act {
     Run(&'static str, &'static str),
     // A statement of another program.
     Statement(&'static str),
-    // What a test says of its files.
+    // What a test says of its files, and of the database file alone: each act before closed the store as one file.
     Says(&'static str),
 }
 
@@ -74,7 +74,8 @@ fn run(
 ) -> Result<(bool, Files<Memory>), Fail> {
     let mut world = world_of(alloc, settings, files)?;
     let is_so = prints(alloc, &mut world, steps, lines);
-    Ok((is_so, closed(world.close().release())?))
+    let files = world.close().close().ok().ok_or("closed")?;
+    Ok((is_so, files))
 }
 
 fn state(alloc: Global, files: Files<Memory>, sql: &str) -> Result<(bool, Files<Memory>), Fail> {
@@ -83,11 +84,16 @@ fn state(alloc: Global, files: Files<Memory>, sql: &str) -> Result<(bool, Files<
     Ok((is_done, closed(conn)?))
 }
 
-fn is_said(alloc: Global, files: &Files<Memory>, line: &str) -> bool {
-    match said(alloc, files.db.bytes(), files.log.bytes()) {
+fn says(alloc: Global, db: &[u8], log: &[u8], line: &str) -> bool {
+    match said(alloc, db, log) {
         Some(answer) => answer.as_str() == line,
         None => false,
     }
+}
+
+fn is_said(alloc: Global, files: &Files<Memory>, line: &str) -> bool {
+    says(alloc, files.db.bytes(), files.log.bytes(), line)
+        && says(alloc, files.db.bytes(), &[], line)
 }
 
 // Whether it goes so, and the files behind it.

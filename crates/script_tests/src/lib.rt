@@ -32,4 +32,8 @@ mod scripts;
 #[cfg(test)]
 mod stores;
 #[cfg(test)]
+mod streams;
+#[cfg(test)]
 mod texts;
+#[cfg(test)]
+mod traces;

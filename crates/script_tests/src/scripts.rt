@@ -1,4 +1,4 @@
-//! Whole scripts, and the limits of the reader.
+//! Whole scripts, and the ends of them.
 use crate::caches::{LEASES, READS, ROOM, SHARES};
 use crate::ephemerals::{EPHEMERALS, SPARED, WAITS};
 use crate::events::{MASKS, MISSED, ORDERS};
@@ -7,17 +7,18 @@ use crate::leases::{BEATS, CLOCKS, SESSION_ENDS};
 use crate::locks::{DELAYS, LOCKS, SEQUENCERS, WAITERS};
 use crate::records::sql_records;
 use crate::rights::RIGHTS;
+use crate::streams::Trickle;
 use crate::texts::text_of;
 use names_cell::{Component, Principal};
 use plain::Secret;
 use rows_cell::{ListRecords, Records};
-use script_cell::{Counted, script};
+use script_cell::script;
 use settings_core::Settings;
 use std::alloc::Global;
-use std::io::{Read, Write};
+use std::io::Read;
 use std::process::Abort;
+use std::str;
 use std::test::Fail;
-use std::{io, str};
 
 /// A name, what the script begins with, its steps and its lines, as `text_of` reads them.
 pub(crate) type Row = (&'static str, Before, &'static str, &'static str);
@@ -137,14 +138,14 @@ const SCRIPTS: &[Row] = &[
 
 // What a script leaves behind.
 #[derive(Drop)]
-struct Ran {
-    status: u8,
-    output: Vec<u8>,
-    errors: Vec<u8>,
+pub(crate) struct Ran {
+    pub(crate) status: u8,
+    pub(crate) output: Vec<u8>,
+    pub(crate) errors: Vec<u8>,
 }
 
 // The cell `c` with a lease of so many milliseconds.
-fn settings(alloc: Global, lease: u64) -> Result<Settings, Fail> {
+pub(crate) fn settings(alloc: Global, lease: u64) -> Result<Settings, Fail> {
     let cell = Component::parse(alloc, "c")?;
     let ann = Principal::parse(alloc, "ann")?;
     let bob = Principal::parse(alloc, "bob")?;
@@ -173,18 +174,18 @@ fn in_lists<R: Read + Drop>(alloc: Global, settings: &Settings, reader: R) -> Re
     Ok(over(alloc, settings, records, reader))
 }
 
-fn shown(bytes: &[u8]) -> &str {
+pub(crate) fn shown(bytes: &[u8]) -> &str {
     str::from_utf8(bytes).unwrap_or("no text")
 }
 
 // The script of this name ended so: with this status, these lines and these words.
-fn ended(rt: &impl Abort, name: &str, ran: &Ran, status: u8, lines: &str, words: &str) {
+pub(crate) fn ended(rt: &impl Abort, name: &str, ran: &Ran, status: u8, lines: &str, words: &str) {
     assert_eq!(rt; shown(ran.output.as_slice()), lines, "at {name}");
     assert_eq!(rt; shown(ran.errors.as_slice()), words, "at {name}");
     assert!(rt; ran.status == status, "at {name}");
 }
 
-// A row's script prints its lines, over rows in lists and over a store in SQL, and ends with status 0.
+// A row's script prints its lines, over rows in lists and over a store in SQL, whole and byte by byte, and ends with status 0.
 fn prints(rt: &impl Abort, alloc: Global, row: &Row) -> Result<(), Fail> {
     let (name, before, steps, lines) = row;
     let (steps_before, lines_before) = before.texts();
@@ -209,12 +210,12 @@ fn prints_under(
     lines: &str,
 ) -> Result<(), Fail> {
     let settings = settings(alloc, lease)?;
-    let done = prints_in_both(rt, alloc, &settings, name, steps, lines);
+    let done = prints_in_all(rt, alloc, &settings, name, steps, lines);
     drop(settings);
     done
 }
 
-fn prints_in_both(
+fn prints_in_all(
     rt: &impl Abort,
     alloc: Global,
     settings: &Settings,
@@ -226,6 +227,8 @@ fn prints_in_both(
     prints_over(rt, alloc, settings, records, name, steps, lines);
     let records = sql_records(alloc, settings)?;
     prints_over(rt, alloc, settings, records, name, steps, lines);
+    let ran = in_lists(alloc, settings, Trickle::that_ends(steps.as_bytes()))?;
+    ended(rt, name, &ran, 0, lines, "");
     Ok(())
 }
 
@@ -441,7 +444,7 @@ const ENDS: &[(&str, Bytes, u8, &str, &str)] = &[
     ),
 ];
 
-fn run_from<R: Read + Drop>(alloc: Global, reader: R) -> Result<Ran, Fail> {
+pub(crate) fn run_from<R: Read + Drop>(alloc: Global, reader: R) -> Result<Ran, Fail> {
     let settings = Settings::standard(alloc)?;
     let ran = in_lists(alloc, &settings, reader);
     drop(settings);
@@ -468,6 +471,8 @@ fn ends(rt: &impl Abort, alloc: Global, row: &(&str, Bytes, u8, &str, &str)) -> 
     push_parts(&mut bytes, parts)?;
     let ran = run_from(alloc, bytes.as_slice())?;
     ended(rt, name, &ran, *status, lines, words);
+    let ran = run_from(alloc, Trickle::that_ends(bytes.as_slice()))?;
+    ended(rt, name, &ran, *status, lines, words);
     Ok(())
 }
 
@@ -476,113 +481,5 @@ fn ends_of_scripts(rt: HostRuntime) -> Result<(), Fail> {
     for row in ENDS {
         ends(&rt, rt.alloc(), row)?;
     }
-    Ok(())
-}
-
-// Gives a byte a read, and fails where nothing is left.
-#[derive(Drop)]
-struct Trickle<'a> {
-    left: &'a [u8],
-}
-
-impl<'a> Read for Trickle<'a> {
-    fn read(&mut self, buf: &mut [u8]) -> io::Result<usize> {
-        let (Some((byte, rest)), Some(place)) = (self.left.split_first(), buf.first_mut()) else {
-            return Err(io::Error::other("nothing is left"));
-        };
-        *place = *byte;
-        self.left = rest;
-        Ok(1)
-    }
-}
-
-#[test]
-fn read_that_fails(rt: HostRuntime) -> Result<(), Fail> {
-    let script = Trickle {
-        left: b"up 0\nup 0\nup",
-    };
-    let ran = run_from(rt.alloc(), script)?;
-    let lines = "up 1\nrefused 39 MasterUp\n";
-    ended(&rt, "read_that_fails", &ran, 1, lines, "line 3: bad step\n");
-    Ok(())
-}
-
-#[test]
-fn reads_are_counted(rt: HostRuntime) -> Result<(), Fail> {
-    let mut counted = Counted::new(b"abc".as_slice(), 2);
-    let mut byte = [0];
-    assert_eq!(rt; counted.read(&mut byte)?, 1);
-    assert_eq!(rt; counted.read(&mut byte)?, 1);
-    assert_eq!(rt; byte, *b"b");
-    assert!(rt; counted.read(&mut byte).is_err());
-    Ok(())
-}
-
-// Takes nothing.
-#[derive(Drop)]
-struct Shut;
-
-impl Write for Shut {
-    fn write(&mut self, _buf: &[u8]) -> io::Result<usize> {
-        Err(io::Error::other("shut"))
-    }
-
-    fn flush(&mut self) -> io::Result<()> {
-        Ok(())
-    }
-}
-
-// The status where nothing can be written, and how many words there are.
-fn shut_status(alloc: Global, settings: &Settings) -> Result<(u8, usize), Fail> {
-    let records = ListRecords::new(alloc, settings)?;
-    let mut errors = Vec::new(alloc);
-    let steps = b"up 0\n".as_slice();
-    let mut shut = Shut;
-    let status = script(alloc, settings, records, steps, &mut shut, &mut errors);
-    Ok((status, errors.len()))
-}
-
-#[test]
-fn write_that_fails(rt: HostRuntime) -> Result<(), Fail> {
-    let settings = Settings::standard(rt.alloc())?;
-    assert!(rt; shut_status(rt.alloc(), &settings)? == (1, 0));
-    Ok(())
-}
-
-// Holds what was written, with a bar wherever it was flushed.
-#[derive(Drop)]
-struct Marked {
-    text: Vec<u8>,
-}
-
-impl Write for Marked {
-    fn write(&mut self, buf: &[u8]) -> io::Result<usize> {
-        self.text.write(buf)
-    }
-
-    fn flush(&mut self) -> io::Result<()> {
-        self.text.write_all(b"|")
-    }
-}
-
-fn flushed_into(alloc: Global, settings: &Settings) -> Result<Marked, Fail> {
-    let records = ListRecords::new(alloc, settings)?;
-    let steps = Trickle {
-        left: b"up 0\nup 0\n",
-    };
-    let mut output = Marked {
-        text: Vec::new(alloc),
-    };
-    let mut errors = Vec::new(alloc);
-    let _ = script(alloc, settings, records, steps, &mut output, &mut errors);
-    Ok(output)
-}
-
-#[test]
-fn lines_are_flushed_before_more_is_read(rt: HostRuntime) -> Result<(), Fail> {
-    let settings = Settings::standard(rt.alloc())?;
-    let output = flushed_into(rt.alloc(), &settings)?;
-    let lines = "|up 1\n|refused 39 MasterUp\n||";
-    assert_eq!(rt; shown(output.text.as_slice()), lines);
     Ok(())
 }

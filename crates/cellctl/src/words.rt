@@ -1,0 +1,83 @@
+//! The words of the command line.
+use crate::help::{SCRIPTS, STORES, VERSION};
+use clap::{Arg, ArgAction, Command};
+use std::alloc::{AllocError, Global};
+
+/// The program, with its two subcommands.
+pub(crate) fn program<'a>(alloc: Global) -> Result<Command<'a>, AllocError> {
+    let run = run_words(alloc)?;
+    with_check(alloc, with_run(alloc, run)?)
+}
+
+fn with_run<'a>(alloc: Global, run: Command<'a>) -> Result<Command<'a>, AllocError> {
+    Command::new(alloc, "cellctl")
+        .about("Runs scripts against a cell, and tests its stores")
+        .version(VERSION)
+        .subcommand_required(true)
+        .subcommand(run)
+}
+
+fn with_check<'a>(alloc: Global, program: Command<'a>) -> Result<Command<'a>, AllocError> {
+    match check_words(alloc) {
+        Ok(check) => program.subcommand(check),
+        Err(error) => {
+            drop(program);
+            Err(error)
+        }
+    }
+}
+
+fn run_words<'a>(alloc: Global) -> Result<Command<'a>, AllocError> {
+    let run = run_about(alloc).arg(settings_word(alloc))?;
+    let run = run.arg(store_word(alloc))?;
+    run.arg(trace_word(alloc))
+}
+
+fn run_about<'a>(alloc: Global) -> Command<'a> {
+    Command::new(alloc, "run")
+        .about(
+            "Runs a script: its steps on standard input, the lines that they print on standard output",
+        )
+        .after_help(SCRIPTS)
+}
+
+fn check_words<'a>(alloc: Global) -> Result<Command<'a>, AllocError> {
+    let check = check_about(alloc).arg(settings_word(alloc))?;
+    check.arg(file_word(alloc))
+}
+
+fn check_about<'a>(alloc: Global) -> Command<'a> {
+    Command::new(alloc, "check")
+        .about("Tests the store in a SQLite file, and counts what it holds")
+        .after_help(STORES)
+}
+
+fn settings_word<'a>(alloc: Global) -> Arg<'a> {
+    Arg::new(alloc, "settings")
+        .long("settings")
+        .value_name("FILE")
+        .help("The settings of the cell, in TOML")
+        .action(ArgAction::Set)
+}
+
+fn store_word<'a>(alloc: Global) -> Arg<'a> {
+    Arg::new(alloc, "store")
+        .long("store")
+        .value_name("FILE")
+        .help("The SQLite file of the store; without it the store stands in memory")
+        .action(ArgAction::Set)
+}
+
+fn trace_word<'a>(alloc: Global) -> Arg<'a> {
+    Arg::new(alloc, "trace")
+        .long("trace")
+        .help("Tells on standard error of each message that is sent")
+        .action(ArgAction::SetTrue)
+}
+
+fn file_word<'a>(alloc: Global) -> Arg<'a> {
+    Arg::new(alloc, "FILE")
+        .help("The SQLite file of the store")
+        .required(true)
+        .action(ArgAction::Set)
+}
