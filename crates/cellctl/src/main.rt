@@ -5,6 +5,7 @@ mod check;
 mod commands;
 mod exits;
 mod help;
+mod lives;
 mod runs;
 mod settings;
 mod stores;
@@ -13,5 +14,5 @@ mod words;
 use std::process::ExitCode;
 
 fn main(rt: HostRuntime) -> ExitCode {
-    ExitCode::from(commands::run(&rt))
+    ExitCode::from(commands::run(&rt, &rt))
 }

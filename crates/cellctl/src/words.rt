@@ -1,17 +1,18 @@
 //! The words of the command line.
 use crate::help::{SCRIPTS, STORES, VERSION};
+use crate::lives::with_live;
 use clap::{Arg, ArgAction, Command};
 use std::alloc::{AllocError, Global};
 
-/// The program, with its two subcommands.
+/// The program, with its subcommands.
 pub(crate) fn program<'a>(alloc: Global) -> Result<Command<'a>, AllocError> {
     let run = run_words(alloc)?;
-    with_check(alloc, with_run(alloc, run)?)
+    with_live(alloc, with_check(alloc, with_run(alloc, run)?)?)
 }
 
 fn with_run<'a>(alloc: Global, run: Command<'a>) -> Result<Command<'a>, AllocError> {
     Command::new(alloc, "cellctl")
-        .about("Runs scripts against a cell, and tests its stores")
+        .about("Runs scripts against a cell, lets threads use one, and tests stores")
         .version(VERSION)
         .subcommand_required(true)
         .subcommand(run)
