@@ -5,11 +5,12 @@ mod check;
 mod commands;
 mod exits;
 mod help;
+mod lives;
 mod settings;
 mod stores;
 
 use std::process::ExitCode;
 
 fn main(rt: HostRuntime) -> ExitCode {
-    ExitCode::from(commands::run(&rt))
+    ExitCode::from(commands::run(&rt, &rt))
 }

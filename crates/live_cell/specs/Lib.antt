@@ -1,0 +1,3 @@
+pub use Rattle.watch_cell.specs.Closing
+pub use Rattle.watch_cell.specs.Views
+pub mod Bounds
