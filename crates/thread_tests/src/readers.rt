@@ -140,10 +140,10 @@ fn outlasts<W: Threads + Wait + Sync>(
     name: &Name,
 ) -> Result<bool, Fault> {
     let gate = Gate::new(false);
-    let (went, hit) = join(
+    let (hit, went) = join(
         rt,
-        || publish_two(rt, stage, seats, &gate),
         || viewer.hit(name, &gate),
+        || publish_two(rt, stage, seats, &gate),
     );
     went?;
     Ok(gate.is_late() && is_view(&hit?))

@@ -1,12 +1,10 @@
-use denote.Param.Send.{IsSync, sendable}
+use denote.Param.Send.{sendable}
 use Rattle.std.proofs.Crossing.{crosses}
-use Rattle.std.proofs.MapsCrossing as maps
-use Rattle.live_cell.specs.contracts.letters.Letters as Letters
+use Rattle.watch_cell.proofs.events.Entry.TheSendSync as entry
+use Rattle.watch_cell.proofs.locked.Pass.TheSendSync as pass
+use Rattle.live_cell.proofs.letters.Letters.TheSendSync as letters
+use Rattle.live_cell.proofs.Crossing.{cell_send}
 use Rattle.live_cell.proofs.runs.+fn-threads-join+arg3+threads.Goals as goal
 
--- letters may be sent by any thread
-letters_sync : IsSync Letters.the_row
-letters_sync = search (sendable, crosses, maps.crosses) depth 60 fits 20000
-
 pub join-one-requires-send-F : goal.join-one-requires-send-F
-join-one-requires-send-F g t c κs within = search (letters_sync, sendable, crosses, maps.crosses) depth 60 fits 20000
+join-one-requires-send-F g t c κs within = search (cell_send, entry.the_field_send, entry.the_send, pass.the_send, letters.the_sync, letters.the_field_sync, sendable, crosses) depth 40 fits 5000
