@@ -1,11 +1,10 @@
 -- A master may go to another thread. What stands in its way otherwise is the history of its rights, which exists in proofs alone and owns nothing.
 use denote.Param.Send.{IsSend, owning_send, struct_send, recorded_send, view_send, sendable}
-use denote.Builtin.{u64, bool}
 use denote.Struct.Declared.{shape}
+use Rattle.core.proofs.Crossing.{both}
 use Rattle.std.proofs.alloc.Global.TheSendSync as heap
 use Rattle.names_cell.proofs.components.Component.TheSendSync as component
 use Rattle.plain.proofs.secrets.Secret.TheSendSync as secret
-use Rattle.messages_cell.specs.contracts.outs.Reply as Reply
 use Rattle.messages_cell.proofs.outs.Reply.TheSendSync as reply
 use Rattle.rights_core.specs.contracts.history.History as History
 use Rattle.rights_core.specs.contracts.rights.Rights as Rights
@@ -18,7 +17,6 @@ use Rattle.session_core.proofs.sessions.Sessions.TheSendSync as sessions
 use Rattle.gate_core.proofs.gate.Gate.TheSendSync as gate
 use Rattle.cell_parts.proofs.nodes.Nodes.TheSendSync as nodes
 use Rattle.cell_parts.proofs.open_handles.Handles.TheSendSync as handles
-use Rattle.cell_parts.specs.contracts.pending.Task as Task
 use Rattle.cell_parts.proofs.pending.Task.TheSendSync as task
 use Rattle.cell_state.specs.contracts.masters.Master as Master
 use Rattle.cell_state.specs.contracts.masters.Master.TheInside as master_in
@@ -36,40 +34,11 @@ rights_inside =
 rights_send : IsSend Rights.the_row
 rights_send = view_send rights_in.the_row _ _ _ _ rights_inside
 
-word : IsSend u64
-word = search sendable
-
-flag : IsSend bool
-flag = search sendable
-
 master_inside : IsSend master_in.the_row
 master_inside =
     recorded_send (master_in.the_field).row _ _ (master_in.the_type).to_one
-    (struct_send (shape master_in.the_type) (
-      heap.the_field_send,
-      (
-        component.the_send,
-        (
-          secret.the_send,
-          (
-            plain,
-            (
-              plain,
-              (
-                nodes.the_send,
-                (
-                  locks.the_send,
-                  (
-                    sessions.the_send Reply.the_row reply.the_send,
-                    (flag, (handles.the_send, (rights_send, (gate.the_send Task.the_row task.the_send, (word, (word, tt)))))),
-                  ),
-                ),
-              ),
-            ),
-          ),
-        ),
-      ),
-    ))
+    (struct_send (shape master_in.the_type)
+    (search (heap.the_field_send, component.the_send, secret.the_send, nodes.the_send, locks.the_send, sessions.the_send, reply.the_send, handles.the_send, rights_send, gate.the_send, task.the_send, both, sendable) depth 40))
 
 master_send : IsSend Master.the_row
 master_send = view_send master_in.the_row _ _ _ _ master_inside
