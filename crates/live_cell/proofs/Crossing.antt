@@ -1,7 +1,12 @@
--- A master may go to another thread. What stands in its way otherwise is the history of its rights, which exists in proofs alone and owns nothing.
-use denote.Param.Send.{IsSend, owning_send, struct_send, recorded_send, view_send, sendable}
+-- A watch may be shared by threads: its master may go to another thread, since the history of its rights, which exists in proofs alone, owns nothing.
+use denote.RattleType.{RattleType}
+use denote.Param.Send.{IsSend, IsSync, owning_send, struct_send, struct_sync, recorded_send, recorded_sync, view_send, sendable}
 use denote.Struct.Declared.{shape}
+use Rattle.core.specs.declared.ledger.Ledger as ledger
 use Rattle.core.proofs.Crossing.{both}
+use Rattle.core.proofs.marker.PhantomData.TheSendSync as marker
+use Rattle.core.proofs.sync.Mutex.TheSendSync as mutex
+use Rattle.std.proofs.Crossing.{Vec-send}
 use Rattle.std.proofs.alloc.Global.TheSendSync as heap
 use Rattle.names_cell.proofs.components.Component.TheSendSync as component
 use Rattle.plain.proofs.secrets.Secret.TheSendSync as secret
@@ -22,6 +27,19 @@ use Rattle.cell_state.specs.contracts.masters.Master as Master
 use Rattle.cell_state.specs.contracts.masters.Master.TheInside as master_in
 use Rattle.cell_core.specs.contracts.cells.Cell as Cell
 use Rattle.cell_core.specs.contracts.cells.Cell.TheInside as cell_in
+use Rattle.rows_cell.specs.declared.records.Records as records
+use Rattle.over_core.specs.contracts.cells.Cell as Over
+use Rattle.over_core.specs.contracts.cells.Cell.TheInside as over_in
+use Rattle.watch_cell.specs.declared.locked.Opening as opening
+use Rattle.watch_cell.specs.contracts.locked.Locked as Locked
+use Rattle.watch_cell.specs.contracts.locked.Locked.TheInside as locked_in
+use Rattle.watch_cell.specs.contracts.watches.Watch as Watch
+use Rattle.watch_cell.specs.contracts.events.Entry as Entry
+use Rattle.watch_cell.proofs.events.Entry.TheSendSync as entry
+use Rattle.watch_cell.proofs.ledgers.Books.TheSendSync as books
+use Rattle.watch_cell.proofs.ledgers.Shares.TheSendSync as shares
+use Rattle.watch_cell.specs.contracts.locked.Pass as Pass
+use Rattle.watch_cell.proofs.locked.Pass.TheSendSync as pass
 
 history_send : IsSend History.the_row
 history_send = owning_send History.the_type tt (λ d. tt) (λ k x w. tt)
@@ -46,6 +64,29 @@ master_send = view_send master_in.the_row _ _ _ _ master_inside
 cell_inside : IsSend cell_in.the_row
 cell_inside = recorded_send (cell_in.the_field).row _ _ (cell_in.the_type).to_one (struct_send (shape cell_in.the_type) (master_send, tt))
 
--- the master in memory
-pub cell_send : IsSend Cell.the_row
+cell_send : IsSend Cell.the_row
 cell_send = view_send cell_in.the_row _ _ _ _ cell_inside
+
+module _ (R : RattleType) (r : records.Ghosts R.Denot) where
+  over_inside : IsSend R → IsSend (over_in.the_row R r)
+  over_inside s = recorded_send (over_in.the_field R r).row _ _ (over_in.the_type R r).to_one (struct_send (shape (over_in.the_type R r)) (s, (cell_send, tt)))
+
+  -- a master with its records
+  pub over_send : IsSend R → IsSend (Over.the_row R r)
+  over_send s = view_send (over_in.the_row R r) _ _ _ _ (over_inside s)
+
+module _ (R O I A E C : RattleType) (r : records.Ghosts R.Denot) (o : opening.Ghosts O.Denot) (i : ledger.Ghosts I.Denot) (a : ledger.Ghosts A.Denot) (e : ledger.Ghosts E.Denot) (c : ledger.Ghosts C.Denot) where
+  locked_inside : IsSend R → IsSend (locked_in.the_row R O I A E C r o i a e c)
+  locked_inside s =
+      recorded_send (locked_in.the_field R O I A E C r o i a e c).row _ _ (locked_in.the_type R O I A E C r o i a e c).to_one
+      (struct_send (shape (locked_in.the_type R O I A E C r o i a e c))
+      (search (heap.the_field_send, over_send R r s, Vec-send Entry.the_row entry.the_send, books.the_field_send I A E C i a e c, Vec-send (Pass.the_row I A E C i a e c) (pass.the_send I A E C i a e c), shares.the_field_send I A E C i a e c, marker.the_field_send, both, sendable) depth 40))
+
+  locked_send : IsSend R → IsSend (Locked.the_row R O I A E C r o i a e c)
+  locked_send s = view_send (locked_in.the_row R O I A E C r o i a e c) _ _ _ _ (locked_inside s)
+
+  -- a watch, whose lock lets one thread in at a time
+  pub watch_sync : IsSend R → IsSync (Watch.the_row R O I A E C r o i a e c)
+  watch_sync s =
+      recorded_sync (Watch.the_field R O I A E C r o i a e c).row _ _ (Watch.the_type R O I A E C r o i a e c).to_one
+      (struct_sync (shape (Watch.the_type R O I A E C r o i a e c)) (mutex.the_sync (Locked.the_row R O I A E C r o i a e c) (locked_send s), tt))
