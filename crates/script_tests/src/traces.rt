@@ -17,9 +17,9 @@ const TRACES: &[(&str, &str, bool, &str)] = &[
     ),
     (
         "a refused message, and one that asks for what was granted",
-        "up 0; join 1 ann; join 20 bob; beat 1; beat 20; settle; ask 1 open /ls/c/f rw must file permanent 61; settle; ask 1 read 1; settle; beat 1; settle; ask 20 open /ls/c/f rw; settle; ask 20 set 1 62; settle; down; up 0; ask 20 stat 1; settle",
+        "up 0; join 1 ann; join 20 bob; beat 1; beat 20; settle; ask 1 open /ls/c/f rw must file permanent 61; settle; ask 1 read 1; settle; beat 1; settle; ask 20 open /ls/c/f rw; settle; ask 20 set 1 62; settle; down; up 0; beat 20; settle",
         true,
-        "message 1 client 1 -> master Start; message 2 client 20 -> master Start; message 3 master -> client 1 Started; message 4 master -> client 20 Started; message 5 client 1 -> master Call open; message 6 master -> client 1 Reply; message 7 client 1 -> master Call read; message 8 master -> client 1 Reply; message 9 client 1 -> master Beat; message 10 client 20 -> master Call open; message 11 master -> client 20 Reply; message 12 client 20 -> master Call set; message 13 master -> client 1 Alive; message 14 client 20 -> master Call stat; message 15 master -> client 20 Refused",
+        "message 1 client 1 -> master Start; message 2 client 20 -> master Start; message 3 master -> client 1 Started; message 4 master -> client 20 Started; message 5 client 1 -> master Call open; message 6 master -> client 1 Reply; message 7 client 1 -> master Call read; message 8 master -> client 1 Reply; message 9 client 1 -> master Beat; message 10 client 20 -> master Call open; message 11 master -> client 20 Reply; message 12 client 20 -> master Call set; message 13 master -> client 1 Alive; message 14 client 20 -> master Beat; message 15 master -> client 20 Refused",
     ),
     (
         "a bad step behind what was sent",
