@@ -11,3 +11,4 @@ pub use Rattle.sweep_plan.specs.Plans
 pub use Rattle.sweep_laws.specs.Kept
 pub use Rattle.sweep_laws.specs.Sweep
 pub use Rattle.sweep_laws.specs.Up
+pub use Rattle.deadline_core.specs.Deadlines
