@@ -1,0 +1,166 @@
+//! Blocks of bytes in a stream, each behind its length.
+
+use std::io::{self, ErrorKind, Read, Write};
+
+/// How many bytes are read at once.
+const READ_SIZE: usize = 0x1_0000;
+
+/// Writes one block, in one write where the stream takes it: its length in four bytes, big-endian, and then its bytes.
+///
+/// # Errors
+///
+/// What the stream answers; and `InvalidInput` for 2^32 bytes or more, of which nothing is written.
+pub fn write_block(stream: &mut impl Write, block: &[u8]) -> io::Result<()> {
+    let length = u32::try_from(block.len()).map_err(|_| io::Error::from(ErrorKind::InvalidInput))?;
+    let mut bytes = Vec::with_capacity(block.len() + 4);
+    bytes.extend_from_slice(&length.to_be_bytes());
+    bytes.extend_from_slice(block);
+    stream.write_all(&bytes)?;
+    stream.flush()
+}
+
+/// The blocks that come in a stream. What was read of a block stays where a read times out, so that the next call goes on there.
+#[derive(Debug)]
+pub struct Blocks {
+    limit: usize,
+    bytes: Vec<u8>,
+    begin: usize,
+}
+
+impl Blocks {
+    /// No byte yet; a block has at most so many.
+    #[must_use]
+    pub fn new(limit: usize) -> Blocks {
+        Blocks { limit, bytes: Vec::new(), begin: 0 }
+    }
+
+    /// From here on a block has at most so many bytes.
+    pub fn set_limit(&mut self, limit: usize) {
+        self.limit = limit;
+    }
+
+    /// The next block; None at the end of the stream. Memory is taken for what was read alone, whatever a length says.
+    ///
+    /// # Errors
+    ///
+    /// What a read answers: behind `WouldBlock` and `TimedOut` nothing is lost. `InvalidData` for a block above the limit,
+    /// `UnexpectedEof` where the stream ends within one.
+    pub fn next(&mut self, stream: &mut impl Read) -> io::Result<Option<Vec<u8>>> {
+        loop {
+            if let Some(block) = self.take_block()? {
+                return Ok(Some(block));
+            }
+            if self.fill(stream)? == 0 {
+                return self.ended();
+            }
+        }
+    }
+
+    fn ended(&self) -> io::Result<Option<Vec<u8>>> {
+        if self.begin == self.bytes.len() {
+            return Ok(None);
+        }
+        Err(ErrorKind::UnexpectedEof.into())
+    }
+
+    // The block that stands in front, where it is whole.
+    fn take_block(&mut self) -> io::Result<Option<Vec<u8>>> {
+        let held = &self.bytes[self.begin..];
+        let Some((head, rest)) = held.split_first_chunk::<4>() else {
+            return Ok(None);
+        };
+        let length = u32::from_be_bytes(*head) as usize;
+        if length > self.limit {
+            return Err(ErrorKind::InvalidData.into());
+        }
+        let Some(block) = rest.get(..length) else {
+            return Ok(None);
+        };
+        let block = block.to_vec();
+        self.begin += 4 + length;
+        Ok(Some(block))
+    }
+
+    // Reads once, and says how many bytes came.
+    fn fill(&mut self, stream: &mut impl Read) -> io::Result<usize> {
+        self.bytes.drain(..self.begin);
+        self.begin = 0;
+        let mut room = [0; READ_SIZE];
+        loop {
+            match stream.read(&mut room) {
+                Err(error) if error.kind() == ErrorKind::Interrupted => {}
+                Err(error) => return Err(error),
+                Ok(count) => {
+                    self.bytes.extend_from_slice(&room[..count]);
+                    return Ok(count);
+                }
+            }
+        }
+    }
+}
+
+#[cfg(test)]
+mod tests {
+    use super::*;
+
+    /// A stream that gives so many bytes at a time, and times out before each.
+    struct Slow<'a> {
+        bytes: &'a [u8],
+        step: usize,
+        is_due: bool,
+    }
+
+    impl Read for Slow<'_> {
+        fn read(&mut self, room: &mut [u8]) -> io::Result<usize> {
+            self.is_due = !self.is_due;
+            if self.is_due {
+                return Err(ErrorKind::WouldBlock.into());
+            }
+            let count = self.step.min(self.bytes.len()).min(room.len());
+            let (now, later) = self.bytes.split_at(count);
+            room[..count].copy_from_slice(now);
+            self.bytes = later;
+            Ok(count)
+        }
+    }
+
+    fn all_blocks(bytes: &[u8], step: usize, limit: usize) -> Result<Vec<Vec<u8>>, ErrorKind> {
+        let mut stream = Slow { bytes, step, is_due: false };
+        let mut blocks = Blocks::new(limit);
+        let mut found = Vec::new();
+        loop {
+            match blocks.next(&mut stream) {
+                Ok(Some(block)) => found.push(block),
+                Ok(None) => return Ok(found),
+                Err(error) if error.kind() == ErrorKind::WouldBlock => {}
+                Err(error) => return Err(error.kind()),
+            }
+        }
+    }
+
+    #[test]
+    fn blocks_are_read_in_any_pieces() {
+        let two: &[u8] = b"\0\0\0\x03abc\0\0\0\0\0\0\0\x01d";
+        let rows: &[(&[u8], usize, Result<Vec<Vec<u8>>, ErrorKind>)] = &[
+            (b"", 3, Ok(vec![])),
+            (two, 3, Ok(vec![b"abc".to_vec(), vec![], b"d".to_vec()])),
+            (&two[..6], 3, Err(ErrorKind::UnexpectedEof)),
+            (&two[..2], 3, Err(ErrorKind::UnexpectedEof)),
+            (two, 2, Err(ErrorKind::InvalidData)),
+            (b"\xff\xff\xff\xff", 3, Err(ErrorKind::InvalidData)),
+        ];
+        for (bytes, limit, wanted) in rows {
+            for step in [1, 2, 5, 100] {
+                assert_eq!(&all_blocks(bytes, step, *limit), wanted, "{bytes:?} by {step}");
+            }
+        }
+    }
+
+    #[test]
+    fn a_block_is_written_behind_its_length() {
+        let mut out = Vec::new();
+        write_block(&mut out, b"abc").unwrap();
+        write_block(&mut out, b"").unwrap();
+        assert_eq!(out, b"\0\0\0\x03abc\0\0\0\0");
+    }
+}

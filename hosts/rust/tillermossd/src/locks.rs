@@ -1,0 +1,70 @@
+//! A store is served by one server at a time.
+
+use std::ffi::c_int;
+use std::fs::{File, TryLockError};
+use std::io::{self, ErrorKind};
+use std::os::fd::AsRawFd;
+use std::path::Path;
+use std::thread;
+use std::time::{Duration, Instant};
+
+/// So long a server waits for one before it to be gone.
+const PATIENCE: Duration = Duration::from_secs(10);
+
+/// So long between two tries.
+const PAUSE: Duration = Duration::from_millis(20);
+
+/// The command that sets the flags of a descriptor.
+const F_SETFD: c_int = 2;
+
+unsafe extern "C" {
+    fn fcntl(descriptor: c_int, command: c_int, ...) -> c_int;
+}
+
+/// Takes the lock of a store, in a file beside it; waits a while where another has it, such as a master whose server was killed.
+/// The lock is held until the file that is given back is closed, in this process and in those that it starts from here on: so it
+/// is held as long as a master lives that this server starts.
+pub fn take_lock(path: &Path) -> io::Result<File> {
+    let file = File::options().create(true).append(true).open(path)?;
+    let begun = Instant::now();
+    loop {
+        match file.try_lock() {
+            Ok(()) => break,
+            Err(TryLockError::Error(error)) => return Err(error),
+            Err(TryLockError::WouldBlock) if begun.elapsed() < PATIENCE => thread::sleep(PAUSE),
+            Err(TryLockError::WouldBlock) => {
+                return Err(io::Error::new(ErrorKind::WouldBlock, format!("another server holds {}", path.display())));
+            }
+        }
+    }
+    inherit(&file)?;
+    Ok(file)
+}
+
+// Programs that are started get the descriptor too.
+fn inherit(file: &File) -> io::Result<()> {
+    // SAFETY: the descriptor is open; the call takes an int behind this command, and touches no memory.
+    match unsafe { fcntl(file.as_raw_fd(), F_SETFD, 0 as c_int) } {
+        -1 => Err(io::Error::last_os_error()),
+        _ => Ok(()),
+    }
+}
+
+#[cfg(test)]
+mod tests {
+    use super::*;
+    use std::process::{Command, id};
+
+    #[test]
+    fn a_lock_is_held_by_what_was_started_too() {
+        let path = std::env::temp_dir().join(format!("tillermossd-lock-{}", id()));
+        let held = take_lock(&path).unwrap();
+        let mut child = Command::new("sleep").arg("60").spawn().unwrap();
+        drop(held);
+        let other = File::options().append(true).open(&path).unwrap();
+        assert!(matches!(other.try_lock(), Err(TryLockError::WouldBlock)));
+        child.kill().unwrap();
+        child.wait().unwrap();
+        assert!(take_lock(&path).is_ok());
+    }
+}

@@ -1,0 +1,131 @@
+//! The frames between the server and its master, as `docs/FORMATS.md` lays them out.
+
+use host_wire::Fields;
+use std::io::{self, ErrorKind};
+
+const VERSION: u8 = 1;
+
+/// What a server sends to its master.
+#[derive(Clone, Copy, Debug)]
+pub enum Frame<'a> {
+    /// A master comes up, at this moment.
+    Up(u64),
+    /// The bytes of a client's message come to it, at this moment.
+    Message(u64, &'a [u8]),
+    /// It does what there is to do at this moment.
+    Tick(u64),
+    /// It goes.
+    Down,
+}
+
+impl Frame<'_> {
+    /// The bytes of the block, without its length.
+    pub fn write(self) -> Vec<u8> {
+        let (kind, moment, message): (u8, Option<u64>, &[u8]) = match self {
+            Frame::Up(moment) => (0, Some(moment), &[]),
+            Frame::Message(moment, message) => (1, Some(moment), message),
+            Frame::Tick(moment) => (2, Some(moment), &[]),
+            Frame::Down => (3, None, &[]),
+        };
+        let mut out = vec![VERSION, kind];
+        out.extend(moment.map(u64::to_be_bytes).into_iter().flatten());
+        out.extend_from_slice(message);
+        out
+    }
+}
+
+/// When the master has something to do next, as the mark behind an answer tells it.
+#[derive(Clone, Copy, Debug, PartialEq, Eq)]
+pub enum Next {
+    /// This mark doesn't tell.
+    Untold,
+    /// Nothing before a message comes.
+    Nothing,
+    /// From this moment on.
+    At(u64),
+}
+
+/// What a master tells.
+#[derive(Clone, Debug, PartialEq, Eq)]
+pub enum Told {
+    /// A line that a step printed.
+    Line(String),
+    /// The bytes of a message, for this client.
+    Message(u64, Vec<u8>),
+    /// A frame was none, for the reason of this number.
+    Bad(u8),
+    /// All that is told of a frame stands before.
+    End(Next),
+}
+
+impl Told {
+    /// What is told by these bytes of a block.
+    pub fn read(bytes: &[u8]) -> io::Result<Told> {
+        Told::fields(bytes).ok_or_else(|| io::Error::new(ErrorKind::InvalidData, "what the master tells isn't understood"))
+    }
+
+    fn fields(bytes: &[u8]) -> Option<Told> {
+        let mut fields = Fields(bytes);
+        if fields.byte()? != VERSION {
+            return None;
+        }
+        let told = match fields.byte()? {
+            0 => Told::Line(fields.text()?.to_owned()),
+            1 => return Some(Told::Message(fields.word()?, fields.0.to_vec())),
+            2 => Told::Bad(fields.byte()?),
+            3 => Told::End(next(&mut fields)?),
+            _ => return None,
+        };
+        fields.is_done().then_some(told)
+    }
+}
+
+fn next(fields: &mut Fields) -> Option<Next> {
+    if fields.is_done() {
+        return Some(Next::Untold);
+    }
+    match fields.byte()? {
+        0 => Some(Next::Nothing),
+        1 => Some(Next::At(fields.word()?)),
+        _ => None,
+    }
+}
+
+#[cfg(test)]
+mod tests {
+    use super::*;
+
+    #[test]
+    fn frames_have_their_bytes() {
+        let rows: &[(Frame, &[u8])] = &[
+            (Frame::Up(1000), b"\x01\0\0\0\0\0\0\0\x03\xe8"),
+            (Frame::Message(1, b"\x01\x01m"), b"\x01\x01\0\0\0\0\0\0\0\x01\x01\x01m"),
+            (Frame::Tick(2), b"\x01\x02\0\0\0\0\0\0\0\x02"),
+            (Frame::Down, b"\x01\x03"),
+        ];
+        for (frame, wanted) in rows {
+            assert_eq!(frame.write(), *wanted);
+        }
+    }
+
+    #[test]
+    fn what_is_told_is_read() {
+        let rows: &[(&[u8], Option<Told>)] = &[
+            (b"\x01\0\0\0\0\x04up 1", Some(Told::Line("up 1".to_owned()))),
+            (b"\x01\x01\0\0\0\0\0\0\0\x07\x01\x02", Some(Told::Message(7, vec![1, 2]))),
+            (b"\x01\x02\x05", Some(Told::Bad(5))),
+            (b"\x01\x03", Some(Told::End(Next::Untold))),
+            (b"\x01\x03\0", Some(Told::End(Next::Nothing))),
+            (b"\x01\x03\x01\0\0\0\0\0\0\0\x09", Some(Told::End(Next::At(9)))),
+            (b"\x01\x03\x02", None),
+            (b"\x01\x03\x01\0", None),
+            (b"\x01\x04", None),
+            (b"\x02\x03", None),
+            (b"\x01\0\0\0\0\x03up 1", None),
+            (b"", None),
+        ];
+        for (bytes, wanted) in rows {
+            assert_eq!(Told::read(bytes).ok(), *wanted, "{bytes:?}");
+        }
+    }
+}
