@@ -190,10 +190,7 @@ mod tests {
     fn a_hello_is_read_as_it_was_written() {
         let rows: &[(Hello, &[u8])] = &[
             (Hello::New { principal: principal() }, b"\x01\0\0\0\0\x03ann"),
-            (
-                Hello::Again { principal: principal(), client: 2, token: 3 },
-                b"\x01\x01\0\0\0\x03ann\0\0\0\0\0\0\0\x02\0\0\0\0\0\0\0\x03",
-            ),
+            (Hello::Again { principal: principal(), client: 2, token: 3 }, b"\x01\x01\0\0\0\x03ann\0\0\0\0\0\0\0\x02\0\0\0\0\0\0\0\x03"),
         ];
         for (hello, bytes) in rows {
             assert_eq!(hello.write(), *bytes);

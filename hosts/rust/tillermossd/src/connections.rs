@@ -94,7 +94,9 @@ impl Hall {
                 })?;
                 Ok(Bound { client, token: numbers.token(client, &principal), principal })
             }
-            Hello::Again { principal, client, token } if numbers.is_token(client, &principal, token) => Ok(Bound { client, token, principal }),
+            Hello::Again { principal, client, token } if numbers.is_token(client, &principal, token) => {
+                Ok(Bound { client, token, principal })
+            }
             Hello::Again { .. } => Err(TurnedAway::WrongToken),
         }
     }

@@ -4,12 +4,7 @@
 pub fn digest(key: [u8; 16], message: &[u8]) -> u64 {
     let (low, high) = key.split_at(8);
     let (k0, k1) = (word(low), word(high));
-    let mut state = [
-        k0 ^ 0x736f_6d65_7073_6575,
-        k1 ^ 0x646f_7261_6e64_6f6d,
-        k0 ^ 0x6c79_6765_6e65_7261,
-        k1 ^ 0x7465_6462_7974_6573,
-    ];
+    let mut state = [k0 ^ 0x736f_6d65_7073_6575, k1 ^ 0x646f_7261_6e64_6f6d, k0 ^ 0x6c79_6765_6e65_7261, k1 ^ 0x7465_6462_7974_6573];
     let chunks = message.chunks_exact(8);
     let last = word(chunks.remainder()) | (message.len() as u64) << 56;
     for block in chunks.map(word).chain([last]) {

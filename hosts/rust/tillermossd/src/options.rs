@@ -90,8 +90,12 @@ mod tests {
 
     #[test]
     fn an_address_is_loopback_unless_told_otherwise() {
-        let rows =
-            [("7 --store s", "127.0.0.1:7"), ("0.0.0.0:7 --store s", "0.0.0.0:7"), ("--store s [::1]:7", "[::1]:7"), ("0 --store s", "127.0.0.1:0")];
+        let rows = [
+            ("7 --store s", "127.0.0.1:7"),
+            ("0.0.0.0:7 --store s", "0.0.0.0:7"),
+            ("--store s [::1]:7", "[::1]:7"),
+            ("0 --store s", "127.0.0.1:0"),
+        ];
         for (line, wanted) in rows {
             assert_eq!(read(line).unwrap().unwrap().listen.to_string(), wanted, "{line}");
         }
@@ -114,9 +118,17 @@ mod tests {
 
     #[test]
     fn other_words_are_refused() {
-        for line in
-            ["", "7", "--store s", "7 --store", "7 8 --store s", "7 --store s --who", "seven --store s", "7 --store s --first 0", "65536 --store s"]
-        {
+        for line in [
+            "",
+            "7",
+            "--store s",
+            "7 --store",
+            "7 8 --store s",
+            "7 --store s --who",
+            "seven --store s",
+            "7 --store s --first 0",
+            "65536 --store s",
+        ] {
             assert!(read(line).is_err(), "{line}");
         }
     }

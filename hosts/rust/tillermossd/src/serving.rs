@@ -22,8 +22,8 @@ pub fn serve(options: &Options) -> io::Result<()> {
     let _lock = take_lock(&beside(&store, "lock"))?;
     let has_store = fs::metadata(&store).is_ok_and(|file| file.len() > 0);
     let numbers = Numbers::open(&beside(&store, "numbers"), has_store, options.first)?;
-    let listener =
-        TcpListener::bind(options.listen).map_err(|error| io::Error::new(error.kind(), format!("listening at {}: {error}", options.listen)))?;
+    let listener = TcpListener::bind(options.listen)
+        .map_err(|error| io::Error::new(error.kind(), format!("listening at {}: {error}", options.listen)))?;
     let mut signals = Signals::take()?;
 
     let (ending, ended) = channel();

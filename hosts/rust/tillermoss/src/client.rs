@@ -1,0 +1,395 @@
+//! A client that keeps its session by itself.
+
+use crate::calls::{Call, Create, Opening};
+use crate::core::{Core, End, Reply, Standing, State, Tried};
+use crate::errors::Error;
+use crate::events::{Event, Events};
+use crate::keeper::{Keeper, greet};
+use crate::library::Library;
+use crate::lines::Answer;
+use crate::nodes::{LockMode, Mode, Stat, View};
+use crate::refusals::Refusal;
+use host_wire::{Hello, Welcome};
+use std::sync::Arc;
+use std::sync::mpsc::{Receiver, Sender, channel};
+use std::thread;
+use std::time::{Duration, Instant};
+
+/// So long between two tries of a call that was refused for now.
+const PAUSE: Duration = Duration::from_millis(50);
+
+/// How a client is connected.
+#[derive(Clone, Debug, PartialEq, Eq)]
+pub struct Options {
+    /// Where the server is, `HOST:PORT`.
+    pub server: String,
+    /// Whom the client acts for: 1 to 64 of `a-z 0-9 . _ -`.
+    pub principal: String,
+    /// So long a call that is refused for now is tried again: while the session isn't safe, a recovery lasts, or too many changes
+    /// wait. A call that was sent is waited for as long as the session lasts.
+    pub patience: Duration,
+}
+
+impl Options {
+    /// To this server for this principal, with a patience of 90 s: longer than any recovery.
+    #[must_use]
+    pub fn new(server: &str, principal: &str) -> Options {
+        Options { server: server.to_owned(), principal: principal.to_owned(), patience: Duration::from_secs(90) }
+    }
+}
+
+/// An open node, by the client's own number for it. Whose client is closed, or has lost its session, is open no more.
+#[derive(Clone, Copy, Debug, PartialEq, Eq)]
+pub struct Handle(u64);
+
+/// A node that is watched: its handle, to read, and its events. They end when the handle is closed or the session is lost.
+#[derive(Debug)]
+pub struct Watch {
+    /// By which it can be read.
+    pub handle: Handle,
+    /// What happens to it.
+    pub events: Receiver<Event>,
+}
+
+/// A client of a cell (Burrows 2006, section 2): a session that a thread keeps, and a cache that answers what the master would.
+///
+/// One call at a time waits for the master, others behind it; what the cache answers doesn't wait. When the client is dropped
+/// the cell learns nothing: the session ends when its lease has run out, and with it its locks and ephemeral nodes go.
+#[derive(Debug)]
+pub struct Client {
+    core: Arc<Core>,
+    number: u64,
+    patience: Duration,
+}
+
+impl Client {
+    /// Connects, is given a number, and waits until its session has begun.
+    ///
+    /// # Errors
+    ///
+    /// Where the server can't be reached, turns the client away or gives it no session, and where none began in time.
+    pub fn connect(options: &Options) -> Result<Client, Error> {
+        let principal = options.principal.clone();
+        let (stream, Welcome { client, token }) = greet(&options.server, &Hello::New { principal: principal.clone() })?;
+        let library =
+            Library::open(client, &principal).map_err(|status| Error::Malformed(format!("the client's number, as {status:?}")))?;
+        let core = Arc::new(Core::new(library));
+        let hello = Hello::Again { principal, client, token };
+        let keeper = Keeper { core: core.clone(), server: options.server.clone(), hello };
+        let opened = Client { core, number: client, patience: options.patience };
+        thread::Builder::new().name("tillermoss".to_owned()).spawn(move || keeper.run(stream))?;
+        opened.wait_for_session()?;
+        Ok(opened)
+    }
+
+    fn wait_for_session(&self) -> Result<(), Error> {
+        let begun = Instant::now();
+        let mut state = self.core.lock();
+        while state.standing() == Standing::Unstarted {
+            if let Some(fault) = state.fault() {
+                return Err(fault);
+            }
+            if begun.elapsed() >= self.patience {
+                return Err(Error::Unavailable);
+            }
+            state = self.core.wait(state);
+        }
+        match state.standing() {
+            Standing::Lost => Err(Refusal::NoSession.into()),
+            _ => Ok(()),
+        }
+    }
+
+    /// The client's number, which no other client of the cell has or had.
+    #[must_use]
+    pub fn number(&self) -> u64 {
+        self.number
+    }
+
+    /// Whether the session is lost. Then each call but one is refused, for good: connect anew.
+    #[must_use]
+    pub fn is_lost(&self) -> bool {
+        self.core.lock().standing() == Standing::Lost
+    }
+
+    // Makes a call, again while it is refused for now, and one that only reads also where its outcome got lost. None where the
+    // cache put a content into its room.
+    fn ask(&self, only_reads: bool, mut ask: impl FnMut(&mut State) -> Result<Tried, Error>) -> Result<Option<Reply>, Error> {
+        let mut begun = None;
+        loop {
+            let mut state = self.core.lock();
+            let refusal = match ask(&mut state)? {
+                Tried::Served => return Ok(None),
+                Tried::Answered(Reply { answer: Answer::Refused(refusal), .. }) => return Err(refusal.into()),
+                Tried::Answered(reply) => return Ok(Some(reply)),
+                Tried::NotNow(refusal) => {
+                    drop(self.core.wait(state));
+                    refusal
+                }
+                Tried::Sent(reply) => {
+                    drop(state);
+                    match self.wait_for(&reply, only_reads)? {
+                        Ok(reply) => return Ok(Some(reply)),
+                        Err(refusal) => refusal,
+                    }
+                }
+            };
+            let waited = begun.get_or_insert_with(Instant::now).elapsed();
+            if waited >= self.patience && refusal != Refusal::CallOutstanding {
+                return Err(refusal.into());
+            }
+        }
+    }
+
+    // The reply to a call that was sent; or the refusal behind which it may be made again.
+    fn wait_for(&self, reply: &Receiver<Result<Reply, Error>>, only_reads: bool) -> Result<Result<Reply, Refusal>, Error> {
+        let result = reply.recv().unwrap_or(Err(Error::Closed));
+        self.core.tell();
+        match result {
+            Ok(reply) => Ok(Ok(reply)),
+            Err(Error::Refused(refusal)) if is_for_now(refusal, only_reads) => {
+                thread::sleep(PAUSE);
+                Ok(Err(refusal))
+            }
+            Err(error) => Err(error),
+        }
+    }
+
+    fn call(&self, call: &Call, watcher: Option<&Sender<Event>>) -> Result<Reply, Error> {
+        let reply = self.ask(call.only_reads(), |state| state.call(call, watcher))?;
+        reply.ok_or_else(|| Error::Malformed("an answer to another call".to_owned()))
+    }
+
+    fn open_for(&self, opening: &Opening, watcher: Option<&Sender<Event>>) -> Result<Handle, Error> {
+        match self.call(&Call::Open(opening), watcher)?.answer {
+            Answer::Opened(handle) => Ok(Handle(handle)),
+            other => Err(unfit(&other)),
+        }
+    }
+
+    // A call that is answered by a bare word.
+    fn done(&self, call: &Call) -> Result<(), Error> {
+        match self.call(call, None)?.answer {
+            Answer::Done | Answer::Closed | Answer::Poisoned => Ok(()),
+            other => Err(unfit(&other)),
+        }
+    }
+
+    /// Opens a node, as it is asked for.
+    ///
+    /// # Errors
+    ///
+    /// As the master refuses it: `NotFound`, `Exists`, `Denied` and others.
+    pub fn open_with(&self, opening: &Opening) -> Result<Handle, Error> {
+        self.open_for(opening, None)
+    }
+
+    /// Opens a node that is there. A name that isn't there may be kept in the cache: then the next Open asks nobody.
+    ///
+    /// # Errors
+    ///
+    /// As the master refuses it: `NotFound`, `Denied` and others.
+    pub fn open(&self, name: &str, mode: Mode) -> Result<Handle, Error> {
+        self.open_with(&Opening::new(name, mode))
+    }
+
+    /// Makes a permanent file, which isn't there yet, and opens it to read and to write.
+    ///
+    /// # Errors
+    ///
+    /// As the master refuses it: `Exists`, `NotFound` without a parent, `Denied` and others.
+    pub fn create(&self, name: &str, content: &[u8]) -> Result<Handle, Error> {
+        let create = Create { must: true, content: Some(content.to_vec()), ..Create::default() };
+        self.open_with(&Opening { create: Some(create), ..Opening::new(name, Mode::READ.and(Mode::WRITE)) })
+    }
+
+    /// Opens a node to read it, and tells of its events, and of those of the session.
+    ///
+    /// # Errors
+    ///
+    /// As the master refuses it: `NotFound`, `Denied` and others.
+    pub fn watch(&self, name: &str, events: Events) -> Result<Watch, Error> {
+        let (watcher, told) = channel();
+        let handle = self.open_for(&Opening { events, ..Opening::new(name, Mode::READ) }, Some(&watcher))?;
+        Ok(Watch { handle, events: told })
+    }
+
+    /// Closes a handle. A lock that it holds is free from then on.
+    ///
+    /// # Errors
+    ///
+    /// `BadHandle` where it isn't open.
+    pub fn close(&self, handle: Handle) -> Result<(), Error> {
+        self.done(&Call::Close(handle.0))?;
+        self.core.lock().forget(handle.0);
+        Ok(())
+    }
+
+    /// Each later call on the handle is refused as `Poisoned`, but its close; so is one that waits for its reply.
+    ///
+    /// # Errors
+    ///
+    /// `BadHandle` where it isn't open.
+    pub fn poison(&self, handle: Handle) -> Result<(), Error> {
+        self.core.lock().poison(handle.0)
+    }
+
+    /// Reads a node: out of the cache, without a message, where it holds it under a lease that runs.
+    ///
+    /// # Errors
+    ///
+    /// As the master refuses it: `Denied` where the handle isn't to read, `StaleInstance` where the node is gone, and others.
+    pub fn read(&self, handle: Handle) -> Result<View, Error> {
+        let reply = self.call(&Call::Read(handle.0), None)?;
+        match reply.answer {
+            Answer::Viewed(stat) => Ok(View { stat, content: reply.content }),
+            other => Err(unfit(&other)),
+        }
+    }
+
+    /// Reads a node's content alone, into the place of what the room held: whether the cache served it. That takes no memory where
+    /// the room is large enough.
+    ///
+    /// # Errors
+    ///
+    /// As `read`.
+    pub fn read_into(&self, handle: Handle, room: &mut Vec<u8>) -> Result<bool, Error> {
+        match self.ask(true, |state| state.read_into(handle.0, room))? {
+            None => Ok(true),
+            Some(reply) => {
+                *room = reply.content;
+                Ok(false)
+            }
+        }
+    }
+
+    /// The numbers of a node.
+    ///
+    /// # Errors
+    ///
+    /// As the master refuses it: `StaleInstance` where the node is gone, and others.
+    pub fn stat(&self, handle: Handle) -> Result<Stat, Error> {
+        match self.call(&Call::Stat(handle.0), None)?.answer {
+            Answer::Stated(stat) => Ok(stat),
+            other => Err(unfit(&other)),
+        }
+    }
+
+    /// The last components of the names of a directory's children, in order of bytes.
+    ///
+    /// # Errors
+    ///
+    /// As the master refuses it: `WrongKind` for a file, and others.
+    pub fn list(&self, handle: Handle) -> Result<Vec<String>, Error> {
+        match self.call(&Call::List(handle.0), None)?.answer {
+            Answer::Names(names) => Ok(names),
+            other => Err(unfit(&other)),
+        }
+    }
+
+    /// Writes the whole content of a file, at most 262,144 bytes; with a generation only where that is the present one. It waits
+    /// until no client has the old content in its cache.
+    ///
+    /// # Errors
+    ///
+    /// As the master refuses it: `WrongGeneration`, `TooLarge` and others. `Unknown` where another master came up meanwhile: then it was done, or
+    /// not.
+    pub fn set(&self, handle: Handle, content: &[u8], generation: Option<u64>) -> Result<(), Error> {
+        self.done(&Call::Set(handle.0, content, generation))
+    }
+
+    /// Names the ACLs to read, to write, and to change ACLs; with a generation only where that is the present one.
+    ///
+    /// # Errors
+    ///
+    /// As `set`.
+    pub fn set_acl(&self, handle: Handle, acl: &[String; 3], generation: Option<u64>) -> Result<(), Error> {
+        self.done(&Call::SetAcl(handle.0, acl, generation))
+    }
+
+    /// Deletes a node that has no children.
+    ///
+    /// # Errors
+    ///
+    /// As the master refuses it: `NotEmpty` and others; `Unknown` as at `set`.
+    pub fn delete(&self, handle: Handle) -> Result<(), Error> {
+        self.done(&Call::Delete(handle.0))
+    }
+
+    /// Takes the node's lock, and waits for it. Meanwhile other calls of this client that the cache doesn't answer wait too.
+    ///
+    /// # Errors
+    ///
+    /// As the master refuses it: `Held` where this handle holds it, and others. `Unknown` where another master came up meanwhile: then the
+    /// lock is held, or not, and `release` makes it sure.
+    pub fn acquire(&self, handle: Handle, mode: LockMode) -> Result<(), Error> {
+        self.done(&Call::Acquire(handle.0, mode))
+    }
+
+    /// Takes the node's lock, if that can be had at once.
+    ///
+    /// # Errors
+    ///
+    /// `Held` and `Delayed` where it can't; else as `acquire`.
+    pub fn try_acquire(&self, handle: Handle, mode: LockMode) -> Result<(), Error> {
+        self.done(&Call::TryAcquire(handle.0, mode))
+    }
+
+    /// Lets the lock go.
+    ///
+    /// # Errors
+    ///
+    /// `NotHolder` where the handle doesn't hold it, and others.
+    pub fn release(&self, handle: Handle) -> Result<(), Error> {
+        self.done(&Call::Release(handle.0))
+    }
+
+    /// The bytes of the sequencer of the lock that the handle holds: they show others that it is held (Burrows 2006, section 2.4).
+    ///
+    /// # Errors
+    ///
+    /// `NotHolder` where it holds none, and others.
+    pub fn sequencer(&self, handle: Handle) -> Result<Vec<u8>, Error> {
+        match self.call(&Call::GetSequencer(handle.0), None)?.answer {
+            Answer::Sequencer(bytes) => Ok(bytes),
+            other => Err(unfit(&other)),
+        }
+    }
+
+    /// The handle's later calls stand under the sequencer of these bytes: they are refused once its lock is held no more.
+    ///
+    /// # Errors
+    ///
+    /// `BadSequencer`, `SequencerStale` and others.
+    pub fn set_sequencer(&self, handle: Handle, sequencer: &[u8]) -> Result<(), Error> {
+        self.done(&Call::SetSequencer(handle.0, sequencer))
+    }
+
+    /// Whether the lock of the sequencer of these bytes is held: Ok, or why not.
+    ///
+    /// # Errors
+    ///
+    /// `BadSequencer`, `SequencerStale` and others.
+    pub fn check_sequencer(&self, sequencer: &[u8]) -> Result<(), Error> {
+        self.done(&Call::CheckSequencer(sequencer))
+    }
+}
+
+impl Drop for Client {
+    fn drop(&mut self) {
+        self.core.end(End::Closed);
+    }
+}
+
+// Whether a call that was refused so may be made again.
+fn is_for_now(refusal: Refusal, only_reads: bool) -> bool {
+    match refusal {
+        Refusal::Recovering | Refusal::Busy => true,
+        Refusal::Unknown => only_reads,
+        _ => false,
+    }
+}
+
+fn unfit(answer: &Answer) -> Error {
+    Error::Malformed(format!("an answer to another call: {answer:?}"))
+}

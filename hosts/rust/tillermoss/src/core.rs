@@ -1,0 +1,330 @@
+//! What the threads of a client share: the client library behind a lock, and who waits for what.
+
+use crate::calls::Call;
+use crate::clock;
+use crate::errors::Error;
+use crate::events::Event;
+use crate::library::{Library, Status};
+use crate::lines::{Answer, Line};
+use crate::nodes::Stat;
+use crate::refusals::Refusal;
+use host_wire::TurnedAway;
+use std::net::{Shutdown, TcpStream};
+use std::sync::mpsc::{Receiver, Sender, channel};
+use std::sync::{Condvar, Mutex, MutexGuard, PoisonError};
+use std::time::Duration;
+
+/// So long at most who waits for a change doesn't look again.
+const LOOK: Duration = Duration::from_millis(50);
+
+/// How a call ended, and the content that it showed.
+#[derive(Debug)]
+pub struct Reply {
+    pub answer: Answer,
+    pub content: Vec<u8>,
+}
+
+/// How a client stands.
+#[derive(Clone, Copy, Debug, PartialEq, Eq)]
+pub enum Standing {
+    /// It has had no session yet.
+    Unstarted,
+    /// It has one, and trusts its lease, or is about to hear that it may no more.
+    Safe,
+    /// Its lease has ended.
+    Jeopardy,
+    /// It has none, and gets none.
+    Lost,
+}
+
+/// Why nothing more is done.
+#[derive(Clone, Copy, Debug)]
+pub enum End {
+    Closed,
+    TurnedAway(TurnedAway),
+}
+
+/// What came of a try to make a call.
+#[derive(Debug)]
+pub enum Tried {
+    /// The client answered it.
+    Answered(Reply),
+    /// The content that is asked for stands in the room.
+    Served,
+    /// It was sent; the reply comes here.
+    Sent(Receiver<Result<Reply, Error>>),
+    /// It can't be made now: another waits for its reply, or the session isn't safe.
+    NotNow(Refusal),
+}
+
+/// Who is told of the events of a handle.
+#[derive(Debug)]
+struct Watcher {
+    opened: u64,
+    handle: u64,
+    events: Sender<Event>,
+}
+
+/// The client library, and who waits for what.
+#[derive(Debug)]
+pub struct State {
+    library: Library,
+    stream: Option<TcpStream>,
+    outgoing: Option<Sender<Vec<u8>>>,
+    waiter: Option<Sender<Result<Reply, Error>>>,
+    new_watcher: Option<Sender<Event>>,
+    watchers: Vec<Watcher>,
+    standing: Standing,
+    end: Option<End>,
+}
+
+/// The state, and word of its changes.
+#[derive(Debug)]
+pub struct Core {
+    state: Mutex<State>,
+    changed: Condvar,
+}
+
+impl Core {
+    /// That of a client of the library that has done nothing yet.
+    pub fn new(library: Library) -> Core {
+        let state = State {
+            library,
+            stream: None,
+            outgoing: None,
+            waiter: None,
+            new_watcher: None,
+            watchers: Vec::new(),
+            standing: Standing::Unstarted,
+            end: None,
+        };
+        Core { state: Mutex::new(state), changed: Condvar::new() }
+    }
+
+    /// The state, for one caller at a time.
+    pub fn lock(&self) -> MutexGuard<'_, State> {
+        self.state.lock().unwrap_or_else(PoisonError::into_inner)
+    }
+
+    /// Waits until something may have changed.
+    pub fn wait<'a>(&self, state: MutexGuard<'a, State>) -> MutexGuard<'a, State> {
+        self.changed.wait_timeout(state, LOOK).unwrap_or_else(PoisonError::into_inner).0
+    }
+
+    /// Tells those who wait that something has changed.
+    pub fn tell(&self) {
+        self.changed.notify_all();
+    }
+
+    /// Nothing more is done from here on; all who wait are told.
+    pub fn end(&self, end: End) {
+        let mut state = self.lock();
+        state.end.get_or_insert(end);
+        state.waiter = None;
+        state.watchers.clear();
+        state.disconnect();
+        self.tell();
+    }
+}
+
+impl State {
+    /// How the client stands.
+    pub fn standing(&self) -> Standing {
+        self.standing
+    }
+
+    /// Whether the session can still be kept.
+    pub fn goes_on(&self) -> bool {
+        self.end.is_none() && self.standing != Standing::Lost
+    }
+
+    /// Why nothing more is done.
+    pub fn fault(&self) -> Option<Error> {
+        self.end.map(|end| match end {
+            End::Closed => Error::Closed,
+            End::TurnedAway(reason) => Error::TurnedAway(reason),
+        })
+    }
+
+    /// From here on messages go to this stream, by way of its writer. A Beat goes first, and the outstanding call again.
+    pub fn connect(&mut self, stream: TcpStream, outgoing: Sender<Vec<u8>>) {
+        self.stream = Some(stream);
+        self.outgoing = Some(outgoing);
+    }
+
+    /// The connection is gone.
+    pub fn disconnect(&mut self) {
+        self.outgoing = None;
+        if let Some(stream) = self.stream.take() {
+            // (one that is gone already is shut down)
+            let _ = stream.shutdown(Shutdown::Both);
+        }
+    }
+
+    // Without a connection a message is lost, and goes again with the next one.
+    fn send(&self, message: Option<Vec<u8>>) {
+        if let (Some(outgoing), Some(message)) = (&self.outgoing, message) {
+            // (where the writer is gone the connection is, too)
+            let _ = outgoing.send(message);
+        }
+    }
+
+    /// Sends a Start or a Beat, which notes the time; gives the moment until which the client trusts its lease.
+    pub fn beat(&mut self) -> u64 {
+        let status = self.library.beat(clock::now());
+        self.learn(status);
+        if status == Status::Send {
+            let message = self.library.message();
+            self.send(message);
+        }
+        self.library.leased_until()
+    }
+
+    /// Sends the outstanding call again, where there is one.
+    pub fn send_again(&mut self) {
+        let message = self.library.again();
+        self.send(message);
+    }
+
+    /// Gives the client a message of its master.
+    pub fn give(&mut self, message: &[u8]) {
+        let status = self.library.give(clock::now(), message);
+        self.learn(status);
+        if self.standing == Standing::Unstarted && self.library.leased_until() > 0 {
+            self.standing = Standing::Safe;
+        }
+    }
+
+    /// Tries to read a content, out of the cache into the room, or by a call.
+    pub fn read_into(&mut self, handle: u64, room: &mut Vec<u8>) -> Result<Tried, Error> {
+        if let Some(fault) = self.fault() {
+            return Err(fault);
+        }
+        let status = self.library.read(clock::now(), handle, room);
+        if status == Status::Served {
+            return Ok(Tried::Served);
+        }
+        let own = self.learn(status);
+        self.tried(status, own, None)
+    }
+
+    /// Tries to make a call. The events of the handle that it opens go to the watcher.
+    pub fn call(&mut self, call: &Call, watcher: Option<&Sender<Event>>) -> Result<Tried, Error> {
+        if let Some(fault) = self.fault() {
+            return Err(fault);
+        }
+        let status = self.library.ask(clock::now(), &call.write());
+        let own = self.learn(status);
+        self.tried(status, own, watcher)
+    }
+
+    fn tried(&mut self, status: Status, own: Option<Reply>, watcher: Option<&Sender<Event>>) -> Result<Tried, Error> {
+        match status {
+            Status::Send => {
+                let (waiter, reply) = channel();
+                self.waiter = Some(waiter);
+                self.new_watcher = watcher.cloned();
+                let message = self.library.message();
+                self.send(message);
+                Ok(Tried::Sent(reply))
+            }
+            Status::Served | Status::Done => own.map(Tried::Answered).ok_or_else(|| Error::Malformed("the client's own answer".to_owned())),
+            Status::Bad(code) => Err(Error::Malformed(format!("the call, as {code}"))),
+            Status::Refused(refusal) => self.refused(refusal),
+        }
+    }
+
+    // What the client refuses for now may be asked for again.
+    fn refused(&self, refusal: Refusal) -> Result<Tried, Error> {
+        match refusal {
+            Refusal::CallOutstanding | Refusal::InJeopardy => Ok(Tried::NotNow(refusal)),
+            Refusal::NoSession if self.standing == Standing::Unstarted => Ok(Tried::NotNow(refusal)),
+            refusal => Err(refusal.into()),
+        }
+    }
+
+    /// Poisons a handle.
+    pub fn poison(&mut self, handle: u64) -> Result<(), Error> {
+        let status = self.library.poison(clock::now(), handle);
+        self.learn(status);
+        match status {
+            Status::Refused(refusal) => Err(refusal.into()),
+            Status::Bad(code) => Err(Error::Malformed(format!("the handle, as {code}"))),
+            _ => Ok(()),
+        }
+    }
+
+    // Does what the lines of a step tell, and gives the client's own answer where one stands among them.
+    fn learn(&mut self, status: Status) -> Option<Reply> {
+        if status.is_without_effect() {
+            return None;
+        }
+        let Some(lines) = self.library.lines() else {
+            self.answer(Err(Refusal::NoMemory.into()));
+            return None;
+        };
+        let mut own = None;
+        for line in lines.lines().filter_map(Line::read) {
+            match line {
+                Line::Done(0, answer) => own = Some(Reply { answer, content: Vec::new() }),
+                Line::Served(Some(stat)) => own = Some(self.viewed(stat)),
+                Line::Served(None) => own = Some(Reply { answer: Answer::Refused(Refusal::NotFound), content: Vec::new() }),
+                Line::Done(number, answer) => self.finish(number, answer),
+                Line::Event(opened, event) => self.publish(opened, &event),
+                Line::Jeopardy => self.stand(Standing::Jeopardy, &Event::Jeopardy),
+                Line::Safe => self.stand(Standing::Safe, &Event::Safe),
+                Line::Lost => self.lose(),
+            }
+        }
+        own
+    }
+
+    fn viewed(&mut self, stat: Stat) -> Reply {
+        let content = self.library.content();
+        Reply { answer: Answer::Viewed(stat), content }
+    }
+
+    // The outstanding call ended.
+    fn finish(&mut self, number: u64, answer: Answer) {
+        let watcher = self.new_watcher.take();
+        if let (Answer::Opened(handle), Some(events)) = (&answer, watcher) {
+            self.watchers.push(Watcher { opened: number, handle: *handle, events });
+        }
+        let result = match answer {
+            Answer::Refused(refusal) => Err(refusal.into()),
+            Answer::Viewed(stat) => Ok(self.viewed(stat)),
+            answer => Ok(Reply { answer, content: Vec::new() }),
+        };
+        self.answer(result);
+    }
+
+    // Tells it to who waits for the outstanding call.
+    fn answer(&mut self, result: Result<Reply, Error>) {
+        if let Some(waiter) = self.waiter.take() {
+            // (who waited may be gone, and wants it no more)
+            let _ = waiter.send(result);
+        }
+    }
+
+    // Tells an event to the watchers of its handle; one of no handle to all. A watcher who is gone is forgotten.
+    fn publish(&mut self, opened: Option<u64>, event: &Event) {
+        self.watchers.retain(|watcher| opened.is_some_and(|opened| opened != watcher.opened) || watcher.events.send(event.clone()).is_ok());
+    }
+
+    fn stand(&mut self, standing: Standing, event: &Event) {
+        self.standing = standing;
+        self.publish(None, event);
+    }
+
+    // The session is lost: no event comes any more, and the outstanding call gets no reply.
+    fn lose(&mut self) {
+        self.standing = Standing::Lost;
+        self.watchers.clear();
+        self.answer(Err(Refusal::SessionExpired.into()));
+    }
+
+    /// A handle is closed: nobody is told of its events any more.
+    pub fn forget(&mut self, handle: u64) {
+        self.watchers.retain(|watcher| watcher.handle != handle);
+    }
+}

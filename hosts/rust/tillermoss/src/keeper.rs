@@ -1,0 +1,213 @@
+//! The thread that keeps a client's session: it beats, gives the client what comes, and connects again where a connection is lost.
+
+use crate::clock;
+use crate::core::{Core, End};
+use crate::errors::Error;
+use host_wire::{ANSWER_LIMIT, Blocks, GREETING_LIMIT, Hello, TurnedAway, Welcome, write_block};
+use std::io::{self, ErrorKind};
+use std::net::{Shutdown, TcpStream, ToSocketAddrs};
+use std::sync::Arc;
+use std::sync::mpsc::{Receiver, channel};
+use std::thread;
+use std::time::Duration;
+
+/// So long a connection may take to be made, and a greeting to be answered.
+const CONNECTING: Duration = Duration::from_secs(5);
+
+/// So long one write to the server may last.
+const WRITING: Duration = Duration::from_secs(10);
+
+/// So many milliseconds between two tries to connect, at first and at most.
+const PAUSES: (u64, u64) = (20, 500);
+
+/// So many milliseconds at least between two Beats that have nothing to acknowledge.
+const PACE: u64 = 20;
+
+/// So many milliseconds at least before a Beat that wasn't answered is sent anew, and at most.
+const AGAIN: (u64, u64) = (200, 10_000);
+
+/// The length in bytes of an Alive that has neither invalidations nor events.
+const EMPTY_ALIVE: usize = 42;
+
+/// The kinds of a master's messages.
+const STARTED: u8 = 0;
+const ALIVE: u8 = 1;
+const REFUSED: u8 = 3;
+
+/// Connects to a server, and greets it.
+pub fn greet(server: &str, hello: &Hello) -> Result<(TcpStream, Welcome), Error> {
+    let mut last = io::Error::new(ErrorKind::NotFound, "the server has no address");
+    for address in server.to_socket_addrs()? {
+        match TcpStream::connect_timeout(&address, CONNECTING) {
+            Ok(stream) => return welcomed(stream, hello),
+            Err(error) => last = error,
+        }
+    }
+    Err(last.into())
+}
+
+fn welcomed(stream: TcpStream, hello: &Hello) -> Result<(TcpStream, Welcome), Error> {
+    stream.set_nodelay(true)?;
+    stream.set_read_timeout(Some(CONNECTING))?;
+    stream.set_write_timeout(Some(WRITING))?;
+    write_block(&mut &stream, &hello.write())?;
+    // (nothing comes behind the welcome before the client sends something, so no byte is lost with these blocks)
+    let block = Blocks::new(GREETING_LIMIT).next(&mut &stream)?.ok_or_else(|| io::Error::from(ErrorKind::UnexpectedEof))?;
+    match Welcome::read(&block) {
+        Ok(Ok(welcome)) => Ok((stream, welcome)),
+        Ok(Err(reason)) => Err(Error::TurnedAway(reason)),
+        Err(_) => Err(Error::Malformed("the server's greeting".to_owned())),
+    }
+}
+
+/// When the next Beat is due.
+#[derive(Debug)]
+struct Schedule {
+    sent: u64,
+    due: u64,
+}
+
+impl Schedule {
+    // One was sent now, under a lease until that moment. Where no answer comes the next goes when half of what is left is over.
+    fn sent(now: u64, leased_until: u64) -> Schedule {
+        let left = leased_until.saturating_sub(now) / 2;
+        Schedule { sent: now, due: now.saturating_add(left.clamp(AGAIN.0, AGAIN.1)) }
+    }
+
+    // A message came. Behind the answer to a Beat the next one goes: at once where there is something to acknowledge.
+    fn give(&mut self, now: u64, message: &[u8]) {
+        let paced = now.max(self.sent.saturating_add(PACE));
+        match message.get(1) {
+            Some(&ALIVE) if message.len() > EMPTY_ALIVE => self.due = now,
+            Some(&(STARTED | ALIVE | REFUSED)) => self.due = self.due.min(paced),
+            _ => {}
+        }
+    }
+}
+
+/// What the thread knows.
+#[derive(Debug)]
+pub struct Keeper {
+    /// What it shares with those who call.
+    pub core: Arc<Core>,
+    /// Where the server is, `HOST:PORT`.
+    pub server: String,
+    /// By what it takes its number up again.
+    pub hello: Hello,
+}
+
+impl Keeper {
+    /// Keeps the session over this connection and later ones, until it is lost, or the client is closed or turned away.
+    pub fn run(&self, stream: TcpStream) {
+        let mut next = Some(stream);
+        let mut pause = PAUSES.0;
+        while self.core.lock().goes_on() {
+            let found = next.take().map_or_else(|| greet(&self.server, &self.hello).map(|greeted| greeted.0), Ok);
+            match found {
+                Ok(stream) => {
+                    pause = PAUSES.0;
+                    // (whatever ends a connection, another is made)
+                    let _ = self.keep(&stream);
+                    self.core.lock().disconnect();
+                }
+                Err(Error::TurnedAway(reason)) if !matches!(reason, TurnedAway::Full | TurnedAway::NoNumber) => {
+                    self.core.end(End::TurnedAway(reason));
+                }
+                Err(_) => {
+                    // (a Beat without a connection notes the time)
+                    self.core.lock().beat();
+                    self.core.tell();
+                    thread::sleep(Duration::from_millis(pause));
+                    pause = (2 * pause).min(PAUSES.1);
+                }
+            }
+        }
+    }
+
+    // Keeps it over this connection, until that is lost.
+    fn keep(&self, stream: &TcpStream) -> io::Result<()> {
+        let (outgoing, waiting) = channel();
+        let written = stream.try_clone()?;
+        thread::Builder::new().spawn(move || write_all(&written, &waiting))?;
+        self.core.lock().connect(stream.try_clone()?, outgoing);
+        let mut schedule = self.beat();
+        let mut blocks = Blocks::new(ANSWER_LIMIT);
+        while self.core.lock().goes_on() {
+            let rest = schedule.due.saturating_sub(clock::now()).max(1);
+            stream.set_read_timeout(Some(Duration::from_millis(rest)))?;
+            match blocks.next(&mut &*stream) {
+                Ok(None) => return Ok(()),
+                Ok(Some(message)) => self.give(&mut schedule, &message),
+                Err(error) if matches!(error.kind(), ErrorKind::WouldBlock | ErrorKind::TimedOut) => {}
+                Err(error) => return Err(error),
+            }
+            if clock::now() >= schedule.due {
+                schedule = self.beat();
+            }
+        }
+        Ok(())
+    }
+
+    fn give(&self, schedule: &mut Schedule, message: &[u8]) {
+        self.core.lock().give(message);
+        self.core.tell();
+        schedule.give(clock::now(), message);
+    }
+
+    // Beats, and sends the call that has no reply yet again: its message or the reply may be lost.
+    fn beat(&self) -> Schedule {
+        let mut state = self.core.lock();
+        let now = clock::now();
+        let leased_until = state.beat();
+        state.send_again();
+        drop(state);
+        self.core.tell();
+        Schedule::sent(now, leased_until)
+    }
+}
+
+fn write_all(mut stream: &TcpStream, waiting: &Receiver<Vec<u8>>) {
+    for message in waiting {
+        if write_block(&mut stream, &message).is_err() {
+            break;
+        }
+    }
+    // (one that is gone already is shut down)
+    let _ = stream.shutdown(Shutdown::Both);
+}
+
+#[cfg(test)]
+mod tests {
+    use super::*;
+
+    fn message(kind: u8, length: usize) -> Vec<u8> {
+        let mut message = vec![0; length];
+        message[..2].copy_from_slice(&[1, kind]);
+        message
+    }
+
+    #[test]
+    fn a_beat_without_an_answer_is_sent_anew() {
+        let rows = [(0, 1200), (900, 1200), (1300, 1200), (5000, 3000), (100_000, 11_000)];
+        for (leased_until, due) in rows {
+            assert_eq!(Schedule::sent(1000, leased_until).due, due, "{leased_until}");
+        }
+    }
+
+    #[test]
+    fn the_next_beat_goes_behind_an_answer() {
+        let rows = [
+            (1005, message(ALIVE, EMPTY_ALIVE), 1020),
+            (1050, message(ALIVE, EMPTY_ALIVE), 1050),
+            (1005, message(ALIVE, EMPTY_ALIVE + 1), 1005),
+            (1005, message(STARTED, 34), 1020),
+            (1005, message(REFUSED, 30), 1020),
+            (1005, message(2, 30), 3000),
+        ];
+        for (now, message, due) in rows {
+            let mut schedule = Schedule::sent(1000, 5000);
+            schedule.give(now, &message);
+            assert_eq!(schedule.due, due, "{message:?}");
+        }
+    }
+}

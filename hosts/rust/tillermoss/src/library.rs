@@ -1,0 +1,195 @@
+//! The client library: each call here is a call of it, on the caller's thread.
+//!
+//! Nothing compares the declarations here with the library's source (`include/cell_client.h` has the same in C, and what each call
+//! owes), and nothing checks a call from here against a contract.
+
+use crate::refusals::Refusal;
+use std::ptr;
+
+/// A struct of one pointer, as the library declares it. It owns the client there.
+#[repr(C)]
+struct Handle {
+    at: *mut u8,
+}
+
+type Shown = unsafe extern "C" fn(*mut Handle, *mut u8, usize, *mut usize) -> u32;
+
+unsafe extern "C" {
+    fn cell_client_open(number: u64, principal: *const u8, length: usize, out: *mut *mut u8) -> u32;
+    fn cell_client_beat(handle: *mut Handle, now: u64) -> u32;
+    fn cell_client_ask(handle: *mut Handle, now: u64, call: *const u8, length: usize) -> u32;
+    fn cell_client_read(handle: *mut Handle, now: u64, number: u64, room: *mut u8, room_length: usize, length: *mut usize) -> u32;
+    fn cell_client_poison(handle: *mut Handle, now: u64, number: u64) -> u32;
+    fn cell_client_give(handle: *mut Handle, now: u64, message: *const u8, length: usize) -> u32;
+    fn cell_client_message(handle: *mut Handle, room: *mut u8, room_length: usize, length: *mut usize) -> u32;
+    fn cell_client_lines(handle: *mut Handle, room: *mut u8, room_length: usize, length: *mut usize) -> u32;
+    fn cell_client_content(handle: *mut Handle, room: *mut u8, room_length: usize) -> usize;
+    fn cell_client_again(handle: *mut Handle, room: *mut u8, room_length: usize, length: *mut usize) -> u32;
+    fn cell_client_leased_until(handle: *mut Handle) -> u64;
+    fn cell_client_close(handle: Handle);
+}
+
+/// What a step came to.
+#[derive(Clone, Copy, Debug, PartialEq, Eq)]
+pub enum Status {
+    /// There is nothing to send.
+    Done,
+    /// There is a message to send.
+    Send,
+    /// Answered out of the cache.
+    Served,
+    /// Refused by the client itself.
+    Refused(Refusal),
+    /// The bytes that were passed are none, for the reason of this code.
+    Bad(u32),
+}
+
+impl Status {
+    fn of(code: u32) -> Status {
+        match code {
+            0 => Status::Done,
+            64 => Status::Send,
+            65 => Status::Served,
+            _ => Refusal::of(code, "").map_or(Status::Bad(code), Status::Refused),
+        }
+    }
+
+    /// Whether the step changed nothing, so that what it would show is that of the step before.
+    pub fn is_without_effect(self) -> bool {
+        matches!(self, Status::Bad(_) | Status::Refused(Refusal::NoMemory | Refusal::Exhausted))
+    }
+}
+
+/// An open client of the library. No clone: one owner, and one call at a time.
+#[derive(Debug)]
+pub struct Library {
+    at: *mut u8,
+}
+
+// SAFETY: the library proves `Send` of what the handle owns.
+unsafe impl Send for Library {}
+
+impl Library {
+    /// Opens a client of this number, for this principal; or the code of why there is none.
+    pub fn open(number: u64, principal: &str) -> Result<Library, Status> {
+        let mut at = ptr::null_mut();
+        // SAFETY: the text is there for the call, and the address is written over a pointer, which may be null.
+        match unsafe { cell_client_open(number, principal.as_ptr(), principal.len(), &raw mut at) } {
+            0 => Ok(Library { at }),
+            code => Err(Status::of(code)),
+        }
+    }
+
+    // The handle for one call. (It isn't changed: the client is where it points to.)
+    fn handle(&mut self) -> Handle {
+        Handle { at: self.at }
+    }
+
+    /// Asks for a Start or a Beat.
+    pub fn beat(&mut self, now: u64) -> Status {
+        let mut handle = self.handle();
+        // SAFETY: the handle is that of an open client, and `&mut self` is one call at a time; so too below.
+        Status::of(unsafe { cell_client_beat(&raw mut handle, now) })
+    }
+
+    /// Asks for the call of these bytes.
+    pub fn ask(&mut self, now: u64, call: &[u8]) -> Status {
+        let mut handle = self.handle();
+        // SAFETY: as above; the bytes are there for the call.
+        Status::of(unsafe { cell_client_ask(&raw mut handle, now, call.as_ptr(), call.len()) })
+    }
+
+    /// Reads the node of a handle. Served, its content stands in the room; else the room is empty.
+    pub fn read(&mut self, now: u64, number: u64, room: &mut Vec<u8>) -> Status {
+        let mut handle = self.handle();
+        room.clear();
+        let mut length = 0;
+        // SAFETY: as above; the room is there for the call, and nothing else has it. It is written and isn't read.
+        let code = unsafe { cell_client_read(&raw mut handle, now, number, room.as_mut_ptr(), room.capacity(), &raw mut length) };
+        let status = Status::of(code);
+        if status == Status::Served && length <= room.capacity() {
+            // SAFETY: so many bytes were written to the room's front.
+            unsafe { room.set_len(length) };
+        } else if status == Status::Served {
+            *room = self.content();
+        }
+        status
+    }
+
+    /// Poisons a handle.
+    pub fn poison(&mut self, now: u64, number: u64) -> Status {
+        let mut handle = self.handle();
+        // SAFETY: as above.
+        Status::of(unsafe { cell_client_poison(&raw mut handle, now, number) })
+    }
+
+    /// Gives the client a message of the master.
+    pub fn give(&mut self, now: u64, message: &[u8]) -> Status {
+        let mut handle = self.handle();
+        // SAFETY: as above; the bytes are there for the call.
+        Status::of(unsafe { cell_client_give(&raw mut handle, now, message.as_ptr(), message.len()) })
+    }
+
+    /// The message that the last step gave to be sent.
+    pub fn message(&mut self) -> Option<Vec<u8>> {
+        self.shown(cell_client_message).filter(|message| !message.is_empty())
+    }
+
+    /// The message of the outstanding call, to be sent again.
+    pub fn again(&mut self) -> Option<Vec<u8>> {
+        self.shown(cell_client_again).filter(|message| !message.is_empty())
+    }
+
+    /// The lines of the last step, each with a line feed behind it.
+    pub fn lines(&mut self) -> Option<String> {
+        String::from_utf8(self.shown(cell_client_lines)?).ok()
+    }
+
+    /// The whole content of the view that the last line of the last step shows.
+    pub fn content(&mut self) -> Vec<u8> {
+        let mut handle = self.handle();
+        let mut room = Vec::new();
+        loop {
+            // SAFETY: as above; the room is there for the call, and nothing else has it.
+            let length = unsafe { cell_client_content(&raw mut handle, room.as_mut_ptr(), room.len()) };
+            if length <= room.len() {
+                room.truncate(length);
+                return room;
+            }
+            room.resize(length, 0);
+        }
+    }
+
+    /// The moment from which on the client trusts its lease no more; 0 without a lease.
+    pub fn leased_until(&mut self) -> u64 {
+        let mut handle = self.handle();
+        // SAFETY: as above.
+        unsafe { cell_client_leased_until(&raw mut handle) }
+    }
+
+    // What one of the calls shows that change nothing; None for want of memory.
+    fn shown(&mut self, shows: Shown) -> Option<Vec<u8>> {
+        let mut handle = self.handle();
+        let mut room = vec![0; 256];
+        loop {
+            let mut length = 0;
+            // SAFETY: as above; the room is there for the call, and nothing else has it.
+            let code = unsafe { shows(&raw mut handle, room.as_mut_ptr(), room.len(), &raw mut length) };
+            if code != 0 {
+                return None;
+            }
+            if length <= room.len() {
+                room.truncate(length);
+                return Some(room);
+            }
+            room.resize(length, 0);
+        }
+    }
+}
+
+impl Drop for Library {
+    fn drop(&mut self) {
+        // SAFETY: the handle is that of an open client, and is used no more.
+        unsafe { cell_client_close(Handle { at: self.at }) }
+    }
+}

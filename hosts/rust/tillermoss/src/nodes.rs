@@ -1,0 +1,140 @@
+//! Nodes, and what may be done with them.
+
+use std::fmt;
+
+/// A file or a directory.
+#[derive(Clone, Copy, Debug, PartialEq, Eq)]
+pub enum Kind {
+    /// It has a content.
+    File,
+    /// It has children.
+    Directory,
+}
+
+/// How a lock is held.
+#[derive(Clone, Copy, Debug, PartialEq, Eq)]
+pub enum LockMode {
+    /// By one handle alone.
+    Exclusive,
+    /// By any number of handles.
+    Shared,
+}
+
+/// What a principal may be permitted on a node.
+#[derive(Clone, Copy, Debug, PartialEq, Eq)]
+pub enum Right {
+    /// To read it.
+    Read,
+    /// To write it, and to take its lock.
+    Write,
+    /// To change who may what.
+    Change,
+}
+
+/// What a handle is for: each wants the right of its name when it is opened.
+#[derive(Clone, Copy, Debug, PartialEq, Eq)]
+pub struct Mode(pub(crate) u8);
+
+impl Mode {
+    /// To read, and to list.
+    pub const READ: Mode = Mode(1);
+    /// To set, to delete, and to take the lock.
+    pub const WRITE: Mode = Mode(2);
+    /// To change the names of the ACLs.
+    pub const CHANGE: Mode = Mode(4);
+
+    /// For what either is for.
+    #[must_use]
+    pub const fn and(self, other: Mode) -> Mode {
+        Mode(self.0 | other.0)
+    }
+}
+
+/// The numbers of a node.
+#[derive(Clone, Debug, PartialEq, Eq)]
+pub struct Stat {
+    /// A file or a directory.
+    pub kind: Kind,
+    /// It tells the node from every other that had its name.
+    pub instance: u64,
+    /// How often its content was written; 1 for a new file, 0 for a directory.
+    pub content_generation: u64,
+    /// How often its ACL names were written, the first time too.
+    pub acl_generation: u64,
+    /// How often its lock went from free to held; None where a read shows it.
+    pub lock_generation: Option<u64>,
+    /// The ACLs to read, to write, and to change ACLs.
+    pub acl: [String; 3],
+    /// It goes by itself once nobody holds it open.
+    pub is_ephemeral: bool,
+    /// How many bytes its content has; 0 for a directory.
+    pub length: u64,
+}
+
+/// What a read shows of a node.
+#[derive(Clone, Debug, PartialEq, Eq)]
+pub struct View {
+    /// Its numbers.
+    pub stat: Stat,
+    /// Its whole content; empty for a directory.
+    pub content: Vec<u8>,
+}
+
+impl Kind {
+    pub(crate) fn read(word: &str) -> Option<Kind> {
+        match word {
+            "file" => Some(Kind::File),
+            "dir" => Some(Kind::Directory),
+            _ => None,
+        }
+    }
+}
+
+impl LockMode {
+    pub(crate) fn read(word: &str) -> Option<LockMode> {
+        match word {
+            "x" => Some(LockMode::Exclusive),
+            "s" => Some(LockMode::Shared),
+            _ => None,
+        }
+    }
+}
+
+impl Right {
+    pub(crate) fn read(word: &str) -> Option<Right> {
+        match word {
+            "read" => Some(Right::Read),
+            "write" => Some(Right::Write),
+            "change" => Some(Right::Change),
+            _ => None,
+        }
+    }
+}
+
+impl fmt::Display for Kind {
+    fn fmt(&self, out: &mut fmt::Formatter<'_>) -> fmt::Result {
+        out.write_str(match self {
+            Kind::File => "file",
+            Kind::Directory => "dir",
+        })
+    }
+}
+
+impl fmt::Display for LockMode {
+    fn fmt(&self, out: &mut fmt::Formatter<'_>) -> fmt::Result {
+        out.write_str(match self {
+            LockMode::Exclusive => "x",
+            LockMode::Shared => "s",
+        })
+    }
+}
+
+impl fmt::Display for Right {
+    fn fmt(&self, out: &mut fmt::Formatter<'_>) -> fmt::Result {
+        out.write_str(match self {
+            Right::Read => "read",
+            Right::Write => "write",
+            Right::Change => "change",
+        })
+    }
+}

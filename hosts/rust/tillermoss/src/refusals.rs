@@ -1,0 +1,190 @@
+//! Why a call is refused.
+
+use crate::nodes::{Kind, LockMode, Right};
+use std::fmt;
+
+// What stands behind a refusal's name in a line.
+trait Argument: Sized {
+    fn read(word: &str) -> Option<Self>;
+}
+
+impl Argument for u64 {
+    fn read(word: &str) -> Option<u64> {
+        word.parse().ok()
+    }
+}
+
+impl Argument for Kind {
+    fn read(word: &str) -> Option<Kind> {
+        Kind::read(word)
+    }
+}
+
+impl Argument for LockMode {
+    fn read(word: &str) -> Option<LockMode> {
+        LockMode::read(word)
+    }
+}
+
+impl Argument for Right {
+    fn read(word: &str) -> Option<Right> {
+        Right::read(word)
+    }
+}
+
+macro_rules! refusals {
+    ($($number:literal $name:ident $(($argument:ty))? $meaning:literal)*) => {
+        /// Why a master or a client refuses a call: nothing was done, unless it says otherwise.
+        #[derive(Clone, Copy, Debug, PartialEq, Eq)]
+        pub enum Refusal {
+            $(#[doc = $meaning] $name $(($argument))?,)*
+        }
+
+        impl Refusal {
+            /// Its number, as it is printed.
+            #[must_use]
+            pub fn number(&self) -> u32 {
+                match self {
+                    $(Refusal::$name { .. } => $number,)*
+                }
+            }
+
+            /// Its name, as it is printed.
+            #[must_use]
+            pub fn name(&self) -> &'static str {
+                match self {
+                    $(Refusal::$name { .. } => stringify!($name),)*
+                }
+            }
+
+            /// What it means.
+            #[must_use]
+            pub fn meaning(&self) -> &'static str {
+                match self {
+                    $(Refusal::$name { .. } => $meaning,)*
+                }
+            }
+
+            // That of a number, with its argument's word, which is empty where there is none.
+            pub(crate) fn of(number: u32, argument: &str) -> Option<Refusal> {
+                let refusal = match number {
+                    $($number => Refusal::$name $((<$argument as Argument>::read(argument)?))?,)*
+                    _ => return None,
+                };
+                (refusal.argument().is_some() || argument.is_empty()).then_some(refusal)
+            }
+        }
+    };
+}
+
+refusals! {
+    1 NoMemory "memory ran out"
+    2 BadName "not a name"
+    3 OtherCell "a name of another cell"
+    4 BadPrincipal "not a principal"
+    5 BadAcl "not the content of an ACL file"
+    6 NotFound "no such node, or no such parent at a create"
+    7 Exists "it was to be made anew, and is there"
+    8 WrongKind(Kind) "the other kind is needed; this one is there"
+    9 NotEmpty "a directory with children, or the root"
+    10 Denied(Right) "this right is missing"
+    11 WrongGeneration(u64) "another generation is present"
+    12 TooLarge "a content above 262,144 bytes"
+    13 Exhausted "a number or a moment at its end"
+    14 StaleInstance "the node of the handle was deleted"
+    15 StoreRefused "the store refused"
+    16 StoreDamaged "the store's rows break its rules"
+    17 BadHandle "no open handle"
+    18 BadSequencer "not the bytes of a sequencer"
+    19 NoSession "no live session"
+    20 BadAck(u64) "more was acknowledged than was issued"
+    21 Repeat "an older or a repeated number"
+    22 Busy "4,096 changes wait"
+    23 Held(LockMode) "the lock is held so, or waited for"
+    24 Delayed(u64) "the lock-delay runs for so many milliseconds"
+    25 NotHolder "the handle holds no lock"
+    26 SequencerStale "the sequencer isn't valid"
+    27 DelayTooLong "a lock-delay above 60,000 milliseconds"
+    28 OldEpoch(u64) "another master is up"
+    29 Recovering "the master hasn't heard of all clients yet"
+    30 InJeopardy "the lease has ended"
+    31 SessionExpired "the session is lost"
+    32 Poisoned "the handle is poisoned"
+    33 CallOutstanding "a call waits for its reply"
+    34 Unknown "another master came up: it was done, or not"
+    35 ProtocolFault "no master sends such a message"
+    36 UnfairClock "a clock went too fast"
+    37 NoSuchMessage "no such message"
+    38 MasterDown "no master is up"
+    39 MasterUp "a master is up"
+}
+
+impl Refusal {
+    fn argument(&self) -> Option<String> {
+        match self {
+            Refusal::WrongKind(kind) => Some(kind.to_string()),
+            Refusal::Denied(right) => Some(right.to_string()),
+            Refusal::Held(mode) => Some(mode.to_string()),
+            Refusal::WrongGeneration(number) | Refusal::BadAck(number) | Refusal::Delayed(number) | Refusal::OldEpoch(number) => {
+                Some(number.to_string())
+            }
+            _ => None,
+        }
+    }
+
+    // That of the words behind `refused`.
+    pub(crate) fn read(words: &str) -> Option<Refusal> {
+        let (number, rest) = words.split_once(' ')?;
+        let (name, argument) = rest.split_once(' ').unwrap_or((rest, ""));
+        Refusal::of(number.parse().ok()?, argument).filter(|refusal| refusal.name() == name)
+    }
+}
+
+impl fmt::Display for Refusal {
+    fn fmt(&self, out: &mut fmt::Formatter<'_>) -> fmt::Result {
+        match self.argument() {
+            Some(argument) => write!(out, "{} {argument}: {}", self.name(), self.meaning()),
+            None => write!(out, "{}: {}", self.name(), self.meaning()),
+        }
+    }
+}
+
+impl std::error::Error for Refusal {}
+
+#[cfg(test)]
+mod tests {
+    use super::*;
+
+    #[test]
+    fn refusals_are_read_by_number_and_name() {
+        let rows = [
+            ("1 NoMemory", Some(Refusal::NoMemory)),
+            ("8 WrongKind dir", Some(Refusal::WrongKind(Kind::Directory))),
+            ("10 Denied change", Some(Refusal::Denied(Right::Change))),
+            ("11 WrongGeneration 7", Some(Refusal::WrongGeneration(7))),
+            ("23 Held x", Some(Refusal::Held(LockMode::Exclusive))),
+            ("24 Delayed 60000", Some(Refusal::Delayed(60_000))),
+            ("28 OldEpoch 2", Some(Refusal::OldEpoch(2))),
+            ("34 Unknown", Some(Refusal::Unknown)),
+            ("39 MasterUp", Some(Refusal::MasterUp)),
+            ("34 NotFound", None),
+            ("6 NotFound 1", None),
+            ("11 WrongGeneration", None),
+            ("0 Nothing", None),
+            ("40 WatchFull", None),
+            ("6", None),
+        ];
+        for (words, wanted) in rows {
+            assert_eq!(Refusal::read(words), wanted, "{words}");
+        }
+    }
+
+    #[test]
+    fn each_number_has_one_refusal() {
+        for number in 1..=39 {
+            let words = ["", "1", "file", "x", "read"];
+            let found: Vec<Refusal> = words.iter().filter_map(|word| Refusal::of(number, word)).collect();
+            assert_eq!(found.iter().map(Refusal::number).collect::<Vec<_>>(), [number]);
+        }
+    }
+}
