@@ -242,7 +242,7 @@ impl Client {
     pub fn read(&self, handle: Handle) -> Result<View, Error> {
         let reply = self.call(&Call::Read(handle.0), None)?;
         match reply.answer {
-            Answer::Viewed(stat) => Ok(View { stat, content: reply.content }),
+            Answer::Viewed(stat) => Ok(View { stat, content: reply.content, is_served: reply.is_own }),
             other => Err(unfit(&other)),
         }
     }

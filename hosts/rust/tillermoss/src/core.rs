@@ -17,11 +17,20 @@ use std::time::Duration;
 /// So long at most who waits for a change doesn't look again.
 const LOOK: Duration = Duration::from_millis(50);
 
-/// How a call ended, and the content that it showed.
+/// How a call ended.
 #[derive(Debug)]
 pub struct Reply {
     pub answer: Answer,
+    /// The content that it showed.
     pub content: Vec<u8>,
+    /// Whether the client answered it by itself.
+    pub is_own: bool,
+}
+
+impl Reply {
+    fn bare(answer: Answer, is_own: bool) -> Reply {
+        Reply { answer, content: Vec::new(), is_own }
+    }
 }
 
 /// How a client stands.
@@ -266,9 +275,9 @@ impl State {
         let mut own = None;
         for line in lines.lines().filter_map(Line::read) {
             match line {
-                Line::Done(0, answer) => own = Some(Reply { answer, content: Vec::new() }),
-                Line::Served(Some(stat)) => own = Some(self.viewed(stat)),
-                Line::Served(None) => own = Some(Reply { answer: Answer::Refused(Refusal::NotFound), content: Vec::new() }),
+                Line::Done(0, answer) => own = Some(Reply::bare(answer, true)),
+                Line::Served(Some(stat)) => own = Some(self.viewed(stat, true)),
+                Line::Served(None) => own = Some(Reply::bare(Answer::Refused(Refusal::NotFound), true)),
                 Line::Done(number, answer) => self.finish(number, answer),
                 Line::Event(opened, event) => self.publish(opened, &event),
                 Line::Jeopardy => self.stand(Standing::Jeopardy, &Event::Jeopardy),
@@ -279,9 +288,9 @@ impl State {
         own
     }
 
-    fn viewed(&mut self, stat: Stat) -> Reply {
+    fn viewed(&mut self, stat: Stat, is_own: bool) -> Reply {
         let content = self.library.content();
-        Reply { answer: Answer::Viewed(stat), content }
+        Reply { answer: Answer::Viewed(stat), content, is_own }
     }
 
     // The outstanding call ended.
@@ -292,8 +301,8 @@ impl State {
         }
         let result = match answer {
             Answer::Refused(refusal) => Err(refusal.into()),
-            Answer::Viewed(stat) => Ok(self.viewed(stat)),
-            answer => Ok(Reply { answer, content: Vec::new() }),
+            Answer::Viewed(stat) => Ok(self.viewed(stat, false)),
+            answer => Ok(Reply::bare(answer, false)),
         };
         self.answer(result);
     }

@@ -78,6 +78,8 @@ pub struct View {
     pub stat: Stat,
     /// Its whole content; empty for a directory.
     pub content: Vec<u8>,
+    /// Whether the cache served it, so that the master wasn't asked.
+    pub is_served: bool,
 }
 
 impl Kind {

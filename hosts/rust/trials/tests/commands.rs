@@ -1,0 +1,118 @@
+//! The command line, with a server.
+
+use std::fs;
+use std::io::{BufRead, BufReader, Read, Write};
+use std::path::Path;
+use std::process::{Child, Command, Stdio};
+use std::thread;
+use std::time::Duration;
+use trials::{Kill, Server, folder, program};
+
+fn command(server: &Server, words: &[&str]) -> Command {
+    let mut command = Command::new(program("tillermoss"));
+    command.arg("--server").arg(server.address.to_string()).args(words);
+    command
+}
+
+// What it prints, and its status.
+fn run(server: &Server, words: &[&str]) -> (String, Option<i32>) {
+    let output = command(server, words).output().unwrap();
+    (String::from_utf8(output.stdout).unwrap(), output.status.code())
+}
+
+fn start(server: &Server, words: &[&str]) -> Child {
+    command(server, words).stdin(Stdio::piped()).stdout(Stdio::piped()).spawn().unwrap()
+}
+
+fn wait_for(path: &Path) {
+    while !path.exists() {
+        thread::sleep(Duration::from_millis(10));
+    }
+}
+
+#[test]
+fn files_are_made_read_and_deleted() {
+    let folder = folder("commands");
+    let server = Server::start(&folder.join("store.db")).unwrap();
+    let rows: &[(&[&str], &str, i32)] = &[
+        (&["get", "f"], "", 1),
+        (&["put", "f", "hello"], "", 0),
+        (&["get", "f"], "hello\n", 0),
+        (&["get", "/ls/c/f"], "hello\n", 0),
+        (&["put", "f", ""], "", 0),
+        (&["get", "f"], "\n", 0),
+        (&["put", "d/f", "x"], "", 1),
+        (&["mkdir", "d"], "", 0),
+        (&["mkdir", "d"], "", 1),
+        (&["put", "d/f", "x"], "", 0),
+        (&["ls"], "acl\nd\nf\n", 0),
+        (&["ls", "d"], "f\n", 0),
+        (&["ls", "f"], "", 1),
+        (&["rm", "d"], "", 1),
+        (&["rm", "d/f"], "", 0),
+        (&["ls", "d"], "", 0),
+        (&["rm", "d"], "", 0),
+        (&["--as", "eve", "get", "f"], "", 1),
+        (&["--as", "Eve", "get", "f"], "", 1),
+    ];
+    for (words, printed, status) in rows {
+        assert_eq!(run(&server, words), ((*printed).to_owned(), Some(*status)), "{words:?}");
+    }
+    let mut put = start(&server, &["put", "f"]);
+    put.stdin.take().unwrap().write_all(b"of the input").unwrap();
+    assert!(put.wait().unwrap().success());
+    assert_eq!(run(&server, &["get", "f"]), ("of the input\n".to_owned(), Some(0)));
+    assert!(server.kill(Kill::InOrder).unwrap().success());
+    let mut left: Vec<_> = fs::read_dir(&folder).unwrap().map(|entry| entry.unwrap().file_name()).collect();
+    left.sort();
+    assert_eq!(left, ["store.db", "store.db-lock", "store.db-numbers"]);
+    fs::remove_dir_all(folder).unwrap();
+}
+
+#[test]
+fn a_lock_is_held_by_one_command() {
+    let folder = folder("locking");
+    let server = Server::start(&folder.join("store.db")).unwrap();
+    let (begun, second) = (folder.join("begun"), folder.join("second"));
+    let [begun_text, second_text] = [&begun, &second].map(|path| path.to_str().unwrap());
+    let mut first = start(&server, &["lock", "l", "--", "sh", "-c", &format!("touch {begun_text}; read line; exit 7")]);
+    wait_for(&begun);
+    let mut other = start(&server, &["lock", "l", "--", "touch", second_text]);
+    thread::sleep(Duration::from_millis(500));
+    assert!(!second.exists());
+    first.stdin.take().unwrap().write_all(b"go\n").unwrap();
+    assert_eq!(first.wait().unwrap().code(), Some(7));
+    assert!(other.wait().unwrap().success());
+    assert!(second.exists());
+    let (printed, status) = run(&server, &["lock", "l", "--", "sh", "-c", "echo $TILLERMOSS_SEQUENCER"]);
+    assert_eq!(status, Some(0));
+    assert!(printed.starts_with("0101") && printed.ends_with("00072f6c732f632f6c\n"), "{printed}");
+    fs::remove_dir_all(folder).unwrap();
+}
+
+#[test]
+fn a_watch_tells_what_happens() {
+    let folder = folder("watching");
+    let server = Server::start(&folder.join("store.db")).unwrap();
+    assert_eq!(run(&server, &["put", "f", "first"]).1, Some(0));
+    let (mut file, mut directory) = (start(&server, &["watch", "f"]), start(&server, &["watch", "/ls/c"]));
+    // (a watch prints nothing before something happens)
+    thread::sleep(Duration::from_millis(1000));
+    let mut told = BufReader::new(file.stdout.take().unwrap()).lines();
+    for content in ["second", "third"] {
+        assert_eq!(run(&server, &["put", "f", content]).1, Some(0));
+        assert_eq!(told.next().unwrap().unwrap(), "PUT /ls/c/f");
+        assert_eq!(told.next().unwrap().unwrap(), content);
+    }
+    assert_eq!(run(&server, &["put", "g", "x"]).1, Some(0));
+    assert_eq!(run(&server, &["rm", "f"]).1, Some(0));
+    assert_eq!(told.next().unwrap().unwrap(), "DELETE /ls/c/f");
+    assert!(file.wait().unwrap().success());
+    thread::sleep(Duration::from_millis(1000));
+    directory.kill().unwrap();
+    let mut rest = String::new();
+    directory.stdout.take().unwrap().read_to_string(&mut rest).unwrap();
+    directory.wait().unwrap();
+    assert_eq!(rest, "MODIFIED /ls/c/f\nMODIFIED /ls/c/f\nADDED /ls/c/g\nREMOVED /ls/c/f\n");
+    fs::remove_dir_all(folder).unwrap();
+}
