@@ -8,8 +8,8 @@ const VERSION: u8 = 1;
 /// The number of the kind of a Start.
 const START: u8 = 0;
 
-/// The number of the last kind of a message of a client.
-const LAST_KIND: u8 = 2;
+/// The number of the last kind of a client's blocks: a Start, a Beat, a call, a last Beat.
+const LAST_KIND: u8 = 3;
 
 /// What stands at the front of a client's message, and of a Start all that it has.
 #[derive(Clone, Debug, PartialEq, Eq)]
@@ -67,7 +67,8 @@ mod tests {
             (BEAT, Some((7, None))),
             (b"\x01\x02\0\0\0\0\0\0\0\x09", Some((9, None))),
             (b"\x02\x01\0\0\0\0\0\0\0\x07", None),
-            (b"\x01\x03\0\0\0\0\0\0\0\x07", None),
+            (b"\x01\x03\0\0\0\0\0\0\0\x07", Some((7, None))),
+            (b"\x01\x04\0\0\0\0\0\0\0\x07", None),
             (b"\x01\x01\0\0\0\0\0\0\0", None),
             (&START_OF_ANN[..24], None),
             (b"", None),

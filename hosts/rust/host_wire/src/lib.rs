@@ -2,17 +2,20 @@
 //!
 //! A stream is blocks, each behind its length in four bytes, big-endian. The first block each way greets: the client says who it
 //! is ([`Hello`]), the server which number the connection is bound to ([`Welcome`]). Every later block is one message between
-//! client and master, its bytes as `docs/FORMATS.md` lays them out.
+//! client and master, its bytes as `docs/FORMATS.md` lays them out; and the last Beat of a client that is closed is marked
+//! ([`Estate`]).
 
 mod blocks;
 mod fields;
 mod greetings;
 mod heads;
+mod partings;
 
 pub use blocks::{Blocks, write_block};
 pub use fields::Fields;
 pub use greetings::{GREETING_LIMIT, Hello, Malformed, TurnedAway, Welcome};
 pub use heads::{Head, is_component};
+pub use partings::{Estate, write_parting};
 
 /// The longest block that a client sends, in bytes: a frame that carries it to the master has at most 1,048,576, ten of them
 /// before the message.

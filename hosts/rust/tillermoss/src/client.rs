@@ -1,7 +1,7 @@
 //! A client that keeps its session by itself.
 
 use crate::calls::{Call, Create, Opening};
-use crate::core::{Core, End, Reply, Standing, State, Tried};
+use crate::core::{Core, Reply, Standing, State, Tried};
 use crate::errors::Error;
 use crate::events::{Event, Events};
 use crate::keeper::{Keeper, greet};
@@ -53,8 +53,8 @@ pub struct Watch {
 
 /// A client of a cell (Burrows 2006, section 2): a session that a thread keeps, and a cache that answers what the master would.
 ///
-/// One call at a time waits for the master, others behind it; what the cache answers doesn't wait. When the client is dropped
-/// the cell learns nothing: the session ends when its lease has run out, and with it its locks and ephemeral nodes go.
+/// One call at a time waits for the master, others behind it; what the cache answers doesn't wait. A client that is dropped lets
+/// go of what it cached; but its session ends only when its lease has run out, and with it its locks and ephemeral nodes go.
 #[derive(Debug)]
 pub struct Client {
     core: Arc<Core>,
@@ -377,7 +377,7 @@ impl Client {
 
 impl Drop for Client {
     fn drop(&mut self) {
-        self.core.end(End::Closed);
+        self.core.close();
     }
 }
 

@@ -8,14 +8,18 @@ use crate::library::{Library, Status};
 use crate::lines::{Answer, Line};
 use crate::nodes::Stat;
 use crate::refusals::Refusal;
-use host_wire::TurnedAway;
+use host_wire::{TurnedAway, write_parting};
 use std::net::{Shutdown, TcpStream};
 use std::sync::mpsc::{Receiver, Sender, channel};
 use std::sync::{Condvar, Mutex, MutexGuard, PoisonError};
-use std::time::Duration;
+use std::thread::{self, JoinHandle};
+use std::time::{Duration, Instant};
 
 /// So long at most who waits for a change doesn't look again.
 const LOOK: Duration = Duration::from_millis(50);
+
+/// So long at most a client that is closed waits until its last Beat is written.
+const PARTING: Duration = Duration::from_secs(1);
 
 /// How a call ended.
 #[derive(Debug)]
@@ -80,6 +84,7 @@ pub struct State {
     library: Library,
     stream: Option<TcpStream>,
     outgoing: Option<Sender<Vec<u8>>>,
+    writer: Option<JoinHandle<()>>,
     waiter: Option<Sender<Result<Reply, Error>>>,
     new_watcher: Option<Sender<Event>>,
     watchers: Vec<Watcher>,
@@ -101,6 +106,7 @@ impl Core {
             library,
             stream: None,
             outgoing: None,
+            writer: None,
             waiter: None,
             new_watcher: None,
             watchers: Vec::new(),
@@ -128,10 +134,23 @@ impl Core {
     /// Nothing more is done from here on; all who wait are told.
     pub fn end(&self, end: End) {
         let mut state = self.lock();
-        state.end.get_or_insert(end);
-        state.waiter = None;
-        state.watchers.clear();
+        state.end(end);
         state.disconnect();
+        self.tell();
+    }
+
+    /// The client is closed. Its server is told by its last Beat, for which it waits a little.
+    pub fn close(&self) {
+        let mut state = self.lock();
+        state.part();
+        state.end(End::Closed);
+        let writer = state.writer.take();
+        drop(state);
+        let begun = Instant::now();
+        while writer.as_ref().is_some_and(|writer| !writer.is_finished()) && begun.elapsed() < PARTING {
+            thread::sleep(Duration::from_millis(1));
+        }
+        self.lock().disconnect();
         self.tell();
     }
 }
@@ -156,9 +175,25 @@ impl State {
     }
 
     /// From here on messages go to this stream, by way of its writer. A Beat goes first, and the outstanding call again.
-    pub fn connect(&mut self, stream: TcpStream, outgoing: Sender<Vec<u8>>) {
+    pub fn connect(&mut self, stream: TcpStream, outgoing: Sender<Vec<u8>>, writer: JoinHandle<()>) {
         self.stream = Some(stream);
         self.outgoing = Some(outgoing);
+        self.writer = Some(writer);
+    }
+
+    fn end(&mut self, end: End) {
+        self.end.get_or_insert(end);
+        self.waiter = None;
+        self.watchers.clear();
+    }
+
+    // The last Beat goes, behind which the writer ends.
+    fn part(&mut self) {
+        if self.library.beat(clock::now()) == Status::Send {
+            let beat = self.library.message();
+            self.send(beat.as_deref().and_then(write_parting));
+        }
+        self.outgoing = None;
     }
 
     /// The connection is gone.

@@ -128,8 +128,8 @@ impl Keeper {
     fn keep(&self, stream: &TcpStream) -> io::Result<()> {
         let (outgoing, waiting) = channel();
         let written = stream.try_clone()?;
-        thread::Builder::new().spawn(move || write_all(&written, &waiting))?;
-        self.core.lock().connect(stream.try_clone()?, outgoing);
+        let writer = thread::Builder::new().spawn(move || write_all(&written, &waiting))?;
+        self.core.lock().connect(stream.try_clone()?, outgoing, writer);
         let mut schedule = self.beat();
         let mut blocks = Blocks::new(ANSWER_LIMIT);
         while self.core.lock().goes_on() {

@@ -4,7 +4,7 @@ use crate::master::Work;
 use crate::numbers::Numbers;
 use crate::outgoing::Outgoing;
 use crate::routes::Routes;
-use host_wire::{Blocks, GREETING_LIMIT, Head, Hello, REQUEST_LIMIT, TurnedAway, Welcome, write_block};
+use host_wire::{Blocks, Estate, GREETING_LIMIT, Head, Hello, REQUEST_LIMIT, TurnedAway, Welcome, write_block};
 use std::io;
 use std::net::{TcpListener, TcpStream};
 use std::sync::atomic::{AtomicUsize, Ordering};
@@ -109,7 +109,13 @@ impl Hall {
             if !is_own || !self.routes.is_bound(bound.client, binding) {
                 break;
             }
-            if self.work.send(Work::Message(block)).is_err() {
+            let estate = Estate::read(&block);
+            let message = estate.as_ref().map_or(block, Estate::beat);
+            if let Some(estate) = estate {
+                self.routes.unbind(bound.client, binding);
+                self.routes.leave(estate);
+            }
+            if self.work.send(Work::Message(message)).is_err() {
                 break;
             }
         }

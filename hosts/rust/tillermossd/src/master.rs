@@ -74,10 +74,10 @@ impl Master {
         let next = come_up(clock, &mut input, &mut output, &mut blocks, options.is_traced)?;
         let line = Arc::new(Line { clock, pulse: Pulse::new(clock.now(), next), is_traced: options.is_traced });
         let (work, works) = sync_channel(ROOM);
-        let (written, wake) = (line.clone(), work.clone());
+        let (written, answers) = (line.clone(), work.clone());
         thread::Builder::new().name("to the master".to_owned()).spawn(move || written.write_all(input, &works))?;
         thread::Builder::new().name("from the master".to_owned()).spawn(move || {
-            let end = line.read_all(output, blocks, &routes, &wake);
+            let end = line.read_all(output, blocks, &routes, &answers);
             if let Err(error) = end {
                 eprintln!("tillermossd: reading from the master: {error}");
             }
@@ -172,18 +172,31 @@ impl Line {
         }
     }
 
+    fn tell(&self, line: &str, routes: &Routes) {
+        if self.is_traced {
+            eprintln!("{line}");
+        }
+        if let Some(client) = line.strip_prefix("ended ").and_then(|client| client.parse().ok()) {
+            routes.forget(client);
+        }
+    }
+
     // Reads what the master tells, to the end.
-    fn read_all(&self, mut output: ChildStdout, mut blocks: Blocks, routes: &Routes, wake: &SyncSender<Work>) -> io::Result<()> {
+    fn read_all(&self, mut output: ChildStdout, mut blocks: Blocks, routes: &Routes, works: &SyncSender<Work>) -> io::Result<()> {
         while let Some(block) = blocks.next(&mut output)? {
             match Told::read(&block)? {
-                Told::Message(client, message) => routes.send(client, message),
-                Told::Line(line) if self.is_traced => eprintln!("{line}"),
-                Told::Line(_) => {}
+                Told::Message(client, message) => {
+                    if let Some(beat) = routes.send(client, message) {
+                        // (where there is no room the change that wants it waits until the session has run out)
+                        let _ = works.try_send(Work::Message(beat));
+                    }
+                }
+                Told::Line(line) => self.tell(&line, routes),
                 Told::Bad(reason) => eprintln!("tillermossd: the master took no frame of what was sent: {reason}"),
                 Told::End(next) => {
                     if self.pulse.answer(next) {
                         // (where there is no room the thread has work, and looks at the deadline behind it)
-                        let _ = wake.try_send(Work::Wake);
+                        let _ = works.try_send(Work::Wake);
                     }
                 }
             }

@@ -83,7 +83,7 @@ impl Server {
     /// # Errors
     ///
     /// Where it can't be killed.
-    pub fn kill(mut self, kill: Kill) -> io::Result<ExitStatus> {
+    pub fn kill(&mut self, kill: Kill) -> io::Result<ExitStatus> {
         match kill {
             Kill::Server => self.child.kill()?,
             Kill::InOrder => signal("-TERM", self.child.id())?,

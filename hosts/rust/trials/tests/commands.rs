@@ -33,7 +33,7 @@ fn wait_for(path: &Path) {
 #[test]
 fn files_are_made_read_and_deleted() {
     let folder = folder("commands");
-    let server = Server::start(&folder.join("store.db")).unwrap();
+    let mut server = Server::start(&folder.join("store.db")).unwrap();
     let rows: &[(&[&str], &str, i32)] = &[
         (&["get", "f"], "", 1),
         (&["put", "f", "hello"], "", 0),
