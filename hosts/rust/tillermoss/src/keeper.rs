@@ -105,10 +105,11 @@ impl Keeper {
             let found = next.take().map_or_else(|| greet(&self.server, &self.hello).map(|greeted| greeted.0), Ok);
             match found {
                 Ok(stream) => {
-                    pause = PAUSES.0;
+                    let mut has_heard = false;
                     // (whatever ends a connection, another is made)
-                    let _ = self.keep(&stream);
+                    let _ = self.keep(&stream, &mut has_heard);
                     self.core.lock().disconnect();
+                    pause = if has_heard { PAUSES.0 } else { Keeper::rest(pause) };
                 }
                 Err(Error::TurnedAway(reason)) if !matches!(reason, TurnedAway::Full | TurnedAway::NoNumber) => {
                     self.core.end(End::TurnedAway(reason));
@@ -117,15 +118,20 @@ impl Keeper {
                     // (a Beat without a connection notes the time)
                     self.core.lock().beat();
                     self.core.tell();
-                    thread::sleep(Duration::from_millis(pause));
-                    pause = (2 * pause).min(PAUSES.1);
+                    pause = Keeper::rest(pause);
                 }
             }
         }
     }
 
-    // Keeps it over this connection, until that is lost.
-    fn keep(&self, stream: &TcpStream) -> io::Result<()> {
+    // Waits so many milliseconds; gives how many the next time.
+    fn rest(pause: u64) -> u64 {
+        thread::sleep(Duration::from_millis(pause));
+        (2 * pause).min(PAUSES.1)
+    }
+
+    // Keeps it over this connection, until that is lost; whether the master was heard of meanwhile.
+    fn keep(&self, stream: &TcpStream, has_heard: &mut bool) -> io::Result<()> {
         let (outgoing, waiting) = channel();
         let written = stream.try_clone()?;
         let writer = thread::Builder::new().spawn(move || write_all(&written, &waiting))?;
@@ -137,7 +143,10 @@ impl Keeper {
             stream.set_read_timeout(Some(Duration::from_millis(rest)))?;
             match blocks.next(&mut &*stream) {
                 Ok(None) => return Ok(()),
-                Ok(Some(message)) => self.give(&mut schedule, &message),
+                Ok(Some(message)) => {
+                    *has_heard = true;
+                    self.give(&mut schedule, &message);
+                }
                 Err(error) if matches!(error.kind(), ErrorKind::WouldBlock | ErrorKind::TimedOut) => {}
                 Err(error) => return Err(error),
             }

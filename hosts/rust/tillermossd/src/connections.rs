@@ -7,7 +7,7 @@ use crate::routes::Routes;
 use host_wire::{Blocks, Estate, GREETING_LIMIT, Head, Hello, REQUEST_LIMIT, TurnedAway, Welcome, write_block};
 use std::io;
 use std::net::{TcpListener, TcpStream};
-use std::sync::atomic::{AtomicUsize, Ordering};
+use std::sync::atomic::{AtomicBool, AtomicUsize, Ordering};
 use std::sync::mpsc::SyncSender;
 use std::sync::{Arc, Mutex, PoisonError};
 use std::thread;
@@ -32,6 +32,8 @@ pub struct Hall {
     pub work: SyncSender<Work>,
     /// How many connections there are.
     pub count: AtomicUsize,
+    /// Whether the server goes, so that no connection is taken any more.
+    pub is_over: AtomicBool,
 }
 
 /// Whom a connection is bound to.
@@ -41,9 +43,12 @@ struct Bound {
     principal: String,
 }
 
-/// Takes connections until the process ends, each with a thread of its own.
-pub fn take_all(listener: &TcpListener, hall: &Arc<Hall>) {
+/// Takes connections until the server goes, each with a thread of its own.
+pub fn take_all(listener: TcpListener, hall: &Arc<Hall>) {
     for stream in listener.incoming().flatten() {
+        if hall.is_over.load(Ordering::Relaxed) {
+            return;
+        }
         hall.count.fetch_add(1, Ordering::Relaxed);
         let shared = hall.clone();
         let spawned = thread::Builder::new().spawn(move || {

@@ -11,7 +11,7 @@ use std::fs;
 use std::io::{self, Write};
 use std::net::TcpListener;
 use std::path::{Path, PathBuf};
-use std::sync::atomic::AtomicUsize;
+use std::sync::atomic::{AtomicBool, AtomicUsize, Ordering};
 use std::sync::mpsc::channel;
 use std::sync::{Arc, Mutex};
 use std::thread;
@@ -29,16 +29,21 @@ pub fn serve(options: &Options) -> io::Result<()> {
     let (ending, ended) = channel();
     let routes = Arc::new(Routes::default());
     let master = Master::start(options, &store, routes.clone(), ending.clone())?;
-    let hall = Hall { numbers: Mutex::new(numbers), routes, work: master.work(), count: AtomicUsize::new(0) };
+    let (count, is_over) = (AtomicUsize::new(0), AtomicBool::new(false));
+    let hall = Arc::new(Hall { numbers: Mutex::new(numbers), routes, work: master.work(), count, is_over });
     tell(&listener)?;
-    thread::Builder::new().spawn(move || take_all(&listener, &Arc::new(hall)))?;
+    let taking = hall.clone();
+    thread::Builder::new().spawn(move || take_all(listener, &taking))?;
     thread::Builder::new().spawn(move || {
         signals.wait();
         // (where nobody waits for it the server is ending already)
         let _ = ending.send(Ending::Asked);
     })?;
     match ended.recv() {
-        Ok(Ending::Asked) => check_end(master.stop()?),
+        Ok(Ending::Asked) => {
+            hall.is_over.store(true, Ordering::Relaxed);
+            check_end(master.stop()?)
+        }
         Ok(Ending::MasterGone) | Err(_) => {
             let status = master.ended()?;
             Err(io::Error::other(format!("the master is gone: {status}")))
