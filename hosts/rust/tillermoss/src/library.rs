@@ -193,3 +193,117 @@ impl Drop for Library {
         unsafe { cell_client_close(Handle { at: self.at }) }
     }
 }
+
+#[cfg(test)]
+mod tests {
+    use super::*;
+    use crate::calls::{Call, Opening};
+    use crate::nodes::Mode;
+
+    const CLIENT: u64 = 7;
+
+    fn words(head: &[u8], words: &[u64]) -> Vec<u8> {
+        let mut out = head.to_vec();
+        out.extend(words.iter().flat_map(|word| word.to_be_bytes()));
+        out
+    }
+
+    // A client that was given a session at 1000 ms, of 12,000 ms: it is trusted until 11,293 have passed.
+    fn started() -> Library {
+        let mut library = Library::open(CLIENT, "ann").unwrap();
+        assert_eq!(library.beat(1000), Status::Send);
+        assert_eq!(library.give(1100, &words(&[1, 0], &[CLIENT, 1, 1, 12_000])), Status::Done);
+        library
+    }
+
+    // The same with handle 1 on /ls/c/f, to read, and its content cached.
+    fn cached() -> Library {
+        let mut library = started();
+        assert_eq!(library.ask(1100, &Call::Open(&Opening::new("/ls/c/f", Mode::READ)).write()), Status::Send);
+        let opened = [words(&[1, 2], &[CLIENT, 1, 1]), vec![0, 0], b"\0\0\0\x04abcd".to_vec(), words(&[], &[4]), vec![0]].concat();
+        assert_eq!(library.give(1100, &opened), Status::Done);
+        assert_eq!(library.lines().unwrap(), "done 7 1 opened 1\n");
+        assert_eq!(library.read(1100, 1, &mut Vec::new()), Status::Send);
+        let call = [words(&[1, 2], &[CLIENT, 1, 2]), vec![2], b"\0\0\0\x04abcd".to_vec(), vec![0]].concat();
+        assert_eq!(library.message(), Some(call));
+        let names = b"\0\0\0\x04base".repeat(3);
+        let view = [words(&[1, 2], &[CLIENT, 1, 2]), words(&[1], &[0]), words(&[2, 0], &[4, 1, 1]), names, b"\0\0\0\0\x05hello".to_vec()];
+        assert_eq!(library.give(1100, &view.concat()), Status::Done);
+        library
+    }
+
+    #[test]
+    fn numbers_and_principals_are_refused() {
+        for (number, principal) in [(0, "ann"), (1 << 53, "ann"), (1, "Ann"), (1, "")] {
+            assert!(Library::open(number, principal).is_err(), "{number} {principal}");
+        }
+    }
+
+    #[test]
+    fn a_session_is_begun_and_kept() {
+        let mut library = Library::open(CLIENT, "ann").unwrap();
+        assert_eq!((library.leased_until(), library.message(), library.lines().unwrap().as_str()), (0, None, ""));
+        assert_eq!(library.beat(1000), Status::Send);
+        let start = [words(&[1, 0], &[CLIENT, 1]), b"\0\0\0\x03ann".to_vec()].concat();
+        assert_eq!(library.message(), Some(start));
+        let read = Call::Read(1).write();
+        assert_eq!(library.ask(1000, &read), Status::Refused(Refusal::NoSession));
+        library = started();
+        assert_eq!(library.leased_until(), 12_294);
+        assert_eq!(library.ask(1100, &read), Status::Refused(Refusal::BadHandle));
+        assert_eq!(library.beat(1100), Status::Send);
+        assert_eq!(library.message(), Some(words(&[1, 1], &[CLIENT, 1, 2, 0, 0])));
+    }
+
+    #[test]
+    fn a_call_is_sent_and_sent_again() {
+        let mut library = started();
+        let call = Call::Open(&Opening::new("/ls/c/f", Mode::READ)).write();
+        assert_eq!(library.again(), None);
+        assert_eq!(library.ask(1100, &call), Status::Send);
+        let open = b"\0\0\0\0\x07/ls/c/f\x01\0\0\0\0\0\0\0\0\0\0\0".to_vec();
+        let sent = [words(&[1, 2], &[CLIENT, 1, 1]), open].concat();
+        assert_eq!((library.message(), library.again()), (Some(sent.clone()), Some(sent)));
+        assert_eq!(library.ask(1100, &call), Status::Refused(Refusal::CallOutstanding));
+    }
+
+    #[test]
+    fn a_read_is_served_while_the_lease_runs() {
+        let mut library = cached();
+        let shown = "file 4 1 1 base base base permanent 5 68656c6c6f\n";
+        assert_eq!(library.lines().unwrap(), format!("done 7 2 view {shown}"));
+        assert_eq!(library.content(), b"hello");
+        for capacity in [0, 4, 5, 100] {
+            let mut room = Vec::with_capacity(capacity);
+            assert_eq!(library.read(12_293, 1, &mut room), Status::Served);
+            assert_eq!(room, b"hello");
+        }
+        assert_eq!(library.lines().unwrap(), format!("served 7 /ls/c/f {shown}"));
+        let mut room = b"old".to_vec();
+        assert_eq!(library.read(12_294, 1, &mut room), Status::Refused(Refusal::InJeopardy));
+        assert_eq!((room.as_slice(), library.lines().unwrap().as_str()), (&b""[..], "jeopardy 7\n"));
+    }
+
+    #[test]
+    fn a_poisoned_handle_is_refused() {
+        let mut library = cached();
+        assert_eq!(library.poison(1100, 2), Status::Refused(Refusal::BadHandle));
+        assert_eq!(library.poison(1100, 1), Status::Done);
+        assert_eq!(library.lines().unwrap(), "done 7 0 poisoned\n");
+        assert_eq!(library.read(1100, 1, &mut Vec::new()), Status::Refused(Refusal::Poisoned));
+    }
+
+    #[test]
+    fn what_is_no_message_changes_nothing() {
+        let mut library = cached();
+        let lines = library.lines();
+        let rows: &[(&[u8], u32)] = &[(b"", 82), (b"\x02\0", 83), (b"\x01\x09", 84), (&[1, 0, 0], 82)];
+        for (message, code) in rows {
+            assert_eq!(library.give(9_999_999, message), Status::Bad(*code), "{message:?}");
+        }
+        assert_eq!(library.ask(9_999_999, &words(&[1, 1], &[CLIENT, 1, 1, 0, 0])), Status::Bad(88));
+        assert_eq!(library.beat(1 << 53), Status::Refused(Refusal::Exhausted));
+        assert_eq!((library.lines(), library.content()), (lines, b"hello".to_vec()));
+        assert_eq!(library.read(1100, 1, &mut Vec::new()), Status::Served);
+    }
+}

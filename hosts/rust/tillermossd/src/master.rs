@@ -5,7 +5,7 @@ use crate::pulse::Pulse;
 use crate::routes::Routes;
 use crate::told::{Frame, Next, Told};
 use host_wire::{ANSWER_LIMIT, Blocks, write_block};
-use std::io::{self, ErrorKind};
+use std::io;
 use std::os::unix::process::CommandExt;
 use std::path::{Path, PathBuf};
 use std::process::{Child, ChildStdin, ChildStdout, Command, ExitStatus, Stdio};
@@ -210,5 +210,5 @@ pub fn check_end(status: ExitStatus) -> io::Result<()> {
     if status.success() {
         return Ok(());
     }
-    Err(io::Error::new(ErrorKind::Other, format!("the master is gone: {status}")))
+    Err(io::Error::other(format!("the master is gone: {status}")))
 }

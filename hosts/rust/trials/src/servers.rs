@@ -33,8 +33,9 @@ pub struct Server {
 #[must_use]
 pub fn program(name: &str) -> PathBuf {
     let own = std::env::current_exe().expect("this program has a path");
-    let folder = own.parent().and_then(Path::parent).expect("this program lies in the folder deps");
-    folder.join(name)
+    // (tests lie in the folder deps beside the programs)
+    let folder = own.ancestors().skip(1).find(|folder| !folder.ends_with("deps"));
+    folder.expect("this program lies in a folder").join(name)
 }
 
 /// The master's program: CELLCTL, else where it is built.
