@@ -1,0 +1,196 @@
+//! The calls of a client, each with a server.
+
+use std::path::PathBuf;
+use std::time::{Duration, Instant};
+use tillermoss::{Client, Create, Error, Event, Events, Handle, Kind, Life, LockMode, Mode, Opening, Options, Refusal, Right};
+use trials::{Server, folder};
+
+const BOTH: Mode = Mode::READ.and(Mode::WRITE);
+
+struct Cell {
+    server: Server,
+    folder: PathBuf,
+}
+
+impl Cell {
+    fn new(test: &str) -> Cell {
+        let folder = folder(test);
+        Cell { server: Server::start(&folder.join("store.db")).unwrap(), folder }
+    }
+
+    fn client(&self, principal: &str) -> Client {
+        Client::connect(&Options::new(&self.server.address.to_string(), principal)).unwrap()
+    }
+}
+
+impl Drop for Cell {
+    fn drop(&mut self) {
+        // (a folder that stays is in nobody's way)
+        let _ = std::fs::remove_dir_all(&self.folder);
+    }
+}
+
+fn refusal<T>(result: Result<T, Error>) -> Option<Refusal> {
+    result.err().and_then(|error| error.refusal())
+}
+
+fn make_directory(client: &Client, name: &str) -> Handle {
+    let create = Create { must: true, ..Create::default() };
+    client.open_with(&Opening { create: Some(create), ..Opening::new(name, BOTH) }).unwrap()
+}
+
+#[test]
+fn files_and_directories() {
+    let cell = Cell::new("files");
+    let client = cell.client("ann");
+    let directory = make_directory(&client, "/ls/c/d");
+    assert_eq!(client.list(directory).unwrap(), [""; 0]);
+    let file = client.create("/ls/c/d/f", b"hello").unwrap();
+    client.create("/ls/c/d/e", b"").unwrap();
+    assert_eq!(client.list(directory).unwrap(), ["e", "f"]);
+    let view = client.read(file).unwrap();
+    assert_eq!((view.content.as_slice(), view.stat.kind, view.stat.content_generation), (&b"hello"[..], Kind::File, 1));
+    client.set(file, b"world", None).unwrap();
+    client.set(file, b"again", Some(2)).unwrap();
+    assert_eq!(refusal(client.set(file, b"late", Some(2))), Some(Refusal::WrongGeneration(3)));
+    assert_eq!(client.read(file).unwrap().content, b"again");
+    let stat = client.stat(file).unwrap();
+    assert_eq!((stat.length, stat.lock_generation, stat.is_ephemeral), (5, Some(0), false));
+    client.delete(file).unwrap();
+    assert_eq!(refusal(client.read(file)), Some(Refusal::StaleInstance));
+    client.close(file).unwrap();
+    assert_eq!(client.list(directory).unwrap(), ["e"]);
+    let long = vec![b'a'; 262_144];
+    let file = client.create("/ls/c/long", &long).unwrap();
+    assert_eq!(client.read(file).unwrap().content, long);
+}
+
+#[test]
+fn refusals_are_told() {
+    let cell = Cell::new("refusals");
+    let (client, eve) = (cell.client("ann"), cell.client("eve"));
+    let file = client.create("/ls/c/f", b"").unwrap();
+    let read = client.open("/ls/c/f", Mode::READ).unwrap();
+    let root = client.open("/ls/c", BOTH).unwrap();
+    let rows = [
+        (refusal(client.open("/ls/c/g", Mode::READ)), Refusal::NotFound),
+        (refusal(client.create("/ls/c/f", b"")), Refusal::Exists),
+        (refusal(client.create("/ls/c/g/h", b"")), Refusal::NotFound),
+        (refusal(client.open("/ls/d/f", Mode::READ)), Refusal::OtherCell),
+        (refusal(client.set(read, b"", None)), Refusal::Denied(Right::Write)),
+        (refusal(client.list(file)), Refusal::WrongKind(Kind::File)),
+        (refusal(client.set(root, b"", None)), Refusal::WrongKind(Kind::Directory)),
+        (refusal(client.delete(root)), Refusal::NotEmpty),
+        (refusal(client.set(file, &vec![0; 262_145], None)), Refusal::TooLarge),
+        (refusal(client.release(file)), Refusal::NotHolder),
+        (refusal(client.check_sequencer(b"a")), Refusal::BadSequencer),
+        (refusal(eve.open("/ls/c/f", Mode::READ)), Refusal::Denied(Right::Read)),
+    ];
+    for (found, wanted) in rows {
+        assert_eq!(found, Some(wanted));
+    }
+    assert!(matches!(client.open("no name", Mode::READ), Err(Error::Malformed(_))));
+}
+
+#[test]
+fn a_read_is_served_until_another_writes() {
+    let cell = Cell::new("served");
+    let (client, other) = (cell.client("ann"), cell.client("bob"));
+    let file = client.create("/ls/c/f", b"old").unwrap();
+    assert!(!client.read(file).unwrap().is_served);
+    let view = client.read(file).unwrap();
+    assert!(view.is_served);
+    assert_eq!(view.content, b"old");
+    let mut room = Vec::new();
+    assert!(client.read_into(file, &mut room).unwrap());
+    assert_eq!(room, b"old");
+    other.set(other.open("/ls/c/f", Mode::WRITE).unwrap(), b"new", None).unwrap();
+    let view = client.read(file).unwrap();
+    assert_eq!((view.content.as_slice(), view.is_served), (&b"new"[..], false));
+    assert!(client.read(file).unwrap().is_served);
+    client.poison(file).unwrap();
+    assert_eq!(refusal(client.read(file)), Some(Refusal::Poisoned));
+    client.close(file).unwrap();
+    assert_eq!(refusal(client.read(file)), Some(Refusal::BadHandle));
+}
+
+// (a session ends 12 s after its last Beat was answered)
+#[test]
+fn a_closed_client_lets_no_write_wait() {
+    let cell = Cell::new("closed");
+    let other = cell.client("bob");
+    let file = other.create("/ls/c/f", b"old").unwrap();
+    let client = cell.client("ann");
+    client.read(client.open("/ls/c/f", Mode::READ).unwrap()).unwrap();
+    drop(client);
+    let begun = Instant::now();
+    other.set(file, b"new", None).unwrap();
+    assert!(begun.elapsed() < Duration::from_secs(6), "{:?}", begun.elapsed());
+}
+
+#[test]
+fn locks_and_sequencers() {
+    let cell = Cell::new("locks");
+    let (client, other) = (cell.client("ann"), cell.client("bob"));
+    let held = client.create("/ls/c/l", b"").unwrap();
+    let wanted = other.open("/ls/c/l", Mode::WRITE).unwrap();
+    let lock = LockMode::Exclusive;
+    client.acquire(held, lock).unwrap();
+    assert_eq!(refusal(other.try_acquire(wanted, lock)), Some(Refusal::Held(lock)));
+    let sequencer = client.sequencer(held).unwrap();
+    other.check_sequencer(&sequencer).unwrap();
+    let under = other.open("/ls/c/l", BOTH).unwrap();
+    other.set_sequencer(under, &sequencer).unwrap();
+    other.set(under, b"under the lock", None).unwrap();
+    std::thread::scope(|scope| {
+        let waiting = scope.spawn(|| other.acquire(wanted, lock));
+        std::thread::sleep(Duration::from_millis(300));
+        assert!(!waiting.is_finished());
+        client.release(held).unwrap();
+        waiting.join().unwrap().unwrap();
+    });
+    assert_eq!(refusal(client.check_sequencer(&sequencer)), Some(Refusal::SequencerStale));
+    assert_eq!(refusal(other.set(under, b"too late", None)), Some(Refusal::SequencerStale));
+    other.release(wanted).unwrap();
+    client.try_acquire(held, LockMode::Shared).unwrap();
+    other.try_acquire(wanted, LockMode::Shared).unwrap();
+}
+
+#[test]
+fn names_of_acls() {
+    let cell = Cell::new("acls");
+    let (client, eve) = (cell.client("ann"), cell.client("eve"));
+    let for_eve = client.create("/ls/c/acl/eve", b"eve\n").unwrap();
+    client.create("/ls/c/f", b"hers").unwrap();
+    let file = client.open("/ls/c/f", Mode::CHANGE).unwrap();
+    let names = ["eve", "base", "base"].map(str::to_owned);
+    client.set_acl(file, &names, Some(1)).unwrap();
+    assert_eq!(refusal(client.set_acl(file, &names, Some(1))), Some(Refusal::WrongGeneration(2)));
+    assert_eq!(eve.read(eve.open("/ls/c/f", Mode::READ).unwrap()).unwrap().content, b"hers");
+    assert_eq!(refusal(client.open("/ls/c/f", Mode::READ)), Some(Refusal::Denied(Right::Read)));
+    client.close(for_eve).unwrap();
+}
+
+#[test]
+fn events_are_told() {
+    let cell = Cell::new("events");
+    let (client, other) = (cell.client("ann"), cell.client("bob"));
+    let root = client.watch("/ls/c", Events::CHILDREN).unwrap();
+    let create = Create { must: true, content: Some(Vec::new()), life: Life::Ephemeral, acl: None };
+    let file = other.open_with(&Opening { create: Some(create), ..Opening::new("/ls/c/f", BOTH) }).unwrap();
+    let watch = client.watch("/ls/c/f", Events::CONTENTS.and(Events::LOCK)).unwrap();
+    let instance = client.stat(watch.handle).unwrap().instance;
+    other.set(file, b"new", None).unwrap();
+    other.acquire(file, LockMode::Exclusive).unwrap();
+    other.delete(file).unwrap();
+    let wait = |events: &std::sync::mpsc::Receiver<Event>| events.recv_timeout(Duration::from_secs(20)).unwrap();
+    for wanted in [Event::Contents { instance, generation: 2 }, Event::Locked, Event::Invalid] {
+        assert_eq!(wait(&watch.events), wanted);
+    }
+    let name = || "/ls/c/f".to_owned();
+    for wanted in [Event::ChildAdded(name()), Event::ChildModified(name()), Event::ChildRemoved(name())] {
+        assert_eq!(wait(&root.events), wanted);
+    }
+    client.close(watch.handle).unwrap();
+    assert!(watch.events.recv().is_err());
+}
