@@ -38,14 +38,17 @@ impl Options {
     }
 }
 
-/// An open node, by the client's own number for it. Whose client is closed, or has lost its session, is open no more.
+/// An open node, by its client's own number for it. Where its client is closed, or has lost its session, it is open no more.
 #[derive(Clone, Copy, Debug, PartialEq, Eq)]
-pub struct Handle(u64);
+pub struct Handle {
+    client: u64,
+    number: u64,
+}
 
-/// A node that is watched: its handle, to read, and its events. They end when the handle is closed or the session is lost.
+/// A node that is watched: its handle, and its events. They end when the handle is closed or the session is lost.
 #[derive(Debug)]
 pub struct Watch {
-    /// By which it can be read.
+    /// By which it is open.
     pub handle: Handle,
     /// What happens to it.
     pub events: Receiver<Event>,
@@ -162,9 +165,14 @@ impl Client {
 
     fn open_for(&self, opening: &Opening, watcher: Option<&Sender<Event>>) -> Result<Handle, Error> {
         match self.call(&Call::Open(opening), watcher)?.answer {
-            Answer::Opened(handle) => Ok(Handle(handle)),
+            Answer::Opened(number) => Ok(Handle { client: self.number, number }),
             other => Err(unfit(&other)),
         }
+    }
+
+    // The number of a handle of this client.
+    fn own(&self, handle: Handle) -> Result<u64, Error> {
+        if handle.client == self.number { Ok(handle.number) } else { Err(Refusal::BadHandle.into()) }
     }
 
     // A call that is answered by a bare word.
@@ -209,8 +217,17 @@ impl Client {
     ///
     /// As the master refuses it: `NotFound`, `Denied` and others.
     pub fn watch(&self, name: &str, events: Events) -> Result<Watch, Error> {
+        self.watch_with(&Opening { events, ..Opening::new(name, Mode::READ) })
+    }
+
+    /// Opens a node as it is asked for, and tells of its events, and of those of the session.
+    ///
+    /// # Errors
+    ///
+    /// As the master refuses it.
+    pub fn watch_with(&self, opening: &Opening) -> Result<Watch, Error> {
         let (watcher, told) = channel();
-        let handle = self.open_for(&Opening { events, ..Opening::new(name, Mode::READ) }, Some(&watcher))?;
+        let handle = self.open_for(opening, Some(&watcher))?;
         Ok(Watch { handle, events: told })
     }
 
@@ -220,8 +237,9 @@ impl Client {
     ///
     /// `BadHandle` where it isn't open.
     pub fn close(&self, handle: Handle) -> Result<(), Error> {
-        self.done(&Call::Close(handle.0))?;
-        self.core.lock().forget(handle.0);
+        let number = self.own(handle)?;
+        self.done(&Call::Close(number))?;
+        self.core.lock().forget(number);
         Ok(())
     }
 
@@ -231,7 +249,7 @@ impl Client {
     ///
     /// `BadHandle` where it isn't open.
     pub fn poison(&self, handle: Handle) -> Result<(), Error> {
-        self.core.lock().poison(handle.0)
+        self.core.lock().poison(self.own(handle)?)
     }
 
     /// Reads a node: out of the cache, without a message, where it holds it under a lease that runs.
@@ -240,7 +258,7 @@ impl Client {
     ///
     /// As the master refuses it: `Denied` where the handle isn't to read, `StaleInstance` where the node is gone, and others.
     pub fn read(&self, handle: Handle) -> Result<View, Error> {
-        let reply = self.call(&Call::Read(handle.0), None)?;
+        let reply = self.call(&Call::Read(self.own(handle)?), None)?;
         match reply.answer {
             Answer::Viewed(stat) => Ok(View { stat, content: reply.content, is_served: reply.is_own }),
             other => Err(unfit(&other)),
@@ -254,7 +272,8 @@ impl Client {
     ///
     /// As `read`.
     pub fn read_into(&self, handle: Handle, room: &mut Vec<u8>) -> Result<bool, Error> {
-        match self.ask(true, |state| state.read_into(handle.0, room))? {
+        let number = self.own(handle)?;
+        match self.ask(true, |state| state.read_into(number, room))? {
             None => Ok(true),
             Some(reply) => {
                 *room = reply.content;
@@ -269,7 +288,7 @@ impl Client {
     ///
     /// As the master refuses it: `StaleInstance` where the node is gone, and others.
     pub fn stat(&self, handle: Handle) -> Result<Stat, Error> {
-        match self.call(&Call::Stat(handle.0), None)?.answer {
+        match self.call(&Call::Stat(self.own(handle)?), None)?.answer {
             Answer::Stated(stat) => Ok(stat),
             other => Err(unfit(&other)),
         }
@@ -281,7 +300,7 @@ impl Client {
     ///
     /// As the master refuses it: `WrongKind` for a file, and others.
     pub fn list(&self, handle: Handle) -> Result<Vec<String>, Error> {
-        match self.call(&Call::List(handle.0), None)?.answer {
+        match self.call(&Call::List(self.own(handle)?), None)?.answer {
             Answer::Names(names) => Ok(names),
             other => Err(unfit(&other)),
         }
@@ -295,7 +314,7 @@ impl Client {
     /// As the master refuses it: `WrongGeneration`, `TooLarge` and others. `Unknown` where another master came up meanwhile: then it was done, or
     /// not.
     pub fn set(&self, handle: Handle, content: &[u8], generation: Option<u64>) -> Result<(), Error> {
-        self.done(&Call::Set(handle.0, content, generation))
+        self.done(&Call::Set(self.own(handle)?, content, generation))
     }
 
     /// Names the ACLs to read, to write, and to change ACLs; with a generation only where that is the present one.
@@ -304,7 +323,7 @@ impl Client {
     ///
     /// As `set`.
     pub fn set_acl(&self, handle: Handle, acl: &[String; 3], generation: Option<u64>) -> Result<(), Error> {
-        self.done(&Call::SetAcl(handle.0, acl, generation))
+        self.done(&Call::SetAcl(self.own(handle)?, acl, generation))
     }
 
     /// Deletes a node that has no children.
@@ -313,7 +332,7 @@ impl Client {
     ///
     /// As the master refuses it: `NotEmpty` and others; `Unknown` as at `set`.
     pub fn delete(&self, handle: Handle) -> Result<(), Error> {
-        self.done(&Call::Delete(handle.0))
+        self.done(&Call::Delete(self.own(handle)?))
     }
 
     /// Takes the node's lock, and waits for it. Meanwhile other calls of this client that the cache doesn't answer wait too.
@@ -323,7 +342,7 @@ impl Client {
     /// As the master refuses it: `Held` where this handle holds it, and others. `Unknown` where another master came up meanwhile: then the
     /// lock is held, or not, and `release` makes it sure.
     pub fn acquire(&self, handle: Handle, mode: LockMode) -> Result<(), Error> {
-        self.done(&Call::Acquire(handle.0, mode))
+        self.done(&Call::Acquire(self.own(handle)?, mode))
     }
 
     /// Takes the node's lock, if that can be had at once.
@@ -332,7 +351,7 @@ impl Client {
     ///
     /// `Held` and `Delayed` where it can't; else as `acquire`.
     pub fn try_acquire(&self, handle: Handle, mode: LockMode) -> Result<(), Error> {
-        self.done(&Call::TryAcquire(handle.0, mode))
+        self.done(&Call::TryAcquire(self.own(handle)?, mode))
     }
 
     /// Lets the lock go.
@@ -341,7 +360,7 @@ impl Client {
     ///
     /// `NotHolder` where the handle doesn't hold it, and others.
     pub fn release(&self, handle: Handle) -> Result<(), Error> {
-        self.done(&Call::Release(handle.0))
+        self.done(&Call::Release(self.own(handle)?))
     }
 
     /// The bytes of the sequencer of the lock that the handle holds: they show others that it is held (Burrows 2006, section 2.4).
@@ -350,7 +369,7 @@ impl Client {
     ///
     /// `NotHolder` where it holds none, and others.
     pub fn sequencer(&self, handle: Handle) -> Result<Vec<u8>, Error> {
-        match self.call(&Call::GetSequencer(handle.0), None)?.answer {
+        match self.call(&Call::GetSequencer(self.own(handle)?), None)?.answer {
             Answer::Sequencer(bytes) => Ok(bytes),
             other => Err(unfit(&other)),
         }
@@ -362,7 +381,7 @@ impl Client {
     ///
     /// `BadSequencer`, `SequencerStale` and others.
     pub fn set_sequencer(&self, handle: Handle, sequencer: &[u8]) -> Result<(), Error> {
-        self.done(&Call::SetSequencer(handle.0, sequencer))
+        self.done(&Call::SetSequencer(self.own(handle)?, sequencer))
     }
 
     /// Whether the lock of the sequencer of these bytes is held: Ok, or why not.

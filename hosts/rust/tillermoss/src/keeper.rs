@@ -65,23 +65,26 @@ fn welcomed(stream: TcpStream, hello: &Hello) -> Result<(TcpStream, Welcome), Er
 struct Schedule {
     sent: u64,
     due: u64,
+    /// Whether an answer came.
+    is_answered: bool,
 }
 
 impl Schedule {
     // One was sent now, under a lease until that moment. Where no answer comes the next goes when half of what is left is over.
     fn sent(now: u64, leased_until: u64) -> Schedule {
         let left = leased_until.saturating_sub(now) / 2;
-        Schedule { sent: now, due: now.saturating_add(left.clamp(AGAIN.0, AGAIN.1)) }
+        Schedule { sent: now, due: now.saturating_add(left.clamp(AGAIN.0, AGAIN.1)), is_answered: false }
     }
 
     // A message came. Behind the answer to a Beat the next one goes: at once where there is something to acknowledge.
     fn give(&mut self, now: u64, message: &[u8]) {
         let paced = now.max(self.sent.saturating_add(PACE));
-        match message.get(1) {
-            Some(&ALIVE) if message.len() > EMPTY_ALIVE => self.due = now,
-            Some(&(STARTED | ALIVE | REFUSED)) => self.due = self.due.min(paced),
-            _ => {}
-        }
+        self.due = match message.get(1) {
+            Some(&ALIVE) if message.len() > EMPTY_ALIVE => now,
+            Some(&(STARTED | ALIVE | REFUSED)) => self.due.min(paced),
+            _ => return,
+        };
+        self.is_answered = true;
     }
 }
 
@@ -136,7 +139,7 @@ impl Keeper {
         let written = stream.try_clone()?;
         let writer = thread::Builder::new().spawn(move || write_all(&written, &waiting))?;
         self.core.lock().connect(stream.try_clone()?, outgoing, writer);
-        let mut schedule = self.beat();
+        let mut schedule = self.beat(true);
         let mut blocks = Blocks::new(ANSWER_LIMIT);
         while self.core.lock().goes_on() {
             let rest = schedule.due.saturating_sub(clock::now()).max(1);
@@ -151,7 +154,7 @@ impl Keeper {
                 Err(error) => return Err(error),
             }
             if clock::now() >= schedule.due {
-                schedule = self.beat();
+                schedule = self.beat(!schedule.is_answered);
             }
         }
         Ok(())
@@ -163,12 +166,14 @@ impl Keeper {
         schedule.give(clock::now(), message);
     }
 
-    // Beats, and sends the call that has no reply yet again: its message or the reply may be lost.
-    fn beat(&self) -> Schedule {
+    // Beats; and sends the call that has no reply yet again, where its message or the reply may be lost.
+    fn beat(&self, is_again: bool) -> Schedule {
         let mut state = self.core.lock();
         let now = clock::now();
         let leased_until = state.beat();
-        state.send_again();
+        if is_again {
+            state.send_again();
+        }
         drop(state);
         self.core.tell();
         Schedule::sent(now, leased_until)

@@ -13,8 +13,11 @@ use std::sync::{Arc, Mutex, PoisonError};
 use std::thread;
 use std::time::Duration;
 
-/// So many connections are taken at once.
-const MOST: usize = 1024;
+/// So many connections are bound at once. Each has one descriptor, of which a process has 1,024 where nothing else is set.
+const MOST: usize = 512;
+
+/// So long after one that can't be taken the next is tried.
+const PAUSE: Duration = Duration::from_millis(20);
 
 /// So long the greeting may take.
 const GREETING: Duration = Duration::from_secs(10);
@@ -45,10 +48,15 @@ struct Bound {
 
 /// Takes connections until the server goes, each with a thread of its own.
 pub fn take_all(listener: TcpListener, hall: &Arc<Hall>) {
-    for stream in listener.incoming().flatten() {
+    for taken in listener.incoming() {
         if hall.is_over.load(Ordering::Relaxed) {
             return;
         }
+        let Ok(stream) = taken else {
+            thread::sleep(PAUSE);
+            continue;
+        };
+        let stream = Arc::new(stream);
         hall.count.fetch_add(1, Ordering::Relaxed);
         let shared = hall.clone();
         let spawned = thread::Builder::new().spawn(move || {
@@ -64,16 +72,16 @@ pub fn take_all(listener: TcpListener, hall: &Arc<Hall>) {
 
 impl Hall {
     // A connection, from its greeting to its end.
-    fn take(&self, stream: &TcpStream) -> io::Result<()> {
+    fn take(&self, stream: &Arc<TcpStream>) -> io::Result<()> {
         stream.set_nodelay(true)?;
         stream.set_read_timeout(Some(GREETING))?;
         let mut blocks = Blocks::new(GREETING_LIMIT);
-        let Some(first) = blocks.next(&mut &*stream)? else {
+        let Some(first) = blocks.next(&mut &**stream)? else {
             return Ok(());
         };
         let answer = self.greet(&first);
         let welcome = answer.as_ref().map(|bound| Welcome { client: bound.client, token: bound.token });
-        write_block(&mut &*stream, &Welcome::write(&welcome.map_err(|reason| *reason)))?;
+        write_block(&mut &**stream, &Welcome::write(&welcome.map_err(|reason| *reason)))?;
         let Ok(bound) = answer else {
             return Ok(());
         };

@@ -1,15 +1,19 @@
 //! A store is served by one server at a time.
 
 use std::ffi::c_int;
-use std::fs::{File, TryLockError};
-use std::io::{self, ErrorKind};
+use std::fs::{self, File, TryLockError};
+use std::io::{self, ErrorKind, Write};
 use std::os::fd::AsRawFd;
 use std::path::Path;
+use std::process;
 use std::thread;
 use std::time::{Duration, Instant};
 
-/// So long a server waits for one before it to be gone.
+/// So long a server waits for one before it that lives.
 const PATIENCE: Duration = Duration::from_secs(10);
+
+/// So long it waits for the master of one that is gone.
+const LONG_PATIENCE: Duration = Duration::from_secs(60);
 
 /// So long between two tries.
 const PAUSE: Duration = Duration::from_millis(20);
@@ -25,20 +29,29 @@ unsafe extern "C" {
 /// The lock is held until the file that is given back is closed, in this process and in those that it starts from here on: so it
 /// is held as long as a master lives that this server starts.
 pub fn take_lock(path: &Path) -> io::Result<File> {
-    let file = File::options().create(true).append(true).open(path)?;
+    let mut file = File::options().create(true).truncate(false).read(true).write(true).open(path)?;
     let begun = Instant::now();
     loop {
         match file.try_lock() {
             Ok(()) => break,
             Err(TryLockError::Error(error)) => return Err(error),
-            Err(TryLockError::WouldBlock) if begun.elapsed() < PATIENCE => thread::sleep(PAUSE),
+            Err(TryLockError::WouldBlock) if begun.elapsed() < patience(path) => thread::sleep(PAUSE),
             Err(TryLockError::WouldBlock) => {
                 return Err(io::Error::new(ErrorKind::WouldBlock, format!("another server holds {}", path.display())));
             }
         }
     }
     inherit(&file)?;
+    file.set_len(0)?;
+    writeln!(file, "{}", process::id())?;
     Ok(file)
+}
+
+// The file has the number of the process of the server that took the lock.
+fn patience(path: &Path) -> Duration {
+    let process = fs::read_to_string(path).unwrap_or_default();
+    let is_alive = Path::new("/proc").join(process.trim()).exists();
+    if is_alive { PATIENCE } else { LONG_PATIENCE }
 }
 
 // Programs that are started get the descriptor too.
@@ -54,6 +67,15 @@ fn inherit(file: &File) -> io::Result<()> {
 mod tests {
     use super::*;
     use std::process::{Command, id};
+
+    #[test]
+    fn one_that_is_gone_is_waited_for_longer() {
+        let path = std::env::temp_dir().join(format!("tillermossd-patience-{}", id()));
+        for (text, wanted) in [(format!("{}\n", id()), PATIENCE), ("999999999\n".to_owned(), LONG_PATIENCE)] {
+            fs::write(&path, text).unwrap();
+            assert_eq!(patience(&path), wanted);
+        }
+    }
 
     #[test]
     fn a_lock_is_held_by_what_was_started_too() {

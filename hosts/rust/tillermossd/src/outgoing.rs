@@ -3,6 +3,7 @@
 use host_wire::write_block;
 use std::io;
 use std::net::{Shutdown, TcpStream};
+use std::sync::Arc;
 use std::sync::mpsc::{Receiver, SyncSender, sync_channel};
 use std::thread;
 use std::time::Duration;
@@ -16,18 +17,18 @@ const PATIENCE: Duration = Duration::from_secs(10);
 /// The messages to one connection, written by a thread of its own.
 #[derive(Debug)]
 pub struct Outgoing {
-    stream: TcpStream,
+    stream: Arc<TcpStream>,
     blocks: SyncSender<Vec<u8>>,
 }
 
 impl Outgoing {
     /// Those to this stream.
-    pub fn new(stream: &TcpStream) -> io::Result<Outgoing> {
+    pub fn new(stream: &Arc<TcpStream>) -> io::Result<Outgoing> {
         stream.set_write_timeout(Some(PATIENCE))?;
         let (blocks, waiting) = sync_channel(ROOM);
-        let written = stream.try_clone()?;
-        thread::Builder::new().spawn(move || write_all(written, &waiting))?;
-        Ok(Outgoing { stream: stream.try_clone()?, blocks })
+        let written = stream.clone();
+        thread::Builder::new().spawn(move || write_all(&written, &waiting))?;
+        Ok(Outgoing { stream: stream.clone(), blocks })
     }
 
     /// Sends a message; or cuts the connection off, where the client doesn't keep up.
@@ -44,7 +45,7 @@ impl Outgoing {
     }
 }
 
-fn write_all(mut stream: TcpStream, waiting: &Receiver<Vec<u8>>) {
+fn write_all(mut stream: &TcpStream, waiting: &Receiver<Vec<u8>>) {
     for block in waiting {
         if write_block(&mut stream, &block).is_err() {
             break;

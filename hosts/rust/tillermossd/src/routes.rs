@@ -73,11 +73,12 @@ mod tests {
     use super::*;
     use host_wire::Blocks;
     use std::net::{TcpListener, TcpStream};
+    use std::sync::Arc;
 
-    fn pair() -> (TcpStream, TcpStream) {
+    fn pair() -> (TcpStream, Arc<TcpStream>) {
         let listener = TcpListener::bind("127.0.0.1:0").unwrap();
         let one = TcpStream::connect(listener.local_addr().unwrap()).unwrap();
-        (one, listener.accept().unwrap().0)
+        (one, Arc::new(listener.accept().unwrap().0))
     }
 
     #[test]

@@ -83,6 +83,7 @@ fn refusals_are_told() {
         (refusal(client.delete(root)), Refusal::NotEmpty),
         (refusal(client.set(file, &vec![0; 262_145], None)), Refusal::TooLarge),
         (refusal(client.release(file)), Refusal::NotHolder),
+        (refusal(eve.read(file)), Refusal::BadHandle),
         (refusal(client.check_sequencer(b"a")), Refusal::BadSequencer),
         (refusal(eve.open("/ls/c/f", Mode::READ)), Refusal::Denied(Right::Read)),
     ];

@@ -48,6 +48,7 @@ fn files_are_made_read_and_deleted() {
         (&["ls"], "acl\nd\nf\n", 0),
         (&["ls", "d"], "f\n", 0),
         (&["ls", "f"], "", 1),
+        (&["get", "d"], "", 1),
         (&["rm", "d"], "", 1),
         (&["rm", "d/f"], "", 0),
         (&["ls", "d"], "", 0),

@@ -4,7 +4,7 @@ use crate::locking::lock;
 use crate::watching::watch;
 use crate::words::{Command, Words};
 use std::io::{self, Read, Write};
-use tillermoss::{Client, Create, Error, Mode, Opening, Options, Refusal};
+use tillermoss::{Client, Create, Error, Handle, Kind, Mode, Opening, Options, Refusal};
 
 /// So often a file that comes and goes meanwhile is tried to be written.
 const TRIES: u32 = 10;
@@ -47,7 +47,10 @@ pub fn print(content: &[u8]) -> io::Result<()> {
 
 fn get(client: &Client, name: &str) -> Result<(), Error> {
     let view = client.read(client.open(name, Mode::READ)?)?;
-    Ok(print(&view.content)?)
+    match view.stat.kind {
+        Kind::File => Ok(print(&view.content)?),
+        Kind::Directory => Err(Refusal::WrongKind(Kind::Directory).into()),
+    }
 }
 
 fn list(client: &Client, name: &str) -> Result<(), Error> {
@@ -64,6 +67,11 @@ fn make_directory(client: &Client, name: &str) -> Result<(), Error> {
     Ok(())
 }
 
+fn create(client: &Client, name: &str, content: &[u8]) -> Result<Handle, Error> {
+    let create = Create { must: true, content: Some(content.to_vec()), ..Create::default() };
+    client.open_with(&Opening { create: Some(create), ..Opening::new(name, Mode::WRITE) })
+}
+
 // Either way the whole content comes in one change.
 fn put(client: &Client, name: &str, content: &[u8]) -> Result<(), Error> {
     let mut last = Refusal::NotFound;
@@ -73,7 +81,7 @@ fn put(client: &Client, name: &str, content: &[u8]) -> Result<(), Error> {
                 Err(Error::Refused(refusal @ Refusal::StaleInstance)) => last = refusal,
                 result => return result,
             },
-            Err(Error::Refused(Refusal::NotFound)) => match client.create(name, content) {
+            Err(Error::Refused(Refusal::NotFound)) => match create(client, name, content) {
                 Err(Error::Refused(refusal @ Refusal::Exists)) => last = refusal,
                 result => return result.map(|_| ()),
             },

@@ -4,7 +4,7 @@ use std::process::{Child, Command, ExitStatus};
 use std::sync::mpsc::TryRecvError;
 use std::thread;
 use std::time::Duration;
-use tillermoss::{Client, Create, Error, Events, Handle, Life, LockMode, Mode, Opening, Refusal, Watch};
+use tillermoss::{Client, Create, Error, Handle, Life, LockMode, Mode, Opening, Refusal, Watch};
 
 /// So long between two looks at the command and at the session.
 const LOOK: Duration = Duration::from_millis(20);
@@ -12,8 +12,8 @@ const LOOK: Duration = Duration::from_millis(20);
 /// Waits for the lock of a file, runs the command, and lets the lock go; gives the command's status.
 pub fn lock(client: &Client, name: &str, command: &[String]) -> Result<u8, Error> {
     let file = Create { content: Some(Vec::new()), life: Life::Ephemeral, ..Create::default() };
-    let held = client.open_with(&Opening { create: Some(file), ..Opening::new(name, Mode::WRITE) })?;
-    let watch = client.watch(name, Events::NONE)?;
+    let watch = client.watch_with(&Opening { create: Some(file), ..Opening::new(name, Mode::WRITE) })?;
+    let held = watch.handle;
     acquire(client, held)?;
     let sequencer: String = client.sequencer(held)?.iter().map(|byte| format!("{byte:02x}")).collect();
     let (program, words) = command.split_first().ok_or(Refusal::NotFound)?;
