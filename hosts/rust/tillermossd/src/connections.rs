@@ -3,6 +3,7 @@
 use crate::master::Work;
 use crate::numbers::Numbers;
 use crate::outgoing::Outgoing;
+use crate::reports::report;
 use crate::routes::Routes;
 use host_wire::{Blocks, Estate, GREETING_LIMIT, Head, Hello, REQUEST_LIMIT, TurnedAway, Welcome, write_block};
 use std::io;
@@ -102,7 +103,7 @@ impl Hall {
         match hello {
             Hello::New { principal } => {
                 let client = numbers.allot().map_err(|error| {
-                    eprintln!("tillermossd: giving a number: {error}");
+                    report(format_args!("giving a number: {error}"));
                     TurnedAway::NoNumber
                 })?;
                 Ok(Bound { client, token: numbers.token(client, &principal), principal })

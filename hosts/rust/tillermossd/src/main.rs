@@ -8,6 +8,7 @@ mod numbers;
 mod options;
 mod outgoing;
 mod pulse;
+mod reports;
 mod routes;
 mod serving;
 mod signals;
@@ -24,7 +25,7 @@ fn main() -> ExitCode {
         }
         Ok(Some(options)) => run(&options),
         Err(fault) => {
-            eprintln!("tillermossd: {fault}");
+            reports::report(fault);
             ExitCode::from(2)
         }
     }
@@ -34,7 +35,7 @@ fn run(options: &Options) -> ExitCode {
     match serving::serve(options) {
         Ok(()) => ExitCode::SUCCESS,
         Err(fault) => {
-            eprintln!("tillermossd: {fault}");
+            reports::report(fault);
             ExitCode::FAILURE
         }
     }

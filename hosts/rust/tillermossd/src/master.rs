@@ -2,6 +2,7 @@
 
 use crate::options::Options;
 use crate::pulse::Pulse;
+use crate::reports::{report, trace};
 use crate::routes::Routes;
 use crate::told::{Frame, Next, Told};
 use host_wire::{ANSWER_LIMIT, Blocks, write_block};
@@ -79,7 +80,7 @@ impl Master {
         thread::Builder::new().name("from the master".to_owned()).spawn(move || {
             let end = line.read_all(output, blocks, &routes, &answers);
             if let Err(error) = end {
-                eprintln!("tillermossd: reading from the master: {error}");
+                report(format_args!("reading from the master: {error}"));
             }
             // (where nobody waits for it the server is ending already)
             let _ = ending.send(Ending::MasterGone);
@@ -134,7 +135,7 @@ fn come_up(clock: Clock, input: &mut ChildStdin, output: &mut ChildStdout, block
             Told::End(_) => return Err(io::Error::other("the master didn't come up")),
             Told::Line(line) => {
                 if is_traced {
-                    eprintln!("{line}");
+                    trace(&line);
                 }
                 if line.starts_with("up ") {
                     epoch = Some(line);
@@ -174,7 +175,7 @@ impl Line {
 
     fn tell(&self, line: &str, routes: &Routes) {
         if self.is_traced {
-            eprintln!("{line}");
+            trace(line);
         }
         if let Some(client) = line.strip_prefix("ended ").and_then(|client| client.parse().ok()) {
             routes.forget(client);
@@ -192,7 +193,7 @@ impl Line {
                     }
                 }
                 Told::Line(line) => self.tell(&line, routes),
-                Told::Bad(reason) => eprintln!("tillermossd: the master took no frame of what was sent: {reason}"),
+                Told::Bad(reason) => report(format_args!("the master took no frame of what was sent: {reason}")),
                 Told::End(next) => {
                     if self.pulse.answer(next) {
                         // (where there is no room the thread has work, and looks at the deadline behind it)

@@ -1,9 +1,9 @@
 //! The command line, with a server.
 
 use std::fs;
-use std::io::{BufRead, BufReader, Read, Write};
+use std::io::{BufRead, BufReader, Lines, Write};
 use std::path::Path;
-use std::process::{Child, Command, Stdio};
+use std::process::{Child, ChildStdout, Command, Stdio};
 use std::thread;
 use std::time::Duration;
 use trials::{Kill, Server, folder, program};
@@ -22,6 +22,15 @@ fn run(server: &Server, words: &[&str]) -> (String, Option<i32>) {
 
 fn start(server: &Server, words: &[&str]) -> Child {
     command(server, words).stdin(Stdio::piped()).stdout(Stdio::piped()).spawn().unwrap()
+}
+
+// A watch that watches, and the lines that it will print.
+fn start_watch(server: &Server, name: &str) -> (Child, Lines<BufReader<ChildStdout>>) {
+    let mut child = command(server, &["watch", name]).stdout(Stdio::piped()).stderr(Stdio::piped()).spawn().unwrap();
+    let mut told = BufReader::new(child.stderr.take().unwrap()).lines();
+    assert!(told.next().unwrap().unwrap().starts_with("watching /ls/c"));
+    let lines = BufReader::new(child.stdout.take().unwrap()).lines();
+    (child, lines)
 }
 
 fn wait_for(path: &Path) {
@@ -96,10 +105,8 @@ fn a_watch_tells_what_happens() {
     let folder = folder("watching");
     let server = Server::start(&folder.join("store.db")).unwrap();
     assert_eq!(run(&server, &["put", "f", "first"]).1, Some(0));
-    let (mut file, mut directory) = (start(&server, &["watch", "f"]), start(&server, &["watch", "/ls/c"]));
-    // (a watch prints nothing before something happens)
-    thread::sleep(Duration::from_millis(1000));
-    let mut told = BufReader::new(file.stdout.take().unwrap()).lines();
+    let (mut file, mut told) = start_watch(&server, "f");
+    let (mut directory, mut told_above) = start_watch(&server, "/ls/c");
     for content in ["second", "third"] {
         assert_eq!(run(&server, &["put", "f", content]).1, Some(0));
         assert_eq!(told.next().unwrap().unwrap(), "PUT /ls/c/f");
@@ -109,11 +116,10 @@ fn a_watch_tells_what_happens() {
     assert_eq!(run(&server, &["rm", "f"]).1, Some(0));
     assert_eq!(told.next().unwrap().unwrap(), "DELETE /ls/c/f");
     assert!(file.wait().unwrap().success());
-    thread::sleep(Duration::from_millis(1000));
+    for line in ["MODIFIED /ls/c/f", "MODIFIED /ls/c/f", "ADDED /ls/c/g", "REMOVED /ls/c/f"] {
+        assert_eq!(told_above.next().unwrap().unwrap(), line);
+    }
     directory.kill().unwrap();
-    let mut rest = String::new();
-    directory.stdout.take().unwrap().read_to_string(&mut rest).unwrap();
     directory.wait().unwrap();
-    assert_eq!(rest, "MODIFIED /ls/c/f\nMODIFIED /ls/c/f\nADDED /ls/c/g\nREMOVED /ls/c/f\n");
     fs::remove_dir_all(folder).unwrap();
 }

@@ -8,6 +8,7 @@ use tillermoss::{Client, Error, Event, Events, Kind, Refusal, Watch};
 pub fn watch(client: &Client, name: &str) -> Result<(), Error> {
     let watched = client.watch(name, Events::CONTENTS.and(Events::CHILDREN))?;
     let mut seen = client.read(watched.handle)?.stat.content_generation;
+    eprintln!("watching {name}");
     while let Ok(event) = watched.events.recv() {
         match event {
             Event::Contents { generation, .. } if generation <= seen => {}

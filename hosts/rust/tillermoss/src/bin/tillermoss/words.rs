@@ -14,7 +14,8 @@ Usage: tillermoss [--server HOST:PORT] [--as PRINCIPAL] [--cell CELL] COMMAND
   lock NAME -- COMMAND    waits for the lock of a file, which is made where there is none and goes with its last user, runs the
                           command while it is held, and ends as the command does. TILLERMOSS_SEQUENCER has the sequencer in
                           hexadecimal. Where the session is lost the command is killed, since the lock may be another's
-  watch NAME              prints what happens to a file or a directory, until it is deleted
+  watch NAME              prints what happens to a file or a directory from then on, until it is deleted; first it says on the
+                          standard error that it watches
 
 A name that begins with / is whole; another is one of the cell: f is /ls/CELL/f.
 
