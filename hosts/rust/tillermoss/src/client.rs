@@ -311,8 +311,8 @@ impl Client {
     ///
     /// # Errors
     ///
-    /// As the master refuses it: `WrongGeneration`, `TooLarge` and others. `Unknown` where another master came up meanwhile: then it was done, or
-    /// not.
+    /// As the master refuses it: `WrongGeneration`, `TooLarge` and others. `Unknown` where another master came up meanwhile: then it
+    /// was done, or not.
     pub fn set(&self, handle: Handle, content: &[u8], generation: Option<u64>) -> Result<(), Error> {
         self.done(&Call::Set(self.own(handle)?, content, generation))
     }
@@ -339,8 +339,8 @@ impl Client {
     ///
     /// # Errors
     ///
-    /// As the master refuses it: `Held` where this handle holds it, and others. `Unknown` where another master came up meanwhile: then the
-    /// lock is held, or not, and `release` makes it sure.
+    /// As the master refuses it: `Held` where this handle holds it, and others. `Unknown` where another master came up meanwhile:
+    /// then the lock is held, or not, and `release` makes it sure.
     pub fn acquire(&self, handle: Handle, mode: LockMode) -> Result<(), Error> {
         self.done(&Call::Acquire(self.own(handle)?, mode))
     }

@@ -57,7 +57,7 @@ pub struct Master {
 }
 
 /// What the two threads share.
-struct Line {
+struct Shared {
     clock: Clock,
     pulse: Pulse,
     is_traced: bool,
@@ -73,12 +73,12 @@ impl Master {
         let clock = Clock(Instant::now());
         let mut blocks = Blocks::new(ANSWER_LIMIT);
         let next = come_up(clock, &mut input, &mut output, &mut blocks, options.is_traced)?;
-        let line = Arc::new(Line { clock, pulse: Pulse::new(clock.now(), next), is_traced: options.is_traced });
+        let shared = Arc::new(Shared { clock, pulse: Pulse::new(clock.now(), next), is_traced: options.is_traced });
         let (work, works) = sync_channel(ROOM);
-        let (written, answers) = (line.clone(), work.clone());
+        let (written, answers) = (shared.clone(), work.clone());
         thread::Builder::new().name("to the master".to_owned()).spawn(move || written.write_all(input, &works))?;
         thread::Builder::new().name("from the master".to_owned()).spawn(move || {
-            let end = line.read_all(output, blocks, &routes, &answers);
+            let end = shared.read_all(output, blocks, &routes, &answers);
             if let Err(error) = end {
                 report(format_args!("reading from the master: {error}"));
             }
@@ -100,8 +100,10 @@ impl Master {
         self.child.wait()
     }
 
-    /// How it ended, where it is gone by itself.
+    /// How it ended, where it is gone by itself, or tells what isn't understood: then it is killed.
     pub fn ended(mut self) -> io::Result<ExitStatus> {
+        // (one that is gone can't be killed)
+        let _ = self.child.kill();
         self.child.wait()
     }
 }
@@ -149,7 +151,7 @@ fn come_up(clock: Clock, input: &mut ChildStdin, output: &mut ChildStdout, block
     }
 }
 
-impl Line {
+impl Shared {
     // Writes frames until there is no more to do, or the master is gone. The clock is read behind the arrival of a message.
     fn write_all(&self, mut input: ChildStdin, works: &Receiver<Work>) {
         loop {
