@@ -146,7 +146,7 @@ impl Client {
 
     // The reply to a call that was sent; or the refusal behind which it may be made again.
     fn wait_for(&self, reply: &Receiver<Result<Reply, Error>>, only_reads: bool) -> Result<Result<Reply, Refusal>, Error> {
-        let result = reply.recv().unwrap_or(Err(Error::Closed));
+        let result = reply.recv().unwrap_or_else(|_| Err(self.core.lock().fault().unwrap_or(Error::Closed)));
         self.core.tell();
         match result {
             Ok(reply) => Ok(Ok(reply)),
