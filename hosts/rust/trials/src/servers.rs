@@ -66,8 +66,20 @@ impl Server {
     ///
     /// Where it can't be started, or ends first.
     pub fn start(store: &Path) -> io::Result<Server> {
+        Server::start_with(store, None)
+    }
+
+    /// The same, with the settings of a file.
+    ///
+    /// # Errors
+    ///
+    /// As `start`.
+    pub fn start_with(store: &Path, settings: Option<&Path>) -> io::Result<Server> {
         let mut command = Command::new(program("tillermossd"));
         command.arg("0").arg("--store").arg(store).arg("--master").arg(master_program());
+        if let Some(settings) = settings {
+            command.arg("--settings").arg(settings);
+        }
         let mut child = command.stdout(Stdio::piped()).spawn()?;
         let mut line = String::new();
         if let Some(out) = child.stdout.take() {

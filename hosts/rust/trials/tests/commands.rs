@@ -5,7 +5,7 @@ use std::io::{BufRead, BufReader, Lines, Write};
 use std::path::Path;
 use std::process::{Child, ChildStdout, Command, Stdio};
 use std::thread;
-use std::time::Duration;
+use std::time::{Duration, Instant};
 use trials::{Kill, Server, folder, program};
 
 fn command(server: &Server, words: &[&str]) -> Command {
@@ -97,6 +97,27 @@ fn a_lock_is_held_by_one_command() {
     let (printed, status) = run(&server, &["lock", "l", "--", "sh", "-c", "echo $TILLERMOSS_SEQUENCER"]);
     assert_eq!(status, Some(0));
     assert!(printed.starts_with("0101") && printed.ends_with("00072f6c732f632f6c\n"), "{printed}");
+    fs::remove_dir_all(folder).unwrap();
+}
+
+// (its session is ended by a tick alone, since nobody says anything meanwhile but who waits for the lock)
+#[test]
+fn a_lock_of_one_that_is_killed_goes_to_the_next() {
+    let folder = folder("killed");
+    let (settings, begun) = (folder.join("cell.toml"), folder.join("begun"));
+    fs::write(&settings, "lease = 3000\n").unwrap();
+    let server = Server::start_with(&folder.join("store.db"), Some(&settings)).unwrap();
+    let script = format!("touch {}; cat", begun.display());
+    let mut first = start(&server, &["lock", "l", "--", "sh", "-c", &script]);
+    wait_for(&begun);
+    let mut other = start(&server, &["lock", "l", "--", "true"]);
+    thread::sleep(Duration::from_millis(500));
+    assert!(other.try_wait().unwrap().is_none());
+    first.kill().unwrap();
+    first.wait().unwrap();
+    let killed = Instant::now();
+    assert!(other.wait().unwrap().success());
+    assert!(killed.elapsed() > Duration::from_millis(500), "{:?}", killed.elapsed());
     fs::remove_dir_all(folder).unwrap();
 }
 
