@@ -1,14 +1,14 @@
 -- Blocks in a stream, one behind the other.
-use Rattle.std.proofs.Common.{◌≡◌, ℕ, suc, ◌+◌, ◌^◌, ◌<◌, ◌≤◌, Bool, true, false, cond, List, [], ◌∷◌, ◌++◌, length, take, drop, get_or, Option, Some, Result, Ok, Err, refl, sym, ap, subst, ◌∙◌, append_assoc, arith}
-use Rattle.std.specs.Prelude.{◌==◌, if◌then◌else◌, nat_lt}
+use Rattle.std.proofs.Common.{◌≡◌, ℕ, suc, ◌^◌, ◌<◌, ◌≤◌, Bool, true, false, cond, List, [], ◌∷◌, ◌++◌, length, take, drop, Some, Result, Ok, Err, refl, sym, ap, subst, ◌∙◌, append_assoc, arith}
+use Rattle.std.specs.Prelude.{◌==◌, nat_lt}
 use Rattle.std.proofs.lemmas.Bool.{le-ltb, lt-ltb, eqb-true}
 use Rattle.std.proofs.lemmas.List.{take_at, drop_at, length-append}
 use Rattle.byteorder.specs.Endian.{big_bytes, big_number}
 use Rattle.byteorder.specs.Numbers.{big_from-append, big_number-reads_back, length-bytes_high_first}
 use Rattle.wire_core.specs.declared.faults.WireFault.{WireFault}
 use Rattle.wire_core.specs.declared.faults.WireFault.TheVariants.{TooLong, Cut, BadVersion}
-use Rattle.wire_core.specs.Forms.{◌>>=◌, Form, counted, version, version_at}
-use Rattle.wire_core.proofs.FormLaws.{IsBytes, IsForm, Takes, bind_ok}
+use Rattle.wire_core.specs.Forms.{Form, counted, version, version_at}
+use Rattle.wire_core.proofs.FormLaws.{IsBytes, IsForm, bind_ok}
 use Rattle.frame_core.specs.Blocks.{versioned, block_limit, block_at, next_block}
 
 -- ---- the version in front

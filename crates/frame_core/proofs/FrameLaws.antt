@@ -1,10 +1,6 @@
 -- What a master is sent is read as it was written.
-use Rattle.std.proofs.Common.{◌≡◌, ℕ, List, ◌++◌, Result, Ok, refl}
-use Rattle.messages_cell.specs.declared.requests.Request.{Request}
-use Rattle.wire_core.specs.declared.faults.WireFault.{WireFault}
-use Rattle.wire_core.specs.Forms.{Form, nothing, ◌⊗◌, choice, of_kind, behind}
-use Rattle.wire_core.specs.Fields.{word}
-use Rattle.wire_core.specs.Requests.{request}
+use Rattle.std.proofs.Common.{◌≡◌, ℕ, List, ◌++◌, Ok, refl}
+use Rattle.wire_core.specs.Forms.{choice}
 use Rattle.wire_core.proofs.FormLaws.{IsBytes, IsShort, IsForm, TakesKind, nothing_form, pair_form, choice_form, of_kind_form, behind_takes, behind_again}
 use Rattle.wire_core.proofs.FieldLaws.{word_form}
 use Rattle.wire_core.proofs.RequestLaws.{request_form}
@@ -12,7 +8,6 @@ use Rattle.frame_core.specs.declared.frames.Frame.{Frame}
 use Rattle.frame_core.specs.declared.frames.Frame.TheVariants as frames
 use Rattle.frame_core.specs.declared.kinds.FrameKind.{FrameKind}
 use Rattle.frame_core.specs.declared.kinds.FrameKind.TheVariants as of
-use Rattle.frame_core.specs.Blocks.{versioned}
 use Rattle.frame_core.specs.Frames.{message_fields, all_frames, frame_place, frame_kind, frame_is, frame_bytes, frame_behind, frame}
 use Rattle.frame_core.proofs.BlockLaws.{versioned_form}
 

@@ -3,3 +3,4 @@ pub mod FrameLaws
 pub mod ToldLaws
 pub mod Readings
 pub mod Writings
+pub mod Hearings

@@ -1,19 +1,13 @@
 -- What a master sends is read as it was written.
-use Rattle.std.proofs.Common.{◌≡◌, ℕ, List, ◌++◌, Result, Ok, refl}
-use Rattle.messages_cell.specs.declared.outs.Out.{Out}
-use Rattle.wire_core.specs.declared.faults.WireFault.{WireFault}
-use Rattle.wire_core.specs.declared.faults.WireFault.TheVariants as wire
-use Rattle.wire_core.specs.Forms.{Form, nothing, ◌⊗◌, choice, of_kind, behind}
-use Rattle.wire_core.specs.Fields.{client, block}
-use Rattle.wire_core.specs.Outs.{out_message}
-use Rattle.wire_core.proofs.FormLaws.{IsBytes, IsShort, IsForm, TakesKind, nothing_form, pair_form, choice_form, of_kind_form, behind_takes, behind_again}
-use Rattle.wire_core.proofs.FieldLaws.{client_form, block_form}
+use Rattle.std.proofs.Common.{◌≡◌, ℕ, List, ◌++◌, Ok, refl}
+use Rattle.wire_core.specs.Forms.{choice}
+use Rattle.wire_core.proofs.FormLaws.{IsBytes, IsShort, IsForm, TakesKind, pair_form, choice_form, of_kind_form, behind_takes, behind_again}
+use Rattle.wire_core.proofs.FieldLaws.{client_form, block_form, optional_word_form}
 use Rattle.wire_core.proofs.OutLaws.{out_message_form}
 use Rattle.frame_core.specs.declared.tellings.Told.{Told}
 use Rattle.frame_core.specs.declared.tellings.Told.TheVariants as tells
 use Rattle.frame_core.specs.declared.kinds.ToldKind.{ToldKind}
 use Rattle.frame_core.specs.declared.kinds.ToldKind.TheVariants as of
-use Rattle.frame_core.specs.Blocks.{versioned}
 use Rattle.frame_core.specs.Told.{out_fields, all_wire_faults, fault_place, wire_fault, all_told, told_place, told_kind, told_is, told_bytes, told_behind, told}
 use Rattle.frame_core.proofs.BlockLaws.{versioned_form}
 
@@ -27,20 +21,20 @@ told_any : (x : Told) → (choice all_told told_place).is (told_kind x)
 told_any (tells.Line text) = refl
 told_any (tells.Message number message) = refl
 told_any (tells.Bad fault) = refl
-told_any tells.End = refl
+told_any (tells.End deadline) = refl
 
 told_takes : (k : ToldKind) (bytes : List ℕ) (x : Told) (rest : List ℕ) → (choice all_told told_place).is k → IsBytes bytes → told_behind k bytes ≡ Ok (x, rest)
     → TakesKind told_kind told_is told_bytes k bytes x rest
 told_takes of.Line bytes x rest placed fits e = behind_takes tells.Line of.Line block_form (λ a. refl) (λ a h. h) (λ a. refl) bytes x rest fits e
 told_takes of.Message bytes x rest placed fits e = behind_takes (λ x. tells.Message x.0 x.1) of.Message out_fields_form (λ a. refl) (λ a h. h) (λ a. refl) bytes x rest fits e
 told_takes of.Bad bytes x rest placed fits e = behind_takes tells.Bad of.Bad wire_fault_form (λ a. refl) (λ a h. h) (λ a. refl) bytes x rest fits e
-told_takes of.End bytes x rest placed fits e = behind_takes (λ _. tells.End) of.End nothing_form (λ a. refl) (λ a h. h) (λ a. refl) bytes x rest fits e
+told_takes of.End bytes x rest placed fits e = behind_takes tells.End of.End optional_word_form (λ a. refl) (λ a h. h) (λ a. refl) bytes x rest fits e
 
 told_again : (x : Told) (rest : List ℕ) → told_is x → IsShort (told_bytes x) → told_behind (told_kind x) (told_bytes x ++ rest) ≡ Ok (x, rest)
 told_again (tells.Line text) rest holds short = behind_again tells.Line block_form text rest holds short
 told_again (tells.Message number message) rest holds short = behind_again (λ x. tells.Message x.0 x.1) out_fields_form (number, message) rest holds short
 told_again (tells.Bad fault) rest holds short = behind_again tells.Bad wire_fault_form fault rest holds short
-told_again tells.End rest holds short = behind_again (λ _. tells.End) nothing_form tt rest holds short
+told_again (tells.End deadline) rest holds short = behind_again tells.End optional_word_form deadline rest holds short
 
 pub told_form : IsForm told
 unfolding told

@@ -1,6 +1,6 @@
 -- Frames that are written.
-use Rattle.std.proofs.Common.{◌≡◌, ℕ, ◌+◌, ◌^◌, ◌<◌, ◌≤◌, Bool, true, false, cond, ltb, List, [], ◌∷◌, ◌++◌, length, Result, Ok, Err, refl, sym, ap, subst, ◌∙◌, append_assoc, arith}
-use Rattle.std.specs.Prelude.{if◌then◌else◌, nat_lt}
+use Rattle.std.proofs.Common.{◌≡◌, ℕ, ◌+◌, ◌^◌, ◌<◌, ◌≤◌, Bool, true, false, cond, List, [], ◌∷◌, ◌++◌, length, Result, Ok, Err, refl, sym, ap, subst, ◌∙◌, append_assoc, arith}
+use Rattle.std.specs.Prelude.{nat_lt}
 use Rattle.std.proofs.lemmas.Bool.{le-ltb, lt-ltb, ltb-false}
 use Rattle.std.proofs.lemmas.List.{length-append, append-nil}
 use Rattle.plain.specs.Results.{Gives}
@@ -9,7 +9,7 @@ use Rattle.messages_cell.specs.declared.requests.Request.{Request}
 use Rattle.messages_cell.specs.declared.outs.Out.{Out}
 use Rattle.wire_core.specs.declared.faults.WireFault.{WireFault}
 use Rattle.wire_core.specs.declared.faults.WireFault.TheVariants.{NoMemory, TooLong}
-use Rattle.wire_core.specs.Forms.{◌>>=◌, Form, counted, version, length_end, short_of, written}
+use Rattle.wire_core.specs.Forms.{◌>>=◌, counted, version, length_end, short_of, written}
 use Rattle.wire_core.specs.Fields.{word, client}
 use Rattle.wire_core.specs.Requests.{request}
 use Rattle.wire_core.specs.Outs.{out_message}

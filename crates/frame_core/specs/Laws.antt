@@ -1,10 +1,10 @@
 -- What holds of the bytes of frames.
 use Rattle.std.specs.Prelude.{◌≡◌, ◌≤◌, ℕ, List, ◌++◌, length, Some, Ok}
-use Rattle.wire_core.specs.Forms.{Form, counted, written, read_whole}
+use Rattle.wire_core.specs.Forms.{counted, written, read_whole}
 use Rattle.wire_core.specs.Laws.{AreBytes}
 use Rattle.frame_core.specs.declared.frames.Frame.{Frame}
 use Rattle.frame_core.specs.declared.tellings.Told.{Told}
-use Rattle.frame_core.specs.Blocks.{block_limit, framed, next_block}
+use Rattle.frame_core.specs.Blocks.{block_limit, next_block}
 use Rattle.frame_core.specs.Frames.{frame}
 use Rattle.frame_core.specs.Told.{told}
 

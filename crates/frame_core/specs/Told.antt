@@ -3,8 +3,8 @@ use Rattle.std.specs.Prelude.{ℕ, List, [], ◌∷◌, Result}
 use Rattle.messages_cell.specs.declared.outs.Out.{Out}
 use Rattle.wire_core.specs.declared.faults.WireFault.{WireFault}
 use Rattle.wire_core.specs.declared.faults.WireFault.TheVariants as wire
-use Rattle.wire_core.specs.Forms.{Form, nothing, ◌⊗◌, choice, of_kind, behind}
-use Rattle.wire_core.specs.Fields.{client, block}
+use Rattle.wire_core.specs.Forms.{Form, ◌⊗◌, choice, of_kind, behind}
+use Rattle.wire_core.specs.Fields.{client, block, optional_word}
 use Rattle.wire_core.specs.Outs.{out_message}
 use Rattle.frame_core.specs.declared.tellings.Told.{Told}
 use Rattle.frame_core.specs.declared.tellings.Told.TheVariants as tells
@@ -49,25 +49,25 @@ abbrev pub told_kind : Told → ToldKind
 told_kind (tells.Line text) = of.Line
 told_kind (tells.Message number message) = of.Message
 told_kind (tells.Bad fault) = of.Bad
-told_kind tells.End = of.End
+told_kind (tells.End deadline) = of.End
 
 abbrev pub told_is : Told → Type 0
 told_is (tells.Line text) = block.is text
 told_is (tells.Message number message) = out_fields.is (number, message)
 told_is (tells.Bad fault) = wire_fault.is fault
-told_is tells.End = nothing.is tt
+told_is (tells.End deadline) = optional_word.is deadline
 
 abbrev pub told_bytes : Told → List ℕ
 told_bytes (tells.Line text) = block.write text
 told_bytes (tells.Message number message) = out_fields.write (number, message)
 told_bytes (tells.Bad fault) = wire_fault.write fault
-told_bytes tells.End = nothing.write tt
+told_bytes (tells.End deadline) = optional_word.write deadline
 
 abbrev pub told_behind : ToldKind → List ℕ → Result (Told × List ℕ) WireFault
 told_behind of.Line rest = behind tells.Line block rest
 told_behind of.Message rest = behind (λ x. tells.Message x.0 x.1) out_fields rest
 told_behind of.Bad rest = behind tells.Bad wire_fault rest
-told_behind of.End rest = behind (λ _. tells.End) nothing rest
+told_behind of.End rest = behind tells.End optional_word rest
 
 -- the kind of what is told, and its fields
 unfoldable pub told : Form Told

@@ -39,7 +39,7 @@ pub fn read_frame(alloc: Global, bytes: &[u8]) -> Result<Frame, WireFault>
 }
 
 // What stands behind the version.
-fn fields_of(bytes: &[u8]) -> Result<&[u8], WireFault>
+pub(crate) fn fields_of(bytes: &[u8]) -> Result<&[u8], WireFault>
     ensures begun { IfOk result (λ rest. begin_at bytes.now ≡ Ok rest.now) }
     ensures short { IfOk result (λ rest. length rest.now < 2 ^ 32) }
     ensures refused { IfErr result (λ e. begin_at bytes.now ≡ Err e) }
@@ -83,7 +83,7 @@ fn read_fields_of(alloc: Global, kind: FrameKind, bytes: &[u8]) -> Result<Frame,
 
 // A moment, and nothing behind it.
 #[tactic(auto, unfolding(wire_core::specs::Fields::word))]
-fn read_moment(bytes: &[u8]) -> Result<u64, WireFault>
+pub(crate) fn read_moment(bytes: &[u8]) -> Result<u64, WireFault>
     ensures { result ≡ all_of (word.read bytes.now) }
 {
     if bytes.len() < 8 {

@@ -29,6 +29,28 @@ pub enum ToldKind {
     End,
 }
 
+pub(crate) const TOLD_KINDS: [ToldKind; 4] = [
+    ToldKind::Line,
+    ToldKind::Message,
+    ToldKind::Bad,
+    ToldKind::End,
+];
+
+// What may be wrong with a frame, each at its place.
+pub(crate) const WIRE_FAULTS: [WireFault; 8] = [
+    WireFault::NoMemory,
+    WireFault::TooLong,
+    WireFault::Cut,
+    WireFault::Extra,
+    WireFault::BadVersion,
+    WireFault::BadKind,
+    WireFault::BadNumber,
+    WireFault::BadText,
+];
+
+// Whether something that may be missing is there.
+pub(crate) const FLAGS: [bool; 2] = [false, true];
+
 // The place of a fault among all of them.
 pub(crate) fn place_of(fault: WireFault) -> u8
     ensures { result ≡ fault_place fault }

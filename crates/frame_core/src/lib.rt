@@ -3,12 +3,14 @@
 
 mod blocks;
 mod frames;
+mod heard;
 mod kinds;
 mod laws;
 mod tellings;
 
 pub use blocks::BLOCK_LIMIT;
 pub use frames::{Frame, read_frame, write_frame};
+pub use heard::read_told;
 pub use kinds::{FrameKind, ToldKind};
 pub use laws::{
     framed_is_next, read_frame_was_written, read_told_was_written, written_frame_is_read,

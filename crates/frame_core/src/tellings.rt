@@ -24,8 +24,9 @@ pub enum Told {
     Message(ClientNumber, Out),
     /// What was sent is no frame.
     Bad(WireFault),
-    /// All of a frame is answered.
-    End,
+    /// All of a frame is answered. With the earliest moment, in milliseconds, at which there is something to do; none where
+    /// there isn't at any.
+    End(Option<u64>),
 }
 
 /// The bytes of a line, with their number in front. Refused is a frame of 2^32 bytes or more.
@@ -57,10 +58,14 @@ pub fn write_bad(alloc: Global, fault: WireFault) -> Result<Bytes, WireFault>
     write_framed(alloc, 2, &[place_of(fault)], &[])
 }
 
-/// The bytes of the mark behind all that is told of a frame, with their number in front.
-#[tactic(auto, unfolding(crate::specs::Told::told))]
-pub fn write_end(alloc: Global) -> Result<Bytes, WireFault>
-    ensures { Gives WireFault.NoMemory result (framed told Told.End) }
+/// The bytes of the mark behind all that is told of a frame, with their number in front. It says the earliest moment, in
+/// milliseconds, at which there is something to do, if there is one.
+#[tactic(auto, unfolding(wire_core::specs::Fields::word, wire_core::specs::Fields::optional_word, crate::specs::Told::told))]
+pub fn write_end(alloc: Global, deadline: Option<u64>) -> Result<Bytes, WireFault>
+    ensures { Gives WireFault.NoMemory result (framed told (Told.End deadline)) }
 {
-    write_framed(alloc, 3, &[], &[])
+    match deadline {
+        Some(moment) => write_framed(alloc, 3, &[1], &bytes_of(moment)),
+        None => write_framed(alloc, 3, &[0], &[]),
+    }
 }

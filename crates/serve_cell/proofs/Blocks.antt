@@ -3,7 +3,6 @@ use Rattle.std.proofs.Common.{◌≡◌, ℕ, suc, ◌+◌, ◌<◌, ◌≤◌, 
 use Rattle.std.specs.Prelude.{OnOk}
 use Rattle.std.proofs.lemmas.List.{append-nil, take_all}
 use Rattle.std.proofs.Math.Seq.{take-suc}
-use Rattle.wire_core.specs.declared.faults.WireFault.{WireFault}
 use Rattle.node_core.specs.declared.lines.Line.{Line}
 use Rattle.messages_cell.specs.declared.outs.Out.{Out}
 use Rattle.sweep_laws.specs.declared.swept.Swept.{Swept}
@@ -11,7 +10,7 @@ use Rattle.frame_core.specs.declared.tellings.Told.{Told}
 use Rattle.frame_core.specs.Blocks.{framed}
 use Rattle.frame_core.specs.Told.{told}
 use Rattle.serve_core.specs.declared.answers.Answered.{Answered}
-use Rattle.serve_cell.specs.Replies.{line_told, out_told, step_told, sweeps_told, answered_told, AreBlocks, Puts}
+use Rattle.serve_cell.specs.Replies.{step_told, sweeps_told, answered_told, AreBlocks, Puts}
 
 blocks_behind : (front back : List Told) (xs ys : List ℕ) → AreBlocks front xs → AreBlocks back ys → AreBlocks (front ++ back) (xs ++ ys)
 blocks_behind [] back xs ys p q = let P : List ℕ → Type 0 = λ u. AreBlocks back (u ++ ys) in subst P (sym p) q

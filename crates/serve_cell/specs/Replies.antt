@@ -1,5 +1,5 @@
 -- What is told of a frame, and its bytes.
-use Rattle.std.specs.Prelude.{◌≡◌, ℕ, List, [], ◌∷◌, ◌++◌, map, Ok}
+use Rattle.std.specs.Prelude.{◌≡◌, ℕ, List, [], ◌∷◌, ◌++◌, map, Option, Ok}
 use Rattle.node_core.specs.declared.refusals.Fault.{Fault}
 use Rattle.node_core.specs.declared.lines.Line.{Line}
 use Rattle.node_core.specs.declared.lines.Line.TheVariants as lines
@@ -34,9 +34,9 @@ refusal_told fault = line_told (lines.Refused fault) ∷ []
 abbrev pub bad_told : WireFault → List Told
 bad_told fault = tells.Bad fault ∷ []
 
--- the mark behind all that is told of a frame
-abbrev pub mark_told : List Told
-mark_told = tells.End ∷ []
+-- the mark behind all that is told of a frame, with the next deadline
+abbrev pub mark_told : Option ℕ → List Told
+mark_told deadline = tells.End deadline ∷ []
 
 -- of a step its lines, and then its messages
 abbrev pub step_told : List Line → List Out → List Told
@@ -68,8 +68,8 @@ reply_told (replies.Swept settled) = settled_told settled
 reply_told replies.Gone = line_told lines.Down ∷ []
 
 -- all that is told of a frame, and the mark behind it
-abbrev pub all_told : Reply → List Told
-all_told reply = reply_told reply ++ mark_told
+abbrev pub all_told : Reply → Option ℕ → List Told
+all_told reply deadline = reply_told reply ++ mark_told deadline
 
 -- ---- its bytes
 

@@ -6,6 +6,7 @@ use Rattle.messages_cell.specs.declared.requests.Request.{Request}
 use Rattle.cell_state.specs.State.{MasterState}
 use Rattle.sweep_laws.specs.Kept.{CellState}
 use Rattle.sweep_laws.specs.Up.{ComesUp, StaysDown}
+use Rattle.deadline_core.specs.Deadlines.{IsDeadline}
 use Rattle.wire_core.specs.declared.faults.WireFault.{WireFault}
 use Rattle.frame_core.specs.declared.frames.Frame.{Frame}
 use Rattle.frame_core.specs.declared.frames.Frame.TheVariants as frames
@@ -34,6 +35,13 @@ hosted store (seats.Down records) = without_master (store records)
 
 abbrev pub cell_of : MasterState → Store → CellState
 cell_of master store = record { master = master; store = store }
+
+-- ---- when there is something to do next
+
+-- of the master that is up its deadline, and without one none
+abbrev pub IsDue : Option MasterState → Option ℕ → Type 0
+IsDue None deadline = deadline ≡ None
+IsDue (Some master) deadline = IsDeadline master deadline
 
 -- ---- what a frame does
 

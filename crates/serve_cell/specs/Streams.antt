@@ -4,8 +4,10 @@ use Rattle.std.specs.Io.KnownBytes.{Appends, IsAtEnd}
 use Rattle.plain.specs.Results.{Gives}
 use Rattle.wire_core.specs.declared.faults.WireFault.{WireFault}
 use Rattle.wire_core.specs.declared.faults.WireFault.TheVariants as wire
-use Rattle.wire_core.specs.Forms.{◌>>=◌, Form, read_whole}
+use Rattle.wire_core.specs.Forms.{◌>>=◌, read_whole}
+use Rattle.cell_state.specs.State.{MasterState}
 use Rattle.frame_core.specs.declared.frames.Frame.{Frame}
+use Rattle.frame_core.specs.declared.tellings.Told.{Told}
 use Rattle.frame_core.specs.Blocks.{block_at, next_block}
 use Rattle.frame_core.specs.Frames.{frame}
 use Rattle.serve_cell.specs.declared.seats.Reply.{Reply}
@@ -13,7 +15,7 @@ use Rattle.serve_cell.specs.declared.stops.Stop.{Stop}
 use Rattle.serve_cell.specs.declared.stops.Stop.TheVariants.{Unread, Unwritten, NoMemory}
 use Rattle.serve_cell.specs.declared.streams.Turned.{Turned}
 use Rattle.serve_cell.specs.declared.streams.Turned.TheVariants.{On, Over, Stopped}
-use Rattle.serve_cell.specs.Seats.{Hosted, Does}
+use Rattle.serve_cell.specs.Seats.{Hosted, Does, IsDue}
 use Rattle.serve_cell.specs.Replies.{all_told, AreBlocks}
 
 -- ---- reading
@@ -69,34 +71,47 @@ FoundFrame (Some sent) text rest = FrameIs text sent rest
 
 -- ---- answering
 
+-- what was answered to a frame, and when there is something to do next
+pub record Answer : Type 0 where
+  pub reply : Reply
+  pub deadline : Option ℕ
+
+abbrev pub answer_told : Answer → List Told
+answer_told answer = all_told answer.reply answer.deadline
+
 -- a frame was read, done, and answered so
-pub record Turn (lease : ℕ) (text : Option (List ℕ)) (old : Hosted) (reply : Reply) (new : Hosted) (rest : Option (List ℕ)) : Type 0 where
+pub record Done (lease : ℕ) (text : Option (List ℕ)) (old : Hosted) (reply : Reply) (new : Hosted) (rest : Option (List ℕ)) : Type 0 where
   pub sent : Result Frame WireFault
   pub next : FrameIs text sent rest
   pub does : Does lease sent old reply new
 
+-- the same, with the deadline that there is behind it
+pub record Turn (lease : ℕ) (text : Option (List ℕ)) (old : Hosted) (answer : Answer) (new : Hosted) (rest : Option (List ℕ)) : Type 0 where
+  pub done : Done lease text old answer.reply new rest
+  pub due : IsDue new.master answer.deadline
+
 -- frames of a text were read and done, one behind the other, and answered so
-abbrev pub Turns : ℕ → Option (List ℕ) → Hosted → List Reply → Hosted → Option (List ℕ) → Type 0
+abbrev pub Turns : ℕ → Option (List ℕ) → Hosted → List Answer → Hosted → Option (List ℕ) → Type 0
 Turns lease text old [] new rest = (new ≡ old) × (rest ≡ text)
-Turns lease text old (reply ∷ replies) new rest =
-    (mid : Hosted) × (behind : Option (List ℕ)) × Turn lease text old reply mid behind × Turns lease behind mid replies new rest
+Turns lease text old (answer ∷ answers) new rest =
+    (mid : Hosted) × (behind : Option (List ℕ)) × Turn lease text old answer mid behind × Turns lease behind mid answers new rest
 
 -- all that is told of them, in their order
-abbrev pub AreAnswers : List Reply → List ℕ → Type 0
+abbrev pub AreAnswers : List Answer → List ℕ → Type 0
 AreAnswers [] bytes = bytes ≡ []
-AreAnswers (reply ∷ rest) bytes = (here : List ℕ) × (later : List ℕ) × AreBlocks (all_told reply) here × AreAnswers rest later × (bytes ≡ here ++ later)
+AreAnswers (answer ∷ rest) bytes = (here : List ℕ) × (later : List ℕ) × AreBlocks (answer_told answer) here × AreAnswers rest later × (bytes ≡ here ++ later)
 
 -- frames were read and done, and all that is told of them was written
 pub record Served (lease : ℕ) (text : Option (List ℕ)) (old new : Hosted) (rest before after : Option (List ℕ)) : Type 0 where
-  pub replies : List Reply
+  pub answers : List Answer
   pub bytes : List ℕ
-  pub turns : Turns lease text old replies new rest
-  pub answers : AreAnswers replies bytes
+  pub turns : Turns lease text old answers new rest
+  pub told : AreAnswers answers bytes
   pub written : Appends before after bytes
 
 -- one frame more was done, or none
 abbrev pub MaybeOne : ℕ → Option (List ℕ) → Hosted → Hosted → Type 0
-MaybeOne lease text old new = (new ≡ old) ⊎ ((reply : Reply) × (rest : Option (List ℕ)) × Turn lease text old reply new rest)
+MaybeOne lease text old new = (new ≡ old) ⊎ ((reply : Reply) × (rest : Option (List ℕ)) × Done lease text old reply new rest)
 
 -- all frames of a text were done and answered; or those before one that couldn't be read; or those before one that may
 -- be done, whose answer found no memory; or frames were done, the answer to one of which couldn't be written
@@ -105,26 +120,34 @@ Ends lease text old (Ok x) new before after = (rest : Option (List ℕ)) × Serv
 Ends lease text old (Err Unread) new before after = (rest : Option (List ℕ)) × Served lease text old new rest before after
 Ends lease text old (Err NoMemory) new before after =
     (mid : Hosted) × (rest : Option (List ℕ)) × Served lease text old mid rest before after × MaybeOne lease rest mid new
-Ends lease text old (Err Unwritten) new before after = (replies : List Reply) × (rest : Option (List ℕ)) × Turns lease text old replies new rest
+Ends lease text old (Err Unwritten) new before after = (answers : List Answer) × (rest : Option (List ℕ)) × Turns lease text old answers new rest
 
 -- what one turn did: a frame was answered, or none is left; or it stopped so
 abbrev pub TakesTurn : ℕ → Option (List ℕ) → Hosted → Turned → Hosted → Option (List ℕ) → Option (List ℕ) → Option (List ℕ) → Type 0
 TakesTurn lease text old On new rest before after =
-    (reply : Reply) × (bytes : List ℕ) × Turn lease text old reply new rest × AreBlocks (all_told reply) bytes × Appends before after bytes
+    (answer : Answer) × (bytes : List ℕ) × Turn lease text old answer new rest × AreBlocks (answer_told answer) bytes × Appends before after bytes
 TakesTurn lease text old Over new rest before after = IsAtEnd text × (new ≡ old) × (after ≡ before)
 TakesTurn lease text old (Stopped Unread) new rest before after = (new ≡ old) × (after ≡ before)
 TakesTurn lease text old (Stopped NoMemory) new rest before after = MaybeOne lease text old new × (after ≡ before)
-TakesTurn lease text old (Stopped Unwritten) new rest before after = (reply : Reply) × Turn lease text old reply new rest
+TakesTurn lease text old (Stopped Unwritten) new rest before after = (answer : Answer) × Turn lease text old answer new rest
 
--- all that is told of a frame was written; or there is no memory for it, or it can't be written
-abbrev pub IsTold : Turned → Reply → Option (List ℕ) → Option (List ℕ) → Type 0
-IsTold On reply before after = (bytes : List ℕ) × AreBlocks (all_told reply) bytes × Appends before after bytes
-IsTold Over reply before after = ⊥
-IsTold (Stopped NoMemory) reply before after = after ≡ before
-IsTold (Stopped Unwritten) reply before after = ⊤
-IsTold (Stopped Unread) reply before after = ⊥
+-- all that is told of a frame, with a deadline, was written; or there is no memory for it, or it can't be written
+abbrev pub IsWritten : Turned → Reply → Option ℕ → Option (List ℕ) → Option (List ℕ) → Type 0
+IsWritten On reply deadline before after = (bytes : List ℕ) × AreBlocks (all_told reply deadline) bytes × Appends before after bytes
+IsWritten Over reply deadline before after = ⊥
+IsWritten (Stopped NoMemory) reply deadline before after = after ≡ before
+IsWritten (Stopped Unwritten) reply deadline before after = ⊤
+IsWritten (Stopped Unread) reply deadline before after = ⊥
+
+-- all that is told of a frame was written, with the deadline of what is hosted, or couldn't be; or there is no memory for it
+abbrev pub IsTold : Turned → Option MasterState → Reply → Option (List ℕ) → Option (List ℕ) → Type 0
+IsTold On master reply before after = (deadline : Option ℕ) × IsDue master deadline × IsWritten On reply deadline before after
+IsTold Over master reply before after = ⊥
+IsTold (Stopped NoMemory) master reply before after = after ≡ before
+IsTold (Stopped Unwritten) master reply before after = (deadline : Option ℕ) × IsDue master deadline
+IsTold (Stopped Unread) master reply before after = ⊥
 
 -- what was found was done, and told of so; or nothing was found
 abbrev pub DoesFound : ℕ → Option (Result Frame WireFault) → Hosted → Turned → Hosted → Option (List ℕ) → Option (List ℕ) → Type 0
 DoesFound lease None old turned new before after = (turned ≡ Over) × (new ≡ old) × (after ≡ before)
-DoesFound lease (Some sent) old turned new before after = (reply : Reply) × Does lease sent old reply new × IsTold turned reply before after
+DoesFound lease (Some sent) old turned new before after = (reply : Reply) × Does lease sent old reply new × IsTold turned new.master reply before after

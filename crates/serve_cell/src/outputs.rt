@@ -12,20 +12,20 @@ use std::alloc::Global;
 use sweep_laws::Swept;
 use wire_core::WireFault;
 
-/// The bytes of all that is told of a frame, and of the mark behind it.
-pub fn write_reply(alloc: Global, reply: &Reply) -> Result<Vec<u8>, Stop>
-    ensures { IfOk result (λ bytes. AreBlocks (all_told reply.now) bytes.items) }
+/// The bytes of all that is told of a frame, and of the mark behind it with the next deadline, in milliseconds.
+pub fn write_reply(alloc: Global, reply: &Reply, deadline: Option<u64>) -> Result<Vec<u8>, Stop>
+    ensures { IfOk result (λ bytes. AreBlocks (all_told reply.now deadline) bytes.items) }
 {
     let mut out = Vec::new(alloc);
     put_reply(alloc, &mut out, reply)?;
-    put_mark(alloc, &mut out)?;
+    put_mark(alloc, &mut out, deadline)?;
     Ok(out)
 }
 
-fn put_mark(alloc: Global, out: &mut Vec<u8>) -> Result<(), Stop>
-    ensures { OnOk result (Puts mark_told out.old.items out.new.items) }
+fn put_mark(alloc: Global, out: &mut Vec<u8>, deadline: Option<u64>) -> Result<(), Stop>
+    ensures { OnOk result (Puts (mark_told deadline) out.old.items out.new.items) }
 {
-    let block = write_end(alloc)?;
+    let block = write_end(alloc, deadline)?;
     Ok(out.extend_from_slice(block.as_slice())?)
 }
 

@@ -1,6 +1,6 @@
 //! A master that a program hosts, and what it does by a frame.
-ghost use Rattle.std.specs.Prelude.{◌≡◌, ◌≤◌};
-ghost use Rattle.serve_cell.specs.Seats.{hosted, Does, DoesFrame, Arrives, Listens, Ticks, Leaves};
+ghost use Rattle.std.specs.Prelude.{◌≡◌, ◌≤◌, IfOk};
+ghost use Rattle.serve_cell.specs.Seats.{hosted, Does, DoesFrame, Arrives, Listens, Ticks, Leaves, IsDue};
 
 use frame_core::Frame;
 use messages_cell::Request;
@@ -8,7 +8,7 @@ use node_core::Fault;
 use over_core::Cell;
 use rows_cell::Records;
 use serve_core::{Answered, Settled, answer, settle};
-use std::alloc::Global;
+use std::alloc::{AllocError, Global};
 use wire_core::WireFault;
 
 /// The records of a cell by themselves, or with the master that is up over them.
@@ -57,6 +57,18 @@ impl<R: Records> Seat<R> {
         match sent {
             Ok(frame) => self.do_frame(alloc, lease, frame),
             Err(fault) => (self, Reply::Bad(*fault)),
+        }
+    }
+
+    /// The earliest moment, in milliseconds, at which the master that is up has something to do, from the last one on that
+    /// it was told; none where it never has, or where none is up. Nothing changes. Want of memory alone refuses.
+    pub fn next_deadline(&mut self) -> Result<Option<u64>, AllocError>
+        ensures due { IfOk result (IsDue (hosted R.store self.old).master) }
+        ensures same { hosted R.store self.new ≡ hosted R.store self.old }
+    {
+        match self {
+            Seat::Up(cell) => cell.next_deadline(),
+            Seat::Down(_) => Ok(None),
         }
     }
 

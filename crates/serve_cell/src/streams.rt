@@ -2,7 +2,7 @@
 ghost use Rattle.std.specs.Prelude.{◌≡◌, ◌≤◌, length, IfOk, OnOk};
 ghost use Rattle.std.specs.Io.KnownBytes.{Appends};
 ghost use Rattle.serve_cell.specs.Seats.{hosted};
-ghost use Rattle.serve_cell.specs.Streams.{Ends, TakesTurn, IsTold, DoesFound};
+ghost use Rattle.serve_cell.specs.Streams.{Ends, TakesTurn, IsWritten, IsTold, DoesFound};
 
 use crate::inputs::next_frame;
 use crate::outputs::write_reply;
@@ -109,9 +109,9 @@ fn serve_found<R: Records, W: Write>(
 {
     match found {
         Some(sent) => {
-            let (next, reply) = seat.take(alloc, lease, &sent);
+            let (mut next, reply) = seat.take(alloc, lease, &sent);
             drop(sent);
-            let turned = tell(alloc, &reply, writer);
+            let turned = tell(alloc, &mut next, &reply, writer);
             drop(reply);
             (next, turned)
         }
@@ -119,11 +119,26 @@ fn serve_found<R: Records, W: Write>(
     }
 }
 
-// Writes all that is told of a frame, and flushes it.
-fn tell<W: Write>(alloc: Global, reply: &Reply, writer: &mut W) -> Turned
-    ensures { IsTold result reply.now (W.contents writer.old) (W.contents writer.new) }
+// Writes all that is told of a frame, with the next deadline, and flushes it. The seat stays as it is.
+fn tell<R: Records, W: Write>(
+    alloc: Global,
+    seat: &mut Seat<R>,
+    reply: &Reply,
+    writer: &mut W,
+) -> Turned
+    ensures told { IsTold result (hosted R.store seat.old).master reply.now (W.contents writer.old) (W.contents writer.new) }
+    ensures same { hosted R.store seat.new ≡ hosted R.store seat.old }
 {
-    match write_reply(alloc, reply) {
+    match seat.next_deadline() {
+        Ok(deadline) => tell_all(alloc, reply, deadline, writer),
+        Err(_) => Turned::Stopped(Stop::NoMemory),
+    }
+}
+
+fn tell_all<W: Write>(alloc: Global, reply: &Reply, deadline: Option<u64>, writer: &mut W) -> Turned
+    ensures { IsWritten result reply.now deadline (W.contents writer.old) (W.contents writer.new) }
+{
+    match write_reply(alloc, reply, deadline) {
         Ok(bytes) => match write_bytes(writer, bytes.as_slice()) {
             Ok(()) => Turned::On,
             Err(_) => Turned::Stopped(Stop::Unwritten),

@@ -55,25 +55,61 @@ fn streams(alloc: Global, count: u64) -> Result<(Vec<u8>, Vec<u8>, u64), Fail> {
     Ok((all, good, kept))
 }
 
-// What is told of a frame that is none: which fault, and the mark behind it.
-const BAD: usize = 13;
-
-// What was told, without what is told of frames that are none.
-fn without_bad(alloc: Global, told: &[u8]) -> Result<Vec<u8>, Fail> {
+// What was told, without what is told of frames that are none; and how many of them there were.
+fn without_bad(alloc: Global, told: &[u8]) -> Result<(Vec<u8>, u64), Fail> {
     let mut left = told;
     let mut kept = Vec::new(alloc);
+    let mut bad = 0u64;
     for _ in 0..told.len() {
-        if let [0, 0, 0, 3, 1, 2, _, 0, 0, 0, 2, 1, 3, rest @ ..] = left {
-            left = rest;
-        } else if left.len() >= 4 {
-            let count = (BigEndian::read_u32(left) as usize)
-                .saturating_add(4)
-                .min(left.len());
-            kept.extend_from_slice(&left[..count])?;
-            left = &left[count..];
-        }
+        left = match left {
+            [0, 0, 0, 3, 1, 2, _, 0, 0, 0, 3, 1, 3, 0, rest @ ..] => {
+                bad = bad.saturating_add(1);
+                rest
+            }
+            [
+                0,
+                0,
+                0,
+                3,
+                1,
+                2,
+                _,
+                0,
+                0,
+                0,
+                11,
+                1,
+                3,
+                1,
+                _,
+                _,
+                _,
+                _,
+                _,
+                _,
+                _,
+                _,
+                rest @ ..,
+            ] => {
+                bad = bad.saturating_add(1);
+                rest
+            }
+            _ => keep_block(&mut kept, left)?,
+        };
     }
-    Ok(kept)
+    Ok((kept, bad))
+}
+
+// Keeps the first block, and gives what stands behind it.
+fn keep_block<'a>(kept: &mut Vec<u8>, left: &'a [u8]) -> Result<&'a [u8], AllocError> {
+    if left.len() < 4 {
+        return Ok(&[]);
+    }
+    let count = (BigEndian::read_u32(left) as usize)
+        .saturating_add(4)
+        .min(left.len());
+    kept.extend_from_slice(&left[..count])?;
+    Ok(&left[count..])
 }
 
 // Of 10,000 each is answered or refused, and what is told of those that are frames is told of them alone too: so the
@@ -86,9 +122,8 @@ fn garbled_frames(rt: HostRuntime) -> Result<(), Fail> {
     drop(seat);
     let (seat, alone) = told_of(rt.alloc(), new_seat(rt.alloc())?, good.as_slice());
     drop(seat);
-    let rest = without_bad(rt.alloc(), told.as_slice())?;
+    let (rest, bad) = without_bad(rt.alloc(), told.as_slice())?;
     assert!(rt; rest.as_slice() == alone.as_slice());
-    let bad = (10_000 - kept as usize) * BAD;
-    assert!(rt; told.len() == rest.len().saturating_add(bad));
+    assert!(rt; bad == 10_000 - kept);
     Ok(())
 }

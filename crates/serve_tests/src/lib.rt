@@ -2,6 +2,12 @@
 #![tactic(auto)]
 
 #[cfg(test)]
+mod flushes;
+#[cfg(test)]
 mod garbled;
 #[cfg(test)]
+mod rounds;
+#[cfg(test)]
 mod sessions;
+#[cfg(test)]
+mod values;

@@ -1,4 +1,4 @@
-use Rattle.std.proofs.Common.{◌≡◌, List, ℕ, Ok, sym, ap, ◌∙◌}
+use Rattle.std.proofs.Common.{List, ℕ, Ok, sym, ap, ◌∙◌}
 use Rattle.byteorder.specs.Endian.{big_bytes}
 use Rattle.frame_core.proofs.Writings.{gives_out, out_too_long}
 use Rattle.frame_core.proofs.tellings.write_message.Goals as goal

@@ -1,5 +1,4 @@
-use Rattle.std.proofs.Common.{◌≡◌, length, take, arith, rules, length-take}
-use Rattle.serve_cell.proofs.Passages.{behind_over, behind_cut, behind_whole}
+use Rattle.serve_cell.proofs.Passages.{behind_over}
 use Rattle.serve_cell.proofs.inputs.block_behind.Goals as goal
 
 pub returns-then-count-gt-BLOCK_LIMIT-clause-found : goal.returns-then-count-gt-BLOCK_LIMIT-clause-found

@@ -1,4 +1,4 @@
-use Rattle.std.proofs.Common.{◌≡◌, ℕ, length, take, ap, arith, rules, length-take}
+use Rattle.std.proofs.Common.{ℕ, take, ap, arith, rules, length-take}
 use Rattle.serve_cell.proofs.Passages.{none_left, head_cut, head_read}
 use Rattle.serve_cell.proofs.inputs.next_block.Goals as goal
 

@@ -1,5 +1,5 @@
 use Rattle.std.proofs.Common.{◌≡◌, length, arith, rules}
-use Rattle.serve_cell.proofs.Passages.{all_found, passed_more, passed_end, drops_all}
+use Rattle.serve_cell.proofs.Passages.{all_found, passed_more}
 use Rattle.serve_cell.proofs.inputs.skip.Goals as goal
 
 pub loop-left-preserved : goal.loop-left-preserved
