@@ -55,47 +55,27 @@ fn streams(alloc: Global, count: u64) -> Result<(Vec<u8>, Vec<u8>, u64), Fail> {
     Ok((all, good, kept))
 }
 
+// What stands behind what is told of a frame that is none, where that stands in front: the fault, and the mark.
+fn behind_bad(left: &[u8]) -> Option<&[u8]> {
+    match left {
+        [0, 0, 0, 3, 1, 2, _, 0, 0, 0, 3, 1, 3, 0, rest @ ..] => Some(rest),
+        [0, 0, 0, 3, 1, 2, _, 0, 0, 0, 11, 1, 3, 1, rest @ ..] => rest.get(8..),
+        _ => None,
+    }
+}
+
 // What was told, without what is told of frames that are none; and how many of them there were.
 fn without_bad(alloc: Global, told: &[u8]) -> Result<(Vec<u8>, u64), Fail> {
     let mut left = told;
     let mut kept = Vec::new(alloc);
     let mut bad = 0u64;
     for _ in 0..told.len() {
-        left = match left {
-            [0, 0, 0, 3, 1, 2, _, 0, 0, 0, 3, 1, 3, 0, rest @ ..] => {
-                bad = bad.saturating_add(1);
-                rest
-            }
-            [
-                0,
-                0,
-                0,
-                3,
-                1,
-                2,
-                _,
-                0,
-                0,
-                0,
-                11,
-                1,
-                3,
-                1,
-                _,
-                _,
-                _,
-                _,
-                _,
-                _,
-                _,
-                _,
-                rest @ ..,
-            ] => {
-                bad = bad.saturating_add(1);
-                rest
-            }
-            _ => keep_block(&mut kept, left)?,
-        };
+        if let Some(rest) = behind_bad(left) {
+            bad = bad.saturating_add(1);
+            left = rest;
+        } else {
+            left = keep_block(&mut kept, left)?;
+        }
     }
     Ok((kept, bad))
 }

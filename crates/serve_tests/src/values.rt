@@ -4,6 +4,8 @@ use crate::sessions::{is_told, new_seat};
 use byteorder::{BigEndian, ByteOrder};
 use frame_core::{Told, read_told};
 use messages_cell::{CallResult, Out, Reply};
+use rows_cell::ListRecords;
+use serve_cell::Seat;
 use std::alloc::{AllocError, Global};
 use std::test::Fail;
 use wire_core::WireFault;
@@ -177,25 +179,51 @@ fn first_ten_in_words(rt: HostRuntime) -> Result<(), Fail> {
     Ok(())
 }
 
+// Whether just this is told of a frame, both in hexadecimal, and the seat behind it.
+fn answers_so(
+    alloc: Global,
+    seat: Seat<ListRecords>,
+    sent: &str,
+    wanted: &str,
+) -> (Seat<ListRecords>, bool) {
+    match (hex::decode(alloc, sent), hex::decode(alloc, wanted)) {
+        (Ok(sent), Ok(wanted)) => {
+            let (next, same) = is_told(alloc, seat, sent.as_slice(), wanted.as_slice());
+            (next, same && is_answer(alloc, wanted.as_slice()))
+        }
+        _ => (seat, false),
+    }
+}
+
+// How many of these frames are answered so, and the seat behind them.
+fn answered_so(
+    alloc: Global,
+    first: Seat<ListRecords>,
+    rows: &[(&str, &str)],
+) -> (Seat<ListRecords>, u64) {
+    let mut seat = first;
+    let mut count = 0u64;
+    for (sent, wanted) in rows {
+        let (next, same) = answers_so(alloc, seat, sent, wanted);
+        seat = next;
+        if same {
+            count = count.saturating_add(1);
+        }
+    }
+    (seat, count)
+}
+
 #[test]
 fn two_hundred_frames(rt: HostRuntime) -> Result<(), Fail> {
     let mut seat = new_seat(rt.alloc())?;
-    let mut count = 0u64;
+    let mut all = 0u64;
     for part in PARTS {
-        for (sent, wanted) in *part {
-            let sent = hex::decode(rt.alloc(), *sent)?;
-            let wanted = hex::decode(rt.alloc(), *wanted)?;
-            let (next, same) = is_told(rt.alloc(), seat, sent.as_slice(), wanted.as_slice());
-            seat = next;
-            count = count.saturating_add(1);
-            assert!(rt;
-                same && is_answer(rt.alloc(), wanted.as_slice()),
-                "frame {count}"
-            );
-        }
+        let (next, count) = answered_so(rt.alloc(), seat, part);
+        seat = next;
+        all = all.saturating_add(count);
     }
     drop(seat);
-    assert!(rt; count == 200);
+    assert!(rt; all == 200, "{all} are answered so");
     Ok(())
 }
 
