@@ -2,6 +2,6 @@
 use Rattle.std.specs.Prelude.{◌≡◌, ◌⊎◌, ℕ}
 use Rattle.script_cell.specs.Stops.{IsStatus}
 
--- as a script does, by a command line or settings that aren't any, or by a store that is refused
+-- as a script does, by a command line or settings that aren't any, by a store that is refused, or by a run of threads that is
 abbrev pub IsExit : ℕ → Type 0
-IsExit status = (status ≡ 2) ⊎ ((status ≡ 3) ⊎ IsStatus status)
+IsExit status = (status ≡ 2) ⊎ ((status ≡ 3) ⊎ ((status ≡ 5) ⊎ IsStatus status))

@@ -4,6 +4,7 @@ ghost use Rattle.cellctl.specs.Exits.{IsExit};
 
 use crate::check::check_store;
 use crate::exits::{unread_status, unwritten_status};
+use crate::lives::run_live;
 use crate::serves::serve_path;
 use crate::settings::settings;
 use crate::stores::run_over;
@@ -12,15 +13,17 @@ use anyhow::{Context, Result, bail};
 use clap::ArgMatches;
 use clap::error::{Error, ErrorKind};
 use std::env::{self, Args};
+use std::sync::Wait;
+use std::thread::Threads;
 
 /// Does what the command line asks for, and answers the exit status: that of the script; 0 for a sound store and 3 for one
 /// that is refused or can't be opened; 0 behind help and the version; 1 where these can't be written; 2 for a wrong command line, also one
-/// that isn't UTF-8, and for settings that aren't any; 4 where memory runs out before.
-pub(crate) fn run(rt: &HostRuntime) -> u8
+/// that isn't UTF-8, and for settings that aren't any; 4 where memory runs out before; 5 for a run of threads that was refused.
+pub(crate) fn run<W: Threads + Wait + Sync>(rt: &HostRuntime, threads: &W) -> u8
     ensures { IsExit result }
 {
     match env::args(rt) {
-        Ok(words) => match run_command(rt, words) {
+        Ok(words) => match run_command(rt, threads, words) {
             Ok(status) => status,
             Err(error) => {
                 let _ = eprintln!(rt; "cellctl: {error:#}");
@@ -34,14 +37,14 @@ pub(crate) fn run(rt: &HostRuntime) -> u8
     }
 }
 
-fn run_command(rt: &HostRuntime, words: Args) -> Result<u8>
+fn run_command<W: Threads + Wait + Sync>(rt: &HostRuntime, threads: &W, words: Args) -> Result<u8>
     ensures { IfOk result IsExit }
 {
     let alloc = rt.alloc();
     let words: Vec<String> = words.collect(alloc).context("reading the command line")?;
     let asked = program(alloc)?.try_get_matches_from(words.as_slice());
     match asked {
-        Ok(matches) => do_command(rt, &matches),
+        Ok(matches) => do_command(rt, threads, &matches),
         Err(error) => {
             if error.kind() == ErrorKind::OutOfMemory {
                 bail!("out of memory");
@@ -52,7 +55,11 @@ fn run_command(rt: &HostRuntime, words: Args) -> Result<u8>
 }
 
 // Of the subcommands one is there.
-fn do_command(rt: &HostRuntime, matches: &ArgMatches<'_>) -> Result<u8>
+fn do_command<W: Threads + Wait + Sync>(
+    rt: &HostRuntime,
+    threads: &W,
+    matches: &ArgMatches<'_>,
+) -> Result<u8>
     ensures { IfOk result IsExit }
 {
     if let Some(found) = matches.subcommand_matches("check") {
@@ -62,6 +69,9 @@ fn do_command(rt: &HostRuntime, matches: &ArgMatches<'_>) -> Result<u8>
     if let Some(found) = matches.subcommand_matches("serve") {
         let path = found.get_str("store").unwrap_or_default();
         return serve_path(rt, found.get_str("settings"), path);
+    }
+    if let Some(found) = matches.subcommand_matches("live") {
+        return Ok(run_live(rt, threads, found));
     }
     match matches.subcommand_matches("run") {
         Some(found) => {

@@ -1,11 +1,12 @@
 //! Runs scripts against a cell: its steps on standard input, what happens on standard output. Tests the
-//! stores of cells, and serves a cell to a program.
+//! stores of cells, serves a cell to a program, and lets clients in threads of their own use one.
 #![tactic(auto)]
 
 mod check;
 mod commands;
 mod exits;
 mod help;
+mod lives;
 mod runs;
 mod serves;
 mod settings;
@@ -15,5 +16,5 @@ mod words;
 use std::process::ExitCode;
 
 fn main(rt: HostRuntime) -> ExitCode {
-    ExitCode::from(commands::run(&rt))
+    ExitCode::from(commands::run(&rt, &rt))
 }

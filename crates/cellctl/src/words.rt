@@ -1,17 +1,21 @@
 //! The words of the command line.
 use crate::help::{FRAMES, SCRIPTS, STORES, VERSION};
+use crate::lives::with_live;
 use clap::{Arg, ArgAction, Command};
 use std::alloc::{AllocError, Global};
 
 /// The program, with its subcommands.
 pub(crate) fn program<'a>(alloc: Global) -> Result<Command<'a>, AllocError> {
     let run = run_words(alloc)?;
-    with_serve(alloc, with_check(alloc, with_run(alloc, run)?)?)
+    let program = with_serve(alloc, with_check(alloc, with_run(alloc, run)?)?)?;
+    with_live(alloc, program)
 }
 
 fn with_run<'a>(alloc: Global, run: Command<'a>) -> Result<Command<'a>, AllocError> {
     Command::new(alloc, "cellctl")
-        .about("Runs scripts against a cell, tests its stores, and serves it to a program")
+        .about(
+            "Runs scripts against a cell, tests its stores, serves it to a program, and lets threads use one",
+        )
         .version(VERSION)
         .subcommand_required(true)
         .subcommand(run)
