@@ -40,7 +40,6 @@ struct cell_client {
  * a step of a client answers these itself.
  */
 #define CELL_CLIENT_NO_MEMORY 1u
-#define CELL_CLIENT_BAD_PRINCIPAL 4u
 /* The cache holds that the name has no node, at an Open. */
 #define CELL_CLIENT_NOT_FOUND 6u
 /* A moment of 2^53 or more, or a number behind the last. */
@@ -74,13 +73,13 @@ struct cell_client {
 #define CELL_CLIENT_BAD_NUMBER 85u
 #define CELL_CLIENT_BAD_TEXT 86u
 #define CELL_CLIENT_EXTRA 87u
-/* A message, but none that asks for a call; or a client's number that is none. */
+/* A message, but none that asks for a call; a handle in it that isn't 8 bytes; a SetSequencer without a sequencer. */
 #define CELL_CLIENT_NO_CALL 88u
 
 /*
  * Opens a client: DONE, and then the address that is written is the handle's `at`. The number is 1 to 2^53-1, and each number is
  * used by one client of the cell alone, ever. The principal is who the client acts for: who carries its messages vouches for it.
- * Else NO_MEMORY, BAD_PRINCIPAL, BAD_TEXT (no UTF-8) or BAD_NUMBER, and nothing is written.
+ * Else NO_MEMORY, BAD_NUMBER, or BAD_TEXT for a text that is no principal, and nothing is written.
  */
 uint32_t cell_client_open(uint64_t number, const uint8_t *principal, size_t principal_length, void **at);
 

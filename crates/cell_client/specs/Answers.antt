@@ -1,0 +1,33 @@
+-- What an export answers.
+use Rattle.std.specs.Prelude.{◌≡◌, ◌≤◌, ◌<◌, ℕ, List, length, take, Result, Ok, Err}
+use Rattle.wire_core.specs.declared.faults.WireFault.{WireFault}
+use Rattle.wire_core.specs.declared.faults.WireFault.TheVariants as wire
+use Rattle.plain.specs.Results.{Gives}
+use Rattle.held_cell.specs.declared.statuses.Status.{Status}
+use Rattle.held_cell.specs.Statuses.{status_code, wire_code}
+use Rattle.held_cell.specs.States.{HeldState}
+use Rattle.held_cell.specs.Steps.{Makes, Stays}
+
+-- a step: it was made and ended so, or nothing has changed; and it is told by this number
+pub record Answers (old new : HeldState) (code : ℕ) (step : HeldState × Status) : Type 0 where
+  pub status : Status
+  pub told : code ≡ status_code status
+  pub made : Makes old new status step
+  pub kept : Stays old new status
+
+-- bytes go into a room where they fit, from its front, and their number is told; else the room stays
+pub record Fills (bytes : List ℕ) (before after : List ℕ) (count : ℕ) : Type 0 where
+  pub counted : count ≡ length bytes
+  pub fits : length bytes ≤ length before → take (length bytes) after ≡ bytes
+  pub stays : length before < length bytes → after ≡ before
+
+-- the same of what was to be shown, which is told by 0; or it is told what is wrong, and all stays
+abbrev pub Writes : Result (List ℕ) WireFault → (before after : List ℕ) (former count code : ℕ) → Type 0
+Writes (Ok bytes) before after former count code = Fills bytes before after count × (code ≡ 0)
+Writes (Err fault) before after former count code = (after ≡ before) × (count ≡ former) × (code ≡ wire_code fault)
+
+-- what is shown is the wanted, unless memory ran out
+pub record Shows (wanted : Result (List ℕ) WireFault) (before after : List ℕ) (former count code : ℕ) : Type 0 where
+  pub shown : Result (List ℕ) WireFault
+  pub wants : Gives wire.NoMemory shown wanted
+  pub writes : Writes shown before after former count code
