@@ -9,7 +9,7 @@ use lease_core::MOMENT_LIMIT;
 
 impl Held {
     /// The moment, in milliseconds by the client's clock, before which its lease is unexpired, and from which on it isn't, if it
-    /// gets no better one; 0 where it has none. It is found by halving, which takes 54 looks at the lease.
+    /// gets no better one; 0 where it has none. Takes no memory. It is found by halving, which takes 53 looks at the lease.
     pub fn leased_until(&self) -> u64
         ensures { EndsAt self.now.client.cache.lease result }
     {
@@ -21,7 +21,7 @@ fn lease_end(cache: &Cache) -> u64
     ensures { EndsAt cache.now.lease result }
 {
     let mut low = 0;
-    let mut high = 2 * MOMENT_LIMIT;
+    let mut high = MOMENT_LIMIT;
     while low < high {
         let middle = low + (high - low) / 2;
         if cache.is_leased(middle) {

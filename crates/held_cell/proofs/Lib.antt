@@ -1,0 +1,4 @@
+mod Staying
+mod Ending
+mod Reading
+mod Lasting
