@@ -1,19 +1,23 @@
 -- What an export answers.
-use Rattle.std.specs.Prelude.{◌≡◌, ◌≤◌, ◌<◌, ℕ, List, length, take, Result, Ok, Err}
+use Rattle.std.specs.Prelude.{◌≡◌, ◌⊎◌, ◌≤◌, ◌<◌, ℕ, List, length, take, Result, Ok, Err}
 use Rattle.wire_core.specs.declared.faults.WireFault.{WireFault}
 use Rattle.wire_core.specs.declared.faults.WireFault.TheVariants as wire
 use Rattle.plain.specs.Results.{Gives}
 use Rattle.held_cell.specs.declared.statuses.Status.{Status}
 use Rattle.held_cell.specs.Statuses.{status_code, wire_code}
 use Rattle.held_cell.specs.States.{HeldState}
-use Rattle.held_cell.specs.Steps.{Makes, Stays}
+use Rattle.held_cell.specs.Steps.{Makes}
 
--- a step: it was made and ended so, or nothing has changed; and it is told by this number
+-- the numbers that tell that nothing has changed: want of memory, a number or a moment at its end, and what is wrong with bytes
+abbrev pub Leaves : ℕ → Type 0
+Leaves code = (code ≡ 1) ⊎ ((code ≡ 13) ⊎ (80 < code))
+
+-- a step: it was made and ended so, which is told by this number; or nothing has changed
 pub record Answers (old new : HeldState) (code : ℕ) (step : HeldState × Status) : Type 0 where
   pub status : Status
   pub told : code ≡ status_code status
   pub made : Makes old new status step
-  pub kept : Stays old new status
+  pub kept : Leaves code → new ≡ old
 
 -- bytes go into a room where they fit, from its front, and their number is told; else the room stays
 pub record Fills (bytes : List ℕ) (before after : List ℕ) (count : ℕ) : Type 0 where

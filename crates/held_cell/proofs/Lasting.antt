@@ -22,11 +22,11 @@ was_leased None n m le h = cc
 was_leased (Some terms) n m le h = earlier terms.sent terms.span n m le h
 
 isnt_both : (b : Bool) → b ≡ true → b ≡ false → ⊥
-isnt_both b yes no = cc
+isnt_both b is isnt = cc
 
 stays_ended : (lease : Option LeaseTerms) (n m : ℕ) (b : Bool) → n ≤ m → is_leased lease n ≡ false → is_leased lease m ≡ b → b ≡ false
-stays_ended lease n m true le no h = absurd (isnt_both (is_leased lease n) (was_leased lease n m le h) no)
-stays_ended lease n m false le no h = refl
+stays_ended lease n m true le ended h = absurd (isnt_both (is_leased lease n) (was_leased lease n m le h) ended)
+stays_ended lease n m false le ended h = refl
 
 pub begins : (lease : Option LeaseTerms) → Between lease 0 (2 ^ 53)
 begins lease = record {
@@ -45,9 +45,9 @@ higher lease low middle high b h leased = record {
 }
 
 pub lower : (lease : Option LeaseTerms) (low middle high : ℕ) → Between lease low high → low ≤ middle → middle < high → is_leased lease middle ≡ false → Between lease low middle
-lower lease low middle high b le h ended = record {
+lower lease low middle high b le h over = record {
   below = b.below;
-  above = λ now is from. stays_ended lease middle now (is_leased lease now) from ended refl;
+  above = λ now is from. stays_ended lease middle now (is_leased lease now) from over refl;
   order = le;
   limit = omega (arith, h, b.limit);
 }

@@ -56,15 +56,15 @@ give_status (Some fault) = statuses.Refused fault
 -- ---- the steps. Where the client makes none, all stays
 
 abbrev pub asked : HeldState → ClientState × Result Asked Fault → HeldState × Status
-asked old (client, Ok asked) = (record { client = client; request = sent_by asked.outcome; lines = asked.lines }, ask_status asked.outcome)
+asked old (client, Ok did) = (record { client = client; request = sent_by did.outcome; lines = did.lines }, ask_status did.outcome)
 asked old (client, Err fault) = (old, statuses.Failed fault)
 
 abbrev pub beaten : HeldState → ClientState × Result Beaten Fault → HeldState × Status
-beaten old (client, Ok beaten) = (record { client = client; request = beaten.request; lines = beaten.lines }, beat_status beaten.request)
+beaten old (client, Ok did) = (record { client = client; request = did.request; lines = did.lines }, beat_status did.request)
 beaten old (client, Err fault) = (old, statuses.Failed fault)
 
 abbrev pub given : HeldState → ClientState × Result Given Fault → HeldState × Status
-given old (client, Ok given) = (record { client = client; request = None; lines = given.lines }, give_status given.refused)
+given old (client, Ok did) = (record { client = client; request = None; lines = did.lines }, give_status did.refused)
 given old (client, Err fault) = (old, statuses.Failed fault)
 
 abbrev pub ask_held : HeldState → ℕ → Ask → HeldState × Status
@@ -110,9 +110,17 @@ Makes old new (statuses.Failed fault) step = (fault ≢ faults.NoMemory → step
 Makes old new (statuses.Bad fault) step = (fault ≢ wire.NoMemory → step ≡ (new, statuses.Bad fault)) × (fault ≡ wire.NoMemory → new ≡ old)
 Makes old new statuses.NoCall step = step ≡ (new, statuses.NoCall)
 
--- what a holder counts on: behind these it all stands as it was
+-- a refusal of a client by itself: never want of memory, nor a number or a moment at its end
+pub record IsOwn (fault : Fault) : Type 0 where
+  pub no_want : fault ≢ faults.NoMemory
+  pub no_end : fault ≢ faults.Exhausted
+
+-- what a holder counts on: behind Failed, Bad and NoCall it all stands as it was, and the refusals of a step are others
 abbrev pub Stays : HeldState → HeldState → Status → Type 0
+Stays old new statuses.Done = Unit {0}
+Stays old new statuses.Send = Unit {0}
+Stays old new statuses.Served = Unit {0}
+Stays old new (statuses.Refused fault) = IsOwn fault
 Stays old new (statuses.Failed fault) = new ≡ old
 Stays old new (statuses.Bad fault) = new ≡ old
 Stays old new statuses.NoCall = new ≡ old
-Stays old new _ = Unit {0}

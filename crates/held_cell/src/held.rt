@@ -1,5 +1,7 @@
 //! A client that is held.
 ghost use Rattle.std.specs.Prelude.{◌≡◌};
+ghost use Rattle.client_parts.specs.declared.asks.Ask.TheVariants as asks;
+ghost use Rattle.client_parts.specs.declared.asks.NodeCall.TheVariants as node_calls;
 ghost use Rattle.held_cell.specs.States.{new_held};
 ghost use Rattle.held_cell.specs.Steps.{sent_by, served_status, ask_status, beat_status, give_status, ask_held, beat_held, give_held, ask_bytes, give_bytes, ask_wanted, Makes, Stays};
 

@@ -1,8 +1,7 @@
 //! What a holder is shown of the last step, as bytes.
-ghost use Rattle.std.specs.Prelude.{◌≡◌, ◌++◌, OnOk, IfOk};
-ghost use Rattle.std.specs.Option.{option_map};
+ghost use Rattle.std.specs.Prelude.{◌≡◌, ◌++◌, ◌∷◌, [], Ok, OnOk, IfOk};
+ghost use Rattle.std.specs.Option.{option_copied, option_map};
 ghost use Rattle.plain.specs.Results.{Gives};
-ghost use Rattle.wire_core.specs.declared.faults.WireFault.TheVariants as WireFault;
 ghost use Rattle.held_cell.specs.Shows.{message_bytes, lines_bytes, answer_content, seen_content, line_content, content_in, last_content};
 
 use crate::held::Held;
@@ -28,15 +27,12 @@ impl Held {
         message_bytes(self.alloc, self.client.again())
     }
 
-    /// The lines that the last step printed, each with an LF behind it.
-    pub fn lines(&self) -> Result<Vec<u8>, AllocError>
-        ensures { IfOk result (λ bytes. bytes.items ≡ lines_bytes self.now.lines) }
+    /// The lines that the last step printed, each with an LF behind it. Refused for want of memory alone.
+    pub fn lines(&self) -> Result<Bytes, WireFault>
+        ensures { Gives WireFault.NoMemory result (Ok (lines_bytes self.now.lines)) }
     {
-        let mut out = Vec::new(self.alloc);
-        for line in self.lines.as_slice() {
-            put_line(self.alloc, &mut out, line)?;
-        }
-        Ok(out)
+        let bytes = lines_bytes(self.alloc, self.lines.as_slice())?;
+        Ok(Bytes::from_vec(bytes)?)
     }
 
     /// The whole content of the view that the last line shows; empty where it shows none. Copies nothing.
@@ -57,6 +53,16 @@ fn message_bytes(alloc: Global, message: Option<&Request>) -> Result<Bytes, Wire
         Some(message) => write_request(alloc, message),
         None => Ok(Bytes::copy_of(alloc, &[])?),
     }
+}
+
+fn lines_bytes(alloc: Global, lines: &[Line]) -> Result<Vec<u8>, AllocError>
+    ensures { IfOk result (λ bytes. bytes.items ≡ lines_bytes lines.now) }
+{
+    let mut out = Vec::new(alloc);
+    for line in lines {
+        put_line(alloc, &mut out, line)?;
+    }
+    Ok(out)
 }
 
 fn put_line(alloc: Global, out: &mut Vec<u8>, line: &Line) -> Result<(), AllocError>

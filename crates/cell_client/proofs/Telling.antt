@@ -1,0 +1,47 @@
+-- What the number of a status tells.
+use Rattle.std.proofs.Common.{◌≡◌, ◌≢◌, ◌⊎◌, inl, inr, ℕ, ◌<◌, ◌≤◌, refl, sym, subst, arith}
+use Rattle.node_core.specs.Refusals.{fault_number}
+use Rattle.node_core.specs.declared.refusals.Fault.{Fault}
+use Rattle.node_core.specs.declared.refusals.Fault.TheVariants as faults
+use Rattle.wire_core.specs.declared.faults.WireFault.{WireFault}
+use Rattle.held_cell.specs.declared.statuses.Status.{Status}
+use Rattle.held_cell.specs.declared.statuses.Status.TheVariants as statuses
+use Rattle.held_cell.specs.Statuses.{status_code}
+use Rattle.held_cell.specs.States.{HeldState}
+use Rattle.held_cell.specs.Steps.{IsOwn, Makes, Stays}
+use Rattle.cell_client.specs.Answers.{Leaves, Answers}
+
+number_of_want : (fault : Fault) → fault_number fault ≡ 1 → fault ≡ faults.NoMemory
+number_of_want faults.NoMemory e = refl
+number_of_want fault e = cc
+
+number_of_end : (fault : Fault) → fault_number fault ≡ 13 → fault ≡ faults.Exhausted
+number_of_end faults.Exhausted e = refl
+number_of_end fault e = cc
+
+low : (fault : Fault) → fault_number fault < 80
+low faults.NoMemory = omega arith
+low fault = omega arith
+
+own_stays : (fault : Fault) → IsOwn fault → Leaves (fault_number fault) → ⊥
+own_stays fault own (inl e) = own.no_want (number_of_want fault e)
+own_stays fault own (inr (inl e)) = own.no_end (number_of_end fault e)
+own_stays fault own (inr (inr h)) = let l = low fault in omega (arith, h, l)
+
+-- another number tells nothing of this
+stays_by : (code : ℕ) (A : Type 0) → code ≢ 1 → code ≢ 13 → code ≤ 80 → Leaves code → A
+stays_by code A want end small (inl e) = absurd (want e)
+stays_by code A want end small (inr (inl e)) = absurd (end e)
+stays_by code A want end small (inr (inr h)) = absurd (omega (arith, small, h))
+
+stays : (old new : HeldState) (status : Status) → Stays old new status → Leaves (status_code status) → new ≡ old
+stays old new statuses.Done h l = stays_by 0 (new ≡ old) (λ e. cc) (λ e. cc) (omega arith) l
+stays old new statuses.Send h l = stays_by 64 (new ≡ old) (λ e. cc) (λ e. cc) (omega arith) l
+stays old new statuses.Served h l = stays_by 65 (new ≡ old) (λ e. cc) (λ e. cc) (omega arith) l
+stays old new (statuses.Refused fault) h l = absurd (own_stays fault h l)
+stays old new (statuses.Failed fault) h l = h
+stays old new (statuses.Bad fault) h l = h
+stays old new statuses.NoCall h l = h
+
+pub tells : (old new : HeldState) (code : ℕ) (status : Status) (step : HeldState × Status) → code ≡ status_code status → Makes old new status step → Stays old new status → Answers old new code step
+tells old new code status step told made kept = record { status = status; told = told; made = made; kept = λ l. stays old new status kept (subst Leaves told l) }
