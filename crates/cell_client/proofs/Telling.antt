@@ -1,15 +1,19 @@
 -- What the number of a status tells.
-use Rattle.std.proofs.Common.{◌≡◌, ◌≢◌, ◌⊎◌, inl, inr, ℕ, ◌<◌, ◌≤◌, refl, sym, subst, arith}
+use Rattle.std.proofs.Common.{◌≡◌, ◌≢◌, ◌⊎◌, inl, inr, ℕ, ◌<◌, ◌≤◌, List, Result, refl, sym, subst, arith}
 use Rattle.node_core.specs.Refusals.{fault_number}
 use Rattle.node_core.specs.declared.refusals.Fault.{Fault}
 use Rattle.node_core.specs.declared.refusals.Fault.TheVariants as faults
+use Rattle.plain.specs.Results.{Gives}
 use Rattle.wire_core.specs.declared.faults.WireFault.{WireFault}
+use Rattle.wire_core.specs.declared.faults.WireFault.TheVariants as wire
 use Rattle.held_cell.specs.declared.statuses.Status.{Status}
 use Rattle.held_cell.specs.declared.statuses.Status.TheVariants as statuses
 use Rattle.held_cell.specs.Statuses.{status_code}
 use Rattle.held_cell.specs.States.{HeldState}
 use Rattle.held_cell.specs.Steps.{IsOwn, Makes, Stays}
-use Rattle.cell_client.specs.Answers.{Leaves, Answers}
+use Rattle.held_cell.specs.Shows.{last_content}
+use Rattle.held_cell.specs.Leases.{EndsAt}
+use Rattle.cell_client.specs.Answers.{Leaves, Answers, Fills, Writes, Shows}
 
 number_of_want : (fault : Fault) → fault_number fault ≡ 1 → fault ≡ faults.NoMemory
 number_of_want faults.NoMemory e = refl
@@ -45,3 +49,21 @@ stays old new statuses.NoCall h l = h
 
 pub tells : (old new : HeldState) (code : ℕ) (status : Status) (step : HeldState × Status) → code ≡ status_code status → Makes old new status step → Stays old new status → Answers old new code step
 tells old new code status step told made kept = record { status = status; told = told; made = made; kept = λ l. stays old new status kept (subst Leaves told l) }
+
+-- ---- where a loan begins with what the handle holds
+
+pub tells_as : (told old new : HeldState) (code : ℕ) (status : Status) (step : HeldState → HeldState × Status) → told ≡ old
+    → code ≡ status_code status → Makes told new status (step told) → Stays told new status → Answers old new code (step old)
+tells_as told old new code status step same is made kept = subst (λ h. Answers h new code (step h)) same (tells told new code status (step told) is made kept)
+
+pub shows_as : (told old : HeldState) (wanted : HeldState → Result (List ℕ) WireFault) (shown : Result (List ℕ) WireFault) (before after : List ℕ) (former count code : ℕ) → told ≡ old
+    → Gives wire.NoMemory shown (wanted told) → Writes shown before after former count code → Shows (wanted old) before after former count code
+shows_as told old wanted shown before after former count code same gives writes =
+    subst (λ h. Shows (wanted h) before after former count code) same (record { shown = shown; wants = gives; writes = writes })
+
+pub fills_as : (told old : HeldState) (bytes before after : List ℕ) (count : ℕ) → told ≡ old → bytes ≡ last_content told.lines → Fills bytes before after count → Fills (last_content old.lines) before after count
+fills_as told old bytes before after count same is fills =
+    subst (λ h. Fills (last_content h.lines) before after count) same (subst (λ b. Fills b before after count) is fills)
+
+pub ends_as : (told old : HeldState) (end : ℕ) → told ≡ old → EndsAt told.client.cache.lease end → EndsAt old.client.cache.lease end
+ends_as told old end same ends = subst (λ h. EndsAt h.client.cache.lease end) same ends

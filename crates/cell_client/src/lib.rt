@@ -115,11 +115,7 @@ pub extern "C" fn cell_client_message(
 
 /// The bytes of the outstanding call's message, none where no call is outstanding: 0, or why there are none.
 #[unsafe(no_mangle)]
-pub extern "C" fn cell_client_again(
-    handle: &mut Handle,
-    room: &mut [u8],
-    length: &mut usize,
-) -> u32
+pub extern "C" fn cell_client_again(handle: &mut Handle, room: &mut [u8], length: &mut usize) -> u32
     ensures shown { Shows (message_bytes (option_map (λ call. call.request) handle.old.value.client.outstanding)) room.old room.new length.old length.new result }
     ensures kept { handle.new.value ≡ handle.old.value }
 {
@@ -128,11 +124,7 @@ pub extern "C" fn cell_client_again(
 
 /// The lines of the last step, each with an LF behind it: 0, or 1 for want of memory.
 #[unsafe(no_mangle)]
-pub extern "C" fn cell_client_lines(
-    handle: &mut Handle,
-    room: &mut [u8],
-    length: &mut usize,
-) -> u32
+pub extern "C" fn cell_client_lines(handle: &mut Handle, room: &mut [u8], length: &mut usize) -> u32
     ensures shown { Shows (Ok (lines_bytes handle.old.value.lines)) room.old room.new length.old length.new result }
     ensures kept { handle.new.value ≡ handle.old.value }
 {

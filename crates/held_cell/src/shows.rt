@@ -47,7 +47,7 @@ impl Held {
 }
 
 fn message_bytes(alloc: Global, message: Option<&Request>) -> Result<Bytes, WireFault>
-    ensures { Gives WireFault.NoMemory result (message_bytes (option_copied message)) }
+    ensures { Gives WireFault.NoMemory result (message_bytes (option_copied message.entry)) }
 {
     match message {
         Some(message) => write_request(alloc, message),
