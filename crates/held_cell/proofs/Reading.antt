@@ -1,5 +1,5 @@
 -- A step by bytes is the step by what they are.
-use Rattle.std.proofs.Common.{◌≡◌, ◌≢◌, ℕ, List, Option, Some, None, Result, Ok, Err, refl, sym, ap, subst}
+use Rattle.std.proofs.Common.{◌≡◌, ◌≢◌, ℕ, Option, Result, Ok, Err, refl, sym, ap, subst}
 use Rattle.messages_cell.specs.declared.requests.Request.{Request}
 use Rattle.messages_cell.specs.declared.outs.Out.{Out}
 use Rattle.client_parts.specs.declared.asks.Ask.{Ask}

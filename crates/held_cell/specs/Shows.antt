@@ -1,5 +1,5 @@
 -- What a holder is shown of the last step, as bytes.
-use Rattle.std.specs.Prelude.{◌≡◌, ℕ, ◌-◌, List, [], ◌∷◌, ◌++◌, length, slice_get, Option, Some, None, Result, Ok}
+use Rattle.std.specs.Prelude.{ℕ, ◌-◌, List, [], ◌∷◌, ◌++◌, length, slice_get, Option, Some, None, Result, Ok}
 use Rattle.node_core.specs.declared.lines.Line.{Line}
 use Rattle.node_core.specs.declared.lines.Line.TheVariants as lines
 use Rattle.node_core.specs.declared.answers.Answer.{Answer}
@@ -8,7 +8,7 @@ use Rattle.node_core.specs.declared.views.View.{View}
 use Rattle.node_core.specs.Texts.{line_text}
 use Rattle.messages_cell.specs.declared.requests.Request.{Request}
 use Rattle.wire_core.specs.declared.faults.WireFault.{WireFault}
-use Rattle.wire_core.specs.Forms.{Form, written}
+use Rattle.wire_core.specs.Forms.{written}
 use Rattle.wire_core.specs.Requests.{request}
 
 -- the bytes of a message, none where there is none

@@ -18,7 +18,7 @@ use Rattle.client_core.specs.Beats.{beat_step}
 use Rattle.client_core.specs.Gives.{give_step}
 use Rattle.wire_core.specs.declared.faults.WireFault.{WireFault}
 use Rattle.wire_core.specs.declared.faults.WireFault.TheVariants as wire
-use Rattle.wire_core.specs.Forms.{Form, read_whole}
+use Rattle.wire_core.specs.Forms.{read_whole}
 use Rattle.wire_core.specs.Requests.{request}
 use Rattle.wire_core.specs.Outs.{out_message}
 use Rattle.held_cell.specs.declared.statuses.Status.{Status}

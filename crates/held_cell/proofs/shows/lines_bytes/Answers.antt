@@ -1,4 +1,4 @@
-use Rattle.std.proofs.Common.{refl, arith}
+use Rattle.std.proofs.Common.{arith}
 use Rattle.held_cell.proofs.Showing.{bytes_next, bytes_all}
 use Rattle.held_cell.proofs.shows.lines_bytes.Goals as goal
 
