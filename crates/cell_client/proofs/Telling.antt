@@ -1,5 +1,5 @@
 -- What the number of a status tells.
-use Rattle.std.proofs.Common.{◌≡◌, ◌≢◌, inl, inr, ℕ, ◌<◌, ◌≤◌, List, Result, refl, subst, arith}
+use Rattle.std.proofs.Common.{◌≡◌, ◌≢◌, inl, inr, ℕ, ◌<◌, ◌≤◌, List, Result, Ok, Err, refl, subst, arith}
 use Rattle.node_core.specs.Refusals.{fault_number}
 use Rattle.node_core.specs.declared.refusals.Fault.{Fault}
 use Rattle.node_core.specs.declared.refusals.Fault.TheVariants as faults
@@ -8,12 +8,12 @@ use Rattle.wire_core.specs.declared.faults.WireFault.{WireFault}
 use Rattle.wire_core.specs.declared.faults.WireFault.TheVariants as wire
 use Rattle.held_cell.specs.declared.statuses.Status.{Status}
 use Rattle.held_cell.specs.declared.statuses.Status.TheVariants as statuses
-use Rattle.held_cell.specs.Statuses.{status_code}
+use Rattle.held_cell.specs.Statuses.{wire_code, status_code}
 use Rattle.held_cell.specs.States.{HeldState}
 use Rattle.held_cell.specs.Steps.{IsOwn, Makes, Stays}
 use Rattle.held_cell.specs.Shows.{last_content}
 use Rattle.held_cell.specs.Leases.{EndsAt}
-use Rattle.cell_client.specs.Answers.{Leaves, Answers, Fills, Writes, Shows}
+use Rattle.cell_client.specs.Answers.{Opens, Leaves, Answers, Fills, Writes, Shows}
 
 number_of_want : (fault : Fault) → fault_number fault ≡ 1 → fault ≡ faults.NoMemory
 number_of_want faults.NoMemory e = refl
@@ -67,3 +67,16 @@ fills_as told old bytes before after count same is fills =
 
 pub ends_as : (told old : HeldState) (end : ℕ) → told ≡ old → EndsAt told.client.cache.lease end → EndsAt old.client.cache.lease end
 ends_as told old end same ends = subst (λ h. EndsAt h.client.cache.lease end) same ends
+
+-- ---- a client is opened
+
+or_want : (wanted : Result HeldState WireFault) → Opens wanted 1
+or_want (Ok held) = inr refl
+or_want (Err fault) = inr refl
+
+pub opens_none : (wanted : Result HeldState WireFault) (fault : WireFault) → (fault ≢ wire.NoMemory → wanted ≡ Err fault) → Opens wanted (wire_code fault)
+opens_none wanted wire.NoMemory h = or_want wanted
+opens_none wanted fault h = subst (λ w. Opens w (wire_code fault)) (sym (h (λ e. cc))) (inl refl)
+
+pub opens_one : (wanted : Result HeldState WireFault) (held : HeldState) (code : ℕ) → wanted ≡ Ok held → Opens (Ok held) code → Opens wanted code
+opens_one wanted held code is opens = subst (λ w. Opens w code) (sym is) opens

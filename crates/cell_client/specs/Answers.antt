@@ -8,6 +8,11 @@ use Rattle.held_cell.specs.Statuses.{status_code, wire_code}
 use Rattle.held_cell.specs.States.{HeldState}
 use Rattle.held_cell.specs.Steps.{Makes}
 
+-- a client was opened, which is told by 0; or it is told what is wrong. Want of memory, 1, may stand in the place of either
+abbrev pub Opens : Result HeldState WireFault → ℕ → Type 0
+Opens (Ok held) code = (code ≡ 0) ⊎ (code ≡ 1)
+Opens (Err fault) code = (code ≡ wire_code fault) ⊎ (code ≡ 1)
+
 -- the numbers that tell that nothing has changed: want of memory, a number or a moment at its end, and what is wrong with bytes
 abbrev pub Leaves : ℕ → Type 0
 Leaves code = (code ≡ 1) ⊎ ((code ≡ 13) ⊎ (80 < code))

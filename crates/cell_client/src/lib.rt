@@ -8,11 +8,12 @@ mod rooms;
 
 ghost use Rattle.std.specs.Prelude.{◌≡◌, ◌≢◌, Ok, Err};
 ghost use Rattle.std.specs.Option.{option_map};
+ghost use Rattle.held_cell.specs.Opens.{opened};
 ghost use Rattle.held_cell.specs.Steps.{beat_held, ask_held, ask_bytes, give_bytes};
 ghost use Rattle.held_cell.specs.Shows.{message_bytes, lines_bytes, last_content};
 ghost use Rattle.client_parts.specs.declared.asks.Ask.TheVariants as asks;
 ghost use Rattle.client_parts.specs.declared.asks.NodeCall.TheVariants as node_calls;
-ghost use Rattle.cell_client.specs.Answers.{Answers, Fills, Shows};
+ghost use Rattle.cell_client.specs.Answers.{Opens, Answers, Fills, Shows};
 ghost use Rattle.held_cell.specs.Leases.{EndsAt};
 
 use handles::Handle;
@@ -30,14 +31,20 @@ pub extern "C" fn cell_client_open(
     number: u64,
     principal: &[u8],
     out: &mut *mut u8,
-) -> u32 {
+) -> u32
+    ensures opened { Opens (opened number principal.now) result }
+    ensures refused { result ≢ 0 → out.new ≡ out.old }
+{
     match Held::open(alloc, number, principal) {
         Ok(held) => place(alloc, held, out),
         Err(fault) => Status::Bad(fault).code(),
     }
 }
 
-fn place(alloc: Global, held: Held, out: &mut *mut u8) -> u32 {
+fn place(alloc: Global, held: Held, out: &mut *mut u8) -> u32
+    ensures opened { Opens (Ok held) result }
+    ensures refused { result ≢ 0 → out.new ≡ out.old }
+{
     match Box::new(alloc, held) {
         Ok(held) => {
             *out = Handle::of_parts(Parts::of(held)).release();
