@@ -1,0 +1,13 @@
+pub use Rattle.held_cell.specs.Statuses
+pub use Rattle.held_cell.specs.States
+pub use Rattle.held_cell.specs.Wanted
+pub use Rattle.held_cell.specs.Steps
+pub use Rattle.held_cell.specs.Leases
+pub use Rattle.held_cell.specs.Opens
+pub use Rattle.held_cell.specs.Shows
+pub use Rattle.client_core.specs.State
+pub use Rattle.client_core.specs.Asks
+pub use Rattle.client_core.specs.Beats
+pub use Rattle.client_core.specs.Gives
+pub mod Follows
+pub mod Answers

@@ -1,0 +1,7 @@
+mod Staying
+mod Refusals
+mod Ending
+mod Reading
+mod Lasting
+mod Opening
+mod Showing

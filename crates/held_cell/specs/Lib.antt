@@ -1,0 +1,14 @@
+pub use Rattle.client_core.specs.State
+pub use Rattle.client_core.specs.Asks
+pub use Rattle.client_core.specs.Beats
+pub use Rattle.client_core.specs.Gives
+pub use Rattle.wire_core.specs.Forms
+pub use Rattle.wire_core.specs.Requests
+pub use Rattle.wire_core.specs.Outs
+pub mod Statuses
+pub mod States
+pub mod Wanted
+pub mod Steps
+pub mod Leases
+pub mod Opens
+pub mod Shows

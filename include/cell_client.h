@@ -1,0 +1,157 @@
+/*
+ * A client of a cell, for programs in C and whatever calls C. Link out/libcell_client.a and the kit's c/liblibc_c.a.
+ *
+ * The library knows no clock, socket or thread. The program hands in moments, sends the messages that a step gives, and gives the
+ * messages that come.
+ *
+ * Moments are milliseconds by one clock of the program's own that never goes back, and goes on while the machine sleeps
+ * (CLOCK_BOOTTIME on Linux). A moment that is earlier than the last counts as the last. Read the clock before a message is sent.
+ *
+ * Who owns what. A client that was opened owns its memory until it is closed; then its handle is used no more, and neither is a
+ * copy of it. Each pointer that is passed to a call is the program's: it is there for the call, isn't kept, and isn't null, also
+ * where the length beside it is 0. Room that is written to overlaps nothing else that is passed.
+ *
+ * One call at a time on one client. A client may go from thread to thread.
+ *
+ * A call never ends the program. It answers one of the codes below. Where it answers NO_MEMORY, EXHAUSTED, or one of the codes
+ * for bytes (81 to 88), nothing has changed: the client, its message, lines and content are as they were. A step that answers
+ * anything else has noted the time, and has a message, lines and a content of its own, in the place of those of the step before.
+ */
+#ifndef CELL_CLIENT_H
+#define CELL_CLIENT_H
+
+#include <stddef.h>
+#include <stdint.h>
+
+#ifdef __cplusplus
+extern "C" {
+#endif
+
+/* An open client. */
+struct cell_client {
+    void *at;
+};
+
+/* Done: there is nothing to send. */
+#define CELL_CLIENT_DONE 0u
+
+/*
+ * 1 to 42: refused, by the number of the refusal, which is also the one that stands in the lines. docs/FORMATS.md has them all;
+ * a step of a client answers these itself.
+ */
+#define CELL_CLIENT_NO_MEMORY 1u
+/* The cache holds that the name has no node, at an Open. */
+#define CELL_CLIENT_NOT_FOUND 6u
+/* A moment of 2^53 or more, or a number behind the last. */
+#define CELL_CLIENT_EXHAUSTED 13u
+/* The cache holds that the node of this handle is gone. */
+#define CELL_CLIENT_STALE_INSTANCE 14u
+/* No open handle of this number. */
+#define CELL_CLIENT_BAD_HANDLE 17u
+/* No session yet, or none was given. */
+#define CELL_CLIENT_NO_SESSION 19u
+/* The lease has ended: ask again when the lines said "safe", or "lost". */
+#define CELL_CLIENT_IN_JEOPARDY 30u
+#define CELL_CLIENT_SESSION_EXPIRED 31u
+#define CELL_CLIENT_POISONED 32u
+/* A call waits for its reply: one at a time. */
+#define CELL_CLIENT_CALL_OUTSTANDING 33u
+/* What was given is a message that no master sends. */
+#define CELL_CLIENT_PROTOCOL_FAULT 35u
+
+/* There is a message to send: cell_client_message. */
+#define CELL_CLIENT_SEND 64u
+
+/* Answered out of the cache: there is nothing to send. */
+#define CELL_CLIENT_SERVED 65u
+
+/* What is wrong with the bytes that were passed, or why a message has none: as docs/FORMATS.md says of messages as bytes. */
+#define CELL_CLIENT_TOO_LONG 81u
+#define CELL_CLIENT_CUT 82u
+#define CELL_CLIENT_BAD_VERSION 83u
+#define CELL_CLIENT_BAD_KIND 84u
+#define CELL_CLIENT_BAD_NUMBER 85u
+#define CELL_CLIENT_BAD_TEXT 86u
+#define CELL_CLIENT_EXTRA 87u
+/* A message, but none that asks for a call; a handle in it that isn't 8 bytes; a SetSequencer without a sequencer. */
+#define CELL_CLIENT_NO_CALL 88u
+
+/*
+ * Opens a client: DONE, and then the address that is written is the handle's `at`. The number is 1 to 2^53-1, and each number is
+ * used by one client of the cell alone, ever. The principal is who the client acts for: who carries its messages vouches for it.
+ * Else NO_MEMORY, BAD_NUMBER, or BAD_TEXT for a text that is no principal, and nothing is written.
+ */
+uint32_t cell_client_open(uint64_t number, const uint8_t *principal, size_t principal_length, void **at);
+
+/* ---- steps */
+
+/*
+ * Asks for what keeps the session: SEND a Start until the client has a session, then a Beat. DONE where the session is lost, or
+ * none was given. The lease that the answer brings counts from `now`. A master answers a Beat when it has something to say, and
+ * before the lease ends: beat again as soon as an Alive was given, and when none came for long.
+ */
+uint32_t cell_client_beat(struct cell_client *client, uint64_t now);
+
+/*
+ * Asks for a call. `call` are the bytes of a Call as docs/FORMATS.md lays it out, with these differences: a handle is the client's
+ * own number for it, as a word (8 bytes, big-endian); and of client, epoch and number, which the client puts by itself, nothing
+ * counts but that they are in their ranges. A SetSequencer has the sequencer's bytes at the end; else what stands there isn't used.
+ *
+ * SEND: the call is outstanding until its reply was given. SERVED: an Open or a read out of the cache. DONE: the Close of a handle
+ * whose node stays open for others. Else a refusal: NOT_FOUND and STALE_INSTANCE out of the cache, all others as above.
+ */
+uint32_t cell_client_ask(struct cell_client *client, uint64_t now, const uint8_t *call, size_t call_length);
+
+/*
+ * Asks for the content and the numbers of the node of this handle: as an ask for a Read. SERVED: `length` is how long the content
+ * is; if that is at most `room_length` it stands in the room, else the room is as it was (cell_client_content has it then). After
+ * any other answer length and room are as they were.
+ */
+uint32_t cell_client_read(struct cell_client *client, uint64_t now, uint64_t handle, uint8_t *room, size_t room_length, size_t *length);
+
+/* Poisons this handle: each later call on it but a Close is POISONED. DONE, or a refusal. */
+uint32_t cell_client_poison(struct cell_client *client, uint64_t now, uint64_t handle);
+
+/*
+ * Gives the client a message of the master, by its bytes. DONE, or PROTOCOL_FAULT; what came of it stands in the lines. A message
+ * may come late, twice or never.
+ */
+uint32_t cell_client_give(struct cell_client *client, uint64_t now, const uint8_t *message, size_t message_length);
+
+/*
+ * ---- what came of the last step. These change nothing. They answer DONE and write how long it is; where that is at most
+ * `room_length` it stands in the room, else the room is as it was. For another answer, length and room are as they were.
+ */
+
+/* The message to send; of length 0 where there is none. */
+uint32_t cell_client_message(struct cell_client *client, uint8_t *room, size_t room_length, size_t *length);
+
+/*
+ * The lines, each with a LF behind it, as docs/FORMATS.md has them. "done C N RESULT" is how the call of number N ended, or one that the
+ * client answered by itself, which is 0: there stands the number of a new handle, and what a call gives. "event C EVENT" tells of an
+ * event, "jeopardy C", "safe C" and "lost C" of the session.
+ */
+uint32_t cell_client_lines(struct cell_client *client, uint8_t *room, size_t room_length, size_t *length);
+
+/* The whole content of the view that the last of the lines shows; of length 0 where that shows none. The length is the answer. */
+size_t cell_client_content(struct cell_client *client, uint8_t *room, size_t room_length);
+
+/* ---- how the client stands. These change nothing. */
+
+/* The outstanding call's message, to be sent again, as cell_client_message; of length 0 where no call is outstanding. */
+uint32_t cell_client_again(struct cell_client *client, uint8_t *room, size_t room_length, size_t *length);
+
+/*
+ * The moment from which on the client trusts its lease no more, if no better one comes; 0 without a lease. Its cache may serve only
+ * before that moment.
+ */
+uint64_t cell_client_leased_until(struct cell_client *client);
+
+/* Closes the client and frees its memory. The cell learns nothing: the session ends when its lease has run out. */
+void cell_client_close(struct cell_client client);
+
+#ifdef __cplusplus
+}
+#endif
+
+#endif
