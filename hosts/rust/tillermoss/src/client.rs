@@ -73,14 +73,15 @@ impl Client {
     /// Where the server can't be reached, turns the client away or gives it no session, and where none began in time.
     pub fn connect(options: &Options) -> Result<Client, Error> {
         let principal = options.principal.clone();
-        let (stream, Welcome { client, token }) = greet(&options.server, &Hello::New { principal: principal.clone() })?;
+        let connection = greet(&options.server, &Hello::New { principal: principal.clone() })?;
+        let Welcome { client, token } = connection.welcome;
         let library =
             Library::open(client, &principal).map_err(|status| Error::Malformed(format!("the client's number, as {status:?}")))?;
         let core = Arc::new(Core::new(library));
         let hello = Hello::Again { principal, client, token };
         let keeper = Keeper { core: core.clone(), server: options.server.clone(), hello };
         let opened = Client { core, number: client, patience: options.patience };
-        thread::Builder::new().name("tillermoss".to_owned()).spawn(move || keeper.run(stream))?;
+        thread::Builder::new().name("tillermoss".to_owned()).spawn(move || keeper.run(connection))?;
         opened.wait_for_session()?;
         Ok(opened)
     }

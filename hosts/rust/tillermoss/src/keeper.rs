@@ -3,7 +3,7 @@
 use crate::clock;
 use crate::core::{Core, End};
 use crate::errors::Error;
-use host_wire::{ANSWER_LIMIT, Blocks, GREETING_LIMIT, Hello, TurnedAway, Welcome, write_block};
+use host_wire::{ANSWER_LIMIT, Blocks, Hello, TurnedAway, Welcome, write_block};
 use std::io::{self, ErrorKind};
 use std::net::{Shutdown, TcpStream, ToSocketAddrs};
 use std::sync::Arc;
@@ -34,8 +34,17 @@ const STARTED: u8 = 0;
 const ALIVE: u8 = 1;
 const REFUSED: u8 = 3;
 
+/// A connection that is bound to a client, with what was read of it behind the welcome.
+#[derive(Debug)]
+pub struct Connection {
+    stream: TcpStream,
+    blocks: Blocks,
+    /// What it is bound to.
+    pub welcome: Welcome,
+}
+
 /// Connects to a server, and greets it.
-pub fn greet(server: &str, hello: &Hello) -> Result<(TcpStream, Welcome), Error> {
+pub fn greet(server: &str, hello: &Hello) -> Result<Connection, Error> {
     let mut last = io::Error::new(ErrorKind::NotFound, "the server has no address");
     for address in server.to_socket_addrs()? {
         match TcpStream::connect_timeout(&address, CONNECTING) {
@@ -46,15 +55,15 @@ pub fn greet(server: &str, hello: &Hello) -> Result<(TcpStream, Welcome), Error>
     Err(last.into())
 }
 
-fn welcomed(stream: TcpStream, hello: &Hello) -> Result<(TcpStream, Welcome), Error> {
+fn welcomed(stream: TcpStream, hello: &Hello) -> Result<Connection, Error> {
     stream.set_nodelay(true)?;
     stream.set_read_timeout(Some(CONNECTING))?;
     stream.set_write_timeout(Some(WRITING))?;
     write_block(&mut &stream, &hello.write())?;
-    // (nothing comes behind the welcome before the client sends something, so no byte is lost with these blocks)
-    let block = Blocks::new(GREETING_LIMIT).next(&mut &stream)?.ok_or_else(|| io::Error::from(ErrorKind::UnexpectedEof))?;
+    let mut blocks = Blocks::new(ANSWER_LIMIT);
+    let block = blocks.next(&mut &stream)?.ok_or_else(|| io::Error::from(ErrorKind::UnexpectedEof))?;
     match Welcome::read(&block) {
-        Ok(Ok(welcome)) => Ok((stream, welcome)),
+        Ok(Ok(welcome)) => Ok(Connection { stream, blocks, welcome }),
         Ok(Err(reason)) => Err(Error::TurnedAway(reason)),
         Err(_) => Err(Error::Malformed("the server's greeting".to_owned())),
     }
@@ -101,16 +110,16 @@ pub struct Keeper {
 
 impl Keeper {
     /// Keeps the session over this connection and later ones, until it is lost, or the client is closed or turned away.
-    pub fn run(&self, stream: TcpStream) {
-        let mut next = Some(stream);
+    pub fn run(&self, connection: Connection) {
+        let mut next = Some(connection);
         let mut pause = PAUSES.0;
         while self.core.lock().goes_on() {
-            let found = next.take().map_or_else(|| greet(&self.server, &self.hello).map(|greeted| greeted.0), Ok);
+            let found = next.take().map_or_else(|| greet(&self.server, &self.hello), Ok);
             match found {
-                Ok(stream) => {
+                Ok(Connection { stream, blocks, .. }) => {
                     let mut has_heard = false;
                     // (whatever ends a connection, another is made)
-                    let _ = self.keep(&stream, &mut has_heard);
+                    let _ = self.keep(&stream, blocks, &mut has_heard);
                     self.core.lock().disconnect();
                     pause = if has_heard { PAUSES.0 } else { Keeper::rest(pause) };
                 }
@@ -134,13 +143,12 @@ impl Keeper {
     }
 
     // Keeps it over this connection, until that is lost; whether the master was heard of meanwhile.
-    fn keep(&self, stream: &TcpStream, has_heard: &mut bool) -> io::Result<()> {
+    fn keep(&self, stream: &TcpStream, mut blocks: Blocks, has_heard: &mut bool) -> io::Result<()> {
         let (outgoing, waiting) = channel();
         let written = stream.try_clone()?;
         let writer = thread::Builder::new().spawn(move || write_all(&written, &waiting))?;
         self.core.lock().connect(stream.try_clone()?, outgoing, writer);
         let mut schedule = self.beat(true);
-        let mut blocks = Blocks::new(ANSWER_LIMIT);
         while self.core.lock().goes_on() {
             let rest = schedule.due.saturating_sub(clock::now()).max(1);
             stream.set_read_timeout(Some(Duration::from_millis(rest)))?;

@@ -80,13 +80,12 @@ impl Hall {
         let Some(first) = blocks.next(&mut &**stream)? else {
             return Ok(());
         };
-        let answer = self.greet(&first);
-        let welcome = answer.as_ref().map(|bound| Welcome { client: bound.client, token: bound.token });
-        write_block(&mut &**stream, &Welcome::write(&welcome.map_err(|reason| *reason)))?;
-        let Ok(bound) = answer else {
-            return Ok(());
+        let bound = match self.greet(&first) {
+            Ok(bound) => bound,
+            Err(reason) => return write_block(&mut &**stream, &Welcome::write(&Err(reason))),
         };
-        let binding = self.routes.bind(bound.client, Outgoing::new(stream)?);
+        let welcome = Welcome { client: bound.client, token: bound.token };
+        let binding = self.routes.bind(bound.client, Outgoing::new(stream)?, Welcome::write(&Ok(welcome)));
         blocks.set_limit(REQUEST_LIMIT);
         let end = self.carry(stream, blocks, &bound, binding);
         self.routes.unbind(bound.client, binding);

@@ -21,9 +21,11 @@ impl Routes {
         self.0.lock().unwrap_or_else(PoisonError::into_inner)
     }
 
-    /// From here on the client is reached so; an earlier connection of it is cut off. Gives the number of this binding.
-    pub fn bind(&self, client: u64, outgoing: Outgoing) -> u64 {
+    /// From here on the client is reached so, and this is what it gets first; an earlier connection of it is cut off. Gives the
+    /// number of this binding. Who got that is bound, before any that connects later.
+    pub fn bind(&self, client: u64, outgoing: Outgoing, first: Vec<u8>) -> u64 {
         let mut table = self.table();
+        outgoing.send(first);
         table.bound += 1;
         let binding = table.bound;
         table.left.remove(&client);
@@ -85,14 +87,17 @@ mod tests {
     fn a_client_is_reached_over_its_newest_connection() {
         let routes = Routes::default();
         let ((mut old, old_end), (mut new, new_end)) = (pair(), pair());
-        let first = routes.bind(7, Outgoing::new(&old_end).unwrap());
-        let second = routes.bind(7, Outgoing::new(&new_end).unwrap());
+        let first = routes.bind(7, Outgoing::new(&old_end).unwrap(), b"old".to_vec());
+        assert_eq!(Blocks::new(9).next(&mut old).unwrap(), Some(b"old".to_vec()));
+        let second = routes.bind(7, Outgoing::new(&new_end).unwrap(), b"new".to_vec());
+        let mut blocks = Blocks::new(9);
+        assert_eq!(blocks.next(&mut new).unwrap(), Some(b"new".to_vec()));
         assert!(!routes.is_bound(7, first));
         routes.unbind(7, first);
         assert!(routes.is_bound(7, second));
         assert_eq!(routes.send(8, b"lost".to_vec()), None);
         assert_eq!(routes.send(7, b"here".to_vec()), None);
-        assert_eq!(Blocks::new(9).next(&mut new).unwrap(), Some(b"here".to_vec()));
+        assert_eq!(blocks.next(&mut new).unwrap(), Some(b"here".to_vec()));
         assert_eq!(Blocks::new(9).next(&mut old).unwrap(), None);
         routes.unbind(7, second);
         assert!(!routes.is_bound(7, second));
@@ -112,7 +117,7 @@ mod tests {
         assert_eq!(routes.send(7, alive.clone()), None);
         leave();
         let (_end, stream) = pair();
-        routes.bind(7, Outgoing::new(&stream).unwrap());
+        routes.bind(7, Outgoing::new(&stream).unwrap(), Vec::new());
         assert_eq!(routes.send(7, alive), None);
     }
 }
