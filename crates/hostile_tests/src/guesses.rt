@@ -1,73 +1,460 @@
-//! Messages made at random: with numbers at their limits, with numbers around the right ones, and right.
+//! Messages made at random, field by field, as bytes that are then read: with numbers at their limits, with numbers around the
+//! right ones, and right.
 use crate::dice::Dice;
-use crate::stages::{Stage, all_names};
-use messages_cell::{
-    AclNames, Beat, Call, CallMessage, CallResult, Create, Disposition, NewNode, Open, Out,
-    Request, Start,
-};
-use names_cell::{Component, Name, Principal};
-use node_core::{Life, LockMode};
-use plain::Bytes;
+use crate::sheets::Sheet;
+use crate::stages::Stage;
+use messages_cell::{CallResult, Out};
 use std::alloc::Global;
 use std::test::Fail;
-use tags_cell::{ClientNumber, Events, HandleBytes, MessageNumber, Mode};
+use tags_cell::HandleBytes;
 use world_clients::Message;
 
 const LAST: u64 = 0x7fff_ffff_ffff_ffff;
 
 const LAST_CLIENT: u64 = 0x1f_ffff_ffff_ffff;
 
+// How a number lies to one that is known.
+#[derive(Clone, Copy)]
+enum Near {
+    // That number.
+    Same,
+    // Mostly that number.
+    Present,
+    // That of what comes next, or near to it.
+    Next,
+    // That of what is answered, or near to it.
+    Answered,
+    // A count, one around it, or an end.
+    Around,
+}
+
+// What numbers are known of: the places of `Known`.
+const CLIENT: usize = 0;
+
+const EPOCH: usize = 1;
+
+const BEATS: usize = 2;
+
+const CALLS: usize = 3;
+
+const CALLED: usize = 4;
+
+const TOLD: usize = 5;
+
+const ONE: usize = 6;
+
+// A client, the epoch, its newest Beat and call, how many invalidations and events it was issued or has processed, and 1.
+type Known = [u64; 7];
+
+// A field of a message, or several.
+#[derive(Clone, Copy)]
+enum Field {
+    // These bytes.
+    Bytes(&'static [u8]),
+    // One of these.
+    One(&'static [&'static [u8]]),
+    // One of these numbers.
+    Word(&'static [u64]),
+    // A number by one that is known.
+    Number(Near, usize),
+    // Up to three numbers by one that is known, behind each of them one of these.
+    List(usize, &'static [&'static [u8]]),
+    // The bytes of a handle that was given, or spoilt.
+    Handle,
+    // Those of a sequencer, or spoilt.
+    Sequencer,
+    // A content: short, or one byte too long.
+    Content,
+}
+
+type Fields = &'static [Field];
+
+// The first fields of a message, those of which some follow, and those of which some are the last.
+type Shape = (Fields, &'static [Fields], &'static [Fields]);
+
+const REQUESTS: &[Shape] = &[START, BEAT, BEAT, CALL, CALL, CALL, CALL, CALL];
+
+const START: Shape = (
+    &[
+        Field::Bytes(&[1, 0]),
+        Field::Word(&[1, 2, 3, 4]),
+        Field::Number(Near::Next, ONE),
+        Field::One(&[b"\0\0\0\x03ann", b"\0\0\0\x03ann", b"\0\0\0\x03bob"]),
+    ],
+    &[],
+    &[],
+);
+
+const BEAT: Shape = (
+    &[
+        Field::Bytes(&[1, 1]),
+        Field::Number(Near::Same, CLIENT),
+        Field::Number(Near::Present, EPOCH),
+        Field::Number(Near::Next, BEATS),
+        Field::Number(Near::Around, CALLED),
+        Field::Number(Near::Around, TOLD),
+    ],
+    &[],
+    &[],
+);
+
+const CALL: Shape = (
+    &[
+        Field::Bytes(&[1, 2]),
+        Field::Number(Near::Same, CLIENT),
+        Field::Number(Near::Present, EPOCH),
+        Field::Number(Near::Next, CALLS),
+    ],
+    &[
+        READ,
+        READ,
+        READ,
+        ON_HANDLE,
+        ON_HANDLE,
+        ON_HANDLE,
+        ON_HANDLE,
+        ON_HANDLE,
+        ON_HANDLE,
+        LOCK,
+        LOCK,
+        SET_ACL,
+        SET_ACL_AT,
+        CHECK,
+        SET,
+        SET_AT,
+        SET_AT,
+        OPEN,
+        OPEN,
+        OPEN_FILE,
+        OPEN_DIRECTORY,
+    ],
+    &[
+        NONE,
+        NONE,
+        NONE,
+        NONE,
+        NONE,
+        NONE,
+        NONE,
+        &[Field::Bytes(&[1]), Field::Sequencer],
+    ],
+);
+
+const NONE: Fields = &[Field::Bytes(&[0])];
+
+const READ: Fields = &[Field::Bytes(&[2]), Field::Handle];
+
+// Close, Stat, List, Delete, Release, GetSequencer, SetSequencer.
+const ON_HANDLE: Fields = &[
+    Field::One(&[&[1], &[3], &[4], &[7], &[10], &[11], &[12]]),
+    Field::Handle,
+];
+
+const LOCK: Fields = &[
+    Field::One(&[&[8], &[9]]),
+    Field::Handle,
+    Field::One(&[&[0], &[1]]),
+];
+
+const SET_ACL: Fields = &[
+    Field::Bytes(&[6]),
+    Field::Handle,
+    ACL,
+    ACL,
+    ACL,
+    Field::Bytes(&[0]),
+];
+
+const SET_ACL_AT: Fields = &[
+    Field::Bytes(&[6]),
+    Field::Handle,
+    ACL,
+    ACL,
+    ACL,
+    Field::Bytes(&[1]),
+    Field::Number(Near::Around, ONE),
+];
+
+const ACL: Field = Field::One(&[
+    b"\0\0\0\x04base",
+    b"\0\0\0\x04base",
+    b"\0\0\0\x04base",
+    b"\0\0\0\x03foo",
+]);
+
+const CHECK: Fields = &[Field::Bytes(&[13]), Field::Sequencer];
+
+const SET: Fields = &[
+    Field::Bytes(&[5]),
+    Field::Handle,
+    Field::Content,
+    Field::Bytes(&[0]),
+];
+
+const SET_AT: Fields = &[
+    Field::Bytes(&[5]),
+    Field::Handle,
+    Field::Content,
+    Field::Bytes(&[1]),
+    Field::Number(Near::Around, ONE),
+];
+
+const OPEN: Fields = &[
+    Field::Bytes(&[0]),
+    NAME,
+    MODE,
+    Field::Bytes(&[0]),
+    DELAY,
+    EVENTS,
+];
+
+const OPEN_FILE: Fields = &[
+    Field::Bytes(&[0]),
+    NAME,
+    MODE,
+    Field::One(&[&[1, 0, 0], &[1, 1, 0]]),
+    Field::Content,
+    Field::One(&[&[0, 0], &[0, 0], &[1, 0]]),
+    DELAY,
+    EVENTS,
+];
+
+const OPEN_DIRECTORY: Fields = &[
+    Field::Bytes(&[0]),
+    NAME,
+    MODE,
+    Field::One(&[&[1, 0, 1], &[1, 1, 1]]),
+    Field::One(&[&[0, 0], &[0, 0], &[1, 0]]),
+    DELAY,
+    EVENTS,
+];
+
+// One of another cell among them.
+const NAMES: &[&[u8]] = &[
+    b"\0\0\0\x05/ls/c",
+    b"\0\0\0\x09/ls/c/acl",
+    b"\0\0\0\x0e/ls/c/acl/base",
+    b"\0\0\0\x07/ls/c/d",
+    b"\0\0\0\x09/ls/c/d/x",
+    b"\0\0\0\x07/ls/c/f",
+    b"\0\0\0\x07/ls/c/g",
+    b"\0\0\0\x07/ls/d/x",
+];
+
+const NAME: Field = Field::One(NAMES);
+
+const MODE: Field = Field::One(&[&[1], &[2], &[3], &[3], &[4], &[5], &[6], &[7]]);
+
+const DELAY: Field = Field::Word(&[0, 0, 60_000, 60_001, u64::MAX]);
+
+const EVENTS: Field = Field::One(&[&[0], &[0], &[1], &[2], &[4], &[8], &[7], &[14], &[15]]);
+
+const OUTS: &[Shape] = &[
+    STARTED, REFUSED, REFUSED, REPLY, REPLY, ALIVE, ALIVE, ALIVE, ALIVE, ALIVE,
+];
+
+const STARTED: Shape = (
+    &[
+        Field::Bytes(&[1, 0]),
+        Field::Number(Near::Same, CLIENT),
+        Field::Number(Near::Present, EPOCH),
+        Field::Number(Near::Answered, BEATS),
+        SPAN,
+    ],
+    &[],
+    &[],
+);
+
+const SPAN: Field = Field::Word(&[
+    12_000,
+    12_000,
+    12_000,
+    0,
+    0x1f_ffff_ffff_ffff,
+    0x20_0000_0000_0000,
+    u64::MAX,
+]);
+
+const ALIVE: Shape = (
+    &[
+        Field::Bytes(&[1, 1]),
+        Field::Number(Near::Same, CLIENT),
+        Field::Number(Near::Present, EPOCH),
+        Field::Number(Near::Answered, BEATS),
+        SPAN,
+        Field::List(CALLED, NAMES),
+        Field::List(TOLD, TELLINGS),
+    ],
+    &[],
+    &[],
+);
+
+// A fail-over, a new content, a child, a lock.
+const TELLINGS: &[&[u8]] = &[
+    b"\0",
+    b"\x01\0\0\0\0\0\0\0\x01\0\0\0\0\0\0\0\x04\0\0\0\0\0\0\0\x02",
+    b"\x02\0\0\0\0\0\0\0\x01\0\0\0\x07/ls/c/g",
+    b"\x06\0\0\0\0\0\0\0\x01",
+];
+
+const REPLY: Shape = (
+    &[
+        Field::Bytes(&[1, 2]),
+        Field::Number(Near::Same, CLIENT),
+        Field::Number(Near::Present, EPOCH),
+        Field::Number(Near::Answered, CALLS),
+    ],
+    &[
+        NONE,
+        &[Field::Bytes(&[1]), Field::Number(Near::Around, CALLED)],
+    ],
+    &[
+        OPENED,
+        // Closed, done.
+        &[Field::One(&[&[1], &[6]])],
+        VIEWED,
+        // No names.
+        &[Field::Bytes(&[4, 0, 0, 0, 0])],
+        &[Field::Bytes(&[5]), Field::Sequencer],
+        // Refused as NotFound.
+        &[Field::Bytes(&[7, 5])],
+    ],
+);
+
+const OPENED: Fields = &[
+    Field::Bytes(&[0]),
+    Field::Handle,
+    INSTANCE,
+    Field::Bytes(&[0]),
+];
+
+// A file, its ACLs `base`.
+const VIEWED: Fields = &[
+    Field::Bytes(&[2, 0]),
+    INSTANCE,
+    Field::Number(Near::Around, ONE),
+    Field::Bytes(b"\0\0\0\0\0\0\0\x01\0\0\0\x04base\0\0\0\x04base\0\0\0\x04base\0"),
+    Field::Content,
+];
+
+const INSTANCE: Field = Field::Word(&[3, 4, 5]);
+
+const REFUSED: Shape = (
+    &[
+        Field::Bytes(&[1, 3]),
+        Field::Number(Near::Same, CLIENT),
+        Field::Number(Near::Present, EPOCH),
+        Field::Number(Near::Answered, CALLS),
+    ],
+    &[
+        REFUSAL,
+        REFUSAL,
+        // OldEpoch.
+        &[Field::Bytes(&[27]), Field::Number(Near::Present, EPOCH)],
+    ],
+    &[],
+);
+
+// NoSession now and then, Repeat, CallOutstanding, BadAck.
+const REFUSAL: Fields = &[Field::One(&[
+    &[18],
+    &[20],
+    &[20],
+    &[20],
+    &[20],
+    &[20],
+    &[20],
+    &[32],
+    &[32],
+    &[32],
+    &[32],
+    &[32],
+    &[32],
+    &[19, 0, 0, 0, 0, 0, 0, 0, 0],
+    &[19, 0, 0, 0, 0, 0, 0, 0, 0],
+    &[19, 0, 0, 0, 0, 0, 0, 0, 0],
+    &[19, 0, 0, 0, 0, 0, 0, 0, 0],
+    &[19, 0, 0, 0, 0, 0, 0, 0, 0],
+    &[19, 0, 0, 0, 0, 0, 0, 0, 0],
+])];
+
 // Of an exclusive lock on /ls/c/f.
 const SEQUENCER: &[u8] = b"\x01\x01\0\0\0\0\0\0\0\x04\0\0\0\0\0\0\0\x01\0\x07/ls/c/f";
+
+// How long contents are; one is a byte too long.
+const CONTENTS: &[u64] = &[
+    0, 0, 0, 0, 0, 0, 0, 0, 0, 0, 0, 0, 0, 0, 0, 0, 0, 0, 0, 0, 1, 1, 1, 1, 1, 1, 1, 1, 1, 1, 1, 1,
+    1, 1, 1, 1, 1, 1, 1, 1, 2, 2, 2, 2, 2, 2, 2, 2, 2, 2, 2, 2, 2, 2, 2, 2, 2, 2, 2, 2, 262_145,
+];
+
+// Whose messages come to a master, and who is given some.
+const ANYBODY: &[u64] = &[1, 1, 1, 2, 2, 2, 3, 4, LAST_CLIENT];
+
+const JOINED: &[u64] = &[1, 2];
+
+// What a master knows of a client.
+fn known_to_master(stage: &Stage, client: u64) -> Known {
+    let epoch = stage.cast.cell.epoch();
+    let Some(session) = stage.cast.cell.master().sessions.get(client) else {
+        return [client, epoch, 0, 0, 0, 0, 1];
+    };
+    let call = match &session.kept {
+        Some(kept) => kept.number.get(),
+        None => 0,
+    };
+    let events = match &session.events {
+        Some(events) => events.count(),
+        None => 0,
+    };
+    let invalidations = session.invalidations.issued;
+    [
+        client,
+        epoch,
+        session.newest_beat,
+        call,
+        invalidations,
+        events,
+        1,
+    ]
+}
+
+// What a client has sent and processed.
+fn known_to_client(stage: &Stage, client: u64) -> Known {
+    let place = client.saturating_sub(1) as usize;
+    let Some(client_there) = stage.cast.clients.get(place) else {
+        return [client, 0, 0, 0, 0, 0, 1];
+    };
+    let seen = client_there.seen();
+    [
+        client,
+        seen.epoch,
+        seen.beats,
+        seen.calls,
+        seen.processed,
+        seen.heard,
+        1,
+    ]
+}
 
 /// What messages are made of.
 #[derive(Drop)]
 pub(crate) struct Guesser {
-    pub(crate) alloc: Global,
     pub(crate) dice: Dice,
-    names: Vec<Name>,
+    /// The bytes that were written.
+    pub(crate) sheet: Sheet,
+    known: Known,
     // The bytes of the handles that were given.
     handles: Vec<HandleBytes>,
 }
 
-// What a master knows of a client: its newest Beat and call, and how many invalidations and events it was issued.
-#[derive(Clone, Copy)]
-struct Known {
-    beat: u64,
-    call: u64,
-    invalidations: u64,
-    events: u64,
-}
-
-fn known_of(stage: &Stage, client: u64) -> Option<Known> {
-    let session = stage.cell.master().sessions.get(client)?;
-    Some(Known {
-        beat: session.newest_beat,
-        call: session.kept.as_ref().map_or(0, |kept| kept.number.get()),
-        invalidations: session.invalidations.issued,
-        events: session.events.as_ref().map_or(0, |events| events.count()),
-    })
-}
-
-const UNKNOWN: Known = Known {
-    beat: 0,
-    call: 0,
-    invalidations: 0,
-    events: 0,
-};
-
 impl Guesser {
-    pub(crate) fn new(alloc: Global, seed: u64) -> Result<Guesser, Fail> {
-        Ok(Guesser {
-            alloc,
+    pub(crate) fn new(alloc: Global, seed: u64) -> Guesser {
+        Guesser {
             dice: Dice::new(seed),
-            names: all_names(alloc)?,
+            sheet: Sheet::new(alloc),
+            known: [0; 7],
             handles: Vec::new(alloc),
-        })
-    }
-
-    pub(crate) fn names(&self) -> &[Name] {
-        self.names.as_slice()
+        }
     }
 
     /// Knows the handles that were given on a stage.
@@ -83,274 +470,123 @@ impl Guesser {
         Ok(())
     }
 
-    // The next number, or one near to it, or an end.
-    fn number(&mut self, newest: u64) -> Option<MessageNumber> {
-        let next = newest.saturating_add(1);
-        let number = if self.dice.once_in(40) {
-            LAST
-        } else {
-            let later = newest.saturating_add(2);
-            self.dice.of(&[next, next, next, newest, newest, 1, later])
-        };
-        MessageNumber::new(number.max(1))
-    }
-
-    // A count, or one around it, or an end.
-    pub(crate) fn around(&mut self, count: u64) -> u64 {
-        let less = count.saturating_sub(1);
-        let more = count.saturating_add(1);
-        self.dice
-            .of(&[count, count, count, less, more, 0, LAST, u64::MAX])
-    }
-
-    pub(crate) fn epoch(&mut self, present: u64) -> u64 {
-        if self.dice.once_in(4) {
-            self.around(present)
-        } else {
-            present
+    // A number by one that is known, mostly in order.
+    fn number(&mut self, near: Near, place: usize) -> u64 {
+        let known = self.known.get(place).copied().unwrap_or(0);
+        let least = known.max(1);
+        let less = known.saturating_sub(1);
+        let next = known.saturating_add(1);
+        let later = known.saturating_add(2);
+        let rare = self.dice.below(40);
+        match near {
+            Near::Same => known,
+            Near::Next if rare == 0 => LAST,
+            Near::Next => self.dice.of(&[next, next, next, least, least, 1, later]),
+            Near::Answered => self
+                .dice
+                .of(&[least, least, least, least, less.max(1), next]),
+            Near::Present if rare >= 10 => known,
+            Near::Present | Near::Around => {
+                self.dice
+                    .of(&[known, known, known, less, next, 0, LAST, u64::MAX])
+            }
         }
     }
 
-    pub(crate) fn name(&mut self) -> Option<Name> {
-        if self.dice.once_in(12) {
-            return Name::parse(self.alloc, "/ls/d/x").ok();
+    // Numbers from the next one on, or from another; behind each of them one of these.
+    fn list(&mut self, place: usize, behind: &[&[u8]]) {
+        let known = self.known.get(place).copied().unwrap_or(0);
+        let next = known.saturating_add(1);
+        let later = known.saturating_add(2);
+        let mut number = self
+            .dice
+            .of(&[next, next, next, known, 1, later, 0, u64::MAX]);
+        let step = self.dice.of(&[1, 1, 1, 1, 0, 2]);
+        let count = self.dice.below(4);
+        self.sheet.count(count as usize);
+        for _ in 0..count {
+            self.sheet.word(number);
+            self.one_of(behind);
+            number = number.saturating_add(step);
         }
-        let place = self.dice.below(self.names.len() as u64) as usize;
-        self.names.get(place)?.clone().ok()
     }
 
-    // Bytes of a handle that was given, if there is one.
-    fn given_handle(&mut self) -> Option<HandleBytes> {
+    fn one_of(&mut self, all: &[&[u8]]) {
+        let place = self.dice.below(all.len() as u64) as usize;
+        self.sheet.bytes(all.get(place).copied().unwrap_or(&[]));
+    }
+
+    fn handle(&mut self) {
+        let how = self.dice.below(8);
         let place = self.dice.below(self.handles.len() as u64) as usize;
-        self.handles.get(place)?.clone().ok()
-    }
-
-    /// Bytes of a handle: those of one that was given, or with a change, or cut.
-    pub(crate) fn handle(&mut self) -> Option<HandleBytes> {
-        let handle = self.given_handle()?;
-        if !self.dice.once_in(4) {
-            return Some(handle);
+        let at = self.dice.below(50) as usize;
+        match self.handles.get(place) {
+            Some(handle) => self.sheet.spoilt(handle.as_slice(), how, at),
+            None => self.sheet.count(0),
         }
-        let bytes = self.spoilt(handle.as_slice())?;
-        HandleBytes::from_vec(bytes).ok()
     }
 
-    // These bytes cut, or one longer, or with one that is another.
-    fn spoilt(&mut self, right: &[u8]) -> Option<Vec<u8>> {
-        let mut bytes = Vec::from_slice(self.alloc, right).ok()?;
-        let place = self.dice.below(right.len() as u64) as usize;
-        match self.dice.below(3) {
-            0 => bytes.truncate(place),
-            1 => bytes.push(0).ok()?,
-            _ => if let Some(byte) = bytes.get_mut(place) {
-                *byte ^= 1;
-            },
+    fn field(&mut self, field: Field) {
+        match field {
+            Field::Bytes(bytes) => self.sheet.bytes(bytes),
+            Field::One(all) => self.one_of(all),
+            Field::Word(words) => {
+                let word = self.dice.of(words);
+                self.sheet.word(word);
+            }
+            Field::Number(near, place) => {
+                let number = self.number(near, place);
+                self.sheet.word(number);
+            }
+            Field::List(place, behind) => self.list(place, behind),
+            Field::Handle => self.handle(),
+            Field::Sequencer => {
+                let how = self.dice.below(6);
+                let at = self.dice.below(SEQUENCER.len() as u64) as usize;
+                self.sheet.spoilt(SEQUENCER, how, at);
+            }
+            Field::Content => {
+                let count = self.dice.of(CONTENTS) as usize;
+                self.sheet.fill(97, count);
+            }
         }
-        Some(bytes)
     }
 
-    pub(crate) fn sequencer(&mut self) -> Option<Bytes> {
-        if self.dice.once_in(2) {
-            return Bytes::copy_of(self.alloc, SEQUENCER).ok();
+    fn fields(&mut self, fields: &[Field]) {
+        for field in fields {
+            self.field(*field);
         }
-        let bytes = self.spoilt(SEQUENCER)?;
-        Bytes::from_vec(bytes).ok()
     }
 
-    pub(crate) fn content(&mut self) -> Option<Bytes> {
-        let size = if self.dice.once_in(100) {
-            262_145
+    // One of these that may follow, if there are any.
+    fn one_more(&mut self, all: &[Fields]) {
+        let place = self.dice.below(all.len() as u64) as usize;
+        self.fields(all.get(place).copied().unwrap_or(&[]));
+    }
+
+    // The bytes of a message of one of these shapes.
+    fn shape(&mut self, shapes: &[Shape]) {
+        self.sheet.clear();
+        let place = self.dice.below(shapes.len() as u64) as usize;
+        if let Some((head, between, tail)) = shapes.get(place) {
+            self.fields(head);
+            self.one_more(between);
+            self.one_more(tail);
+        }
+    }
+
+    /// Writes the bytes of a message. Whether it is one for the master.
+    pub(crate) fn guess(&mut self, stage: &Stage) -> bool {
+        let is_to_master = self.dice.below(2) == 0;
+        if is_to_master {
+            let client = self.dice.of(ANYBODY);
+            self.known = known_to_master(stage, client);
+            self.shape(REQUESTS);
         } else {
-            self.dice.below(3) as usize
-        };
-        let bytes = vec![in self.alloc; 97u8; size].ok()?;
-        Bytes::from_vec(bytes).ok()
-    }
-
-    pub(crate) fn lock_mode(&mut self) -> LockMode {
-        if self.dice.once_in(2) {
-            LockMode::Shared
-        } else {
-            LockMode::Exclusive
+            let client = self.dice.of(JOINED);
+            self.known = known_to_client(stage, client);
+            self.shape(OUTS);
         }
-    }
-
-    fn mode(&mut self) -> Option<Mode> {
-        let bits = self.dice.next();
-        Mode::new(bits & 1 == 1 || bits & 7 == 0, bits & 2 == 2, bits & 4 == 4)
-    }
-
-    fn acl(&mut self) -> Option<Component> {
-        let text = if self.dice.once_in(4) { "foo" } else { "base" };
-        Component::parse(self.alloc, text).ok()
-    }
-
-    fn acls(&mut self) -> Option<AclNames> {
-        let read = self.acl()?;
-        let write = self.acl()?;
-        let change = self.acl()?;
-        Some(AclNames {
-            read,
-            write,
-            change,
-        })
-    }
-
-    fn create(&mut self) -> Option<Create> {
-        let content = self.content()?;
-        let node = if self.dice.once_in(3) {
-            NewNode::Directory
-        } else {
-            NewNode::File(content)
-        };
-        Some(Create {
-            disposition: if self.dice.once_in(2) {
-                Disposition::May
-            } else {
-                Disposition::Must
-            },
-            node,
-            life: if self.dice.once_in(3) {
-                Life::Ephemeral
-            } else {
-                Life::Permanent
-            },
-            acls: None,
-        })
-    }
-
-    fn open(&mut self) -> Option<Call> {
-        let mode = self.mode()?;
-        let events = Events::from_bits((self.dice.next() & 0xf) as u8)?;
-        let delay = self.dice.of(&[0, 0, 60_000, 60_001, u64::MAX]);
-        let name = self.name()?;
-        let create = if self.dice.once_in(2) {
-            None
-        } else {
-            Some(self.create()?)
-        };
-        Some(Call::Open(Open {
-            name,
-            mode,
-            create,
-            delay,
-            events,
-        }))
-    }
-
-    fn generation(&mut self) -> Option<u64> {
-        if self.dice.once_in(2) {
-            None
-        } else {
-            Some(self.around(1))
-        }
-    }
-
-    fn set(&mut self) -> Option<Call> {
-        let handle = self.handle()?;
-        let content = self.content()?;
-        let generation = self.generation();
-        Some(Call::Set {
-            handle,
-            content,
-            generation,
-        })
-    }
-
-    fn set_acl(&mut self) -> Option<Call> {
-        let handle = self.handle()?;
-        let acls = self.acls()?;
-        let generation = self.generation();
-        Some(Call::SetAcl {
-            handle,
-            acls,
-            generation,
-        })
-    }
-
-    // A call that carries a handle and at most a mode beside.
-    fn small_call(&mut self, kind: u64) -> Option<Call> {
-        let handle = self.handle()?;
-        let mode = self.lock_mode();
-        Some(match kind {
-            0 => Call::Close(handle),
-            1 | 2 | 3 => Call::Read(handle),
-            4 => Call::Stat(handle),
-            5 => Call::List(handle),
-            6 => Call::Delete(handle),
-            7 => Call::Acquire { handle, mode },
-            8 => Call::TryAcquire { handle, mode },
-            9 => Call::Release(handle),
-            10 => Call::GetSequencer(handle),
-            _ => Call::SetSequencer(handle),
-        })
-    }
-
-    fn call(&mut self) -> Option<Call> {
-        match self.dice.below(20) {
-            kind if kind < 12 => self.small_call(kind),
-            12 => self.set_acl(),
-            13 => Some(Call::CheckSequencer(self.sequencer()?)),
-            kind if kind < 17 => self.set(),
-            _ => self.open(),
-        }
-    }
-
-    fn start(&mut self) -> Option<Request> {
-        let client = ClientNumber::new(self.dice.of(&[1, 2, 3, 4]))?;
-        let number = self.number(1)?;
-        let whose = if self.dice.once_in(3) { "bob" } else { "ann" };
-        let principal = Principal::parse(self.alloc, whose).ok()?;
-        Some(Request::Start(Start {
-            client,
-            number,
-            principal,
-        }))
-    }
-
-    fn client(&mut self) -> Option<ClientNumber> {
-        ClientNumber::new(self.dice.of(&[1, 1, 1, 2, 2, 2, 3, 4, LAST_CLIENT]))
-    }
-
-    fn beat(&mut self, stage: &Stage) -> Option<Request> {
-        let client = self.client()?;
-        let known = known_of(stage, client.get()).unwrap_or(UNKNOWN);
-        let number = self.number(known.beat)?;
-        Some(Request::Beat(Beat {
-            client,
-            epoch: self.epoch(stage.cell.epoch()),
-            number,
-            invalidations: self.around(known.invalidations),
-            events: self.around(known.events),
-        }))
-    }
-
-    fn message(&mut self, stage: &Stage) -> Option<Request> {
-        let client = self.client()?;
-        let known = known_of(stage, client.get()).unwrap_or(UNKNOWN);
-        let number = self.number(known.call)?;
-        let epoch = self.epoch(stage.cell.epoch());
-        let sequencer = if self.dice.once_in(8) {
-            self.sequencer()
-        } else {
-            None
-        };
-        let call = self.call()?;
-        Some(Request::Call(CallMessage {
-            client,
-            epoch,
-            number,
-            call,
-            sequencer,
-        }))
-    }
-
-    /// A message for the master; none where one isn't to be had.
-    pub(crate) fn request(&mut self, stage: &Stage) -> Option<Request> {
-        match self.dice.below(8) {
-            0 => self.start(),
-            1 | 2 => self.beat(stage),
-            _ => self.message(stage),
-        }
+        is_to_master
     }
 }

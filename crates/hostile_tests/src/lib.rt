@@ -2,17 +2,13 @@
 #![tactic(auto)]
 
 #[cfg(test)]
-mod answers;
-#[cfg(test)]
-mod calls;
+mod benches;
 #[cfg(test)]
 mod clients;
 #[cfg(test)]
 mod dice;
 #[cfg(test)]
 mod guesses;
-#[cfg(test)]
-mod looks;
 #[cfg(test)]
 mod masters;
 #[cfg(test)]
@@ -22,7 +18,7 @@ mod random;
 #[cfg(test)]
 mod replays;
 #[cfg(test)]
-mod shows;
+mod sheets;
 #[cfg(test)]
 mod stages;
 #[cfg(test)]

@@ -1,320 +1,245 @@
-//! What a master is, as numbers.
-use crate::looks::Look;
-use crate::shows::{Shows, show_bytes};
-use cell_parts::{Asked, HandleKey, HandleState, Handles, Nodes, Task, Work};
+//! What a master is, as bytes.
+use crate::sheets::Sheet;
+use cell_parts::{Asked, HandleKey, HandleState, Handles, Task, Work};
 use cell_state::Master;
 use event_core::EventQueue;
 use gate_core::Waiting;
-use lock_core::{Claim, Hold, Lock, Owner};
-use messages_cell::Reply;
+use lock_core::Lock;
+use messages_cell::{CallMessage, Out, Reply, Request, Start};
 use names_cell::Name;
+use plain::Bytes;
 use rights_core::Rights;
-use rows_cell::{LockState, Rows};
-use session_core::{Kept, Parked, Session, Tally};
+use session_core::{Kept, Session};
+use std::alloc::{AllocError, Global};
 use tags_cell::Ordinal;
+use wire_core::{WireFault, write_out, write_request};
 
 // More than the number of any client and of any call that the tests make.
 const CLIENT_END: u64 = 5;
 
-const CALL_END: u64 = 128;
+const CALL_END: u64 = 512;
 
 const LAST_CALL: u64 = 0x7fff_ffff_ffff_ffff;
 
-impl Shows for Owner {
-    fn show(&self, look: &mut Look) {
-        look.put(self.client);
-        look.put(self.handle);
+/// Writes a call, a Start or a Beat.
+pub(crate) fn show_request(sheet: &mut Sheet, request: &Request) {
+    match write_request(sheet.alloc, request) {
+        Ok(bytes) => sheet.block(bytes.as_slice()),
+        Err(_) => sheet.is_short = true,
     }
 }
 
-impl Shows for Hold {
-    fn show(&self, look: &mut Look) {
-        self.mode.show(look);
-        look.put(self.delay);
-    }
+fn reply_bytes(alloc: Global, reply: &Reply) -> Result<Bytes, WireFault> {
+    let out = Out::Reply(reply.clone()?);
+    let bytes = write_out(alloc, &out);
+    drop(out);
+    bytes
 }
 
-impl Shows for Claim {
-    fn show(&self, look: &mut Look) {
-        self.owner.show(look);
-        self.hold.show(look);
-    }
-}
-
-impl Shows for Lock {
-    fn show(&self, look: &mut Look) {
-        look.put(self.generation());
-        self.holders().show(look);
-        look.put(self.waiters().len() as u64);
-        for claim in self.waiters() {
-            claim.show(look);
-        }
-        match self.closed() {
-            None => look.put(0),
-            Some(closing) => {
-                look.put(1);
-                look.put(closing.from);
-                look.put(closing.delay);
-            }
+fn show_kept(sheet: &mut Sheet, kept: &Kept<Reply>) {
+    sheet.word(kept.number.get());
+    if let Some(reply) = &kept.reply {
+        match reply_bytes(sheet.alloc, reply) {
+            Ok(bytes) => sheet.block(bytes.as_slice()),
+            Err(_) => sheet.is_short = true,
         }
     }
 }
 
-impl Shows for Tally {
-    fn show(&self, look: &mut Look) {
-        look.put(self.issued);
-        look.put(self.acknowledged);
+fn show_queue(sheet: &mut Sheet, queue: &EventQueue) {
+    sheet.word(queue.count());
+    sheet.word(queue.acknowledged());
+    sheet.word(u64::from(queue.owes()));
+    let Ok(waiting) = queue.unacked(sheet.alloc) else {
+        sheet.is_short = true;
+        return;
+    };
+    for told in waiting.as_slice() {
+        sheet.word(told.number);
+        sheet.shown(&told.event);
     }
 }
 
-impl Shows for Parked {
-    fn show(&self, look: &mut Look) {
-        self.number.show(look);
-        look.put(self.received);
+fn show_session(sheet: &mut Sheet, client: u64, session: &Session<Reply>) {
+    sheet.begin("session", client);
+    sheet.block(session.principal.as_str().as_bytes());
+    sheet.word(u64::from(session.live));
+    sheet.word(session.timeout);
+    sheet.begin("beats", client);
+    sheet.word(session.newest_beat);
+    if let Some(parked) = session.parked {
+        sheet.word(parked.number.get());
+        sheet.word(parked.received);
+    }
+    sheet.begin("invalidations", client);
+    sheet.word(session.invalidations.issued);
+    sheet.word(session.invalidations.acknowledged);
+    sheet.begin("events", client);
+    if let Some(queue) = &session.events {
+        show_queue(sheet, queue);
+    }
+    sheet.begin("kept", client);
+    if let Some(kept) = &session.kept {
+        show_kept(sheet, kept);
     }
 }
 
-impl Shows for Kept<Reply> {
-    fn show(&self, look: &mut Look) {
-        self.number.show(look);
-        self.reply.show(look);
-    }
+fn show_lock(sheet: &mut Sheet, lock: &Lock) {
+    sheet.word(lock.generation());
+    sheet.told(lock.holders().as_map());
+    sheet.told(&lock.waiters());
+    sheet.told(&lock.closed());
 }
 
-fn show_queue(look: &mut Look, queue: &EventQueue) {
-    look.put(queue.count());
-    look.put(queue.acknowledged());
-    queue.owes().show(look);
-    match queue.unacked(look.alloc()) {
-        Ok(waiting) => waiting.show(look),
-        Err(_) => look.fall_short(),
-    }
-}
-
-fn show_session(look: &mut Look, client: u64, session: &Session<Reply>) {
-    look.begin("session", client);
-    session.principal.show(look);
-    session.live.show(look);
-    look.put(session.timeout);
-    look.begin("beats", client);
-    look.put(session.newest_beat);
-    session.parked.show(look);
-    look.begin("invalidations", client);
-    session.invalidations.show(look);
-    look.begin("events", client);
-    match &session.events {
-        None => look.put(0),
-        Some(queue) => show_queue(look, queue),
-    }
-    look.begin("kept", client);
-    session.kept.show(look);
-}
-
-fn show_nodes(look: &mut Look, nodes: &Nodes) {
-    look.begin("nodes", 0);
-    look.put(nodes.map().as_map().len() as u64);
-    for (name, view) in nodes.map().as_map() {
-        name.show(look);
-        view.show(look);
-    }
-}
-
-fn show_locks(look: &mut Look, master: &Master) {
-    look.begin("locks", 0);
-    for (_, view) in master.nodes.map().as_map() {
-        look.put(view.instance);
-        look.put(master.locks.generation(view.instance));
+// Each node with its lock.
+fn show_nodes(sheet: &mut Sheet, master: &Master) {
+    sheet.begin("nodes", 0);
+    for (name, view) in master.nodes.map().as_map() {
+        sheet.block(name.as_str().as_bytes());
+        sheet.shown(view);
+        sheet.block(view.content.as_slice());
+        sheet.word(master.locks.generation(view.instance));
         if let Some(lock) = master.locks.get(view.instance) {
-            lock.show(look);
+            show_lock(sheet, lock);
         }
     }
 }
 
-impl Shows for HandleState {
-    fn show(&self, look: &mut Look) {
-        match self {
-            HandleState::Open(handle) => {
-                look.put(1);
-                handle.bytes().show(look);
-            }
-            HandleState::Closed => look.put(2),
-        }
+// Whether there is one.
+fn show_handle(sheet: &mut Sheet, handles: &Handles, client: u64, number: u64) -> Option<()> {
+    let key = HandleKey {
+        client: Ordinal::new(client)?,
+        number: Ordinal::new(number)?,
+    };
+    let state = handles.get(&key)?;
+    sheet.word(client);
+    sheet.word(number);
+    match state {
+        HandleState::Open(handle) => sheet.block(handle.bytes().as_slice()),
+        HandleState::Closed => sheet.count(0),
     }
+    Some(())
 }
 
-fn state_of(handles: &Handles, client: u64, number: u64) -> Option<&HandleState> {
-    let client = Ordinal::new(client)?;
-    let number = Ordinal::new(number)?;
-    handles.get(&HandleKey { client, number })
-}
-
-// How many were shown, one or none.
-fn show_handle(look: &mut Look, handles: &Handles, client: u64, number: u64) -> usize {
-    match state_of(handles, client, number) {
-        Some(state) => {
-            look.put(client);
-            look.put(number);
-            state.show(look);
-            1
-        }
-        None => 0,
-    }
-}
-
-// How many handles of this number were shown.
-fn show_handles_of(look: &mut Look, handles: &Handles, number: u64) -> usize {
+fn show_handles(sheet: &mut Sheet, handles: &Handles) {
+    sheet.begin("handles", 0);
     let mut count = 0usize;
-    for client in 1..CLIENT_END {
-        count = count.saturating_add(show_handle(look, handles, client, number));
+    for place in 0..CLIENT_END * CALL_END {
+        let number = match place / CLIENT_END {
+            0 => LAST_CALL,
+            number => number,
+        };
+        let is_more = count < handles.len();
+        if is_more && show_handle(sheet, handles, place % CLIENT_END, number).is_some() {
+            count = count.saturating_add(1);
+        }
+    }
+    if count != handles.len() {
+        sheet.is_short = true;
+    }
+}
+
+// How many of the names it holds.
+fn show_rights_of(sheet: &mut Sheet, rights: &Rights, client: u64, names: &[Name]) -> usize {
+    sheet.word(rights.invalidations(client));
+    match rights.unacked(client) {
+        Ok(unacked) => sheet.told(unacked.as_map()),
+        Err(_) => sheet.is_short = true,
+    }
+    let mut count = 0usize;
+    for name in names {
+        if rights.holds(client, name) {
+            sheet.block(name.as_str().as_bytes());
+            count = count.saturating_add(1);
+        }
     }
     count
 }
 
-fn show_handles(look: &mut Look, handles: &Handles) {
-    look.begin("handles", 0);
-    let mut count = show_handles_of(look, handles, LAST_CALL);
-    for number in 1..CALL_END {
-        if count < handles.len() {
-            count = count.saturating_add(show_handles_of(look, handles, number));
-        }
-    }
-    if count != handles.len() {
-        look.fall_short();
-    }
-}
-
-fn show_rights_of(look: &mut Look, rights: &Rights, client: u64, names: &[Name]) {
-    look.put(rights.invalidations(client));
-    for name in names {
-        rights.holds(client, name).show(look);
-    }
-    match rights.unacked(client) {
-        Ok(unacked) => unacked.show(look),
-        Err(_) => look.fall_short(),
-    }
-}
-
-fn show_rights(look: &mut Look, rights: &Rights, names: &[Name]) {
-    look.begin("rights", 0);
+fn show_rights(sheet: &mut Sheet, rights: &Rights, names: &[Name]) {
+    sheet.begin("rights", 0);
     let totals = rights.totals();
-    look.put(totals.issued);
-    look.put(totals.acknowledged);
-    look.put(totals.expired);
-    for client in 1..CLIENT_END {
-        show_rights_of(look, rights, client, names);
-    }
+    sheet.word(totals.issued);
+    sheet.word(totals.acknowledged);
+    sheet.word(totals.expired);
     let mut held = 0usize;
-    for name in names {
-        held = held.saturating_add(rights.held_on(name));
+    for client in 1..CLIENT_END {
+        held = held.saturating_add(show_rights_of(sheet, rights, client, names));
     }
     if held != rights.count_held() {
-        look.fall_short();
+        sheet.is_short = true;
     }
 }
 
-impl Shows for Work {
-    fn show(&self, look: &mut Look) {
-        match self {
-            Work::Starts(principal, received) => {
-                principal.show(look);
-                look.put(*received);
-            }
-            Work::Calls(call, sequencer) => {
-                call.show(look);
-                sequencer.show(look);
-            }
+// What a client asked for, as a message.
+fn request_of(asked: &Asked) -> Result<Request, AllocError> {
+    let client = asked.client;
+    let number = asked.number;
+    Ok(match asked.work.clone()? {
+        Work::Starts(principal, _) => Request::Start(Start {
+            client,
+            number,
+            principal,
+        }),
+        Work::Calls(call, sequencer) => Request::Call(CallMessage {
+            client,
+            epoch: 0,
+            number,
+            call,
+            sequencer,
+        }),
+    })
+}
+
+fn show_asked(sheet: &mut Sheet, asked: &Asked) {
+    if let Work::Starts(_, received) = asked.work {
+        sheet.word(received);
+    }
+    match request_of(asked) {
+        Ok(request) => {
+            show_request(sheet, &request);
+            drop(request);
+        }
+        Err(_) => sheet.is_short = true,
+    }
+}
+
+fn show_waiting(sheet: &mut Sheet, waiting: &Waiting<Task>) {
+    sheet.word(waiting.number);
+    sheet.told(&waiting.change.touched);
+    match &waiting.change.body {
+        Task::Asked(asked) => show_asked(sheet, asked),
+        Task::Tidies(idle) => {
+            sheet.block(idle.name.as_str().as_bytes());
+            sheet.word(idle.instance);
         }
     }
 }
 
-impl Shows for Asked {
-    fn show(&self, look: &mut Look) {
-        look.put(self.client.get());
-        self.number.show(look);
-        self.work.show(look);
+fn show_gate(sheet: &mut Sheet, master: &Master) {
+    sheet.begin("gate", 0);
+    sheet.word(master.gate.pushed());
+    for (_, waiting) in master.gate.changes().as_map() {
+        show_waiting(sheet, waiting);
     }
 }
 
-impl Shows for Task {
-    fn show(&self, look: &mut Look) {
-        match self {
-            Task::Asked(asked) => {
-                look.put(0);
-                asked.show(look);
-            }
-            Task::Tidies(idle) => {
-                look.put(1);
-                idle.name.show(look);
-                look.put(idle.instance);
-            }
-        }
-    }
-}
-
-impl Shows for Waiting<Task> {
-    fn show(&self, look: &mut Look) {
-        look.put(self.number);
-        self.change.touched.show(look);
-        self.change.body.show(look);
-    }
-}
-
-/// Puts all of a master. The names are all that it may know.
-pub(crate) fn show_master(look: &mut Look, master: &Master, names: &[Name]) {
-    look.begin("clock", 0);
-    look.put(master.clock);
-    look.begin("epoch", 0);
-    look.put(master.epoch);
-    look.put(master.next_instance);
-    master.recovering.show(look);
-    look.put(master.serving_from);
-    master.name.show(look);
-    show_bytes(look, master.secret.as_bytes());
-    show_nodes(look, &master.nodes);
-    show_locks(look, master);
-    show_handles(look, &master.handles);
-    show_rights(look, &master.rights, names);
-    look.begin("gate", 0);
-    look.put(master.gate.pushed());
-    master.gate.changes().show(look);
+/// Writes all of a master. The names are all that it may know.
+pub(crate) fn show_master(sheet: &mut Sheet, master: &Master, names: &[Name]) {
+    sheet.begin("clock", 0);
+    sheet.word(master.clock);
+    sheet.begin("epoch", 0);
+    sheet.word(master.epoch);
+    sheet.word(master.next_instance);
+    sheet.word(u64::from(master.recovering));
+    sheet.word(master.serving_from);
+    sheet.block(master.name.as_str().as_bytes());
+    sheet.bytes(master.secret.as_bytes());
+    show_nodes(sheet, master);
+    show_handles(sheet, &master.handles);
+    show_rights(sheet, &master.rights, names);
+    show_gate(sheet, master);
     for (client, session) in master.sessions.as_map() {
-        show_session(look, *client, session);
+        show_session(sheet, *client, session);
     }
-}
-
-fn show_stored_locks(look: &mut Look, rows: &Rows) {
-    for (key, row) in rows.locks.as_map() {
-        look.put(key.instance);
-        look.put(key.client);
-        look.put(key.handle);
-        look.put(match row.state {
-            LockState::Lapsed => 0,
-            LockState::Exclusive => 1,
-            LockState::Shared => 2,
-        });
-        look.put(row.delay);
-    }
-}
-
-/// Puts all rows.
-pub(crate) fn show_rows(look: &mut Look, rows: &Rows) {
-    look.begin("rows", 0);
-    look.put(rows.epoch);
-    look.put(rows.next_instance);
-    rows.cell.show(look);
-    show_bytes(look, rows.secret.as_bytes());
-    look.begin("rows of nodes", 0);
-    for (name, node) in rows.nodes.as_map() {
-        name.show(look);
-        node.view.show(look);
-        look.put(node.lock_generation);
-    }
-    look.begin("rows of sessions", 0);
-    for (client, session) in rows.sessions.as_map() {
-        look.put(*client);
-        session.principal.show(look);
-        session.live.show(look);
-    }
-    look.begin("rows of locks", 0);
-    show_stored_locks(look, rows);
 }

@@ -1,15 +1,11 @@
 //! Messages of anybody, and what they are answered.
-use crate::stages::Stage;
-use messages_cell::{
-    Alive, Beat, Call, CallMessage, CallResult, Invalidation, NumberedEvent, Out, Refused, Request,
-    Start, Started,
-};
-use names_cell::{Name, Principal};
-use node_core::{Event, Fault, Line};
-use plain::{Bytes, Items};
-use std::alloc::Global;
-use std::test::Fail;
-use tags_cell::{ClientNumber, HandleBytes, MessageNumber};
+use crate::sheets::Sheet;
+use crate::stages::Told;
+use messages_cell::{CallResult, Out};
+use node_core::{Fault, Line};
+use std::alloc::{AllocError, Global};
+use wire_core::WireFault;
+use world_clients::Message;
 
 /// What is handed in.
 #[derive(Clone, Copy)]
@@ -34,9 +30,10 @@ pub(crate) enum Hostile {
 
 /// The same with so many of its last bytes, where it has more than these.
 pub(crate) fn cut(hostile: Hostile, length: usize) -> Option<Hostile> {
-    let (bytes, is_check) = match hostile {
-        Hostile::Read(_, _, _, bytes) | Hostile::Under(_, _, _, _, bytes) => (bytes, false),
-        Hostile::Check(_, _, _, bytes) => (bytes, true),
+    let bytes = match hostile {
+        Hostile::Read(_, _, _, bytes)
+        | Hostile::Under(_, _, _, _, bytes)
+        | Hostile::Check(_, _, _, bytes) => bytes,
         _ => return None,
     };
     if length >= bytes.len() {
@@ -53,217 +50,129 @@ pub(crate) fn cut(hostile: Hostile, length: usize) -> Option<Hostile> {
     })
 }
 
-pub(crate) fn client(number: u64) -> Result<ClientNumber, Fail> {
-    Ok(ClientNumber::new(number).ok_or("client")?)
-}
+// The bytes of `/ls/c/f`, and of a fail-over.
+const NAME: &[u8] = b"\0\0\0\x07/ls/c/f";
 
-pub(crate) fn number(number: u64) -> Result<MessageNumber, Fail> {
-    Ok(MessageNumber::new(number).ok_or("number")?)
-}
+const FAIL_OVER: &[u8] = b"\0";
 
-fn start(alloc: Global, whose: u64, at: u64, principal: &str) -> Result<Request, Fail> {
-    let principal = Principal::parse(alloc, principal)?;
-    let client = client(whose)?;
-    let number = number(at)?;
-    Ok(Request::Start(Start {
-        client,
-        number,
-        principal,
-    }))
-}
-
-fn beat(whose: u64, epoch: u64, at: u64, invalidations: u64, events: u64) -> Result<Request, Fail> {
-    let client = client(whose)?;
-    let number = number(at)?;
-    Ok(Request::Beat(Beat {
-        client,
-        epoch,
-        number,
-        invalidations,
-        events,
-    }))
-}
-
-fn read_of(alloc: Global, bytes: &[u8]) -> Result<Call, Fail> {
-    Ok(Call::Read(HandleBytes::copy_of(alloc, bytes)?))
-}
-
-fn check_of(alloc: Global, bytes: &[u8]) -> Result<Call, Fail> {
-    Ok(Call::CheckSequencer(Bytes::copy_of(alloc, bytes)?))
-}
-
-fn message(
-    whose: u64,
-    epoch: u64,
-    at: u64,
-    call: Call,
-    sequencer: Option<Bytes>,
-) -> Result<Request, Fail> {
-    let client = client(whose)?;
-    let number = number(at)?;
-    Ok(Request::Call(CallMessage {
-        client,
-        epoch,
-        number,
-        call,
-        sequencer,
-    }))
-}
-
-/// What goes to the master, where it does.
-pub(crate) fn request_of(alloc: Global, hostile: Hostile) -> Result<Option<Request>, Fail> {
-    Ok(match hostile {
-        Hostile::Start(whose, at, principal) => Some(start(alloc, whose, at, principal)?),
-        Hostile::Beat(whose, epoch, at, invalidations, events) => {
-            Some(beat(whose, epoch, at, invalidations, events)?)
+impl Sheet {
+    // The version, the kind of the message, and its first numbers.
+    fn head(&mut self, kind: u8, words: &[u64]) {
+        self.bytes(&[1, kind]);
+        for word in words {
+            self.word(*word);
         }
-        Hostile::Read(whose, epoch, at, bytes) => {
-            Some(message(whose, epoch, at, read_of(alloc, bytes)?, None)?)
-        }
-        Hostile::Under(whose, epoch, at, bytes, sequencer) => {
-            let sequencer = Bytes::copy_of(alloc, sequencer)?;
-            let call = read_of(alloc, bytes)?;
-            Some(message(whose, epoch, at, call, Some(sequencer))?)
-        }
-        Hostile::Check(whose, epoch, at, bytes) => {
-            Some(message(whose, epoch, at, check_of(alloc, bytes)?, None)?)
-        }
-        _ => None,
-    })
-}
-
-fn invalidations(alloc: Global, numbers: &[u64]) -> Result<Items<Invalidation>, Fail> {
-    let mut items = Items::new(alloc);
-    for number in numbers {
-        let name = Name::parse(alloc, "/ls/c/f")?;
-        items.push(Invalidation {
-            number: *number,
-            name,
-        })?;
     }
-    Ok(items)
-}
 
-fn events(alloc: Global, numbers: &[u64]) -> Result<Items<NumberedEvent>, Fail> {
-    let mut items = Items::new(alloc);
-    for number in numbers {
-        items.push(NumberedEvent {
-            number: *number,
-            event: Event::FailOver,
-        })?;
-    }
-    Ok(items)
-}
-
-fn alive(
-    alloc: Global,
-    epoch: u64,
-    at: u64,
-    span: u64,
-    called: &[u64],
-    told: &[u64],
-) -> Result<Out, Fail> {
-    let client = client(1)?;
-    let number = number(at)?;
-    let events = events(alloc, told)?;
-    Ok(Out::Alive(Alive {
-        client,
-        epoch,
-        number,
-        span,
-        invalidations: invalidations(alloc, called)?,
-        events,
-    }))
-}
-
-fn started(epoch: u64, at: u64, span: u64) -> Result<Out, Fail> {
-    Ok(Out::Started(Started {
-        client: client(1)?,
-        epoch,
-        number: number(at)?,
-        span,
-    }))
-}
-
-fn old_epoch(epoch: u64, present: u64) -> Result<Out, Fail> {
-    Ok(Out::Refused(Refused {
-        client: client(1)?,
-        epoch,
-        number: number(1)?,
-        fault: Fault::OldEpoch(present),
-    }))
-}
-
-/// What goes to client 1, where it does.
-pub(crate) fn out_of(alloc: Global, hostile: Hostile) -> Result<Option<Out>, Fail> {
-    Ok(match hostile {
-        Hostile::Started(epoch, at, span) => Some(started(epoch, at, span)?),
-        Hostile::Alive(epoch, at, span, called, told) => {
-            Some(alive(alloc, epoch, at, span, called, told)?)
+    // A list of numbers, behind each of them the same.
+    fn list(&mut self, numbers: &[u64], behind: &[u8]) {
+        self.count(numbers.len());
+        for number in numbers {
+            self.word(*number);
+            self.bytes(behind);
         }
-        Hostile::OldEpoch(epoch, present) => Some(old_epoch(epoch, present)?),
-        _ => None,
-    })
+    }
+
+    // What it is as bytes.
+    fn hostile(&mut self, hostile: Hostile) {
+        match hostile {
+            Hostile::Start(whose, at, principal) => {
+                self.head(0, &[whose, at]);
+                self.block(principal.as_bytes());
+            }
+            Hostile::Beat(whose, epoch, at, invalidations, events) => {
+                self.head(1, &[whose, epoch, at, invalidations, events]);
+            }
+            Hostile::Read(whose, epoch, at, handle) => {
+                self.head(2, &[whose, epoch, at]);
+                self.bytes(&[2]);
+                self.block(handle);
+                self.bytes(&[0]);
+            }
+            Hostile::Under(whose, epoch, at, handle, sequencer) => {
+                self.head(2, &[whose, epoch, at]);
+                self.bytes(&[2]);
+                self.block(handle);
+                self.bytes(&[1]);
+                self.block(sequencer);
+            }
+            Hostile::Check(whose, epoch, at, sequencer) => {
+                self.head(2, &[whose, epoch, at]);
+                self.bytes(&[13]);
+                self.block(sequencer);
+                self.bytes(&[0]);
+            }
+            Hostile::Started(epoch, at, span) => self.head(0, &[1, epoch, at, span]),
+            Hostile::Alive(epoch, at, span, called, told) => {
+                self.head(1, &[1, epoch, at, span]);
+                self.list(called, NAME);
+                self.list(told, FAIL_OVER);
+            }
+            Hostile::OldEpoch(epoch, present) => {
+                self.head(3, &[1, epoch, 1]);
+                self.bytes(&[27]);
+                self.word(present);
+            }
+        }
+    }
 }
 
-fn out_text(alloc: Global, out: &Out) -> Result<String, Fail> {
-    let whose = out.client().get();
-    Ok(match out {
-        Out::Started(_) => format!(in alloc; "to {whose}: started")?,
-        Out::Alive(_) => format!(in alloc; "to {whose}: alive")?,
-        Out::Reply(reply) => match &reply.result {
-            CallResult::Refused(fault) => format!(in alloc; "to {whose}: reply {fault}")?,
-            _ => format!(in alloc; "to {whose}: reply")?,
+/// The message. It is written as bytes by the published format, and read from them.
+pub(crate) fn message_of(alloc: Global, hostile: Hostile) -> Result<Message, WireFault> {
+    let mut sheet = Sheet::new(alloc);
+    sheet.hostile(hostile);
+    let is_to_client = matches!(
+        hostile,
+        Hostile::Started(..) | Hostile::Alive(..) | Hostile::OldEpoch(..)
+    );
+    sheet.message(!is_to_client)
+}
+
+// What it is, and why the master refuses something by it.
+fn kind_of(out: &Out) -> (&'static str, Option<Fault>) {
+    match out {
+        Out::Started(_) => ("started", None),
+        Out::Alive(_) => ("alive", None),
+        Out::Reply(reply) => match reply.result {
+            CallResult::Refused(fault) => ("reply", Some(fault)),
+            _ => ("reply", None),
         },
-        Out::Refused(refused) => format!(in alloc; "to {whose}: refused {}", refused.fault)?,
-    })
-}
-
-// Behind what the text has already, `; ` between.
-fn push_word(text: &mut String, word: &str) -> Result<(), Fail> {
-    if !text.is_empty() {
-        text.push_str("; ")?;
+        Out::Refused(refused) => ("refused", Some(refused.fault)),
     }
-    text.push_str(word)?;
-    Ok(())
 }
 
-fn push_lines(alloc: Global, text: &mut String, lines: &[Line]) -> Result<(), Fail> {
+fn push_lines(text: &mut String, lines: &[Line]) -> Result<(), AllocError> {
     for line in lines {
-        let line = format!(in alloc; "{line}")?;
-        push_word(text, line.as_str())?;
+        write!(text, "; {line}")?;
     }
     Ok(())
 }
 
-fn push_outs(alloc: Global, text: &mut String, outs: &[Out]) -> Result<(), Fail> {
+fn push_fault(text: &mut String, fault: Option<Fault>) -> Result<(), AllocError> {
+    match fault {
+        Some(fault) => write!(text, " {fault}"),
+        None => Ok(()),
+    }
+}
+
+fn push_outs(text: &mut String, outs: &[Out]) -> Result<(), AllocError> {
     for out in outs {
-        let word = out_text(alloc, out)?;
-        push_word(text, word.as_str())?;
+        let whose = out.client().get();
+        let (kind, fault) = kind_of(out);
+        write!(text, "; to {whose}: {kind}")?;
+        push_fault(text, fault)?;
     }
     Ok(())
 }
 
-/// What the master prints and sends where it is handed this.
-pub(crate) fn said_of_master(stage: &mut Stage, request: &Request) -> Result<String, Fail> {
-    let taken = stage.cell.take(stage.now, request)?;
-    let mut text = String::new(stage.alloc);
-    push_lines(stage.alloc, &mut text, taken.lines.as_slice())?;
-    push_outs(stage.alloc, &mut text, taken.outs.as_slice())?;
-    Ok(text)
-}
-
-/// What its client prints where it is given this, and why it refuses it.
-pub(crate) fn said_of_client(stage: &mut Stage, out: &Out) -> Result<String, Fail> {
-    let alloc = stage.alloc;
-    let own = stage.own;
-    let client = stage.client(out.client().get()).ok_or("client")?;
-    let given = client.give(own, out)?;
+/// What is printed and sent, and why a client refuses it, each behind a semicolon.
+pub(crate) fn said(alloc: Global, told: &Told) -> Result<String, AllocError> {
     let mut text = String::new(alloc);
-    push_lines(alloc, &mut text, given.lines.as_slice())?;
-    if let Some(fault) = given.refused {
-        let word = format!(in alloc; "refused {fault}")?;
-        push_word(&mut text, word.as_str())?;
+    push_lines(&mut text, told.lines.as_slice())?;
+    push_outs(&mut text, told.outs.as_slice())?;
+    if told.refused.is_some() {
+        text.push_str("; refused")?;
     }
+    push_fault(&mut text, told.refused)?;
     Ok(text)
 }

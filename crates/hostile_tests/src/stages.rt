@@ -1,37 +1,75 @@
 //! A master with its clients and all that they sent, to which messages of anybody may be handed.
 use crate::clients::show_client;
-use crate::looks::Look;
 use crate::masters::show_master;
-use client_core::{Ask, Asked, Beaten, Client, Outcome};
-use messages_cell::{Out, Request};
-use names_cell::{Name, Principal};
-use node_core::Line;
-use over_core::Cell;
+use crate::sheets::Sheet;
+use client_core::{Ask, Asked, Beaten, Client, Given, Outcome};
+use messages_cell::{Out, Refused, Request};
+use names_cell::Name;
+use node_core::{Fault, Line};
+use over_core::{Cell, Swept};
 use plain::Items;
 use rows_cell::ListRecords;
 use settings_core::Settings;
 use std::alloc::Global;
 use std::test::Fail;
 use step_words::{Parsed, read_step};
-use tags_cell::ClientNumber;
-use world_clients::{Message, Step, Ticks};
+use world_clients::{Message, Step};
 
 // More than the sweeps and the messages of any settling.
 const TURN_END: u64 = 1_000;
 
-/// A master, its clients, and the messages that were sent, of which the first so many were delivered.
-#[derive(Drop)]
-pub(crate) struct Stage {
+/// A master and its clients.
+pub(crate) struct Cast {
     pub(crate) alloc: Global,
     pub(crate) cell: Cell<ListRecords>,
     pub(crate) clients: Vec<Client>,
-    pub(crate) sent: Vec<Message>,
-    pub(crate) delivered: usize,
-    /// The master's clock, and that of all clients.
-    pub(crate) now: u64,
-    pub(crate) own: u64,
+    // The master's clock, and that of all clients.
+    now: u64,
+    own: u64,
 }
 
+/// The same, and the messages that were sent, of which the first so many were delivered. It ends by `down`.
+pub(crate) struct Stage {
+    pub(crate) cast: Cast,
+    pub(crate) sent: Vec<Message>,
+    pub(crate) delivered: usize,
+}
+
+/// What comes of a message.
+#[derive(Drop)]
+pub(crate) struct Told {
+    pub(crate) lines: Items<Line>,
+    pub(crate) outs: Items<Out>,
+    /// Why its client refuses it.
+    pub(crate) refused: Option<Fault>,
+}
+
+// Whether a refusal is among these.
+fn is_printed(lines: &[Line]) -> bool {
+    for line in lines {
+        if let Line::Refused(_) = line {
+            return true;
+        }
+    }
+    false
+}
+
+fn is_sent(outs: &[Out]) -> bool {
+    for out in outs {
+        if let Out::Refused(_) = out {
+            return true;
+        }
+    }
+    false
+}
+
+impl Told {
+    pub(crate) fn is_refused(&self) -> bool {
+        is_printed(self.lines.as_slice()) || is_sent(self.outs.as_slice()) || self.refused.is_some()
+    }
+}
+
+// The next master over these records comes up.
 fn up(alloc: Global, records: ListRecords) -> Result<Cell<ListRecords>, Fail> {
     match Cell::up(alloc, records, 12_000, 0) {
         Ok(cell) => Ok(cell),
@@ -39,52 +77,137 @@ fn up(alloc: Global, records: ListRecords) -> Result<Cell<ListRecords>, Fail> {
     }
 }
 
-fn new_records(alloc: Global) -> Result<ListRecords, Fail> {
+// A new cell, whose first master is up.
+fn new_stage(alloc: Global) -> Result<Stage, Fail> {
     let settings = Settings::standard(alloc)?;
-    Ok(ListRecords::new(alloc, &settings)?)
-}
-
-/// A new cell, whose first master is up.
-pub(crate) fn new_stage(alloc: Global) -> Result<Stage, Fail> {
-    let cell = up(alloc, new_records(alloc)?)?;
+    let records = ListRecords::new(alloc, &settings)?;
+    let cell = up(alloc, records)?;
     Ok(Stage {
-        alloc,
-        cell,
-        clients: Vec::new(alloc),
+        cast: Cast {
+            alloc,
+            cell,
+            clients: Vec::new(alloc),
+            now: 0,
+            own: 0,
+        },
         sent: Vec::new(alloc),
         delivered: 0,
-        now: 0,
-        own: 0,
     })
 }
 
-/// The master goes down, and the next one comes up.
-pub(crate) fn next_master(stage: Stage) -> Result<Stage, Fail> {
+// The master goes down, and the next one comes up.
+fn next_master(stage: Stage) -> Result<Stage, Fail> {
     let Stage {
-        alloc,
-        cell,
-        clients,
+        cast: Cast {
+            alloc,
+            cell,
+            clients,
+            now: _,
+            own,
+        },
         sent,
         delivered,
-        own,
-        ..
     } = stage;
     let cell = up(alloc, cell.down())?;
     Ok(Stage {
-        alloc,
-        cell,
-        clients,
+        cast: Cast {
+            alloc,
+            cell,
+            clients,
+            now: 0,
+            own,
+        },
         sent,
         delivered,
-        now: 0,
-        own,
     })
 }
 
-impl Stage {
-    fn send(&mut self, request: Request) -> Result<(), Fail> {
-        self.sent.push(Message::ToMaster(request))?;
+// The client of a number, where one has joined.
+fn client_of(clients: &mut Vec<Client>, number: u64) -> Option<&mut Client> {
+    let place = usize::try_from(number).ok()?.checked_sub(1)?;
+    clients.get_mut(place)
+}
+
+// What becomes of a message to a client; nothing where none has joined under the number.
+fn give(
+    alloc: Global,
+    clients: &mut Vec<Client>,
+    number: u64,
+    own: u64,
+    out: &Out,
+) -> Result<Given, Fault> {
+    match client_of(clients, number) {
+        Some(client) => client.give(own, out),
+        None => Ok(Given {
+            lines: Items::new(alloc),
+            refused: None,
+        }),
+    }
+}
+
+impl Cast {
+    /// Takes or gives a message of anybody. What the master sends isn't sent on yet.
+    pub(crate) fn hand(&mut self, message: &Message) -> Result<Told, Fault> {
+        let (alloc, own) = (self.alloc, self.own);
+        match message {
+            Message::ToMaster(request) => {
+                let taken = self.cell.take(self.now, request)?;
+                Ok(Told {
+                    lines: taken.lines,
+                    outs: taken.outs,
+                    refused: None,
+                })
+            }
+            Message::ToClient(out) => {
+                let given = give(alloc, &mut self.clients, out.client().get(), own, out)?;
+                Ok(Told {
+                    lines: given.lines,
+                    outs: Items::new(alloc),
+                    refused: given.refused,
+                })
+            }
+        }
+    }
+
+    /// A client is given a message that is for none here: it notes the time, and does nothing else.
+    pub(crate) fn note(&mut self, number: u64, elsewhere: Refused) -> Result<(), Fault> {
+        let (alloc, own) = (self.alloc, self.own);
+        let out = Out::Refused(elsewhere);
+        let given = give(alloc, &mut self.clients, number, own, &out);
+        drop(out);
+        drop(given?);
         Ok(())
+    }
+
+    /// Writes all of the master and of its clients. The names are all that they may know.
+    pub(crate) fn show(&self, sheet: &mut Sheet, names: &[Name]) {
+        sheet.clear();
+        show_master(sheet, self.cell.master(), names);
+        let mut number = 1u64;
+        for client in &self.clients {
+            show_client(sheet, number, client, names);
+            number = number.saturating_add(1);
+        }
+    }
+}
+
+impl Stage {
+    /// The master is gone, and all but its records with it.
+    pub(crate) fn down(self) -> ListRecords {
+        let Stage {
+            cast: Cast {
+                alloc: _,
+                cell,
+                clients,
+                now: _,
+                own: _,
+            },
+            sent,
+            delivered: _,
+        } = self;
+        drop(sent);
+        drop(clients);
+        cell.down()
     }
 
     pub(crate) fn send_all(&mut self, outs: Items<Out>) -> Result<(), Fail> {
@@ -94,84 +217,50 @@ impl Stage {
         Ok(())
     }
 
-    /// The client of a number, where one has joined.
-    pub(crate) fn client(&mut self, number: u64) -> Option<&mut Client> {
-        let place = usize::try_from(number).ok()?.checked_sub(1)?;
-        self.clients.get_mut(place)
+    fn send(&mut self, request: Option<Request>) -> Result<(), Fail> {
+        if let Some(request) = request {
+            self.sent.push(Message::ToMaster(request))?;
+        }
+        Ok(())
     }
 
     fn ask(&mut self, number: u64, ask: &Ask) -> Result<(), Fail> {
-        let own = self.own;
-        let client = self.client(number).ok_or("client")?;
-        let Asked { outcome, .. } = client.ask(own, ask)?;
+        let own = self.cast.own;
+        let client = client_of(&mut self.cast.clients, number).ok_or("client")?;
+        let Asked { lines, outcome } = client.ask(own, ask)?;
+        drop(lines);
         match outcome {
-            Outcome::Sent(request) => self.send(request),
-            _ => Ok(()),
+            Outcome::Sent(request) => self.send(Some(request)),
+            other => {
+                drop(other);
+                Ok(())
+            }
         }
     }
 
     fn beat(&mut self, number: u64) -> Result<(), Fail> {
-        let own = self.own;
-        let client = self.client(number).ok_or("client")?;
-        let Beaten { request, .. } = client.beat(own)?;
-        match request {
-            Some(request) => self.send(request),
-            None => Ok(()),
-        }
-    }
-
-    fn tick(&mut self, ticks: &Ticks) {
-        self.now = self.now.saturating_add(ticks.master);
-        self.own = self.own.saturating_add(ticks.clients);
+        let own = self.cast.own;
+        let client = client_of(&mut self.cast.clients, number).ok_or("client")?;
+        let Beaten { lines, request } = client.beat(own)?;
+        drop(lines);
+        self.send(request)
     }
 
     // Whether there was something to do.
-    pub(crate) fn sweep(&mut self) -> Result<bool, Fail> {
-        let swept = self.cell.sweep(self.now)?;
-        self.send_all(swept.outs)?;
-        Ok(!swept.quiet)
+    fn sweep(&mut self) -> Result<bool, Fail> {
+        let Swept { lines, outs, quiet } = self.cast.cell.sweep(self.cast.now)?;
+        drop(lines);
+        self.send_all(outs)?;
+        Ok(!quiet)
     }
-}
 
-// Delivers the message of a place, and gives what the master sends.
-fn deliver(stage: &mut Stage, place: usize) -> Result<Items<Out>, Fail> {
-    let Stage {
-        alloc,
-        cell,
-        clients,
-        sent,
-        now,
-        own,
-        ..
-    } = stage;
-    match sent.get(place) {
-        Some(Message::ToMaster(request)) => {
-            let taken = cell.take(*now, request)?;
-            Ok(taken.outs)
-        }
-        Some(Message::ToClient(out)) => {
-            give(clients, *own, out)?;
-            Ok(Items::new(*alloc))
-        }
-        None => Ok(Items::new(*alloc)),
-    }
-}
-
-fn give(clients: &mut Vec<Client>, own: u64, out: &Out) -> Result<(), Fail> {
-    let place = usize::try_from(out.client().get()).unwrap_or(0);
-    if let Some(client) = clients.get_mut(place.saturating_sub(1)) {
-        drop(client.give(own, out)?);
-    }
-    Ok(())
-}
-
-impl Stage {
     // Delivers the next message, where there is one.
     fn deliver_next(&mut self) -> Result<bool, Fail> {
-        if self.delivered >= self.sent.len() {
+        let Some(message) = self.sent.get(self.delivered) else {
             return Ok(false);
-        }
-        let outs = deliver(self, self.delivered)?;
+        };
+        let Told { lines, outs, .. } = self.cast.hand(message)?;
+        drop(lines);
         self.delivered = self.delivered.saturating_add(1);
         self.send_all(outs)?;
         Ok(true)
@@ -187,19 +276,22 @@ impl Stage {
         Err(Fail::from("it doesn't settle"))
     }
 
-    fn join(&mut self, number: ClientNumber, principal: Principal) -> Result<(), Fail> {
-        self.clients
-            .push(Client::new(self.alloc, number, principal))?;
-        Ok(())
-    }
-
     fn step(&mut self, step: Step) -> Result<(), Fail> {
         match step {
-            Step::Join(number, principal) => self.join(number, principal),
-            Step::Ask(number, ask) => self.ask(number, &ask),
+            Step::Join(number, principal) => {
+                let client = Client::new(self.cast.alloc, number, principal);
+                self.cast.clients.push(client)?;
+                Ok(())
+            }
+            Step::Ask(number, ask) => {
+                let asked = self.ask(number, &ask);
+                drop(ask);
+                asked
+            }
             Step::Beat(number) => self.beat(number),
             Step::Tick(ticks) => {
-                self.tick(&ticks);
+                self.cast.now = self.cast.now.saturating_add(ticks.master);
+                self.cast.own = self.cast.own.saturating_add(ticks.clients);
                 Ok(())
             }
             Step::Sweep => {
@@ -212,7 +304,7 @@ impl Stage {
 
     // A line of a script, of those that need nothing else than a master that is up.
     fn line(&mut self, line: &str) -> Result<(), Fail> {
-        match read_step(self.alloc, line)? {
+        match read_step(self.cast.alloc, line)? {
             Parsed::Step(step) => self.step(step),
             Parsed::Settle => self.settle(),
             Parsed::Nothing => Ok(()),
@@ -227,17 +319,6 @@ impl Stage {
         }
         Ok(())
     }
-
-    /// Puts all of the master and of its clients. The names are all that they may know.
-    pub(crate) fn show(&self, look: &mut Look, names: &[Name]) {
-        look.clear();
-        show_master(look, self.cell.master(), names);
-        let mut number = 1u64;
-        for client in &self.clients {
-            show_client(look, number, client, names);
-            number = number.saturating_add(1);
-        }
-    }
 }
 
 /// A stage behind scripts, each with a master of its own.
@@ -247,7 +328,10 @@ pub(crate) fn stage_behind(alloc: Global, scripts: &[&str]) -> Result<Stage, Fai
         if place > 0 {
             stage = next_master(stage)?;
         }
-        stage.run(script)?;
+        if let Err(fail) = stage.run(script) {
+            drop(stage.down());
+            return Err(fail);
+        }
     }
     Ok(stage)
 }

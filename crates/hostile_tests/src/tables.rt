@@ -1,10 +1,8 @@
 //! Messages that no partner sends, one by one: what they are answered, and which parts of the master and of all clients
 //! differ behind them. What isn't named is the same as before.
-use crate::looks::Look;
-use crate::messages::{Hostile, cut, out_of, request_of, said_of_client, said_of_master};
-use crate::stages::{Stage, all_names, stage_behind};
-use messages_cell::{Out, Request};
-use names_cell::Name;
+use crate::benches::Bench;
+use crate::messages::{Hostile, cut, message_of, said};
+use crate::stages::{Stage, stage_behind};
 use std::alloc::Global;
 use std::process::Abort;
 use std::test::Fail;
@@ -419,63 +417,75 @@ const TAKEN: &[Row] = &[
     ),
 ];
 
-// Hands it in, and gives what is answered.
-fn hand(stage: &mut Stage, request: &Option<Request>, out: &Option<Out>) -> Result<String, Fail> {
-    match (request, out) {
-        (Some(request), _) => said_of_master(stage, request),
-        (None, Some(out)) => said_of_client(stage, out),
-        (None, None) => Err(Fail::from("nothing")),
-    }
+// Whether these words, each behind a semicolon, are those that are wanted.
+fn is_listed(text: &str, wanted: &str) -> bool {
+    text.strip_prefix("; ").unwrap_or("") == wanted
 }
 
-// What is answered, and what differs.
-fn handed(
+// What is answered where it is handed in.
+fn said_to(stage: &mut Stage, hostile: Hostile) -> Result<String, Fail> {
+    let alloc = stage.cast.alloc;
+    let message = message_of(alloc, hostile)?;
+    let told = stage.cast.hand(&message);
+    drop(message);
+    let told = told?;
+    let said = said(alloc, &told);
+    drop(told);
+    Ok(said?)
+}
+
+// Whether this is answered, and just this differs.
+fn is_answered(
     stage: &mut Stage,
-    names: &[Name],
-    request: &Option<Request>,
-    out: &Option<Out>,
-) -> Result<(String, String), Fail> {
-    let mut before = Look::new(stage.alloc);
-    stage.show(&mut before, names);
-    let said = hand(stage, request, out)?;
-    let mut after = Look::new(stage.alloc);
-    stage.show(&mut after, names);
-    let changes = before.changes(&after);
-    drop(before);
-    drop(after);
-    Ok((said, changes?))
+    bench: &mut Bench,
+    hostile: Hostile,
+    answer: &str,
+    differs: &str,
+) -> Result<bool, Fail> {
+    bench.look(stage);
+    let said = said_to(stage, hostile)?;
+    let is_said = is_listed(said.as_str(), answer);
+    drop(said);
+    Ok(is_said && is_listed(bench.changes(stage)?.as_str(), differs))
 }
 
-// Whether it is answered so and just that differs; where it is asked for, also that a second time nothing differs.
-fn is_so(
-    alloc: Global,
-    names: &[Name],
+// Where it is asked for, also a second time, and then nothing differs.
+fn is_answered_so(
+    stage: &mut Stage,
+    bench: &mut Bench,
     row: &Row,
     hostile: Hostile,
     is_repeated: bool,
 ) -> Result<bool, Fail> {
-    let (_, scripts, _, answer, changes) = row;
-    let request = request_of(alloc, hostile)?;
-    let out = out_of(alloc, hostile)?;
-    let mut stage = stage_behind(alloc, scripts)?;
-    let (said, changed) = handed(&mut stage, names, &request, &out)?;
-    let first = said.as_str() == *answer && changed.as_str() == *changes;
-    if !first || !is_repeated {
-        return Ok(first);
-    }
-    let (said, changed) = handed(&mut stage, names, &request, &out)?;
-    Ok(said.as_str() == *answer && changed.is_empty())
+    let (_, _, _, answer, differs) = row;
+    let is_so = is_answered(stage, bench, hostile, answer, differs)?;
+    Ok(is_so && (!is_repeated || is_answered(stage, bench, hostile, answer, "")?))
 }
 
-const REFUSED: &[&[Row]] = &[TO_MASTERS, TO_CLIENTS];
+// Whether it is answered so behind the scripts, and just that differs.
+fn is_so(
+    alloc: Global,
+    bench: &mut Bench,
+    row: &Row,
+    hostile: Hostile,
+    is_repeated: bool,
+) -> Result<bool, Fail> {
+    let mut stage = stage_behind(alloc, row.1)?;
+    let is_so = is_answered_so(&mut stage, bench, row, hostile, is_repeated);
+    drop(stage.down());
+    is_so
+}
+
+// Each table, and whether its messages are handed in twice.
+const TABLES: &[(&[Row], bool)] = &[(TO_MASTERS, true), (TO_CLIENTS, true), (TAKEN, false)];
 
 #[test]
-fn refused_messages_change_nothing(rt: HostRuntime) -> Result<(), Fail> {
-    let names = all_names(rt.alloc())?;
-    for table in REFUSED {
+fn messages_change_what_they_should(rt: HostRuntime) -> Result<(), Fail> {
+    let mut bench = Bench::new(rt.alloc())?;
+    for (table, is_repeated) in TABLES {
         for row in *table {
             let name = row.0;
-            let is_so = is_so(rt.alloc(), names.as_slice(), row, row.2, true)?;
+            let is_so = is_so(rt.alloc(), &mut bench, row, row.2, *is_repeated)?;
             assert!(rt; is_so, "at {name}");
         }
     }
@@ -483,12 +493,12 @@ fn refused_messages_change_nothing(rt: HostRuntime) -> Result<(), Fail> {
 }
 
 // How many lengths there are at which it is cut; none where one isn't answered so.
-fn cuts(alloc: Global, names: &[Name], row: &Row) -> Result<Option<usize>, Fail> {
+fn cuts(alloc: Global, bench: &mut Bench, row: &Row) -> Result<Option<usize>, Fail> {
     for length in 0..100usize {
         let Some(hostile) = cut(row.2, length) else {
             return Ok(Some(length));
         };
-        if !is_so(alloc, names, row, hostile, true)? {
+        if !is_so(alloc, bench, row, hostile, true)? {
             return Ok(None);
         }
     }
@@ -497,24 +507,11 @@ fn cuts(alloc: Global, names: &[Name], row: &Row) -> Result<Option<usize>, Fail>
 
 #[test]
 fn cut_bytes_are_refused(rt: HostRuntime) -> Result<(), Fail> {
-    let names = all_names(rt.alloc())?;
+    let mut bench = Bench::new(rt.alloc())?;
     for (row, count) in CUTS {
         let name = row.0;
-        assert!(rt;
-            cuts(rt.alloc(), names.as_slice(), row)? == Some(*count),
-            "at {name}"
-        );
-    }
-    Ok(())
-}
-
-#[test]
-fn messages_in_order_are_taken(rt: HostRuntime) -> Result<(), Fail> {
-    let names = all_names(rt.alloc())?;
-    for row in TAKEN {
-        let name = row.0;
-        let is_so = is_so(rt.alloc(), names.as_slice(), row, row.2, false)?;
-        assert!(rt; is_so, "at {name}");
+        let cuts = cuts(rt.alloc(), &mut bench, row)?;
+        assert!(rt; cuts == Some(*count), "at {name}");
     }
     Ok(())
 }
