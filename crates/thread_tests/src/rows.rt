@@ -85,12 +85,38 @@ fn is_played<W: Wait>(
     looks: &[Look],
 ) -> Result<bool, Fail> {
     let mut stage = Stage::new(alloc)?;
+    let went = is_seated(rt, alloc, &mut stage, steps, lines, looks);
+    drop(stage);
+    went
+}
+
+fn is_seated<W: Wait>(
+    rt: &W,
+    alloc: Global,
+    stage: &mut Stage,
+    steps: &str,
+    lines: &str,
+    looks: &[Look],
+) -> Result<bool, Fail> {
     let mut seats = Seats::new(rt, alloc)?;
-    let played = stage.go(rt, &mut seats, steps);
-    let seen = sees_all(rt, alloc, &mut seats, stage.clock(), looks);
+    let went = is_seen(rt, alloc, stage, &mut seats, steps, lines, looks);
     seats.close(rt);
-    played?;
-    Ok(stage.printed() == lines && seen?)
+    went
+}
+
+// Whether these steps print these lines, and the viewers then see this.
+fn is_seen<W: Wait>(
+    rt: &W,
+    alloc: Global,
+    stage: &mut Stage,
+    seats: &mut Seats,
+    steps: &str,
+    lines: &str,
+    looks: &[Look],
+) -> Result<bool, Fail> {
+    stage.go(rt, seats, steps)?;
+    let seen = sees_all(rt, alloc, seats, stage.clock(), looks)?;
+    Ok(seen && stage.printed() == lines)
 }
 
 fn sees_all<W: Wait>(

@@ -134,14 +134,32 @@ fn set<R: Records, O: Opening, I: Ledger, A: Ledger, E: Ledger, C: Ledger, W: Wa
     name: &str,
     content: &[u8],
 ) -> Result<(), Fault> {
-    let number = ClientNumber::new(pass.number()).ok_or(Fault::Exhausted)?;
-    let mut client = Client::new(alloc, number, Principal::parse(alloc, "ann")?);
+    let mut client = first_client(alloc, pass.number())?;
+    let went = set_by(rt, alloc, watch, pass, &mut client, name, content);
+    drop(client);
+    went
+}
+
+fn first_client(alloc: Global, number: u64) -> Result<Client, Fault> {
+    let number = ClientNumber::new(number).ok_or(Fault::Exhausted)?;
+    Ok(Client::new(alloc, number, Principal::parse(alloc, "ann")?))
+}
+
+fn set_by<R: Records, O: Opening, I: Ledger, A: Ledger, E: Ledger, C: Ledger, W: Wait>(
+    rt: &W,
+    alloc: Global,
+    watch: &Watch<R, O, I, A, E, C>,
+    pass: &mut Pass<I, A, E, C>,
+    client: &mut Client,
+    name: &str,
+    content: &[u8],
+) -> Result<(), Fault> {
     let start = client.beat(0)?.request;
-    send(rt, watch, pass, &mut client, start)?;
+    send(rt, watch, pass, client, start)?;
     let open = Ask::Open(opening(alloc, name)?);
-    ask(rt, watch, pass, &mut client, &open)?;
+    ask(rt, watch, pass, client, &open)?;
     let set = Ask::Node(1, NodeCall::Set(Bytes::copy_of(alloc, content)?, None));
-    ask(rt, watch, pass, &mut client, &set)
+    ask(rt, watch, pass, client, &set)
 }
 
 fn opening(alloc: Global, name: &str) -> Result<Open, Fault> {
@@ -186,13 +204,25 @@ fn send<R: Records, O: Opening, I: Ledger, A: Ledger, E: Ledger, C: Ledger, W: W
     let Some(request) = request else {
         return Err(Fault::Unknown);
     };
-    let receipt = watch.call(rt, pass, Event::Take(0, request))?;
-    give_all(client, receipt.reply())?;
+    call(rt, watch, pass, client, Event::Take(0, request))?;
     for _ in 0..4 {
-        let receipt = watch.call(rt, pass, Event::Sweep(0))?;
-        give_all(client, receipt.reply())?;
+        call(rt, watch, pass, client, Event::Sweep(0))?;
     }
     Ok(())
+}
+
+// A step through the watch, whose answer the client is given.
+fn call<R: Records, O: Opening, I: Ledger, A: Ledger, E: Ledger, C: Ledger, W: Wait>(
+    rt: &W,
+    watch: &Watch<R, O, I, A, E, C>,
+    pass: &mut Pass<I, A, E, C>,
+    client: &mut Client,
+    event: Event,
+) -> Result<(), Fault> {
+    let receipt = watch.call(rt, pass, event)?;
+    let given = give_all(client, receipt.reply());
+    drop(receipt);
+    given
 }
 
 fn give_all(client: &mut Client, reply: &Swept) -> Result<(), Fault> {
