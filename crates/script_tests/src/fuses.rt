@@ -13,8 +13,7 @@ use sqlite_disk::{Fuse, Memory};
 use std::alloc::Global;
 use std::test::Fail;
 
-/// A file in memory that stops.
-pub(crate) type Disk = Fuse<Memory>;
+type Disk = Fuse<Memory>;
 
 const BEFORE: &str = "sound epoch 0 nodes 3 sessions 0 locks 0";
 
@@ -39,9 +38,9 @@ enum Came {
     Committed,
 }
 
-/// Which of the files stops.
+// What of the files goes through how many calls.
 #[derive(Clone, Copy)]
-pub(crate) enum Stops {
+enum Stops {
     Log,
     Database,
 }
@@ -53,8 +52,7 @@ fn disk(alloc: Global, calls: u64) -> Disk
     Fuse::new(Memory::new(alloc), calls)
 }
 
-/// New files, of which one stops behind so many calls.
-pub(crate) fn files(alloc: Global, stops: Stops, calls: u64) -> Files<Disk>
+fn files(alloc: Global, stops: Stops, calls: u64) -> Files<Disk>
     ensures log { IsTrue (memory_is_usable (inner_of result.log)) × IsFresh result.log }
     ensures db { IsTrue (memory_is_usable (inner_of result.db)) × IsFresh result.db }
 {

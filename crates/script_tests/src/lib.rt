@@ -30,8 +30,6 @@ mod runs;
 #[cfg(test)]
 mod scripts;
 #[cfg(test)]
-mod stops;
-#[cfg(test)]
 mod stores;
 #[cfg(test)]
 mod streams;

@@ -6,8 +6,6 @@ mod flushes;
 #[cfg(test)]
 mod garbled;
 #[cfg(test)]
-mod rounds;
-#[cfg(test)]
 mod sessions;
 #[cfg(test)]
 mod values;
