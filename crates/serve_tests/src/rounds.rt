@@ -812,5 +812,20 @@ const PART_4: &[(&str, &str)] = &[
     ("000000020103", "0000000a010000000004646f776e00000003010300"),
 ];
 
-/// All of them, in their order: a frame, and what is told of it, in hexadecimal.
-pub(crate) const PARTS: &[&[(&str, &str)]] = &[PART_1, PART_2, PART_3, PART_4];
+// The parts in their order, each a frame and what is told of it, in hexadecimal: a function for each, since all of them as one constant
+// are too much for a check of those who use it.
+pub(crate) fn first_part() -> &'static [(&'static str, &'static str)] {
+    PART_1
+}
+
+pub(crate) fn second_part() -> &'static [(&'static str, &'static str)] {
+    PART_2
+}
+
+pub(crate) fn third_part() -> &'static [(&'static str, &'static str)] {
+    PART_3
+}
+
+pub(crate) fn fourth_part() -> &'static [(&'static str, &'static str)] {
+    PART_4
+}
