@@ -29,3 +29,9 @@ pub mod Creates
 pub mod PutCell
 pub mod OpeningEdits
 pub mod Made
+pub mod ChildLists
+pub mod ChildKeys
+pub mod Adds
+pub mod PutChild
+pub mod NodeSteps
+pub mod Carried

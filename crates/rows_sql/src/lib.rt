@@ -2,6 +2,7 @@
 #![tactic(auto)]
 
 mod adoption;
+mod carrying;
 mod closing;
 mod records;
 mod steps;
