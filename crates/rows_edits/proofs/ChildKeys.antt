@@ -35,3 +35,7 @@ equal_at v t is =
 -- which row is that of a child
 pub child_test : (t : List ℕ) (r : Row) → IsChildRow r → (e : List ℕ × List ℕ) → child_in (child_shown r) ≡ Some e → (equal Binary (column r 2) (Text t) && true) ≡ is_at (slice_cmp nat_cmp t) e.0
 child_test t r typed e says = alone_and _ ∙ equal_at (column r 2) t typed.child ∙ ap (λ s. is_at (slice_cmp nat_cmp t) s) (child_said r e says).0
+
+-- and of one under a parent
+pub parent_test : (t : List ℕ) (r : Row) → IsChildRow r → (e : List ℕ × List ℕ) → child_in (child_shown r) ≡ Some e → equal Binary (column r 1) (Text t) ≡ is_at (slice_cmp nat_cmp t) e.1
+parent_test t r typed e says = equal_at (column r 1) t typed.parent ∙ ap (λ s. is_at (slice_cmp nat_cmp t) s) (child_said r e says).1

@@ -48,6 +48,15 @@ module _ {K V : Type 0} (cmp : K → K → Ordering) (total : IsTotalOrder cmp) 
     | inr f ↦ rw (f, f) (lookup_removed k es s.1)
   ]
 
+  -- and taken out again it is the same
+  pub removed_twice : (k : K) (es : List (K × V)) → IsStrictlySortedBy cmp (keys_of es) → remove_entry (is_at (cmp k)) (remove_entry (is_at (cmp k)) es) ≡ remove_entry (is_at (cmp k)) es
+  unfolding IsStrictlySortedBy
+  removed_twice k [] s = refl
+  removed_twice k (e ∷ es) s = elim (cases_Bool (is_at (cmp k) e.0)) [
+    | inl t ↦ rw t (none_at_low k es (level k e.0 es (equal_is (cmp k e.0) t) s.0)).0
+    | inr f ↦ rw (f, f) (ap (λ xs. e ∷ xs) (removed_twice k es s.1))
+  ]
+
   -- a put is a removal and a put of a new key
   pub put_removed : CmpEqualImpliesEq cmp → (k : K) (v : V) (es : List (K × V)) → IsStrictlySortedBy cmp (keys_of es) → insert_entry cmp (remove_entry (is_at (cmp k)) es) k v ≡ insert_entry cmp es k v
   unfolding IsStrictlySortedBy

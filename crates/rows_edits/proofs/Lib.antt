@@ -23,6 +23,7 @@ pub mod SetGeneration
 pub mod PutNode
 pub mod Cascades
 pub mod RemoveNode
+pub mod RemoveChild
 pub mod Steps
 pub mod MeaningOfCreation
 pub mod Creates

@@ -32,7 +32,6 @@ use Rattle.sqlite.proofs.Callers.{runs_as, statement_of}
 use Rattle.rows_cell.specs.declared.keys.LockKey.{LockKey}
 use Rattle.rows_cell.specs.declared.tables.LockRow.{LockRow}
 use Rattle.rows_cell.specs.declared.tables.Node.{Node}
-use Rattle.rows_cell.specs.declared.tables.Edit.TheVariants.{RemoveNode}
 use Rattle.rows_cell.specs.Keys.{lock_order}
 use Rattle.rows_cell.specs.Rows.{StoredNodes, StoredLocks, stored_node, without_locks_of}
 use Rattle.rows_schema.specs.OurSchema.{the_schema, nodes}
@@ -44,14 +43,14 @@ use Rattle.rows_read.specs.Ready.{meta_shown, node_shown, session_shown, lock_sh
 use Rattle.rows_read.proofs.ReadLoops.{locks_total}
 use Rattle.rows_edits.specs.Texts.{remove_node_text}
 use Rattle.rows_edits.specs.Commands.{is, remove_node_command}
-use Rattle.rows_edits.specs.Ongoing.{IsStore, RanInside, Changed}
+use Rattle.rows_edits.specs.Ongoing.{IsStore, RanInside, RemovesEntry}
 use Rattle.rows_edits.proofs.Meaning.{remove_node_is, remove_node_plain}
 use Rattle.rows_edits.proofs.Cascades.{is_of_row, is_name_of, lock_of, name_of, olds, went_with, no_lock_goes, no_name_goes, one_lock_goes, one_name_goes}
 use Rattle.rows_edits.proofs.Deletes as deletes
 use Rattle.rows_edits.proofs.Entries.{holds_removed, holds_kept, found_at, none_at, entry_of}
 use Rattle.rows_edits.proofs.Truths.{alone_and, same_some}
 use Rattle.rows_edits.proofs.Columns.{text_value}
-use Rattle.rows_edits.proofs.ChildLists.{children_removed, not_child}
+use Rattle.rows_edits.proofs.ChildLists.{not_child, lacking_has, lacking_gone}
 use Rattle.rows_edits.proofs.ChildKeys.{child_test}
 use Rattle.rows_edits.proofs.Counts.{equal_counts}
 use Rattle.rows_edits.proofs.LockKeys.{lock_said}
@@ -150,8 +149,8 @@ module _ (t : List ℕ) where
     ]
 
     -- the name goes from under its parent
-    names_left : (children : Parents) → Holds (slice_cmp nat_cmp) (λ r. child_in (child_shown r)) (old.trees 7) children → children ≡ children_of nodes → Holds (slice_cmp nat_cmp) (λ r. child_in (child_shown r)) (filter (λ r. not (gone.name r)) (old.trees 7)) (remove_entry (is_at (slice_cmp nat_cmp t)) children)
-    names_left children held_children are =
+    names_left : (children : Parents) → Holds (slice_cmp nat_cmp) (λ r. child_in (child_shown r)) (old.trees 7) children → ((c : List ℕ × List ℕ) → Has children c → Has (children_of nodes) c) → Holds (slice_cmp nat_cmp) (λ r. child_in (child_shown r)) (filter (λ r. not (gone.name r)) (old.trees 7)) (remove_entry (is_at (slice_cmp nat_cmp t)) children)
+    names_left children held_children of_nodes =
         holds_removed (slice_cmp nat_cmp) nat_list_cmp_total (λ r. child_in (child_shown r)) (old.trees 7) children held_children t gone.name (λ r there e says. elim (cases_Bool (list_any (has_name t) (old.trees 1))) [
           | inl some ↦
               let o = some_has (has_name t) (old.trees 1) some in
@@ -162,20 +161,20 @@ module _ (t : List ℕ) where
               let absent : stored_node nodes t ≡ None = none_at (slice_cmp nat_cmp) nat_list_cmp_total (λ x. node_in (node_shown x)) (old.trees 1) nodes held t (has_name t) test nobody in
               let member = entry_of (slice_cmp nat_cmp) nat_list_cmp_total (λ x. child_in (child_shown x)) (old.trees 7) children held_children r there in
               let same : member.0 ≡ e = same_some (sym member.2 ∙ says) in
-              gone.no_name nobody r ∙ sym (not_child nodes t absent e (subst (λ (c : Parents). Has c e) are (subst (Has children) same member.1)))
+              gone.no_name nobody r ∙ sym (not_child nodes t absent e (of_nodes e (subst (Has children) same member.1)))
         ])
 
     nodes_left : Holds (slice_cmp nat_cmp) (λ r. node_in (node_shown r)) (filter (λ r. not (has_name t r)) (old.trees 1)) (remove_entry (is_at (slice_cmp nat_cmp t)) nodes)
     nodes_left = holds_removed (slice_cmp nat_cmp) nat_list_cmp_total (λ r. node_in (node_shown r)) (old.trees 1) nodes held t (has_name t) test
 
-pub node_gone : (t : List ℕ) (v : ValueRef) → bound_value (owned v) ≡ Text t → (old new : State) → RanInside remove_node_text (bound (v ∷ [])) old new → Changed (RemoveNode t ∷ []) old new
+pub node_gone : (t : List ℕ) (v : ValueRef) → bound_value (owned v) ≡ Text t → (old new : State) → RanInside remove_node_text (bound (v ∷ [])) old new → RemovesEntry t old new
 node_gone t v is_text old new run = record {
   store = λ store. (node_removed t old new run.count store (ran run)).store;
-  says = λ store rows said.
+  says = λ store rows children lacks said.
       let gone = node_removed t old new run.count store (ran run) in
       let held = held_as_shown (slice_cmp nat_cmp) node_in node_shown (old.now.trees 1) rows.nodes said.nodes in
       let held_locks = held_as_shown lock_order lock_in lock_shown (old.now.trees 5) rows.locks said.locks in
-      let held_children = held_as_shown (slice_cmp nat_cmp) child_in child_shown (old.now.trees 7) (children_of rows.nodes) said.children in
+      let held_children = held_as_shown (slice_cmp nat_cmp) child_in child_shown (old.now.trees 7) children said.children in
       record {
         meta = ap (λ rs. map meta_in (map meta_shown rs)) gone.metas ∙ said.meta;
         nodes = shown_as_held (slice_cmp nat_cmp) node_in node_shown (new.now.trees 1) _
@@ -184,9 +183,9 @@ node_gone t v is_text old new run = record {
         locks = shown_as_held lock_order lock_in lock_shown (new.now.trees 5) _
             (subst (λ rs. Holds lock_order (λ r. lock_in (lock_shown r)) rs (without_locks_of (stored_node rows.nodes t) rows.locks)) (sym gone.locks) (locks_left t old.now new.now store gone rows.nodes rows.locks held held_locks));
         children = shown_as_held (slice_cmp nat_cmp) child_in child_shown (new.now.trees 7) _
-            (subst (Holds (slice_cmp nat_cmp) (λ r. child_in (child_shown r)) (new.now.trees 7)) (sym (children_removed rows.nodes t held.sorted))
-            (subst (λ rs. Holds (slice_cmp nat_cmp) (λ r. child_in (child_shown r)) rs (remove_entry (is_at (slice_cmp nat_cmp t)) (children_of rows.nodes))) (sym gone.children)
-            (names_left t old.now new.now store gone rows.nodes rows.locks held held_locks (children_of rows.nodes) held_children refl)));
+            (subst (Holds (slice_cmp nat_cmp) (λ r. child_in (child_shown r)) (new.now.trees 7)) (lacking_gone t children rows.nodes held.sorted lacks)
+            (subst (λ rs. Holds (slice_cmp nat_cmp) (λ r. child_in (child_shown r)) rs (remove_entry (is_at (slice_cmp nat_cmp t)) children)) (sym gone.children)
+            (names_left t old.now new.now store gone rows.nodes rows.locks held held_locks children held_children (lacking_has t children (children_of rows.nodes) lacks))));
       };
 }
   where

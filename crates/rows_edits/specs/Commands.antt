@@ -35,6 +35,9 @@ set_lock_generation_command = Update 1 (record { lets = []; body = over 1 (is (c
 abbrev pub remove_node_command : Command
 remove_node_command = Delete 1 (record { lets = []; body = over 1 (is (col 1 1) (col 0 0) ∷ []) (col 1 0 ∷ []) })
 
+abbrev pub remove_child_command : Command
+remove_child_command = Delete 4 (record { lets = []; body = over 7 (is (col 1 1) (col 0 0) ∷ is (col 1 2) (col 0 1) ∷ []) (col 1 0 ∷ []) })
+
 abbrev pub put_session_command : Command
 put_session_command = InsertOr 2 Abort (Values (col 0 0 ∷ lit Null ∷ col 0 1 ∷ col 0 2 ∷ []) 4) (record {
   target = Some (0 ∷ []);

@@ -1,6 +1,6 @@
 -- A transaction that does edits.
-use Rattle.std.specs.Prelude.{◌≡◌, ℕ, true, List, IsTrue, Ok, IfSome}
-use Rattle.std.specs.Map.{lookup}
+use Rattle.std.specs.Prelude.{◌≡◌, ◌⊎◌, ℕ, true, List, IsTrue, Ok, IfSome}
+use Rattle.std.specs.Map.{lookup, remove_entry}
 use Rattle.std.specs.BTreeMap.{is_at, insert_entry}
 use Rattle.std.specs.Cmp.Lexicographic.{slice_cmp}
 use Rattle.std.specs.Ordering.{nat_cmp}
@@ -12,7 +12,7 @@ use Rattle.sqlite.specs.State.{State, Shows, Executes}
 use Rattle.sqlite_trees.specs.declared.store.Shape.TheVariants.{Table}
 use Rattle.rows_cell.specs.declared.tables.Rows.{Rows}
 use Rattle.rows_cell.specs.declared.tables.Edit.{Edit}
-use Rattle.rows_cell.specs.declared.tables.Edit.TheVariants.{PutNode}
+use Rattle.rows_cell.specs.declared.tables.Edit.TheVariants.{PutNode, RemoveNode}
 use Rattle.rows_cell.specs.Rows.{changed_rows, edited}
 use Rattle.node_core.specs.declared.views.View.{View}
 use Rattle.rows_schema.specs.declared.ours.Version.{Version}
@@ -75,3 +75,20 @@ pub record PutsChild (child parent : List ℕ) (old new : State) : Type 0 where
   pub store : IsStore old.now → IsStore new.now
   pub says : IsStore old.now → (version : Version) (rows : Rows) (children : Parents) → HasNoOther children child parent → SaysWith version (tables_of old.now.trees) rows children
       → SaysWith version (tables_of new.now.trees) rows (insert_entry (slice_cmp nat_cmp) children child parent)
+
+-- ---- a removal of a node, in its two statements
+
+-- a name was taken from under its parent: whatever else the tables said, they say it still
+pub record TakesChild (child parent : List ℕ) (old new : State) : Type 0 where
+  pub store : IsStore old.now → IsStore new.now
+  pub says : IsStore old.now → (version : Version) (rows : Rows) (children : Parents) → HasNoOther children child parent → SaysWith version (tables_of old.now.trees) rows children
+      → SaysWith version (tables_of new.now.trees) rows (remove_entry (is_at (slice_cmp nat_cmp child)) children)
+
+-- all children are there, or all but this name
+abbrev pub MayLack : List ℕ → Parents → Parents → Type 0
+MayLack name children all = (children ≡ all) ⊎ (children ≡ remove_entry (is_at (slice_cmp nat_cmp name)) all)
+
+-- the node was removed, and its name from under its parent, if it was still there
+pub record RemovesEntry (name : List ℕ) (old new : State) : Type 0 where
+  pub store : IsStore old.now → IsStore new.now
+  pub says : IsStore old.now → (rows : Rows) (children : Parents) → MayLack name children (children_of rows.nodes) → SaysWith Second (tables_of old.now.trees) rows children → Says (tables_of new.now.trees) (edited rows (RemoveNode name))

@@ -19,6 +19,9 @@ set_lock_generation_text = codes "UPDATE nodes SET lock_gen = ?2 WHERE name = ?1
 abbrev pub remove_node_text : List ℕ
 remove_node_text = codes "DELETE FROM nodes WHERE name = ?1"
 
+abbrev pub remove_child_text : List ℕ
+remove_child_text = codes "DELETE FROM children WHERE parent = ?1 AND child = ?2"
+
 abbrev pub put_session_text : List ℕ
 put_session_text = codes "INSERT INTO sessions (client, principal, live) VALUES (?1, ?2, ?3) ON CONFLICT (client) DO UPDATE SET principal = excluded.principal, live = excluded.live"
 

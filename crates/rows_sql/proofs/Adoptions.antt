@@ -148,8 +148,6 @@ module _ {S : Type 0} (g : Ghosts S) (settings : Settled) (old new : Held S) (at
       ];
     }
 
--- ---- what it was taken over as
-
 -- ---- what isn't taken over
 
 pub foreign_none : (cell : List ℕ) (db : Database) (schema : Schema) → ((version : Version) → schema ≢ schema_of version) → schema ≡ db.schema → db.schema ≢ no_schema → IsForeign cell db
@@ -164,10 +162,10 @@ foreign_first cell db first none = inr (inr (first, none))
 no_tables : (a : Schema) → a ≡ no_schema → a ≡ the_schema → ⊥
 no_tables a n t = let e : 0 ≡ 5 = ap (λ (s : Schema). length s.tables) (sym n ∙ t) in omega (arith, e)
 
-no_first : (a : Schema) → a ≡ no_schema → a ≡ first_schema → ⊥
+pub no_first : (a : Schema) → a ≡ no_schema → a ≡ first_schema → ⊥
 no_first a n f = let e : 0 ≡ 4 = ap (λ (s : Schema). length s.tables) (sym n ∙ f) in omega (arith, e)
 
-not_both : (a : Schema) → a ≡ the_schema → a ≡ first_schema → ⊥
+pub not_both : (a : Schema) → a ≡ the_schema → a ≡ first_schema → ⊥
 not_both a t f = let e : 5 ≡ 4 = ap (λ (s : Schema). length s.tables) (sym t ∙ f) in omega (arith, e)
 
 -- rows are taken of what isn't a cell's

@@ -1,5 +1,5 @@
 -- What becomes of a store of the first version that is taken over.
-use Rattle.std.proofs.Common.{◌≡◌, ◌≤◌, ◌<◌, ◌+◌, ◌==◌, ℕ, List, true, false, inl, inr, refl, sym, ap, ◌∙◌, subst, arith, Result, Ok, Err}
+use Rattle.std.proofs.Common.{◌≡◌, ◌≤◌, ◌<◌, ◌+◌, ◌==◌, ℕ, List, [], true, false, inl, inr, refl, sym, ap, ◌∙◌, subst, arith, Result, Ok, Err}
 use Rattle.std.specs.Prelude.{IsTrue, IfOk, IfErr, OnOk, nat_le}
 use Rattle.std.proofs.lemmas.Bool.{and_parts}
 use Rattle.std.proofs.lemmas.Bool.Decides.{nat_tests}
@@ -19,7 +19,10 @@ use Rattle.rows_read.specs.Ready.{tables_of, tables_as, IsReadyAs, IsStillAs, Qu
 use Rattle.rows_read.specs.Children.{Parents, children_of}
 use Rattle.rows_edits.specs.Carrying.{IsFirstStore, IsCarried, MayCarry}
 use Rattle.rows_edits.specs.Creation.{IsStoreOf}
-use Rattle.rows_sql.specs.Adopting.{IsAnew, SaysFirst, Takes, IsAtItsEnd, IsTaken, IsLeftAlone, carried}
+use Rattle.rows_cell.specs.Rows.{map_of}
+use Rattle.rows_read.proofs.SaidTables.{one_said}
+use Rattle.rows_sql.specs.Adopting.{IsAnew, SaysFirst, Takes, IsAtItsEnd, IsTaken, IsLeftAlone, carried, CarryingKeeps}
+use Rattle.rows_sql.proofs.Adoptions.{no_first, not_both}
 use Rattle.rows_sql.specs.Carrying.{Becomes, Remains}
 
 -- a sound store's epoch that isn't at its end lies below it
@@ -120,3 +123,13 @@ ok_as (Err e) P Q f h = tt
 pub err_as : {X E : Type 0} (r : Result X E) (P Q : Type 0) → (P → Q) → IfErr r (λ _. P) → IfErr r (λ _. Q)
 err_as (Ok x) P Q f h = tt
 err_as (Err e) P Q f h = f h
+
+-- ---- what is kept
+
+pub carrying_keeps : CarryingKeeps
+carrying_keeps settings db before after first (inl t) = absurd (not_both db.schema t.0 first.schema)
+carrying_keeps settings db before after first (inr (inl t)) = absurd (no_first db.schema t.0 first.schema)
+carrying_keeps settings db before after first (inr (inr t)) =
+    let own : t.0 ≡ before = one_said First (tables_as First db.trees) t.0 before [] [] t.1.said first.said in
+    let is : after ≡ carried before = t.3 ∙ ap carried own in
+    (ap map_of is, ap (λ (r : Rows). r.sessions) is, ap (λ (r : Rows). r.locks) is, ap (λ (r : Rows). r.epoch) is)

@@ -11,6 +11,7 @@ use Rattle.settings_core.specs.Settings.{Settled}
 use Rattle.rows_cell.specs.declared.tables.Rows.{Rows}
 use Rattle.node_core.specs.Limits.{number_limit}
 use Rattle.rows_cell.specs.Sound.{sound}
+use Rattle.rows_cell.specs.Rows.{map_of}
 use Rattle.rows_schema.specs.OurSchema.{first_schema, the_schema}
 use Rattle.rows_schema.specs.declared.ours.Version.TheVariants.{First}
 use Rattle.rows_read.specs.Held.{Says, SaysAs}
@@ -105,3 +106,9 @@ pub record IsOther (cell : List ℕ) (s : State) : Type 0 where
 pub record IsFull (cell : List ℕ) (s : State) : Type 0 where
   pub has : HasDatabase s
   pub at_end : IsAtItsEnd cell s.committed
+
+-- whatever a store of the first version is taken over as has its map, its sessions and its locks, and is of the next epoch
+abbrev pub CarryingKeeps : Type 0
+CarryingKeeps =
+    (settings : Settled) (db : Database) (before after : Rows) → SaysFirst settings.cell db before → Takes settings db after
+    → (map_of after ≡ map_of before) × (after.sessions ≡ before.sessions) × (after.locks ≡ before.locks) × (after.epoch ≡ before.epoch + 1)

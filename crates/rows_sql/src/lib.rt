@@ -4,7 +4,9 @@
 mod adoption;
 mod carrying;
 mod closing;
+mod laws;
 mod records;
 mod steps;
 
+pub use laws::carrying_keeps;
 pub use records::SqlRecords;
