@@ -1,5 +1,5 @@
 -- Tables in another order say the same rows.
-use Rattle.std.proofs.Common.{◌≡◌, ap, List, [], ◌∷◌, map, Some, Result, Ok, Err, IfOk, sym, ◌∙◌, subst}
+use Rattle.std.proofs.Common.{◌≡◌, ◌↔◌, ap, Bool, false, List, [], ◌∷◌, map, Option, Some, Result, Ok, Err, IfOk, IsTrue, sym, ◌∙◌, subst, true≢false}
 use Rattle.std.specs.List.Sorted.{IsPermutation}
 use Rattle.std.specs.Ordering.{nat_cmp}
 use Rattle.std.specs.Cmp.Lexicographic.{slice_cmp}
@@ -13,7 +13,7 @@ use Rattle.rows_read.specs.declared.stored.Meta.{Meta}
 use Rattle.rows_schema.specs.declared.ours.Version.{Version}
 use Rattle.rows_read.specs.Children.{Parents, children_for}
 use Rattle.rows_read.specs.Decode.{meta_as, node_in, session_in, lock_in, child_in}
-use Rattle.rows_read.specs.Held.{Tables, HoldsChildren, SaysWith, SaysAs}
+use Rattle.rows_read.specs.Held.{Tables, HoldsChildren, IsRead, IsFour, SaysWith, SaysAs}
 use Rattle.rows_read.specs.Ready.{AreOf}
 use Rattle.rows_read.proofs.Held.{holds_permuted, one_held}
 use Rattle.rows_read.proofs.ReadLoops.{locks_total}
@@ -70,3 +70,11 @@ other_children version tables read rows held said differ other says =
     let same = one_said version tables rows other read (children_for version other.nodes) said says in
     let one = one_held (slice_cmp nat_cmp) nat_list_cmp_total child_in tables.children read (children_for version other.nodes) held says.children in
     differ (one ∙ ap (λ (r : Rows). children_for version r.nodes) (sym same))
+
+-- the children that were read aren't those that the nodes make
+pub unlike_children : (version : Version) (tables : Tables) (read : Option Parents) (parents : Parents) (four : Option Rows) (rows : Rows) (are : Bool) (made : Parents) → IsRead (slice_cmp nat_cmp) child_in tables.children read → read ≡ Some parents
+    → IsFour version tables four → four ≡ Some rows → (IsTrue are ↔ (parents ≡ made)) → are ≡ false → made ≡ children_for version rows.nodes → (other : Rows) → ¬ SaysAs version tables other
+unlike_children version tables read parents four rows are made held read_is said four_is same differ made_is =
+    let h : HoldsChildren tables.children parents = subst (λ o. IsRead (slice_cmp nat_cmp) child_in tables.children o) read_is held in
+    let w : IsFour version tables (Some rows) = subst (IsFour version tables) four_is said in
+    other_children version tables parents rows h (w parents h) (λ e. true≢false (sym (same.1 (e ∙ sym made_is)) ∙ differ))

@@ -77,12 +77,15 @@ fn taken(
     }
 }
 
+// Whether this becomes of it, and its file is as it was where it isn't taken over.
 fn is_so(alloc: Global, change: &str, ends: Ends, line: &str) -> Result<bool, Fail> {
     let settings = Settings::standard(alloc)?;
     let files = made(alloc, &[FOUR, ROWS, change])?.ok_or("made")?;
+    let before = files.db.bytes().to_vec(alloc)?;
     let conn = opened_in_memory(alloc, files)?;
     let (end, files) = taken(alloc, conn, &settings)?;
-    Ok(end == ends && is_said(alloc, &files, line))
+    let is_as_before = files.db.bytes() == before.as_slice();
+    Ok(end == ends && is_as_before != (end == Ends::Taken) && is_said(alloc, &files, line))
 }
 
 #[test]

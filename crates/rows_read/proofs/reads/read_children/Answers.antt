@@ -1,5 +1,5 @@
 use Rattle.std.proofs.Common.{◌≡◌, sym, subst}
-use Rattle.std.specs.Prelude.{IsPermutation, IfOk, OnOk}
+use Rattle.std.specs.Prelude.{IsPermutation, IfOk, OnOk, IsTrue}
 use Rattle.sqlite_value.specs.Order.{Row}
 use Rattle.sqlite.specs.State.{HasCleanDisk}
 use Rattle.sqlite.specs.Held.{state}
@@ -25,4 +25,4 @@ pub returns-in-Second-clause-ready : goal.returns-in-Second-clause-ready
 returns-in-Second-clause-ready g c =
     let old = state g.S.Store c.args.conn.now in
     let new = state g.S.Store c.read_all.new.conn in
-    subst (λ (v : Version). HasCleanDisk new → IsReadyAs v old → _ → OnOk c.read_all.result (IsStillAs v old new)) (sym c.in-Second.is) (λ clean ready is_open. c.read_all.ensures.ready Second read_children_plain clean ready)
+    subst (λ (v : Version). HasCleanDisk new → IsReadyAs v old → IsTrue old.is_open → OnOk c.read_all.result (IsStillAs v old new)) (sym c.in-Second.is) (λ clean ready is_open. c.read_all.ensures.ready Second read_children_plain clean ready)
