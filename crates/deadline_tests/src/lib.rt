@@ -1,0 +1,5 @@
+//! Tests of when a client has something to do next.
+#![tactic(auto)]
+
+#[cfg(test)]
+mod clients;
