@@ -1,15 +1,23 @@
 //! Links the client library, as `rt lib` builds it, and the kit's small C library, by which it reaches malloc, realloc and free.
-//! The kit is the folder that RATTLE_KIT names, else /opt/rattle.
+//! The kit is the folder that RATTLE_KIT names, else the one of the page that `rt doc` prints.
 
 use std::path::Path;
+use std::process::Command;
 
 fn main() {
     println!("cargo:rerun-if-env-changed=RATTLE_KIT");
-    let kit = std::env::var("RATTLE_KIT").unwrap_or("/opt/rattle".to_owned());
+    let kit = std::env::var("RATTLE_KIT").unwrap_or_else(|_| kit_of_rt());
     let folder = Path::new(env!("CARGO_MANIFEST_DIR")).join("../../../crates/cell_client/out");
     println!("cargo:rerun-if-changed={}", folder.join("libcell_client.a").display());
     println!("cargo:rustc-link-search=native={}", folder.display());
     println!("cargo:rustc-link-lib=static=cell_client");
     println!("cargo:rustc-link-search=native={kit}/c");
     println!("cargo:rustc-link-lib=static=libc_c");
+}
+
+fn kit_of_rt() -> String {
+    let said = Command::new("rt").arg("doc").output().expect("rt, or RATTLE_KIT, is wanted");
+    let page = String::from_utf8(said.stdout).expect("rt doc prints a path");
+    let folder = Path::new(page.trim()).parent().expect("a page stands in a folder");
+    folder.display().to_string()
 }
