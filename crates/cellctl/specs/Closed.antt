@@ -19,8 +19,8 @@ use Rattle.rows_sql.specs.Closed.{StandsAlone}
 abbrev pub taken : Settled → Rows → Store
 taken settings rows = record { cell = settings.cell; rows = rows; may_leave = rows ∷ []; refusals = 0; doubt = 0 }
 
--- a script ended so over a store that had this state, and the store was closed: it led from the rows that it had to those
--- that stand in the database file alone
+-- a script ended so over a store that had this state, and the store was closed: it led from the rows that it was taken over
+-- as to those that stand in the database file alone
 pub record RanOver {D : Type 0} (g : Ghosts D) (settings : Settled) (had : State) (text : Option (List ℕ)) (status : ℕ) (files : Files D) (before after : Option (List ℕ)) : Type 0 where
   pub clean : HasCleanDisk had
   pub first : Rows

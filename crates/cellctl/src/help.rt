@@ -64,10 +64,10 @@ Exit status:
   3                 the store can't be opened or closed, or holds no rows of a cell
   4                 memory ran out outside a step
 
-The store is a SQLite file. Where it isn't there, or has no table, a new store is made in it; else its rows are taken as
-they are. Nobody else may write it meanwhile. Behind the script it is closed: the rows stand in that one file. A script in a
-file is up to 1,500 commits ahead of its lines: where such a run is killed, these stand in the store, and their lines weren't
-written; the log beside the file (FILE-wal) is then a part of the store.
+The store is a SQLite file. Where it isn't there, or has no table, a new store is made in it; one of version 1 is made one of
+version 2, for good; else its rows are taken as they are. Nobody else may write it meanwhile. Behind the script it is closed:
+the rows stand in that one file. A script in a file is up to 1,500 commits ahead of its lines: where such a run is killed,
+these stand in the store, and their lines weren't written; the log beside the file (FILE-wal) is then a part of the store.
 
 With --trace a line on standard error tells of each message that is sent: its number, from whom to whom, and its kind:
   message 9 client 1 -> master Call read

@@ -20,7 +20,7 @@ use Rattle.sqlite_rules.specs.Edit.{id_in}
 use Rattle.sqlite_rules.proofs.ListLemmas.{all_has, some_from}
 use Rattle.sqlite_rules.proofs.TableLemmas.{int_is}
 use Rattle.sqlite.specs.Effect.{Database}
-use Rattle.rows_schema.specs.OurSchema.{the_schema, nodes, sessions, locks}
+use Rattle.rows_schema.specs.OurSchema.{the_schema, nodes, sessions, locks, children}
 use Rattle.rows_edits.specs.Ongoing.{IsStore}
 use Rattle.rows_edits.proofs.Truths.{alone_or, equal_is}
 use Rattle.rows_edits.proofs.Trees.{same_row}
@@ -40,6 +40,13 @@ lock_clash new r = alone_or _
 pub node_clash : (new r : Row) → conflicts (Some (1 ∷ [])) the_schema.indexes nodes new r ≡ same_name r new
 unfolding first_key
 node_clash new r = alone_or _
+
+abbrev pub same_child : Row → Row → Bool
+same_child r new = equal Binary (column r 1) (column new 1) && (equal Binary (column r 2) (column new 2) && true)
+
+pub child_clash : (new r : Row) → conflicts (Some (1 ∷ 2 ∷ [])) the_schema.indexes children new r ≡ same_child r new
+unfolding first_key
+child_clash new r = alone_or _
 
 pub session_clash : (new r : Row) → conflicts (Some (0 ∷ [])) the_schema.indexes sessions new r ≡ (equal Binary (rowid r) (rowid new) && true)
 unfolding first_key

@@ -23,19 +23,19 @@ use Rattle.rows_read.proofs.Held.{has_mapped, mapped_has, has_permuted, holds_mo
 
 module _ {K V : Type 0} (cmp : K → K → Ordering) (total : IsTotalOrder cmp) where
   -- nothing is at a key that is below all
-  none_at_low : (k : K) (es : List (K × V)) → AllByRecursion (λ y. cmp k y ≡ Less) (keys_of es) → (remove_entry (is_at (cmp k)) es ≡ es) × (lookup (is_at (cmp k)) es ≡ None)
+  pub none_at_low : (k : K) (es : List (K × V)) → AllByRecursion (λ y. cmp k y ≡ Less) (keys_of es) → (remove_entry (is_at (cmp k)) es ≡ es) × (lookup (is_at (cmp k)) es ≡ None)
   none_at_low k [] low = (refl, refl)
   none_at_low k (e ∷ es) low = let more = none_at_low k es low.1 in (rw (low.0, more.0) refl, rw low.0 more.1)
 
-  put_low : (k : K) (v : V) (es : List (K × V)) → AllByRecursion (λ y. cmp k y ≡ Less) (keys_of es) → insert_entry cmp es k v ≡ (k, v) ∷ es
+  pub put_low : (k : K) (v : V) (es : List (K × V)) → AllByRecursion (λ y. cmp k y ≡ Less) (keys_of es) → insert_entry cmp es k v ≡ (k, v) ∷ es
   put_low k v [] low = refl
   put_low k v (e ∷ es) low = rw low.0 refl
 
-  lower : (a b : K) (es : List (K × V)) → cmp a b ≡ Less → AllByRecursion (λ y. cmp b y ≡ Less) (keys_of es) → AllByRecursion (λ y. cmp a y ≡ Less) (keys_of es)
+  pub lower : (a b : K) (es : List (K × V)) → cmp a b ≡ Less → AllByRecursion (λ y. cmp b y ≡ Less) (keys_of es) → AllByRecursion (λ y. cmp a y ≡ Less) (keys_of es)
   lower a b [] low all = tt
   lower a b (e ∷ es) low all = (total.trans a b e.0 low all.0, lower a b es low all.1)
 
-  level : (a b : K) (es : List (K × V)) → cmp a b ≡ Equal → AllByRecursion (λ y. cmp b y ≡ Less) (keys_of es) → AllByRecursion (λ y. cmp a y ≡ Less) (keys_of es)
+  pub level : (a b : K) (es : List (K × V)) → cmp a b ≡ Equal → AllByRecursion (λ y. cmp b y ≡ Less) (keys_of es) → AllByRecursion (λ y. cmp a y ≡ Less) (keys_of es)
   level a b [] same all = tt
   level a b (e ∷ es) same all = (total.congr a b e.0 same ∙ all.0, level a b es same all.1)
 
@@ -46,6 +46,15 @@ module _ {K V : Type 0} (cmp : K → K → Ordering) (total : IsTotalOrder cmp) 
   lookup_removed k (e ∷ es) s = elim (cases_Bool (is_at (cmp k) e.0)) [
     | inl t ↦ rw t (none_at_low k es (level k e.0 es (equal_is (cmp k e.0) t) s.0)).1
     | inr f ↦ rw (f, f) (lookup_removed k es s.1)
+  ]
+
+  -- and taken out again it is the same
+  pub removed_twice : (k : K) (es : List (K × V)) → IsStrictlySortedBy cmp (keys_of es) → remove_entry (is_at (cmp k)) (remove_entry (is_at (cmp k)) es) ≡ remove_entry (is_at (cmp k)) es
+  unfolding IsStrictlySortedBy
+  removed_twice k [] s = refl
+  removed_twice k (e ∷ es) s = elim (cases_Bool (is_at (cmp k) e.0)) [
+    | inl t ↦ rw t (none_at_low k es (level k e.0 es (equal_is (cmp k e.0) t) s.0)).0
+    | inr f ↦ rw (f, f) (ap (λ xs. e ∷ xs) (removed_twice k es s.1))
   ]
 
   -- a put is a removal and a put of a new key
@@ -74,6 +83,29 @@ module _ {K V : Type 0} (cmp : K → K → Ordering) (total : IsTotalOrder cmp) 
       let over : cmp x.0 e.0 ≡ Equal = total.congr x.0 k e.0 tied ∙ equal_is (cmp k e.0) t in
       let bad : Less ≡ Equal = sym low ∙ over in absurd (let never = ap is_eq bad in true≢false (sym never))) in
       rw first (lookup_some k es e s.1 h t)
+
+  -- what is found is there, under its key
+  pub lookup_has : CmpEqualImpliesEq cmp → (k : K) (v : V) (es : List (K × V)) → lookup (is_at (cmp k)) es ≡ Some v → Has es (k, v)
+  lookup_has exact k v [] found = cc
+  lookup_has exact k v (e ∷ es) found =
+      (elim (is_at (cmp k) e.0) as (λ b. is_at (cmp k) e.0 ≡ b → cond b (Some e.1) (lookup (is_at (cmp k)) es) ≡ Some v → Has (e ∷ es) (k, v)) [
+        | true ↦ (λ t is. let key = exact k e.0 (equal_is (cmp k e.0) t) in let value : e.1 ≡ v = same_some is in inl (λ j. (key j, sym value j)))
+        | false ↦ (λ f is. inr (lookup_has exact k v es is))
+      ]) refl found
+
+  none_not : (o : Option V) (v : V) → o ≡ None → o ≡ Some v → ⊥
+  none_not o v e h = let x : None ≡ Some v = sym e ∙ h in cc
+
+  -- a put of what is there changes nothing
+  pub put_there : (k : K) (v : V) (es : List (K × V)) → IsStrictlySortedBy cmp (keys_of es) → lookup (is_at (cmp k)) es ≡ Some v → insert_entry cmp es k v ≡ es
+  unfolding IsStrictlySortedBy
+  put_there k v [] s found = cc
+  put_there k v (e ∷ es) s found =
+      (elim (cmp k e.0) as (λ o. cmp k e.0 ≡ o → cond (is_eq o) (Some e.1) (lookup (is_at (cmp k)) es) ≡ Some v → match_ordering o ((k, v) ∷ e ∷ es) ((e.0, v) ∷ es) (e ∷ insert_entry cmp es k v) ≡ e ∷ es) [
+        | Less ↦ (λ c is. absurd (none_not (lookup (is_at (cmp k)) es) v (none_at_low k es (lower k e.0 es c s.0)).1 is))
+        | Equal ↦ (λ c is. let value : e.1 ≡ v = same_some is in ap (λ (x : V). (e.0, x) ∷ es) (sym value))
+        | Greater ↦ (λ c is. ap (λ xs. e ∷ xs) (put_there k v es s.1 is))
+      ]) refl found
 
 -- ---- rows
 

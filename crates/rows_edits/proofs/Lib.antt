@@ -23,9 +23,16 @@ pub mod SetGeneration
 pub mod PutNode
 pub mod Cascades
 pub mod RemoveNode
+pub mod RemoveChild
 pub mod Steps
 pub mod MeaningOfCreation
 pub mod Creates
 pub mod PutCell
 pub mod OpeningEdits
 pub mod Made
+pub mod ChildLists
+pub mod ChildKeys
+pub mod Adds
+pub mod PutChild
+pub mod NodeSteps
+pub mod Carried

@@ -1,21 +1,19 @@
 -- A new store, step by step.
-use Rattle.std.proofs.Common.{◌≡◌, List, Ok, sym, subst, ◌∙◌, arith}
+use Rattle.std.proofs.Common.{◌≡◌, List, sym, subst, ◌∙◌, arith}
 use Rattle.std.specs.Prelude.{true, false}
 use Rattle.sqlite.specs.Tree.{Trees}
-use Rattle.sqlite.specs.Effect.{Database}
 use Rattle.sqlite.specs.State.{State, HasCleanDisk, Survives, Shows}
 use Rattle.sqlite.specs.Held.{Held, state}
 use Rattle.sqlite.proofs.StateLemmas.{survives_then}
 use Rattle.sqlite.proofs.Callers.{survives_begin}
 use Rattle.sqlite_trees.specs.declared.store.Store.{Ghosts}
-use Rattle.rows_cell.specs.declared.tables.Rows.{Rows}
 use Rattle.rows_cell.specs.declared.tables.Edit.{Edit}
 use Rattle.rows_cell.specs.Opening.{opening}
 use Rattle.settings_core.specs.Settings.{Settled}
 use Rattle.rows_cell.specs.Rows.{changed_rows}
 use Rattle.rows_read.specs.Held.{Says}
 use Rattle.rows_read.specs.Ready.{tables_of}
-use Rattle.rows_edits.specs.Ongoing.{IsStore, Changed}
+use Rattle.rows_edits.specs.Ongoing.{Changed}
 use Rattle.rows_edits.specs.Creation.{no_schema, Makes, PutsCell, MakesBare, Opens, IsMade, MayOpen, IsStoreOf, opening_edits, bare_rows}
 use Rattle.rows_schema.specs.OurSchema.{the_schema}
 use Rattle.rows_edits.proofs.OpeningEdits.{opening_put}

@@ -6,8 +6,8 @@ use Rattle.sqlite.specs.Given.{IsPlain}
 use Rattle.sqlite.specs.Compile.{table_defined_by}
 use Rattle.sqlite.specs.Command.TheVariants.{CreateTable}
 use Rattle.sqlite.proofs.Callers.{command_of, statement_of}
-use Rattle.rows_schema.specs.OurSchema.{meta, nodes, sessions, locks, the_schema}
-use Rattle.rows_edits.specs.Creation.{make_meta_text, make_nodes_text, make_sessions_text, make_locks_text, put_cell_text, put_cell_command, no_schema, with_meta, with_nodes, with_sessions}
+use Rattle.rows_schema.specs.OurSchema.{meta, nodes, sessions, locks, children, first_schema, the_schema}
+use Rattle.rows_edits.specs.Creation.{make_meta_text, make_nodes_text, make_sessions_text, make_locks_text, make_children_text, put_cell_text, put_cell_command, no_schema, with_meta, with_nodes, with_sessions}
 
 pub put_cell_is : command_of (understood the_schema put_cell_text) ≡ put_cell_command
 unfolding understood everything
@@ -64,3 +64,15 @@ locks_made_plain = (refl, refl)
 pub locks_defined : table_defined_by make_locks_text ≡ Ok (record locks { tree = 0 })
 unfolding understood everything
 locks_defined = refl
+
+pub children_made : (command_of (understood first_schema make_children_text) ≡ CreateTable) × (statement_of make_children_text (understood first_schema make_children_text) ≡ make_children_text)
+unfolding understood everything
+children_made = (refl, refl)
+
+pub children_made_plain : IsPlain (understood first_schema make_children_text)
+unfolding understood everything
+children_made_plain = (refl, refl)
+
+pub children_defined : table_defined_by make_children_text ≡ Ok (record children { tree = 0 })
+unfolding understood everything
+children_defined = refl

@@ -36,7 +36,7 @@ generation_from (Some k) (Some l) (Some i) (Some c) (Some a) (Some g) (Some acls
     ap (λ (x : List ℕ × Node). Some (x.0, record x.1 { lock_generation = n })) (same_some is)
 generation_from _ _ _ _ _ _ _ _ content e n is = absurd cc
 
-named_in : (b : Bool) (t s : List ℕ) → cond b (Some t) None ≡ Some s → t ≡ s
+pub named_in : (b : Bool) (t s : List ℕ) → cond b (Some t) None ≡ Some s → t ≡ s
 named_in true t s e = same_some e
 named_in false t s e = absurd cc
 
@@ -53,7 +53,7 @@ name_said r e says = named_in (is_name (bytes (column r 1))) (bytes (column r 1)
 abbrev pub has_name : List ℕ → Row → Bool
 has_name t r = equal Binary (column r 1) (Text t) && true
 
-eq_reversed : (o : Ordering) → is_eq (ordering_reverse o) ≡ is_eq o
+pub eq_reversed : (o : Ordering) → is_eq (ordering_reverse o) ≡ is_eq o
 eq_reversed Less = refl
 eq_reversed Equal = refl
 eq_reversed Greater = refl

@@ -1,4 +1,4 @@
--- What the statement makes of the tables that puts a node.
+-- What the statement makes of the tables that puts the row of a node.
 use Rattle.std.proofs.Common.{◌≡◌, ℕ, ℤ, pos, Bool, true, List, [], ◌∷◌, Some, None, Ok, inl, inr, refl, sym, ap, ◌∙◌, subst}
 use Rattle.std.specs.BTreeMap.{is_at}
 use Rattle.std.specs.Option.{option_map_or}
@@ -27,16 +27,17 @@ use Rattle.sqlite.specs.State.{State, Executes}
 use Rattle.names_cell.specs.Text.{is_component, is_name}
 use Rattle.node_core.specs.declared.views.View.{View}
 use Rattle.rows_cell.specs.declared.tables.Node.{Node}
-use Rattle.rows_cell.specs.declared.tables.Edit.TheVariants.{PutNode}
 use Rattle.rows_cell.specs.Rows.{stored_node}
 use Rattle.rows_schema.specs.OurSchema.{nodes}
 use Rattle.rows_read.specs.Decode.{count_of, count_in, kind_of, life_of, acls_from, numbers_from, node_from, node_in}
+use Rattle.rows_schema.specs.declared.ours.Version.TheVariants.{Second}
+use Rattle.rows_read.specs.Children.{children_of}
 use Rattle.rows_read.specs.Held.{Holds}
 use Rattle.rows_read.specs.Ready.{node_shown}
 use Rattle.rows_edits.specs.Texts.{put_node_text}
 use Rattle.rows_edits.specs.Commands.{is}
 use Rattle.rows_edits.specs.Numbers.{IsNumber, IsReadAs}
-use Rattle.rows_edits.specs.Ongoing.{IsStore, RanInside, Changed}
+use Rattle.rows_edits.specs.Ongoing.{IsStore, RanInside, PutsEntry}
 use Rattle.rows_edits.proofs.Meaning.{put_node_is, put_node_plain}
 use Rattle.rows_edits.proofs.Casts.{cast_null, cast_int, int_stays, text_stays, component_reads, name_reads}
 use Rattle.rows_edits.proofs.Columns.{text_value}
@@ -168,7 +169,7 @@ pub record Given (t : List ℕ) (view : View) (name read write change content : 
 
 pub node_there : (t : List ℕ) (view : View) (name i k l g a read write change content : ValueRef) → Given t view name read write change content → is_name t ≡ true → HasNames view → IsNumber i view.instance → IsReadAs kind_of k view.kind → IsReadAs life_of l view.life → IsNumber g view.content_generation → IsNumber a view.acl_generation
     → (old new : State) → RanInside put_node_text (bound (name ∷ i ∷ k ∷ l ∷ g ∷ a ∷ read ∷ write ∷ change ∷ content ∷ [])) old new
-    → Changed (PutNode t view ∷ []) old new
+    → PutsEntry t view old new
 node_there t view name i k l g a read write change content texts named names ni nk nl ng na old new run =
     let row : bound (name ∷ i ∷ k ∷ l ∷ g ∷ a ∷ read ∷ write ∷ change ∷ content ∷ []) ≡ Text t ∷ Int ni.0 ∷ Int nk.0 ∷ Int nl.0 ∷ Int ng.0 ∷ Int na.0 ∷ Text view.read ∷ Text view.write ∷ Text view.change ∷ Blob view.content ∷ [] = λ j.
     texts.name_is j ∷ bound_value (owned (ni.1 j)) ∷ bound_value (owned (nk.1 j)) ∷ bound_value (owned (nl.1 j)) ∷ bound_value (owned (ng.1 j)) ∷ bound_value (owned (na.1 j)) ∷ texts.read_is j ∷ texts.write_is j ∷ texts.change_is j ∷ texts.content_is j ∷ [] in
@@ -182,7 +183,7 @@ node_there t view name i k l g a read write change content texts named names ni 
           let done = node_put t view c old new store r.count r.ran in
           let put = done.0 in
           let held = held_as_shown (slice_cmp nat_cmp) node_in node_shown es rows.nodes said.nodes in
-          nodes_say old.now new.now (new.now.trees 1) rows said done.1 _
+          nodes_say old.now new.now (new.now.trees 1) Second rows (children_of rows.nodes) said done.1 _
           (shown_as_held (slice_cmp nat_cmp) node_in node_shown (new.now.trees 1) _
           (holds_put (slice_cmp nat_cmp) nat_list_cmp_total (λ x. node_in (node_shown x)) es rows.nodes held t (clash t view c old new store) (test t view c old new store counts names named rows.nodes held)
           exact_bytes put.last (record { view = view; lock_generation = generation t view c old new store counts names named rows.nodes held }) (new.now.trees 1) (last_says t view c old new store counts names named rows.nodes held put) put.rows));

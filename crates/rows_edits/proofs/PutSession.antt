@@ -33,6 +33,8 @@ use Rattle.rows_cell.specs.declared.tables.Edit.TheVariants.{PutSession}
 use Rattle.rows_schema.specs.OurSchema.{the_schema, sessions}
 use Rattle.rows_read.specs.Decode.{count_of, count_in, live_of, component_in, session_from, session_in}
 use Rattle.rows_read.specs.Ready.{session_shown}
+use Rattle.rows_schema.specs.declared.ours.Version.TheVariants.{Second}
+use Rattle.rows_read.specs.Children.{children_of}
 use Rattle.rows_edits.specs.Texts.{put_session_text}
 use Rattle.rows_edits.specs.Commands.{is}
 use Rattle.rows_edits.specs.Numbers.{IsNumber, IsReadAs}
@@ -143,7 +145,7 @@ session_there client session c p l is_text named nc nl old new run =
                 let k = id_of nc.0 text nl.0 old new store one.0 one.1 one.2 in
                 ap (λ (x : Row). session_in (session_shown x)) one.3 ∙ ap (λ v. session_in (v ∷ Text text ∷ Int nl.0 ∷ [])) k ∙ said_by
           ] in
-          sessions_say old.now new.now (new.now.trees 4) rows said done.1 _
+          sessions_say old.now new.now (new.now.trees 4) Second rows (children_of rows.nodes) said done.1 _
           (shown_as_held nat_cmp session_in session_shown (new.now.trees 4) _
           (holds_put nat_cmp nat_cmp_total (λ x. session_in (session_shown x)) es rows.sessions (held_as_shown nat_cmp session_in session_shown es rows.sessions said.sessions) client goes
           (tested nc.0 text nl.0 old new store client nc.2)

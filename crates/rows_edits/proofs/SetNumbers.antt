@@ -24,8 +24,9 @@ use Rattle.sqlite.specs.State.{State, Executes}
 use Rattle.rows_schema.specs.OurSchema.{the_schema, meta}
 use Rattle.rows_edits.specs.Texts.{set_epoch_text, set_next_instance_text}
 use Rattle.rows_edits.specs.Commands.{is}
+use Rattle.rows_edits.specs.Carrying.{set_version_text}
 use Rattle.rows_edits.specs.Ongoing.{IsStore}
-use Rattle.rows_edits.proofs.Meaning.{set_epoch_is, set_epoch_plain, set_next_instance_is, set_next_instance_plain}
+use Rattle.rows_edits.proofs.Meaning.{set_epoch_is, set_epoch_plain, set_next_instance_is, set_next_instance_plain, set_version_is, set_version_plain}
 use Rattle.rows_edits.proofs.Columns.{equal-Int}
 use Rattle.rows_edits.proofs.Casts.{cast_null, cast_int, int_stays, text_stays}
 use Rattle.rows_edits.proofs.Query.{passes}
@@ -44,6 +45,9 @@ epoch_project = col 1 0 ∷ col 1 0 ∷ lit Null ∷ col 1 2 ∷ col 1 3 ∷ col
 abbrev pub next_project : List Term
 next_project = col 1 0 ∷ col 1 0 ∷ lit Null ∷ col 1 2 ∷ col 1 3 ∷ col 1 4 ∷ col 1 5 ∷ col 0 0 ∷ []
 
+abbrev pub version_project : List Term
+version_project = col 1 0 ∷ col 1 0 ∷ lit Null ∷ lit (Int (pos 2)) ∷ col 1 3 ∷ col 1 4 ∷ col 0 0 ∷ col 1 6 ∷ []
+
 no_action : (olds : List Row) (n : Row) → works the_schema Enforced 0 0 olds (n ∷ []) ≡ []
 unfolding same_name joined
 no_action olds n = refl
@@ -61,6 +65,9 @@ module _ (n : ℤ) where
 
   abbrev pub with_next : Row → Row
   with_next r = column r 0 ∷ Null ∷ column r 2 ∷ column r 3 ∷ column r 4 ∷ column r 5 ∷ Int n ∷ []
+
+  abbrev pub with_version : Row → Row
+  with_version r = column r 0 ∷ Null ∷ Int (pos 2) ∷ column r 3 ∷ column r 4 ∷ Int n ∷ column r 6 ∷ []
 
   module _ (db : Database) (store : IsStore db) (project : List Term) where
     int_at : (r : Row) → Has (db.trees 0) r → is_int (rowid r) ≡ true
@@ -105,3 +112,18 @@ module _ (n : ℤ) where
         idle = nor_none;
       } in
       (ran_update 0 meta refl set_next_instance_text terms next_project params old new refl set_next_instance_is set_next_instance_plain with_next store how count ran).1
+
+  pub set_version_done : (old new : State) (count : ℕ) → IsStore old.now → Executes set_version_text params old new (Ok count) → Rewrote 0 (map (renewed (passes 0 terms version_project params) with_version) (old.now.trees 0)) old.now new.now
+  set_version_done old new count store ran =
+      let how : updates.Renews old.step_limit meta params params old.now.trees terms version_project refl with_version = record {
+        shaped = store.metas;
+        shown = λ r h t. refl;
+        same_id = λ r h t. refl;
+        fits = λ r h t.
+            let typed = meta_rows old.now store r h in
+            λ j. int_stays (column r 0) (int_is (rowid r) (int_at old.now store version_project r h)) j ∷ cast_null j ∷ cast_int (pos 2) j ∷ text_stays (column r 3) typed.cell j ∷ column r 4 ∷ cast_int n j ∷ int_stays (column r 6) typed.next_instance j ∷ [];
+        one = one_first old.now store version_project;
+        alone = no_action;
+        idle = nor_none;
+      } in
+      (ran_update 0 meta refl set_version_text terms version_project params old new refl set_version_is set_version_plain with_version store how count ran).1

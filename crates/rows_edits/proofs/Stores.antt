@@ -15,15 +15,17 @@ use Rattle.sqlite_rules.specs.Lists.{Has}
 use Rattle.sqlite_rules.proofs.ListLemmas.{all_has}
 use Rattle.rows_schema.specs.OurSchema.{the_schema}
 use Rattle.rows_cell.specs.declared.tables.Rows.{Rows}
-use Rattle.rows_read.specs.Decode.{meta_in}
+use Rattle.rows_schema.specs.declared.ours.Version.{Version}
+use Rattle.rows_read.specs.Decode.{meta_as}
+use Rattle.rows_read.specs.Children.{Parents}
 use Rattle.rows_cell.specs.declared.tables.Session.{Session}
 use Rattle.rows_cell.specs.Rows.{StoredNodes, StoredLocks}
 use Rattle.sqlite_trees.proofs.ListLemmas.{map-map}
 use Rattle.std.specs.List.Sorted.{IsPermutation}
-use Rattle.rows_read.specs.Held.{Holds, Says, HoldsNodes, HoldsSessions, HoldsLocks, meta_of}
-use Rattle.rows_read.specs.Ready.{tables_of, meta_shown, node_shown, session_shown, lock_shown}
+use Rattle.rows_read.specs.Held.{Holds, SaysWith, HoldsNodes, HoldsSessions, HoldsLocks, HoldsChildren, meta_of}
+use Rattle.rows_read.specs.Ready.{tables_of, meta_shown, node_shown, session_shown, lock_shown, child_shown}
 use Rattle.rows_edits.specs.Ongoing.{IsStore}
-use Rattle.rows_edits.proofs.Columns.{IsMetaRow, IsNodeRow, IsSessionRow, IsLockRow, meta_typed, node_typed, session_typed, lock_typed}
+use Rattle.rows_edits.proofs.Columns.{IsMetaRow, IsNodeRow, IsSessionRow, IsLockRow, IsChildRow, meta_typed, node_typed, session_typed, lock_typed, child_typed}
 
 -- the tables are as before, but for that of one tree
 abbrev pub SameOthers : ℕ → Database → Database → Type 0
@@ -44,6 +46,7 @@ still_store at old new store schema sound shaped others = record {
   nodes = stays at 1 old new shaped others.1.0 store.nodes;
   sessions = stays at 4 old new shaped others.1.1.0 store.sessions;
   locks = stays at 5 old new shaped others.1.1.1.0 store.locks;
+  children = stays at 7 old new shaped others.1.1.1.1.0 store.children;
 }
 
 -- ---- the rows of a store have values of the types of their columns
@@ -63,6 +66,9 @@ module _ (db : Database) (store : IsStore db) where
 
   pub lock_rows : (r : Row) → Has (db.trees 5) r → IsLockRow r
   lock_rows r h = lock_typed r (and_parts _ _ (all_has _ (db.trees 5) r (rule_kept Datatype).1.1.1.0 h)).0 (all_has _ (db.trees 5) r (rule_kept NotNull).1.1.1.0 h)
+
+  pub child_rows : (r : Row) → Has (db.trees 7) r → IsChildRow r
+  child_rows r h = child_typed r (and_parts _ _ (all_has _ (db.trees 7) r (rule_kept Datatype).1.1.1.1.0 h)).0 (all_has _ (db.trees 7) r (rule_kept NotNull).1.1.1.1.0 h)
 
 -- one tree has these rows, and the other tables are as before
 pub record Rewrote (at : ℕ) (rows : List Row) (old new : Database) : Type 0 where
@@ -93,37 +99,53 @@ module _ (old new : Database) (rows : List Row) where
   locks_kept : (at : ℕ) → 5 ≢ at → Rewrote at rows old new → new.trees 5 ≡ old.trees 5
   locks_kept at apart done = done.others.1.1.1.0 apart
 
-  module _ (was : Rows) (h : Says (tables_of old.trees) was) where
+  children_kept : (at : ℕ) → 7 ≢ at → Rewrote at rows old new → new.trees 7 ≡ old.trees 7
+  children_kept at apart done = done.others.1.1.1.1.0 apart
+
+  module _ (version : Version) (was : Rows) (children : Parents) (h : SaysWith version (tables_of old.trees) was children) where
     -- the row of the cell
-    pub metas_say : Rewrote 0 rows old new → (is : Rows) → is.nodes ≡ was.nodes → is.sessions ≡ was.sessions → is.locks ≡ was.locks
-        → map meta_in (map meta_shown rows) ≡ Some (meta_of is) ∷ [] → Says (tables_of new.trees) is
-    metas_say done is n s l said = record {
-      meta = ap (λ rs. map meta_in (map meta_shown rs)) done.tree ∙ said;
+    pub metas_say : Rewrote 0 rows old new → (kind : Version) (is : Rows) → is.nodes ≡ was.nodes → is.sessions ≡ was.sessions → is.locks ≡ was.locks
+        → map (meta_as kind) (map meta_shown rows) ≡ Some (meta_of is) ∷ [] → SaysWith kind (tables_of new.trees) is children
+    metas_say done kind is n s l said = record {
+      meta = ap (λ rs. map (meta_as kind) (map meta_shown rs)) done.tree ∙ said;
       nodes = subst (HoldsNodes _) (sym n) (subst (λ rs. HoldsNodes (map node_shown rs) was.nodes) (sym (nodes_kept 0 (λ e. absurd (omega (arith, e))) done)) h.nodes);
       sessions = subst (HoldsSessions _) (sym s) (subst (λ rs. HoldsSessions (map session_shown rs) was.sessions) (sym (sessions_kept 0 (λ e. absurd (omega (arith, e))) done)) h.sessions);
       locks = subst (HoldsLocks _) (sym l) (subst (λ rs. HoldsLocks (map lock_shown rs) was.locks) (sym (locks_kept 0 (λ e. absurd (omega (arith, e))) done)) h.locks);
+      children = subst (λ rs. HoldsChildren (map child_shown rs) children) (sym (children_kept 0 (λ e. absurd (omega (arith, e))) done)) h.children;
     }
 
-    pub nodes_say : Rewrote 1 rows old new → (nodes : StoredNodes) → HoldsNodes (map node_shown rows) nodes → Says (tables_of new.trees) (record was { nodes = nodes })
+    pub nodes_say : Rewrote 1 rows old new → (nodes : StoredNodes) → HoldsNodes (map node_shown rows) nodes → SaysWith version (tables_of new.trees) (record was { nodes = nodes }) children
     nodes_say done nodes said = record {
-      meta = ap (λ rs. map meta_in (map meta_shown rs)) (metas_kept 1 (λ e. absurd (omega (arith, e))) done) ∙ h.meta;
+      meta = ap (λ rs. map (meta_as version) (map meta_shown rs)) (metas_kept 1 (λ e. absurd (omega (arith, e))) done) ∙ h.meta;
       nodes = subst (λ rs. HoldsNodes (map node_shown rs) nodes) (sym done.tree) said;
       sessions = subst (λ rs. HoldsSessions (map session_shown rs) was.sessions) (sym (sessions_kept 1 (λ e. absurd (omega (arith, e))) done)) h.sessions;
       locks = subst (λ rs. HoldsLocks (map lock_shown rs) was.locks) (sym (locks_kept 1 (λ e. absurd (omega (arith, e))) done)) h.locks;
+      children = subst (λ rs. HoldsChildren (map child_shown rs) children) (sym (children_kept 1 (λ e. absurd (omega (arith, e))) done)) h.children;
     }
 
-    pub sessions_say : Rewrote 4 rows old new → (sessions : List (ℕ × Session)) → HoldsSessions (map session_shown rows) sessions → Says (tables_of new.trees) (record was { sessions = sessions })
+    pub sessions_say : Rewrote 4 rows old new → (sessions : List (ℕ × Session)) → HoldsSessions (map session_shown rows) sessions → SaysWith version (tables_of new.trees) (record was { sessions = sessions }) children
     sessions_say done sessions said = record {
-      meta = ap (λ rs. map meta_in (map meta_shown rs)) (metas_kept 4 (λ e. absurd (omega (arith, e))) done) ∙ h.meta;
+      meta = ap (λ rs. map (meta_as version) (map meta_shown rs)) (metas_kept 4 (λ e. absurd (omega (arith, e))) done) ∙ h.meta;
       nodes = subst (λ rs. HoldsNodes (map node_shown rs) was.nodes) (sym (nodes_kept 4 (λ e. absurd (omega (arith, e))) done)) h.nodes;
       sessions = subst (λ rs. HoldsSessions (map session_shown rs) sessions) (sym done.tree) said;
       locks = subst (λ rs. HoldsLocks (map lock_shown rs) was.locks) (sym (locks_kept 4 (λ e. absurd (omega (arith, e))) done)) h.locks;
+      children = subst (λ rs. HoldsChildren (map child_shown rs) children) (sym (children_kept 4 (λ e. absurd (omega (arith, e))) done)) h.children;
     }
 
-    pub locks_say : Rewrote 5 rows old new → (locks : StoredLocks) → HoldsLocks (map lock_shown rows) locks → Says (tables_of new.trees) (record was { locks = locks })
+    pub locks_say : Rewrote 5 rows old new → (locks : StoredLocks) → HoldsLocks (map lock_shown rows) locks → SaysWith version (tables_of new.trees) (record was { locks = locks }) children
     locks_say done locks said = record {
-      meta = ap (λ rs. map meta_in (map meta_shown rs)) (metas_kept 5 (λ e. absurd (omega (arith, e))) done) ∙ h.meta;
+      meta = ap (λ rs. map (meta_as version) (map meta_shown rs)) (metas_kept 5 (λ e. absurd (omega (arith, e))) done) ∙ h.meta;
       nodes = subst (λ rs. HoldsNodes (map node_shown rs) was.nodes) (sym (nodes_kept 5 (λ e. absurd (omega (arith, e))) done)) h.nodes;
       sessions = subst (λ rs. HoldsSessions (map session_shown rs) was.sessions) (sym (sessions_kept 5 (λ e. absurd (omega (arith, e))) done)) h.sessions;
       locks = subst (λ rs. HoldsLocks (map lock_shown rs) locks) (sym done.tree) said;
+      children = subst (λ rs. HoldsChildren (map child_shown rs) children) (sym (children_kept 5 (λ e. absurd (omega (arith, e))) done)) h.children;
+    }
+
+    pub children_say : Rewrote 7 rows old new → (next : Parents) → HoldsChildren (map child_shown rows) next → SaysWith version (tables_of new.trees) was next
+    children_say done next said = record {
+      meta = ap (λ rs. map (meta_as version) (map meta_shown rs)) (metas_kept 7 (λ e. absurd (omega (arith, e))) done) ∙ h.meta;
+      nodes = subst (λ rs. HoldsNodes (map node_shown rs) was.nodes) (sym (nodes_kept 7 (λ e. absurd (omega (arith, e))) done)) h.nodes;
+      sessions = subst (λ rs. HoldsSessions (map session_shown rs) was.sessions) (sym (sessions_kept 7 (λ e. absurd (omega (arith, e))) done)) h.sessions;
+      locks = subst (λ rs. HoldsLocks (map lock_shown rs) was.locks) (sym (locks_kept 7 (λ e. absurd (omega (arith, e))) done)) h.locks;
+      children = subst (λ rs. HoldsChildren (map child_shown rs) next) (sym done.tree) said;
     }

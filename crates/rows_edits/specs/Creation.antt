@@ -1,4 +1,4 @@
--- A new store: the statements that make its four tables and the row of its cell, and what is there behind each.
+-- A new store: the statements that make its five tables and the row of its cell, and what is there behind each.
 use Rattle.std.specs.Prelude.{◌≡◌, List, [], ◌∷◌, map, ℕ, codes, Some, pos, IsTrue}
 use Rattle.std.specs.List.{AllByRecursion}
 use Rattle.sqlite.specs.declared.types.Value.TheVariants.{Null, Int}
@@ -10,6 +10,7 @@ use Rattle.sqlite.specs.Table.{Table}
 use Rattle.sqlite.specs.Schema.{Schema}
 use Rattle.sqlite.specs.Tree.{Trees}
 use Rattle.sqlite.specs.Effect.{Database, IsDatabase}
+use Rattle.sqlite_catalog.specs.Change.{KeepsRows}
 use Rattle.sqlite.specs.State.{State, HasCleanDisk, KeepsCommit, Survives}
 use Rattle.sqlite_schema.specs.declared.schema.Index.{Index}
 use Rattle.sqlite_schema.specs.declared.command.Conflict.TheVariants.{Abort}
@@ -19,7 +20,7 @@ use Rattle.rows_cell.specs.Rows.{StoredNodes}
 use Rattle.rows_cell.specs.declared.tables.Rows.{Rows}
 use Rattle.rows_cell.specs.declared.tables.Edit.{Edit}
 use Rattle.rows_cell.specs.declared.tables.Edit.TheVariants.{PutNode}
-use Rattle.rows_schema.specs.OurSchema.{meta, nodes, sessions, key_index, the_schema}
+use Rattle.rows_schema.specs.OurSchema.{meta, nodes, sessions, key_index, first_schema, the_schema}
 use Rattle.rows_read.specs.Commands.{over}
 use Rattle.rows_read.specs.Held.{Says}
 use Rattle.rows_read.specs.Ready.{tables_of}
@@ -38,11 +39,14 @@ make_sessions_text = codes "CREATE TABLE sessions (client INTEGER NOT NULL PRIMA
 abbrev pub make_locks_text : List ℕ
 make_locks_text = codes "CREATE TABLE locks (instance INTEGER NOT NULL REFERENCES nodes (instance) ON DELETE CASCADE, client INTEGER NOT NULL, handle INTEGER NOT NULL, mode INTEGER NOT NULL, delay INTEGER NOT NULL, PRIMARY KEY (instance, client, handle)) STRICT"
 
+abbrev pub make_children_text : List ℕ
+make_children_text = codes "CREATE TABLE children (parent TEXT NOT NULL, child TEXT NOT NULL REFERENCES nodes (name) ON DELETE CASCADE, PRIMARY KEY (parent, child)) STRICT"
+
 abbrev pub put_cell_text : List ℕ
-put_cell_text = codes "INSERT INTO meta (id, version, cell, secret, epoch, next_instance) VALUES (1, 1, ?1, ?2, 0, 4) ON CONFLICT (id) DO UPDATE SET version = excluded.version, cell = excluded.cell, secret = excluded.secret, epoch = excluded.epoch, next_instance = excluded.next_instance"
+put_cell_text = codes "INSERT INTO meta (id, version, cell, secret, epoch, next_instance) VALUES (1, 2, ?1, ?2, 0, 4) ON CONFLICT (id) DO UPDATE SET version = excluded.version, cell = excluded.cell, secret = excluded.secret, epoch = excluded.epoch, next_instance = excluded.next_instance"
 
 abbrev pub put_cell_command : Command
-put_cell_command = InsertOr 0 Abort (Values (lit (Int (pos 1)) ∷ lit Null ∷ lit (Int (pos 1)) ∷ col 0 0 ∷ col 0 1 ∷ lit (Int (pos 0)) ∷ lit (Int (pos 4)) ∷ []) 7) (record {
+put_cell_command = InsertOr 0 Abort (Values (lit (Int (pos 1)) ∷ lit Null ∷ lit (Int (pos 2)) ∷ col 0 0 ∷ col 0 1 ∷ lit (Int (pos 0)) ∷ lit (Int (pos 4)) ∷ []) 7) (record {
   target = Some (0 ∷ []);
   update = Some (record { lets = []; body = over 0 (is (col 1 0) (col 0 2) ∷ []) (col 1 0 ∷ col 1 0 ∷ lit Null ∷ col 0 5 ∷ col 0 6 ∷ col 0 7 ∷ col 0 8 ∷ col 0 9 ∷ []) });
 } ∷ [])
@@ -72,6 +76,16 @@ pub record IsEmptyAs (schema : Schema) (db : Database) : Type 0 where
 -- a database of the one schema without rows becomes one of the other
 abbrev pub Makes : Schema → Schema → State → State → Type 0
 Makes before after old new = IsEmptyAs before old.now → IsEmptyAs after new.now × IsDatabase new.now
+
+-- the four tables of the first version get a fifth without rows, and theirs stay
+pub record HasMore (old new : Database) : Type 0 where
+  pub schema : new.schema ≡ the_schema
+  pub sound : IsDatabase new
+  pub kept : KeepsRows first_schema.tables old.trees new.trees
+  pub empty : new.trees 7 ≡ []
+
+abbrev pub AddsChildren : State → State → Type 0
+AddsChildren old new = old.now.schema ≡ first_schema → HasMore old.now new.now
 
 -- ---- the rows
 

@@ -6,3 +6,4 @@ pub mod Commands
 pub mod Numbers
 pub mod Ongoing
 pub mod Creation
+pub mod Carrying

@@ -2,8 +2,8 @@
 ghost use Rattle.std.specs.Prelude.{◌≡◌, false, OnOk, OnErr};
 ghost use Rattle.sqlite.specs.State.{HasCleanDisk, KeepsCommit, Survives};
 ghost use Rattle.sqlite.specs.Held.{state};
-ghost use Rattle.rows_schema.specs.OurSchema.{the_schema};
-ghost use Rattle.rows_edits.specs.Creation.{no_schema, with_meta, with_nodes, with_sessions, Makes, PutsCell, MakesBare, Opens, IsMade, MayOpen, StaysInside, opening_edits};
+ghost use Rattle.rows_schema.specs.OurSchema.{first_schema, the_schema};
+ghost use Rattle.rows_edits.specs.Creation.{no_schema, with_meta, with_nodes, with_sessions, Makes, AddsChildren, PutsCell, MakesBare, Opens, IsMade, MayOpen, StaysInside, opening_edits};
 
 use crate::changes::edit_all;
 use crate::edits::run;
@@ -50,12 +50,26 @@ fn make_sessions<S: Alter>(tx: &mut Transaction<'_, S>) -> Result<(), Error>
 
 fn make_locks<S: Alter>(tx: &mut Transaction<'_, S>) -> Result<(), Error>
     ensures same { tx.new.conn.ghost_name ≡ tx.old.conn.ghost_name }
-    ensures ok { HasCleanDisk (state S.Store tx.new.conn.now) → OnOk result (Makes with_sessions the_schema (state S.Store tx.old.conn.now) (state S.Store tx.new.conn.now)) }
+    ensures ok { HasCleanDisk (state S.Store tx.new.conn.now) → OnOk result (Makes with_sessions first_schema (state S.Store tx.old.conn.now) (state S.Store tx.new.conn.now)) }
     ensures stays { StaysInside (state S.Store tx.old.conn.now) (state S.Store tx.new.conn.now) }
 {
     run(
         tx,
         "CREATE TABLE locks (instance INTEGER NOT NULL REFERENCES nodes (instance) ON DELETE CASCADE, client INTEGER NOT NULL, handle INTEGER NOT NULL, mode INTEGER NOT NULL, delay INTEGER NOT NULL, PRIMARY KEY (instance, client, handle)) STRICT",
+        &[],
+    )
+}
+
+/// Makes the fifth table, where the four are there.
+pub(crate) fn make_children<S: Alter>(tx: &mut Transaction<'_, S>) -> Result<(), Error>
+    ensures same { tx.new.conn.ghost_name ≡ tx.old.conn.ghost_name }
+    ensures ok { HasCleanDisk (state S.Store tx.new.conn.now) → OnOk result (Makes first_schema the_schema (state S.Store tx.old.conn.now) (state S.Store tx.new.conn.now)) }
+    ensures adds { HasCleanDisk (state S.Store tx.new.conn.now) → OnOk result (AddsChildren (state S.Store tx.old.conn.now) (state S.Store tx.new.conn.now)) }
+    ensures stays { StaysInside (state S.Store tx.old.conn.now) (state S.Store tx.new.conn.now) }
+{
+    run(
+        tx,
+        "CREATE TABLE children (parent TEXT NOT NULL, child TEXT NOT NULL REFERENCES nodes (name) ON DELETE CASCADE, PRIMARY KEY (parent, child)) STRICT",
         &[],
     )
 }
@@ -71,11 +85,20 @@ fn make_meta_and_nodes<S: Alter>(tx: &mut Transaction<'_, S>) -> Result<(), Erro
 
 fn make_sessions_and_locks<S: Alter>(tx: &mut Transaction<'_, S>) -> Result<(), Error>
     ensures same { tx.new.conn.ghost_name ≡ tx.old.conn.ghost_name }
-    ensures ok { HasCleanDisk (state S.Store tx.new.conn.now) → OnOk result (Makes with_nodes the_schema (state S.Store tx.old.conn.now) (state S.Store tx.new.conn.now)) }
+    ensures ok { HasCleanDisk (state S.Store tx.new.conn.now) → OnOk result (Makes with_nodes first_schema (state S.Store tx.old.conn.now) (state S.Store tx.new.conn.now)) }
     ensures stays { StaysInside (state S.Store tx.old.conn.now) (state S.Store tx.new.conn.now) }
 {
     make_sessions(tx)?;
     make_locks(tx)
+}
+
+fn make_four<S: Alter>(tx: &mut Transaction<'_, S>) -> Result<(), Error>
+    ensures same { tx.new.conn.ghost_name ≡ tx.old.conn.ghost_name }
+    ensures ok { HasCleanDisk (state S.Store tx.new.conn.now) → OnOk result (Makes no_schema first_schema (state S.Store tx.old.conn.now) (state S.Store tx.new.conn.now)) }
+    ensures stays { StaysInside (state S.Store tx.old.conn.now) (state S.Store tx.new.conn.now) }
+{
+    make_meta_and_nodes(tx)?;
+    make_sessions_and_locks(tx)
 }
 
 fn make_tables<S: Alter>(tx: &mut Transaction<'_, S>) -> Result<(), Error>
@@ -83,8 +106,8 @@ fn make_tables<S: Alter>(tx: &mut Transaction<'_, S>) -> Result<(), Error>
     ensures ok { HasCleanDisk (state S.Store tx.new.conn.now) → OnOk result (Makes no_schema the_schema (state S.Store tx.old.conn.now) (state S.Store tx.new.conn.now)) }
     ensures stays { StaysInside (state S.Store tx.old.conn.now) (state S.Store tx.new.conn.now) }
 {
-    make_meta_and_nodes(tx)?;
-    make_sessions_and_locks(tx)
+    make_four(tx)?;
+    make_children(tx)
 }
 
 // Puts the row of the cell.
@@ -97,7 +120,7 @@ fn put_cell<S: Alter>(tx: &mut Transaction<'_, S>, settings: &Settings) -> Resul
     let secret = settings.secret().as_bytes();
     run(
         tx,
-        "INSERT INTO meta (id, version, cell, secret, epoch, next_instance) VALUES (1, 1, ?1, ?2, 0, 4) ON CONFLICT (id) DO UPDATE SET version = excluded.version, cell = excluded.cell, secret = excluded.secret, epoch = excluded.epoch, next_instance = excluded.next_instance",
+        "INSERT INTO meta (id, version, cell, secret, epoch, next_instance) VALUES (1, 2, ?1, ?2, 0, 4) ON CONFLICT (id) DO UPDATE SET version = excluded.version, cell = excluded.cell, secret = excluded.secret, epoch = excluded.epoch, next_instance = excluded.next_instance",
         &[ValueRef::Text(cell), ValueRef::Blob(secret)],
     )
 }
@@ -127,7 +150,7 @@ fn fill<S: Alter>(
     edit_all(tx, nodes)
 }
 
-/// Makes the four tables and puts the rows of a new store, in one transaction, where the database has no table yet. `nodes`
+/// Makes the five tables and puts the rows of a new store, in one transaction, where the database has no table yet. `nodes`
 /// puts the nodes of a new store.
 pub fn make_store<S: Alter>(
     conn: &mut Connection<S>,

@@ -1,10 +1,11 @@
-//! The eight edits, each one statement in a transaction.
-ghost use Rattle.std.specs.Prelude.{◌≡◌, ◌∷◌, [], OnOk};
+//! The eight edits, in a transaction: each is one statement, but a put and a removal of a node, which are two.
+ghost use Rattle.std.specs.Prelude.{◌≡◌, ◌∷◌, [], OnOk, Some};
 ghost use Rattle.sqlite.specs.Values.{bound};
 ghost use Rattle.sqlite.specs.State.{HasCleanDisk, KeepsCommit, Survives};
 ghost use Rattle.sqlite.specs.Held.{state};
+ghost use Rattle.names_cell.specs.Text.{parent_of};
 ghost use Rattle.rows_cell.specs.declared.tables.Edit.TheVariants.{Epoch, NextInstance, PutNode, LockGeneration, RemoveNode, PutSession, PutLock, RemoveLock};
-ghost use Rattle.rows_edits.specs.Ongoing.{RanInside, Changed};
+ghost use Rattle.rows_edits.specs.Ongoing.{RanInside, Changed, PutsEntry, PutsChild, TakesChild, RemovesEntry};
 
 use crate::values::{kind_as, life_as, live_as, mode_as, number};
 use names_cell::Name;
@@ -57,7 +58,7 @@ pub(crate) fn set_next_instance<S: Alter>(
     )
 }
 
-/// Puts a node: one that is there keeps the generation of its lock.
+/// Puts a node, and its name under its parent: a node that is there keeps the generation of its lock.
 pub(crate) fn put_node<S: Alter>(
     tx: &mut Transaction<'_, S>,
     name: &Name,
@@ -65,6 +66,42 @@ pub(crate) fn put_node<S: Alter>(
 ) -> Result<(), Error>
     ensures same { tx.new.conn.ghost_name ≡ tx.old.conn.ghost_name }
     ensures ok { HasCleanDisk (state S.Store tx.new.conn.now) → OnOk result (Changed (PutNode name.now view.now ∷ []) (state S.Store tx.old.conn.now) (state S.Store tx.new.conn.now)) }
+    ensures kept { HasCleanDisk (state S.Store tx.new.conn.now) → KeepsCommit (state S.Store tx.old.conn.now) (state S.Store tx.new.conn.now) }
+    ensures survives { Survives (state S.Store tx.old.conn.now) (state S.Store tx.new.conn.now) (λ _. ⊥) }
+{
+    let parent = name.parent()?;
+    put_entry(tx, name, view)?;
+    match parent {
+        Some(parent) => put_child(tx, &parent, name),
+        None => Ok(()),
+    }
+}
+
+/// Puts a name under its parent, where it isn't there yet.
+pub(crate) fn put_child<S: Alter>(
+    tx: &mut Transaction<'_, S>,
+    parent: &Name,
+    child: &Name,
+) -> Result<(), Error>
+    ensures same { tx.new.conn.ghost_name ≡ tx.old.conn.ghost_name }
+    ensures ok { HasCleanDisk (state S.Store tx.new.conn.now) → OnOk result (PutsChild child.now parent.now (state S.Store tx.old.conn.now) (state S.Store tx.new.conn.now)) }
+    ensures kept { HasCleanDisk (state S.Store tx.new.conn.now) → KeepsCommit (state S.Store tx.old.conn.now) (state S.Store tx.new.conn.now) }
+    ensures survives { Survives (state S.Store tx.old.conn.now) (state S.Store tx.new.conn.now) (λ _. ⊥) }
+{
+    run(
+        tx,
+        "INSERT INTO children (parent, child) VALUES (?1, ?2) ON CONFLICT (parent, child) DO NOTHING",
+        &[
+            ValueRef::Text(parent.as_str().as_bytes()),
+            ValueRef::Text(child.as_str().as_bytes()),
+        ],
+    )
+}
+
+// Puts the row of a node.
+fn put_entry<S: Alter>(tx: &mut Transaction<'_, S>, name: &Name, view: &View) -> Result<(), Error>
+    ensures same { tx.new.conn.ghost_name ≡ tx.old.conn.ghost_name }
+    ensures ok { HasCleanDisk (state S.Store tx.new.conn.now) → OnOk result (PutsEntry name.now view.now (state S.Store tx.old.conn.now) (state S.Store tx.new.conn.now)) }
     ensures kept { HasCleanDisk (state S.Store tx.new.conn.now) → KeepsCommit (state S.Store tx.old.conn.now) (state S.Store tx.new.conn.now) }
     ensures survives { Survives (state S.Store tx.old.conn.now) (state S.Store tx.new.conn.now) (λ _. ⊥) }
 {
@@ -108,10 +145,60 @@ pub(crate) fn set_lock_generation<S: Alter>(
     )
 }
 
-/// Removes a node, and its locks with it.
+/// Removes a node: its name from under its parent, and then its row, with its locks.
 pub(crate) fn remove_node<S: Alter>(tx: &mut Transaction<'_, S>, name: &Name) -> Result<(), Error>
     ensures same { tx.new.conn.ghost_name ≡ tx.old.conn.ghost_name }
     ensures ok { HasCleanDisk (state S.Store tx.new.conn.now) → OnOk result (Changed (RemoveNode name.now ∷ []) (state S.Store tx.old.conn.now) (state S.Store tx.new.conn.now)) }
+    ensures kept { HasCleanDisk (state S.Store tx.new.conn.now) → KeepsCommit (state S.Store tx.old.conn.now) (state S.Store tx.new.conn.now) }
+    ensures survives { Survives (state S.Store tx.old.conn.now) (state S.Store tx.new.conn.now) (λ _. ⊥) }
+{
+    match name.parent()? {
+        Some(parent) => remove_under(tx, &parent, name),
+        None => remove_entry(tx, name),
+    }
+}
+
+// Removes the node of a name that has this parent.
+fn remove_under<S: Alter>(
+    tx: &mut Transaction<'_, S>,
+    parent: &Name,
+    name: &Name,
+) -> Result<(), Error>
+    requires { parent_of name.now ≡ Some parent.now }
+    ensures same { tx.new.conn.ghost_name ≡ tx.old.conn.ghost_name }
+    ensures ok { HasCleanDisk (state S.Store tx.new.conn.now) → OnOk result (Changed (RemoveNode name.now ∷ []) (state S.Store tx.old.conn.now) (state S.Store tx.new.conn.now)) }
+    ensures kept { HasCleanDisk (state S.Store tx.new.conn.now) → KeepsCommit (state S.Store tx.old.conn.now) (state S.Store tx.new.conn.now) }
+    ensures survives { Survives (state S.Store tx.old.conn.now) (state S.Store tx.new.conn.now) (λ _. ⊥) }
+{
+    remove_child(tx, parent, name)?;
+    remove_entry(tx, name)
+}
+
+// Takes a name from under its parent.
+fn remove_child<S: Alter>(
+    tx: &mut Transaction<'_, S>,
+    parent: &Name,
+    child: &Name,
+) -> Result<(), Error>
+    ensures same { tx.new.conn.ghost_name ≡ tx.old.conn.ghost_name }
+    ensures ok { HasCleanDisk (state S.Store tx.new.conn.now) → OnOk result (TakesChild child.now parent.now (state S.Store tx.old.conn.now) (state S.Store tx.new.conn.now)) }
+    ensures kept { HasCleanDisk (state S.Store tx.new.conn.now) → KeepsCommit (state S.Store tx.old.conn.now) (state S.Store tx.new.conn.now) }
+    ensures survives { Survives (state S.Store tx.old.conn.now) (state S.Store tx.new.conn.now) (λ _. ⊥) }
+{
+    run(
+        tx,
+        "DELETE FROM children WHERE parent = ?1 AND child = ?2",
+        &[
+            ValueRef::Text(parent.as_str().as_bytes()),
+            ValueRef::Text(child.as_str().as_bytes()),
+        ],
+    )
+}
+
+// Removes the row of a node, and its locks with it.
+fn remove_entry<S: Alter>(tx: &mut Transaction<'_, S>, name: &Name) -> Result<(), Error>
+    ensures same { tx.new.conn.ghost_name ≡ tx.old.conn.ghost_name }
+    ensures ok { HasCleanDisk (state S.Store tx.new.conn.now) → OnOk result (RemovesEntry name.now (state S.Store tx.old.conn.now) (state S.Store tx.new.conn.now)) }
     ensures kept { HasCleanDisk (state S.Store tx.new.conn.now) → KeepsCommit (state S.Store tx.old.conn.now) (state S.Store tx.new.conn.now) }
     ensures survives { Survives (state S.Store tx.old.conn.now) (state S.Store tx.new.conn.now) (λ _. ⊥) }
 {

@@ -34,10 +34,13 @@ use Rattle.rows_cell.specs.declared.counts.Counts.{Counts}
 use Rattle.rows_cell.specs.declared.records.StoreFault.{StoreFault}
 use Rattle.rows_cell.specs.Counts.{counts_of}
 use Rattle.rows_cell.specs.Sound.{sound}
-use Rattle.rows_schema.specs.OurSchema.{the_schema}
-use Rattle.rows_read.specs.Held.{Says}
-use Rattle.rows_read.specs.Ready.{tables_of}
-use Rattle.rows_read.specs.Inspected.{HasSound, IsDamaged}
+use Rattle.rows_schema.specs.declared.ours.Version.{Version}
+use Rattle.rows_schema.specs.Versions.{schema_of}
+use Rattle.rows_read.specs.Children.{children_for}
+use Rattle.rows_read.specs.Held.{SaysAs}
+use Rattle.rows_read.specs.Ready.{tables_as}
+use Rattle.rows_read.specs.Inspected.{HasSound, SaysNoSound, IsDamaged}
+use Rattle.rows_read.proofs.InspectLemmas.{one_version}
 use Rattle.rows_read.proofs.OneSchema.{one_database}
 use Rattle.rows_read.proofs.SaidTables.{one_said}
 use Rattle.rows_file.specs.Found.{AreOfStore, FindsRows, HoldsRows, IsAlwaysClean}
@@ -88,8 +91,9 @@ module _ {D : Type 0} {g : Ghosts D} (always : IsAlwaysClean g) where
           found = found.reads;
           only = λ other holds. found.holds other holds;
           store = record {
-            listed = subst (λ (d : Database). IsDatabase (record { schema = the_schema; trees = d.trees })) at.0.clean (subst (λ s. IsDatabase (record { schema = s; trees = (file_state c).now.trees })) has.ours listed);
-            says = subst (λ (t : Trees). Says (tables_of t) rows) same_trees has.said;
+            version = has.version;
+            listed = subst (λ (d : Database). IsDatabase (record { schema = schema_of has.version; trees = d.trees })) at.0.clean (subst (λ s. IsDatabase (record { schema = s; trees = (file_state c).now.trees })) has.ours listed);
+            says = subst (λ (t : Trees). SaysAs has.version (tables_as has.version t) rows) same_trees has.said;
           };
         } in
         (rows, it, has.sound_rows, h.2)
@@ -99,14 +103,18 @@ module _ {D : Type 0} {g : Ghosts D} (always : IsAlwaysClean g) where
         let db = holds.0 in
         let same : (file_state c).now.trees ≡ db = same_trees ∙ found.holds db holds.1 in
         let store = holds.2 in
-        let one : (file_state c).now ≡ record { schema = the_schema; trees = db } = one_database (file_state c).now (record { schema = the_schema; trees = db }) same listed store.listed in
-        let says : Says (tables_of (file_state c).now.trees) rows = subst (λ (t : Trees). Says (tables_of t) rows) (sym same) store.says in
+        let version = store.version in
+        let one : (file_state c).now ≡ record { schema = schema_of version; trees = db } = one_database (file_state c).now (record { schema = schema_of version; trees = db }) same listed store.listed in
+        let schema : (file_state c).now.schema ≡ schema_of version = ap (λ (d : Database). d.schema) one in
+        let says : SaysAs version (tables_as version (file_state c).now.trees) rows = subst (λ (t : Trees). SaysAs version (tables_as version t) rows) (sym same) store.says in
         elim damaged [
-          | inl other ↦ absurd (other (ap (λ (d : Database). d.schema) one))
-          | inr rest ↦ elim rest [
-            | inl none ↦ absurd (none rows says)
-            | inr read ↦ subst (λ (r : Rows). sound cell r ≡ false) (one_said (tables_of (file_state c).now.trees) read.0 rows read.1 says) read.2
-          ]
+          | inl other ↦ absurd (other version schema)
+          | inr by ↦
+              let own : by.0 ≡ version = one_version by.0 version (sym by.1 ∙ schema) in
+              elim (subst (λ (v : Version). SaysNoSound cell v (file_state c)) own by.2) [
+                | inl none ↦ absurd (none rows says)
+                | inr read ↦ subst (λ (r : Rows). sound cell r ≡ false) (one_said version (tables_as version (file_state c).now.trees) read.0 rows (children_for version read.0.nodes) (children_for version rows.nodes) read.1 says) read.2
+              ]
         ]
 
     pub finds_in : (r : Result Counts StoreFault) → IfOk r (λ counts. (rows : Rows) × HasSound cell (file_state c) rows × (counts ≡ counts_of rows))

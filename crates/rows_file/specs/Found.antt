@@ -6,14 +6,16 @@ use Rattle.sqlite_trees.specs.Tree.{Trees}
 use Rattle.sqlite_catalog.specs.Listing.{IsSound}
 use Rattle.sqlite.specs.Files.{HoldsDatabase, AreFoundIn}
 use Rattle.rows_cell.specs.declared.tables.Rows.{Rows}
-use Rattle.rows_schema.specs.OurSchema.{the_schema}
-use Rattle.rows_read.specs.Held.{Says}
-use Rattle.rows_read.specs.Ready.{tables_of}
+use Rattle.rows_schema.specs.declared.ours.Version.{Version}
+use Rattle.rows_schema.specs.Versions.{schema_of}
+use Rattle.rows_read.specs.Held.{SaysAs}
+use Rattle.rows_read.specs.Ready.{tables_as}
 
--- these trees list the schema of a store and obey it, and its tables say these rows
+-- these trees list the schema of a store of a version and obey it, and by its rules its tables say these rows
 pub record AreOfStore (db : Trees) (rows : Rows) : Type 0 where
-  pub listed : IsSound the_schema db
-  pub says : Says (tables_of db) rows
+  pub version : Version
+  pub listed : IsSound (schema_of version) db
+  pub says : SaysAs version (tables_as version db) rows
 
 -- the two files hold a database, as SQLite recovers it, which is a store of these rows
 abbrev pub HoldsRows : Image → Rows → Type 0

@@ -6,3 +6,4 @@ pub mod ReadLoops
 pub mod SaidTables
 pub mod InspectLemmas
 pub mod OneSchema
+pub mod Parents

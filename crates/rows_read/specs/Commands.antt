@@ -46,3 +46,9 @@ read_sessions_command = Select (record { lets = []; body = record (over 4 [] ses
 abbrev pub read_locks_command : Command
 read_locks_command = Select (record { lets = []; body = record (over 5 [] locks_terms) { order = (col 1 1, ascending Binary) ∷ (col 1 2, ascending Binary) ∷ (col 1 3, ascending Binary) ∷ [] } })
     (codes "instance" ∷ codes "client" ∷ codes "handle" ∷ codes "mode" ∷ codes "delay" ∷ [])
+
+abbrev pub children_terms : List Term
+children_terms = col 1 1 ∷ col 1 2 ∷ []
+
+abbrev pub read_children_command : Command
+read_children_command = Select (record { lets = []; body = record (over 7 [] children_terms) { order = (col 1 1, ascending Binary) ∷ (col 1 2, ascending Binary) ∷ [] } }) (codes "parent" ∷ codes "child" ∷ [])

@@ -15,6 +15,9 @@ use Rattle.rows_cell.specs.declared.tables.LockRow.{LockRow}
 use Rattle.rows_cell.specs.declared.tables.LockState.{LockState}
 use Rattle.rows_cell.specs.declared.tables.LockState.TheVariants.{Lapsed, Exclusive, Shared}
 use Rattle.rows_cell.specs.declared.keys.LockKey.{LockKey}
+use Rattle.rows_schema.specs.declared.ours.Version.{Version}
+use Rattle.rows_schema.specs.declared.ours.Version.TheVariants.{Second}
+use Rattle.rows_schema.specs.Versions.{number_of}
 use Rattle.rows_read.specs.declared.stored.Numbers.{Numbers}
 use Rattle.rows_read.specs.declared.stored.Acls.{Acls}
 use Rattle.rows_read.specs.declared.stored.Meta.{Meta}
@@ -115,5 +118,19 @@ meta_from true (Some epoch) (Some next_instance) (Some secret) (Some cell) = Som
 meta_from _ _ _ _ _ = None
 
 -- id, version, cell, secret, epoch, next_instance
+abbrev pub meta_as : Version → Row → Option Meta
+meta_as version r = meta_from (int_eq (id_in (column r 0)) (pos 1) && int_eq (id_in (column r 1)) (number_of version)) (count_in (column r 4)) (count_in (column r 5)) (secret_in (column r 3)) (component_in (column r 2))
+
+-- in a store of now
 abbrev pub meta_in : Row → Option Meta
-meta_in r = meta_from (int_eq (id_in (column r 0)) (pos 1) && int_eq (id_in (column r 1)) (pos 1)) (count_in (column r 4)) (count_in (column r 5)) (secret_in (column r 3)) (component_in (column r 2))
+meta_in r = meta_as Second r
+
+-- ---- a child
+
+abbrev pub child_from : Option (List ℕ) → Option (List ℕ) → Option (List ℕ × List ℕ)
+child_from (Some parent) (Some child) = Some (child, parent)
+child_from _ _ = None
+
+-- parent, child: the child's name, and that of its parent
+abbrev pub child_in : Row → Option (List ℕ × List ℕ)
+child_in r = child_from (name_in (column r 0)) (name_in (column r 1))

@@ -2,9 +2,12 @@ pub use Rattle.rows_cell.specs.Rows
 pub use Rattle.rows_cell.specs.Sound
 pub use Rattle.rows_cell.specs.Stores
 pub use Rattle.rows_schema.specs.OurSchema
+pub use Rattle.rows_schema.specs.Versions
 pub mod Texts
 pub mod Commands
 pub mod Decode
+pub mod Children
 pub mod Held
 pub mod Ready
+pub mod Raws
 pub mod Inspected

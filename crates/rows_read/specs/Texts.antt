@@ -1,4 +1,4 @@
--- The statements that read the four tables.
+-- The statements that read the tables.
 use Rattle.std.specs.Prelude.{List, ℕ, codes}
 
 abbrev pub read_meta_text : List ℕ
@@ -12,3 +12,6 @@ read_sessions_text = codes "SELECT client, principal, live FROM sessions ORDER B
 
 abbrev pub read_locks_text : List ℕ
 read_locks_text = codes "SELECT instance, client, handle, mode, delay FROM locks ORDER BY instance, client, handle"
+
+abbrev pub read_children_text : List ℕ
+read_children_text = codes "SELECT parent, child FROM children ORDER BY parent, child"

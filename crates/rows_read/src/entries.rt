@@ -3,13 +3,16 @@ ghost use Rattle.std.specs.Prelude.{IfOk};
 ghost use Rattle.std.specs.Ordering.{nat_cmp};
 ghost use Rattle.std.specs.Cmp.Lexicographic.{slice_cmp};
 ghost use Rattle.rows_cell.specs.Keys.{lock_order};
-ghost use Rattle.rows_read.specs.Decode.{node_in, session_in, lock_in};
-ghost use Rattle.rows_read.specs.Held.{IsRead, IsOnly, IsWhole};
+ghost use Rattle.rows_read.specs.Decode.{node_in, session_in, lock_in, child_in};
+ghost use Rattle.rows_read.specs.Raws.{shown};
+ghost use Rattle.rows_read.specs.Held.{IsRead, IsOnly, IsFour};
 
-use crate::stored::{Meta, lock_of, meta_of, node_of, session_of};
+use crate::reads::Raw;
+use crate::stored::{Meta, child_of, lock_of, meta_of, node_of, session_of};
 use names_cell::Name;
 use plain::Table;
 use rows_cell::{LockKey, LockRow, Node, Rows, Session};
+use rows_schema::Version;
 use sqlite::Row;
 use std::alloc::{AllocError, Global};
 
@@ -58,35 +61,52 @@ fn locks_of(alloc: Global, rows: &[Row]) -> Result<Option<Table<LockKey, LockRow
     Ok(Some(locks))
 }
 
-fn only_meta(alloc: Global, rows: &[Row]) -> Result<Option<Meta>, AllocError>
-    ensures { IfOk result (λ meta. IsOnly rows.now meta) }
+/// The children that rows say, each with its parent, if they do.
+pub(crate) fn parents_of(
+    alloc: Global,
+    rows: &[Row],
+) -> Result<Option<Table<Name, Name>>, AllocError>
+    ensures { IfOk result (λ parents. IsRead (slice_cmp nat_cmp) child_in rows.now parents) }
+{
+    let mut parents = Table::new(alloc);
+    for row in rows {
+        let Some((child, parent)) = child_of(alloc, row)? else {
+            return Ok(None);
+        };
+        if parents.put(child, parent)?.is_some() {
+            return Ok(None);
+        }
+    }
+    Ok(Some(parents))
+}
+
+fn only_meta(alloc: Global, version: Version, rows: &[Row]) -> Result<Option<Meta>, AllocError>
+    ensures { IfOk result (λ meta. IsOnly version rows.now meta) }
 {
     let [row] = rows else {
         return Ok(None);
     };
-    meta_of(alloc, row)
+    meta_of(alloc, version, row)
 }
 
-/// The rows of a cell that the rows of the four tables say, if they do.
+/// The rows of a cell that the rows of four tables say, if they do, by the rules of this version.
 pub(crate) fn rows_of(
     alloc: Global,
-    metas: &[Row],
-    nodes: &[Row],
-    sessions: &[Row],
-    locks: &[Row],
+    version: Version,
+    raw: &Raw,
 ) -> Result<Option<Rows>, AllocError>
-    ensures { IfOk result (λ rows. IsWhole (record { metas = metas.now; nodes = nodes.now; sessions = sessions.now; locks = locks.now }) rows) }
+    ensures { IfOk result (λ rows. IsFour version (shown raw.now) rows) }
 {
-    let Some(meta) = only_meta(alloc, metas)? else {
+    let Some(meta) = only_meta(alloc, version, &raw.metas)? else {
         return Ok(None);
     };
-    let Some(nodes) = nodes_of(alloc, nodes)? else {
+    let Some(nodes) = nodes_of(alloc, &raw.nodes)? else {
         return Ok(None);
     };
-    let Some(sessions) = sessions_of(alloc, sessions)? else {
+    let Some(sessions) = sessions_of(alloc, &raw.sessions)? else {
         return Ok(None);
     };
-    let Some(locks) = locks_of(alloc, locks)? else {
+    let Some(locks) = locks_of(alloc, &raw.locks)? else {
         return Ok(None);
     };
     Ok(Some(Rows {

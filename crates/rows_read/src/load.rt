@@ -3,14 +3,17 @@ ghost use Rattle.std.specs.Prelude.{◌≡◌, ◌≢◌, Err, IfOk};
 ghost use Rattle.sqlite.specs.State.{HasCleanDisk};
 ghost use Rattle.sqlite.specs.Held.{state};
 ghost use Rattle.rows_cell.specs.declared.tables.Rows.{Rows as Held};
-ghost use Rattle.rows_read.specs.Held.{Says};
-ghost use Rattle.rows_read.specs.Ready.{IsReady, IsStill, Quiet, tables_of};
+ghost use Rattle.rows_read.specs.Held.{Says, SaysAs, IsWhole};
+ghost use Rattle.rows_read.specs.Raws.{shown};
+ghost use Rattle.rows_read.specs.Ready.{IsReady, IsStill, Quiet, IsReadyAs, IsStillAs, QuietAs, tables_of, tables_as};
 
-use crate::entries::rows_of;
+use crate::children::{are_same, children_for};
+use crate::entries::{parents_of, rows_of};
 use crate::reads::{Raw, read_tables};
 use rows_cell::{Rows, StoreFault};
+use rows_schema::Version;
 use sqlite::{Alter, Connection};
-use std::alloc::Global;
+use std::alloc::{AllocError, Global};
 
 /// The rows that the tables say, whether a cell may have them or not.
 pub fn load_said<S: Alter>(alloc: Global, conn: &mut Connection<S>) -> Result<Rows, StoreFault>
@@ -20,20 +23,51 @@ pub fn load_said<S: Alter>(alloc: Global, conn: &mut Connection<S>) -> Result<Ro
     ensures ready { HasCleanDisk (state S.Store conn.new) → IsReady (state S.Store conn.old) → result ≢ Err StoreFault.Refused → IsStill (state S.Store conn.old) (state S.Store conn.new) }
     ensures counted { result ≡ Err StoreFault.Exhausted → ⊥ }
 {
-    match read_tables(conn) {
-        Ok(raw) => said_by(alloc, &raw),
+    load_as(alloc, conn, Version::Second)
+}
+
+/// The rows that the tables of a store of this version say, whether a cell may have them or not.
+pub fn load_as<S: Alter>(
+    alloc: Global,
+    conn: &mut Connection<S>,
+    version: Version,
+) -> Result<Rows, StoreFault>
+    ensures rows { HasCleanDisk (state S.Store conn.new) → IsReadyAs version (state S.Store conn.old) → IfOk result (λ rows. SaysAs version (tables_as version (state S.Store conn.old).now.trees) rows) }
+    ensures damaged { HasCleanDisk (state S.Store conn.new) → IsReadyAs version (state S.Store conn.old) → result ≡ Err StoreFault.Damaged → (rows : Held) → ¬ SaysAs version (tables_as version (state S.Store conn.old).now.trees) rows }
+    ensures quiet { QuietAs version S.Store conn.old conn.new }
+    ensures ready { HasCleanDisk (state S.Store conn.new) → IsReadyAs version (state S.Store conn.old) → result ≢ Err StoreFault.Refused → IsStillAs version (state S.Store conn.old) (state S.Store conn.new) }
+    ensures counted { result ≡ Err StoreFault.Exhausted → ⊥ }
+{
+    match read_tables(alloc, conn, version) {
+        Ok(raw) => said_by(alloc, version, &raw),
         Err(_) => Err(StoreFault::Refused),
     }
 }
 
-fn said_by(alloc: Global, raw: &Raw) -> Result<Rows, StoreFault>
-    ensures rows { IfOk result (λ rows. Says (record { metas = raw.now.metas.items; nodes = raw.now.nodes.items; sessions = raw.now.sessions.items; locks = raw.now.locks.items }) rows) }
-    ensures damaged { result ≡ Err StoreFault.Damaged → (rows : Held) → ¬ Says (record { metas = raw.now.metas.items; nodes = raw.now.nodes.items; sessions = raw.now.sessions.items; locks = raw.now.locks.items }) rows }
+fn said_by(alloc: Global, version: Version, raw: &Raw) -> Result<Rows, StoreFault>
+    ensures rows { IfOk result (λ rows. SaysAs version (shown raw.now) rows) }
+    ensures damaged { result ≡ Err StoreFault.Damaged → (rows : Held) → ¬ SaysAs version (shown raw.now) rows }
     ensures read { (result ≡ Err StoreFault.Refused → ⊥) × (result ≡ Err StoreFault.Exhausted → ⊥) }
 {
-    match rows_of(alloc, &raw.metas, &raw.nodes, &raw.sessions, &raw.locks) {
+    match whole_rows(alloc, version, raw) {
         Ok(Some(rows)) => Ok(rows),
         Ok(None) => Err(StoreFault::Damaged),
         Err(_) => Err(StoreFault::NoMemory),
     }
+}
+
+// The rows that the tables say, if they do, and if the fifth says just their children.
+fn whole_rows(alloc: Global, version: Version, raw: &Raw) -> Result<Option<Rows>, AllocError>
+    ensures { IfOk result (λ rows. IsWhole version (shown raw.now) rows) }
+{
+    let Some(parents) = parents_of(alloc, &raw.children)? else {
+        return Ok(None);
+    };
+    let Some(rows) = rows_of(alloc, version, raw)? else {
+        return Ok(None);
+    };
+    if !are_same(&parents, &children_for(alloc, version, &rows.nodes)?) {
+        return Ok(None);
+    }
+    Ok(Some(rows))
 }

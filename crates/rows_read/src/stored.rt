@@ -2,12 +2,13 @@
 ghost use Rattle.std.specs.Prelude.{◌≡◌, ◌==◌, IfOk};
 ghost use Rattle.sqlite_value.specs.Order.{column, bytes};
 ghost use Rattle.sqlite.specs.Edit.{id_in};
-ghost use Rattle.rows_read.specs.Decode.{count_of, count_in, node_with, name_in, component_in, secret_in, kind_of, life_of, live_of, lock_state_of, numbers_in, acls_in, node_in, session_in, lock_in, meta_in};
+ghost use Rattle.rows_read.specs.Decode.{count_of, count_in, node_with, name_in, component_in, secret_in, kind_of, life_of, live_of, lock_state_of, numbers_in, acls_in, node_in, session_in, lock_in, child_in, meta_as};
 
 use names_cell::{Component, Name, NameFault, Principal};
 use node_core::{Kind, Life, View};
 use plain::{Bytes, Secret};
 use rows_cell::{LockKey, LockRow, LockState, Node, Session};
+use rows_schema::Version;
 use sqlite::Row;
 use sqlite_value::value::ValueRef;
 use std::alloc::{AllocError, Global};
@@ -285,11 +286,28 @@ pub(crate) fn lock_of(row: &Row) -> Option<(LockKey, LockRow)>
     Some((key, LockRow { state, delay }))
 }
 
-/// What the row of the cell says.
-pub(crate) fn meta_of(alloc: Global, row: &Row) -> Result<Option<Meta>, AllocError>
-    ensures { IfOk result (λ meta. meta ≡ meta_in row.now) }
+/// The child that a row says, and its parent.
+pub(crate) fn child_of(alloc: Global, row: &Row) -> Result<Option<(Name, Name)>, AllocError>
+    ensures { IfOk result (λ child. child ≡ child_in row.now) }
 {
-    if !(number_at(row, 0) == 1 && number_at(row, 1) == 1) {
+    let Some(parent) = name_at(alloc, row, 0)? else {
+        return Ok(None);
+    };
+    let Some(child) = name_at(alloc, row, 1)? else {
+        return Ok(None);
+    };
+    Ok(Some((child, parent)))
+}
+
+/// What the row of the cell says, in a store of this version.
+pub(crate) fn meta_of(
+    alloc: Global,
+    version: Version,
+    row: &Row,
+) -> Result<Option<Meta>, AllocError>
+    ensures { IfOk result (λ meta. meta ≡ meta_as version row.now) }
+{
+    if !(number_at(row, 0) == 1 && number_at(row, 1) == version.number()) {
         return Ok(None);
     }
     let Some(epoch) = count_at(row, 4) else {

@@ -1,5 +1,5 @@
 -- A schema that passes field by field is that of a store.
-use Rattle.std.proofs.Common.{◌≡◌, ◌↔◌, ℕ, suc, Bool, true, false, ◌==◌, List, [], ◌∷◌, length, Option, Some, None, refl, sym, ap, ◌∙◌, subst, arith, codes, true≢false, IsTrue, Result, Ok, Err, IfOk}
+use Rattle.std.proofs.Common.{◌≡◌, ◌≢◌, ◌↔◌, ℕ, suc, Bool, true, false, ◌==◌, List, [], ◌∷◌, length, Option, Some, None, refl, sym, ap, ◌∙◌, subst, arith, codes, true≢false, IsTrue, Result, Ok, Err, IfOk}
 use Rattle.std.specs.Prelude.{bytes_eq, slice_get, not, ◌&&◌, is_some}
 use Rattle.std.specs.Option.{option_map_or}
 use Rattle.std.proofs.lemmas.Slice.Eq.{bytes_eq-Decides}
@@ -19,8 +19,11 @@ use Rattle.sqlite_schema.specs.declared.schema.Reference.{Reference}
 use Rattle.sqlite_schema.specs.declared.schema.Index.{Index}
 use Rattle.sqlite_schema.specs.declared.schema.Table.{Table}
 use Rattle.sqlite_schema.specs.declared.schema.Schema.{Schema}
-use Rattle.rows_schema.specs.OurSchema.{needed, meta, nodes, sessions, locks, of_node, the_schema}
-use Rattle.rows_schema.specs.Fields.{same_kind, is_nothing, is_binary, is_needed, has_meta_columns, has_node_columns, has_session_columns, has_lock_columns, is_key_of, has_orders, is_plain, has_key, is_instance, is_cascade, is_no_action, is_of_node, is_bound, is_bare, is_meta, is_nodes, is_sessions, is_locks, is_index, has_indexes, has_tables, is_ours}
+use Rattle.rows_schema.specs.declared.ours.Version.{Version}
+use Rattle.rows_schema.specs.declared.ours.Version.TheVariants.{First, Second}
+use Rattle.rows_schema.specs.Versions.{schema_of}
+use Rattle.rows_schema.specs.OurSchema.{needed, meta, nodes, sessions, locks, children, of_node, first_schema, the_schema}
+use Rattle.rows_schema.specs.Fields.{same_kind, is_nothing, is_binary, is_needed, has_meta_columns, has_node_columns, has_session_columns, has_lock_columns, has_child_columns, is_key_of, has_orders, is_plain, has_key, is_only_name, is_cascade, is_no_action, is_to_node, is_bound, is_bare, is_meta, is_nodes, is_sessions, is_locks, is_children, is_index, has_key_indexes, has_indexes, has_four, has_fifth, is_first, is_ours}
 
 both : (a b : Bool) → (a && b) ≡ true → (a ≡ true) × (b ≡ true)
 both true b h = (refl, h)
@@ -198,6 +201,16 @@ locks_columns cs h =
     let c4 = needed_is (codes "delay") kind.Integer s.4 q3.1 in
     s.5 ∙ (λ i. c0 i ∷ c1 i ∷ c2 i ∷ c3 i ∷ c4 i ∷ [])
 
+child_columns : (cs : List Column) → has_child_columns cs ≡ true → cs ≡ children.columns
+child_columns cs h =
+    let l = both _ _ h in
+    let s = exactly_2 cs (number_is (length cs) 2 l.0) in
+    let at = subst (λ (x : List Column). has_child_columns x ≡ true) s.2 h in
+    let q0 = both _ _ at in
+    let c0 = needed_is (codes "parent") kind.Text s.0 q0.0 in
+    let c1 = needed_is (codes "child") kind.Text s.1 q0.1 in
+    s.2 ∙ (λ i. c0 i ∷ c1 i ∷ [])
+
 nodes_columns : (cs : List Column) → has_node_columns cs ≡ true → cs ≡ nodes.columns
 nodes_columns cs h =
     let l = both _ _ h in
@@ -284,34 +297,38 @@ no_action_is action.Restrict h = absurd (true≢false (sym h))
 no_action_is action.SetNull h = absurd (true≢false (sym h))
 no_action_is action.SetDefault h = absurd (true≢false (sym h))
 
-instance_is : (names : List (List ℕ)) → is_instance names ≡ true → names ≡ codes "instance" ∷ []
-instance_is names h =
+only_name_is : (name : List ℕ) (names : List (List ℕ)) → is_only_name name names ≡ true → names ≡ name ∷ []
+only_name_is name names h =
     let a = both _ _ h in
     let s = exactly_1 names (number_is (length names) 1 a.0) in
-    let at = subst (λ (x : List (List ℕ)). option_map_or (λ (name : List ℕ). bytes_eq name (codes "instance")) (slice_get x 0) false ≡ true) s.1 a.1 in
-    s.1 ∙ ap (λ x. x ∷ []) (same_list s.0 (codes "instance") at)
+    let at = subst (λ (x : List (List ℕ)). option_map_or (λ (only : List ℕ). bytes_eq only name) (slice_get x 0) false ≡ true) s.1 a.1 in
+    s.1 ∙ ap (λ x. x ∷ []) (same_list s.0 name at)
 
-of_node_is : (r : Reference) → is_of_node r ≡ true → r ≡ of_node
-of_node_is r h =
+-- the reference of this column to the column of this name
+abbrev to_node : ℕ → List ℕ → Reference
+to_node column name = record of_node { columns = column ∷ []; parent_columns = name ∷ [] }
+
+to_node_is : (column : ℕ) (name : List ℕ) (r : Reference) → is_to_node column name r ≡ true → r ≡ to_node column name
+to_node_is column name r h =
     let a = both _ _ h in
     let b = both _ _ a.1 in
     let c = both _ _ b.1 in
     let d = both _ _ c.1 in
     let e = both _ _ d.1 in
-    let columns = same_list r.columns (1 ∷ []) a.0 in
+    let columns = same_list r.columns (column ∷ []) a.0 in
     let parent = same_list r.parent (codes "nodes") b.0 in
-    let names = instance_is r.parent_columns c.0 in
+    let names = only_name_is name r.parent_columns c.0 in
     let deleted = cascade_is r.on_delete d.0 in
     let updated = no_action_is r.on_update e.0 in
     let deferred = neither r.is_deferred e.1 in
     λ i. record { columns = columns i; parent = parent i; parent_columns = names i; on_delete = deleted i; on_update = updated i; is_deferred = deferred i }
 
-bound_is : (t : Table) → is_bound t ≡ true → t.references ≡ of_node ∷ []
-bound_is t h =
+bound_is : (column : ℕ) (name : List ℕ) (t : Table) → is_bound column name t ≡ true → t.references ≡ to_node column name ∷ []
+bound_is column name t h =
     let a = both _ _ h in
     let s = exactly_1 t.references (number_is (length t.references) 1 a.0) in
-    let at = subst (λ (x : List Reference). option_map_or is_of_node (slice_get x 0) false ≡ true) s.1 a.1 in
-    s.1 ∙ ap (λ x. x ∷ []) (of_node_is s.0 at)
+    let at = subst (λ (x : List Reference). option_map_or (is_to_node column name) (slice_get x 0) false ≡ true) s.1 a.1 in
+    s.1 ∙ ap (λ x. x ∷ []) (to_node_is column name s.0 at)
 
 -- what a bare table hasn't
 record Bare (t : Table) : Type 0 where
@@ -453,7 +470,42 @@ locks_is t h =
     let primary = same_list t.primary (1 ∷ 2 ∷ 3 ∷ []) e.0 in
     let uniques = one_key t.uniques (1 ∷ 2 ∷ 3 ∷ []) f.0 g.0 in
     let orders = one_order t.orders o.0 in
-    let references = bound_is t r.0 in
+    let references = bound_is 1 (codes "instance") t r.0 in
+    let bare = bare_is t r.1 in
+    λ i. record {
+      name = name i;
+      tree = tree i;
+      columns = columns i;
+      key = key i;
+      primary = primary i;
+      uniques = uniques i;
+      orders = orders i;
+      checks = bare.checks i;
+      references = references i;
+      computed = bare.computed i;
+      stamps = record { places = bare.places i; terms = bare.terms i; formats = bare.formats i };
+      is_counted = bare.counted i;
+    }
+
+pub children_is : (t : Table) → is_children t ≡ true → t ≡ children
+children_is t h =
+    let a = both _ _ h in
+    let b = both _ _ a.1 in
+    let c = both _ _ b.1 in
+    let d = both _ _ c.1 in
+    let e = both _ _ d.1 in
+    let f = both _ _ e.1 in
+    let g = both _ _ f.1 in
+    let o = both _ _ g.1 in
+    let r = both _ _ o.1 in
+    let name = same_list t.name (codes "children") a.0 in
+    let tree = number_is t.tree 7 b.0 in
+    let columns = child_columns t.columns c.0 in
+    let key = no_key t.key d.0 in
+    let primary = same_list t.primary (1 ∷ 2 ∷ []) e.0 in
+    let uniques = one_key t.uniques (1 ∷ 2 ∷ []) f.0 g.0 in
+    let orders = one_order t.orders o.0 in
+    let references = bound_is 2 (codes "name") t r.0 in
     let bare = bare_is t r.1 in
     λ i. record {
       name = name i;
@@ -487,8 +539,21 @@ index_is name tree table places x h =
 indexes_are : (xs : List Index) → has_indexes xs ≡ true → xs ≡ the_schema.indexes
 indexes_are xs h =
     let a = both _ _ h in
-    let s = exactly_3 xs (number_is (length xs) 3 a.0) in
-    let at = subst (λ (x : List Index). has_indexes x ≡ true) s.3 h in
+    let s = exactly_4 xs (number_is (length xs) 4 a.0) in
+    let at = subst (λ (x : List Index). has_indexes x ≡ true) s.4 h in
+    let k = both _ _ at in
+    let b = both _ _ k.0 in
+    let c = both _ _ b.1 in
+    let one = index_is (codes "sqlite_autoindex_nodes_1") 2 1 (1 ∷ []) s.0 b.0 in
+    let two = index_is (codes "sqlite_autoindex_nodes_2") 3 1 (2 ∷ []) s.1 c.0 in
+    let three = index_is (codes "sqlite_autoindex_locks_1") 6 5 (1 ∷ 2 ∷ 3 ∷ []) s.2 c.1 in
+    let four = index_is (codes "sqlite_autoindex_children_1") 8 7 (1 ∷ 2 ∷ []) s.3 k.1 in
+    s.4 ∙ (λ i. one i ∷ two i ∷ three i ∷ four i ∷ [])
+
+first_indexes_are : (xs : List Index) → (length xs == 3) ≡ true → has_key_indexes xs ≡ true → xs ≡ first_schema.indexes
+first_indexes_are xs n h =
+    let s = exactly_3 xs (number_is (length xs) 3 n) in
+    let at = subst (λ (x : List Index). has_key_indexes x ≡ true) s.3 h in
     let b = both _ _ at in
     let c = both _ _ b.1 in
     let one = index_is (codes "sqlite_autoindex_nodes_1") 2 1 (1 ∷ []) s.0 b.0 in
@@ -496,11 +561,10 @@ indexes_are xs h =
     let three = index_is (codes "sqlite_autoindex_locks_1") 6 5 (1 ∷ 2 ∷ 3 ∷ []) s.2 c.1 in
     s.3 ∙ (λ i. one i ∷ two i ∷ three i ∷ [])
 
-tables_are : (ts : List Table) → has_tables ts ≡ true → ts ≡ the_schema.tables
-tables_are ts h =
-    let a = both _ _ h in
-    let s = exactly_4 ts (number_is (length ts) 4 a.0) in
-    let at = subst (λ (x : List Table). has_tables x ≡ true) s.4 h in
+first_tables_are : (ts : List Table) → (length ts == 4) ≡ true → has_four ts ≡ true → ts ≡ first_schema.tables
+first_tables_are ts n h =
+    let s = exactly_4 ts (number_is (length ts) 4 n) in
+    let at = subst (λ (x : List Table). has_four x ≡ true) s.4 h in
     let b = both _ _ at in
     let c = both _ _ b.1 in
     let d = both _ _ c.1 in
@@ -510,23 +574,65 @@ tables_are ts h =
     let last = locks_is s.3 d.1 in
     s.4 ∙ (λ i. one i ∷ two i ∷ three i ∷ last i ∷ [])
 
+tables_are : (ts : List Table) → (length ts == 5) ≡ true → has_four ts ≡ true → has_fifth ts ≡ true → ts ≡ the_schema.tables
+tables_are ts n h f =
+    let s = exactly_5 ts (number_is (length ts) 5 n) in
+    let at = subst (λ (x : List Table). has_four x ≡ true) s.5 h in
+    let b = both _ _ at in
+    let c = both _ _ b.1 in
+    let d = both _ _ c.1 in
+    let one = meta_is s.0 b.0 in
+    let two = nodes_is s.1 c.0 in
+    let three = sessions_is s.2 d.0 in
+    let four = locks_is s.3 d.1 in
+    let last = children_is s.4 (subst (λ (x : List Table). has_fifth x ≡ true) s.5 f) in
+    s.5 ∙ (λ i. one i ∷ two i ∷ three i ∷ four i ∷ last i ∷ [])
+
 pub schema_is : (s : Schema) → is_ours s ≡ true → s ≡ the_schema
 schema_is s h =
     let a = both _ _ h in
     let b = both _ _ a.1 in
+    let c = both _ _ b.1 in
+    let d = both _ _ c.1 in
     let views = empty_is s.views a.0 in
     let indexes = indexes_are s.indexes b.0 in
-    let tables = tables_are s.tables b.1 in
+    let tables = tables_are s.tables c.0 d.0 d.1 in
     λ i. record { tables = tables i; indexes = indexes i; views = views i }
 
--- and that schema passes
+pub first_schema_is : (s : Schema) → is_first s ≡ true → s ≡ first_schema
+first_schema_is s h =
+    let a = both _ _ h in
+    let b = both _ _ a.1 in
+    let c = both _ _ b.1 in
+    let d = both _ _ c.1 in
+    let views = empty_is s.views a.0 in
+    let indexes = first_indexes_are s.indexes b.0 c.0 in
+    let tables = first_tables_are s.tables d.0 d.1 in
+    λ i. record { tables = tables i; indexes = indexes i; views = views i }
+
+-- and those schemas pass
 pub passes : is_ours the_schema ≡ true
 passes = refl
 
--- so the test says just that
+pub first_passes : is_first first_schema ≡ true
+first_passes = refl
+
+-- so the tests say just that
 ours_is : (b : Bool) (s : Schema) → b ≡ is_ours s → IsTrue b ↔ (s ≡ the_schema)
 ours_is b s h = (λ t. schema_is s (sym h ∙ t), λ e. h ∙ ap is_ours e ∙ passes)
+
+first_is : (b : Bool) (s : Schema) → b ≡ is_first s → IsTrue b ↔ (s ≡ first_schema)
+first_is b s h = (λ t. first_schema_is s (sym h ∙ t), λ e. h ∙ ap is_first e ∙ first_passes)
 
 pub ours_told : {E : Type 0} (r : Result Bool E) (s : Schema) → IfOk r (λ b. b ≡ is_ours s) → IfOk r (λ b. IsTrue b ↔ (s ≡ the_schema))
 ours_told (Ok b) s h = ours_is b s h
 ours_told (Err e) s h = tt
+
+pub first_told : {E : Type 0} (r : Result Bool E) (s : Schema) → IfOk r (λ b. b ≡ is_first s) → IfOk r (λ b. IsTrue b ↔ (s ≡ first_schema))
+first_told (Ok b) s h = first_is b s h
+first_told (Err e) s h = tt
+
+-- a schema of neither version
+pub of_neither : (s : Schema) (b c : Bool) → IsTrue b ↔ (s ≡ the_schema) → IsTrue c ↔ (s ≡ first_schema) → b ≡ false → c ≡ false → (version : Version) → s ≢ schema_of version
+of_neither s b c ours first not_ours not_first First is = true≢false (sym (first.1 is) ∙ not_first)
+of_neither s b c ours first not_ours not_first Second is = true≢false (sym (ours.1 is) ∙ not_ours)

@@ -62,6 +62,10 @@ abbrev pub has_lock_columns : List Column → Bool
 has_lock_columns cs =
     length cs == 5 && (needed_at cs 0 (codes "instance") kind.Integer && (needed_at cs 1 (codes "client") kind.Integer && (needed_at cs 2 (codes "handle") kind.Integer && (needed_at cs 3 (codes "mode") kind.Integer && (needed_at cs 4 (codes "delay") kind.Integer)))))
 
+abbrev pub has_child_columns : List Column → Bool
+has_child_columns cs =
+    length cs == 2 && (needed_at cs 0 (codes "parent") kind.Text && (needed_at cs 1 (codes "child") kind.Text))
+
 abbrev pub is_key_of : ℕ → Option ℕ → Bool
 is_key_of n None = false
 is_key_of n (Some m) = m == n
@@ -81,8 +85,8 @@ has_orders_of false orders = is_plain orders 1
 abbrev pub has_orders : List Order → ℕ → Bool
 has_orders orders count = (length orders == count) && (is_plain orders 0 && has_orders_of (count == 1) orders)
 
-abbrev pub is_instance : List (List ℕ) → Bool
-is_instance names = (length names == 1) && option_map_or (λ name. bytes_eq name (codes "instance")) (slice_get names 0) false
+abbrev pub is_only_name : List ℕ → List (List ℕ) → Bool
+is_only_name name names = (length names == 1) && option_map_or (λ only. bytes_eq only name) (slice_get names 0) false
 
 abbrev pub is_cascade : Action → Bool
 is_cascade action.Cascade = true
@@ -92,13 +96,13 @@ abbrev pub is_no_action : Action → Bool
 is_no_action action.NoAction = true
 is_no_action _ = false
 
--- a lock goes with its node
-abbrev pub is_of_node : Reference → Bool
-is_of_node r =
-    bytes_eq r.columns (1 ∷ []) && (bytes_eq r.parent (codes "nodes") && (is_instance r.parent_columns && (is_cascade r.on_delete && (is_no_action r.on_update && (not r.is_deferred)))))
+-- by this column a row goes with the node whose column of this name has the same value
+abbrev pub is_to_node : ℕ → List ℕ → Reference → Bool
+is_to_node column name r =
+    bytes_eq r.columns (column ∷ []) && (bytes_eq r.parent (codes "nodes") && (is_only_name name r.parent_columns && (is_cascade r.on_delete && (is_no_action r.on_update && (not r.is_deferred)))))
 
-abbrev pub is_bound : Table → Bool
-is_bound t = (length t.references == 1) && option_map_or is_of_node (slice_get t.references 0) false
+abbrev pub is_bound : ℕ → List ℕ → Table → Bool
+is_bound column name t = (length t.references == 1) && option_map_or (is_to_node column name) (slice_get t.references 0) false
 
 -- no check, no computed default, no moment, and no number that only rises
 abbrev pub is_bare : Table → Bool
@@ -119,7 +123,11 @@ is_sessions t =
 
 abbrev pub is_locks : Table → Bool
 is_locks t =
-    bytes_eq t.name (codes "locks") && (t.tree == 5 && (has_lock_columns t.columns && (not (is_some t.key) && (bytes_eq t.primary (1 ∷ 2 ∷ 3 ∷ []) && (length t.uniques == 1 && (has_key t.uniques 0 (1 ∷ 2 ∷ 3 ∷ []) && (has_orders t.orders 1 && (is_bound t && (is_bare t)))))))))
+    bytes_eq t.name (codes "locks") && (t.tree == 5 && (has_lock_columns t.columns && (not (is_some t.key) && (bytes_eq t.primary (1 ∷ 2 ∷ 3 ∷ []) && (length t.uniques == 1 && (has_key t.uniques 0 (1 ∷ 2 ∷ 3 ∷ []) && (has_orders t.orders 1 && (is_bound 1 (codes "instance") t && (is_bare t)))))))))
+
+abbrev pub is_children : Table → Bool
+is_children t =
+    bytes_eq t.name (codes "children") && (t.tree == 7 && (has_child_columns t.columns && (not (is_some t.key) && (bytes_eq t.primary (1 ∷ 2 ∷ []) && (length t.uniques == 1 && (has_key t.uniques 0 (1 ∷ 2 ∷ []) && (has_orders t.orders 1 && (is_bound 2 (codes "name") t && (is_bare t)))))))))
 
 abbrev pub is_index : List ℕ → ℕ → ℕ → List ℕ → Index → Bool
 is_index name tree table places x =
@@ -128,17 +136,27 @@ is_index name tree table places x =
 abbrev pub index_at : List Index → ℕ → List ℕ → ℕ → ℕ → List ℕ → Bool
 index_at indexes at name tree table places = option_map_or (is_index name tree table places) (slice_get indexes at) false
 
+abbrev pub has_key_indexes : List Index → Bool
+has_key_indexes xs =
+    index_at xs 0 (codes "sqlite_autoindex_nodes_1") 2 1 (1 ∷ []) && (index_at xs 1 (codes "sqlite_autoindex_nodes_2") 3 1 (2 ∷ []) && (index_at xs 2 (codes "sqlite_autoindex_locks_1") 6 5 (1 ∷ 2 ∷ 3 ∷ [])))
+
 abbrev pub has_indexes : List Index → Bool
 has_indexes xs =
-    length xs == 3 && (index_at xs 0 (codes "sqlite_autoindex_nodes_1") 2 1 (1 ∷ []) && (index_at xs 1 (codes "sqlite_autoindex_nodes_2") 3 1 (2 ∷ []) && (index_at xs 2 (codes "sqlite_autoindex_locks_1") 6 5 (1 ∷ 2 ∷ 3 ∷ []))))
+    length xs == 4 && (has_key_indexes xs && (index_at xs 3 (codes "sqlite_autoindex_children_1") 8 7 (1 ∷ 2 ∷ [])))
 
 abbrev pub table_at : (Table → Bool) → List Table → ℕ → Bool
 table_at test tables at = option_map_or test (slice_get tables at) false
 
-abbrev pub has_tables : List Table → Bool
-has_tables ts =
-    length ts == 4 && (table_at is_meta ts 0 && (table_at is_nodes ts 1 && (table_at is_sessions ts 2 && (table_at is_locks ts 3))))
+abbrev pub has_four : List Table → Bool
+has_four ts = table_at is_meta ts 0 && (table_at is_nodes ts 1 && (table_at is_sessions ts 2 && (table_at is_locks ts 3)))
+
+abbrev pub has_fifth : List Table → Bool
+has_fifth ts = table_at is_children ts 4
 
 abbrev pub is_ours : Schema → Bool
 is_ours s =
-    length s.views == 0 && (has_indexes s.indexes && (has_tables s.tables))
+    length s.views == 0 && (has_indexes s.indexes && (length s.tables == 5 && (has_four s.tables && (has_fifth s.tables))))
+
+abbrev pub is_first : Schema → Bool
+is_first s =
+    length s.views == 0 && (length s.indexes == 3 && (has_key_indexes s.indexes && (length s.tables == 4 && (has_four s.tables))))

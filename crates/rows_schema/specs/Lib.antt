@@ -1,2 +1,3 @@
 pub mod OurSchema
 pub mod Fields
+pub mod Versions

@@ -1,4 +1,4 @@
--- The tables of a cell's store.
+-- The tables of a cell's store, in both versions.
 use Rattle.std.specs.Prelude.{Bool, true, false, [], ◌∷◌, Some, None, codes, List, ℕ}
 use Rattle.sqlite.specs.Collation.TheVariants.{Binary}
 use Rattle.sqlite.specs.declared.types.Value.TheVariants.{Null}
@@ -91,16 +91,47 @@ locks = record {
   is_counted = false;
 }
 
+-- a child goes with its node
+abbrev pub of_name : Reference
+of_name = record { columns = 2 ∷ []; parent = codes "nodes"; parent_columns = codes "name" ∷ []; on_delete = Cascade; on_update = NoAction; is_deferred = false }
+
+abbrev pub children : Table
+children = record {
+  name = codes "children";
+  tree = 7;
+  columns = needed (codes "parent") Text ∷ needed (codes "child") Text ∷ [];
+  key = None;
+  primary = 1 ∷ 2 ∷ [];
+  uniques = (1 ∷ 2 ∷ []) ∷ [];
+  orders = plain ∷ [];
+  checks = [];
+  references = of_name ∷ [];
+  computed = [];
+  stamps = no_stamps;
+  is_counted = false;
+}
+
 -- the index of a key
 abbrev pub key_index : List ℕ → ℕ → ℕ → List ℕ → Index
 key_index name tree table places = record { name = name; tree = tree; table = table; columns = places; order = plain; is_unique = true }
 
--- the four tables in this order, the indexes of their keys, and nothing beside them
-abbrev pub the_schema : Schema
-the_schema = record {
+-- the first version: four tables in this order, the indexes of their keys, and nothing beside them
+abbrev pub first_schema : Schema
+first_schema = record {
   tables = meta ∷ nodes ∷ sessions ∷ locks ∷ [];
   indexes = key_index (codes "sqlite_autoindex_nodes_1") 2 1 (1 ∷ [])
       ∷ key_index (codes "sqlite_autoindex_nodes_2") 3 1 (2 ∷ [])
       ∷ key_index (codes "sqlite_autoindex_locks_1") 6 5 (1 ∷ 2 ∷ 3 ∷ []) ∷ [];
+  views = [];
+}
+
+-- the version of now: the same, and behind them the table of children
+abbrev pub the_schema : Schema
+the_schema = record {
+  tables = meta ∷ nodes ∷ sessions ∷ locks ∷ children ∷ [];
+  indexes = key_index (codes "sqlite_autoindex_nodes_1") 2 1 (1 ∷ [])
+      ∷ key_index (codes "sqlite_autoindex_nodes_2") 3 1 (2 ∷ [])
+      ∷ key_index (codes "sqlite_autoindex_locks_1") 6 5 (1 ∷ 2 ∷ 3 ∷ [])
+      ∷ key_index (codes "sqlite_autoindex_children_1") 8 7 (1 ∷ 2 ∷ []) ∷ [];
   views = [];
 }

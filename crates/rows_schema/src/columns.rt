@@ -1,6 +1,6 @@
 //! The columns of the tables.
 ghost use Rattle.std.specs.Prelude.{◌≡◌};
-ghost use Rattle.rows_schema.specs.Fields.{is_needed, needed_at, has_meta_columns, has_node_numbers, has_node_texts, has_node_columns, has_session_columns, has_lock_columns, same_kind};
+ghost use Rattle.rows_schema.specs.Fields.{is_needed, needed_at, has_meta_columns, has_node_numbers, has_node_texts, has_node_columns, has_session_columns, has_lock_columns, has_child_columns, same_kind};
 
 use sqlite_items::Items;
 use sqlite_schema::schema::{Column, Kind};
@@ -157,4 +157,16 @@ pub(crate) fn has_lock_columns(columns: &Items<Column>) -> bool
         return false;
     }
     needed_at(columns, 4, b"delay", Kind::Integer)
+}
+
+pub(crate) fn has_child_columns(columns: &Items<Column>) -> bool
+    ensures { result ≡ has_child_columns columns.now }
+{
+    if columns.len() != 2 {
+        return false;
+    }
+    if !needed_at(columns, 0, b"parent", Kind::Text) {
+        return false;
+    }
+    needed_at(columns, 1, b"child", Kind::Text)
 }

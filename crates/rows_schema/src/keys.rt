@@ -1,6 +1,6 @@
 //! Keys, references and indexes.
 ghost use Rattle.std.specs.Prelude.{◌≡◌, ◌==◌, length, IfOk};
-ghost use Rattle.rows_schema.specs.Fields.{is_key_of, has_key, is_plain, has_orders, is_of_node, is_index, index_at, is_bare, is_instance};
+ghost use Rattle.rows_schema.specs.Fields.{is_key_of, has_key, is_plain, has_orders, is_to_node, is_index, index_at, is_bare, is_only_name};
 
 use sqlite_items::Items;
 use sqlite_schema::code::Terms;
@@ -53,29 +53,29 @@ pub(crate) fn has_orders(orders: &Items<Order>, count: usize) -> bool
     is_plain(orders, 1)
 }
 
-fn is_instance(names: &Items<Bytes>) -> bool
-    ensures { result ≡ is_instance names.now }
+fn is_only_name(names: &Items<Bytes>, name: &[u8]) -> bool
+    ensures { result ≡ is_only_name name.now names.now }
 {
     if names.len() != 1 {
         return false;
     }
     match names.get(0) {
-        Some(name) => name.as_slice() == b"instance".as_slice(),
+        Some(only) => only.as_slice() == name,
         None => false,
     }
 }
 
-/// Whether it is the reference of a lock to its node.
-pub(crate) fn is_of_node(reference: &Reference) -> bool
-    ensures { result ≡ is_of_node reference.now }
+/// Whether it is the reference of one column to a column of the nodes, by which a row goes with its node.
+pub(crate) fn is_to_node(reference: &Reference, column: usize, name: &[u8]) -> bool
+    ensures { result ≡ is_to_node column name.now reference.now }
 {
-    if reference.columns.as_slice() != [1usize].as_slice() {
+    if reference.columns.as_slice() != [column].as_slice() {
         return false;
     }
     if reference.parent.as_slice() != b"nodes".as_slice() {
         return false;
     }
-    if !is_instance(&reference.parent_columns) {
+    if !is_only_name(&reference.parent_columns, name) {
         return false;
     }
     if !matches!(reference.on_delete, Action::Cascade) {

@@ -1,11 +1,11 @@
 -- What becomes of a database that is taken over.
-use Rattle.std.proofs.Common.{◌≡◌, ◌≤◌, Bool, true, false, List, [], ◌∷◌, inl, inr, refl, sym, ap, ◌∙◌, subst, arith, true≢false, Result, Ok, Err, ℕ, ◌++◌, length, append_assoc}
+use Rattle.std.proofs.Common.{◌≡◌, ◌≢◌, ◌≤◌, Bool, true, false, List, [], ◌∷◌, inl, inr, refl, sym, ap, ◌∙◌, subst, arith, true≢false, Result, Ok, Err, ℕ, ◌++◌, length, append_assoc}
 use Rattle.std.specs.Prelude.{IsTrue, IfOk, IfErr}
 use Rattle.sqlite_trees.specs.declared.store.Store.{Ghosts}
 use Rattle.sqlite_trees.specs.Objects.{catalog_tree, IsListed}
 use Rattle.sqlite_trees.specs.View.{IsClean, IsOrdered, IsQuiet, IsRolledBack, doubt}
 use Rattle.sqlite.specs.Tree.{Trees}
-use Rattle.sqlite.specs.Effect.{Database, IsDatabase}
+use Rattle.sqlite.specs.Effect.{Database}
 use Rattle.sqlite_schema.specs.declared.schema.Schema.{Schema}
 use Rattle.sqlite.specs.State.{State, HasCleanDisk, Survives, Opens, IsLive}
 use Rattle.sqlite.specs.Held.{Held, state, IsNew}
@@ -18,14 +18,18 @@ use Rattle.rows_cell.specs.declared.tables.Edit.TheVariants.{PutNode}
 use Rattle.rows_cell.specs.Rows.{StoredNodes}
 use Rattle.rows_cell.specs.Opening.{opening}
 use Rattle.settings_core.specs.Settings.{Settled}
-use Rattle.rows_schema.specs.OurSchema.{the_schema}
-use Rattle.rows_read.specs.Held.{Says}
-use Rattle.rows_read.specs.Ready.{tables_of, IsReady, IsStill, Quiet}
+use Rattle.rows_schema.specs.OurSchema.{first_schema, the_schema}
+use Rattle.rows_cell.specs.Sound.{sound}
+use Rattle.rows_schema.specs.declared.ours.Version.{Version}
+use Rattle.rows_schema.specs.declared.ours.Version.TheVariants.{First, Second}
+use Rattle.rows_schema.specs.Versions.{schema_of}
+use Rattle.rows_read.specs.Held.{Says, SaysAs}
+use Rattle.rows_read.specs.Ready.{tables_of, tables_as, IsReady, IsStill, Quiet}
 use Rattle.rows_read.proofs.OneSchema.{one_database}
 use Rattle.rows_edits.specs.Ongoing.{IsStore}
 use Rattle.rows_edits.specs.Creation.{no_schema, puts_of, IsMade, MayOpen}
 use Rattle.rows_sql.specs.Keeping.{Keeps}
-use Rattle.rows_sql.specs.Adopting.{IsAnew, Takes, IsForeign, HasDatabase, Adopts, IsOther, IsTaken, IsLeftAlone, IsReopened, ComesBack}
+use Rattle.rows_sql.specs.Adopting.{IsAnew, Takes, IsTakenAs, IsForeign, IsAtItsEnd, Adopts, IsOther, IsFull, IsTaken, IsLeftAlone, IsReopened, ComesBack}
 use Rattle.rows_sql.proofs.Opened.{opened}
 
 -- ---- opened anew
@@ -35,13 +39,16 @@ pub anew : {S E : Type 0} (g : Ghosts S) (store : S) (r : Result (Held S) E) →
     → IfOk r (λ c. HasCleanDisk (state g c) → Opens (state g c) × IsLive (state g c)) → IfOk r (λ c. doubt (g.view store).is_clean ≤ doubt (state g c).is_clean) → IfOk r (λ c. HasCleanDisk (state g c) → (state g c).now.trees ≡ (g.view store).trees)
     → IfOk r IsNew → IfOk r (λ c. IsAnew (state g c))
 anew g store (Err e) ordered listed fresh opens cleaner trees new = tt
-anew {S = S} g store (Ok c) ordered listed fresh opens cleaner trees new = record {
-  idle = new.autocommit;
-  is_open = λ clean. (opens clean).0.is_open;
-  settled = λ clean. sym (opens clean).0.clean;
-  listed = λ clean. let at = opens clean in (at.1 at.0.is_open).0;
-  store = opened {E = S} g store (Ok c) ordered listed fresh opens cleaner trees;
-}
+anew {S = S} g store (Ok c) ordered listed fresh opens cleaner trees new =
+    let both = opened {E = S} g store ordered listed fresh (Ok c) opens cleaner trees in
+    record {
+      idle = new.autocommit;
+      is_open = λ clean. (opens clean).0.is_open;
+      settled = λ clean. sym (opens clean).0.clean;
+      listed = λ clean. let at = opens clean in (at.1 at.0.is_open).0;
+      store = both.0;
+      first = both.1;
+    }
 
 -- ---- what an unbroken store is that was rolled back
 
@@ -95,6 +102,11 @@ module _ {S : Type 0} (g : Ghosts S) (broken_if_shut : (s : S) → (g.view s).is
 
 -- ---- taken over
 
+-- what holds whether it went well or not
+pub left_by_any : {X E : Type 0} (r : Result X E) (P : Type 0) → P → IfErr r (λ _. P)
+left_by_any (Ok x) P h = tt
+left_by_any (Err e) P h = h
+
 module _ {S : Type 0} (g : Ghosts S) (settings : Settled) (old new : Held S) (at : IsAnew (state g old)) where
   pub left_as_it_is : IsLeftAlone g settings old old
   left_as_it_is = record { clean = omega arith; crash = λ _ db may. inl may }
@@ -129,7 +141,7 @@ module _ {S : Type 0} (g : Ghosts S) (settings : Settled) (old new : Held S) (at
       store = λ clean. ((made clean).opened nothing).store;
       committed = λ clean. (made clean).committed;
       said = λ clean. subst (Says (tables_of (state g new).now.trees)) (sym is) ((made clean).opened nothing).said;
-      takes = λ clean. inr (nothing, is);
+      takes = λ clean. inr (inl (nothing, is));
     }
 
     pub left_new : IsLeftAlone g settings old new
@@ -137,27 +149,53 @@ module _ {S : Type 0} (g : Ghosts S) (settings : Settled) (old new : Held S) (at
       clean = survives.clean;
       crash = λ clean db may. elim (survives.crash clean db may) [
         | inl b ↦ inl b
-        | inr m ↦ inr (m nothing)
+        | inr m ↦ inr (opening settings, inr (inl (nothing, refl)), m nothing)
       ];
     }
 
--- ---- what it was taken over as
+-- ---- what isn't taken over
+
+pub foreign_none : (cell : List ℕ) (db : Database) (schema : Schema) → ((version : Version) → schema ≢ schema_of version) → schema ≡ db.schema → db.schema ≢ no_schema → IsForeign cell db
+foreign_none cell db schema none same some = inl (λ e. none Second (same ∙ e), some, λ e. none First (same ∙ e))
+
+pub foreign_store : (cell : List ℕ) (db : Database) → db.schema ≡ the_schema → ((rows : Rows) → ¬ Says (tables_of db.trees) rows) → IsForeign cell db
+foreign_store cell db ours none = inr (inl (ours, none))
+
+pub foreign_first : (cell : List ℕ) (db : Database) → db.schema ≡ first_schema → ((rows : Rows) → SaysAs First (tables_as First db.trees) rows → sound cell rows ≡ false) → IsForeign cell db
+foreign_first cell db first none = inr (inr (first, none))
+
+no_tables : (a : Schema) → a ≡ no_schema → a ≡ the_schema → ⊥
+no_tables a n t = let e : 0 ≡ 5 = ap (λ (s : Schema). length s.tables) (sym n ∙ t) in omega (arith, e)
+
+pub no_first : (a : Schema) → a ≡ no_schema → a ≡ first_schema → ⊥
+no_first a n f = let e : 0 ≡ 4 = ap (λ (s : Schema). length s.tables) (sym n ∙ f) in omega (arith, e)
+
+pub not_both : (a : Schema) → a ≡ the_schema → a ≡ first_schema → ⊥
+not_both a t f = let e : 5 ≡ 4 = ap (λ (s : Schema). length s.tables) (sym t ∙ f) in omega (arith, e)
 
 -- rows are taken of what isn't a cell's
-none_of_other : (settings : Settled) (db : Database) (rows : Rows) → Takes settings db rows → IsForeign db → ⊥
+none_of_other : (settings : Settled) (db : Database) (rows : Rows) → Takes settings db rows → IsForeign settings.cell db → ⊥
 none_of_other settings db rows (inl t) (inl f) = f.0 t.0
-none_of_other settings db rows (inl t) (inr f) = f.1 rows t.1
-none_of_other settings db rows (inr t) (inl f) = f.1 t.0
-none_of_other settings db rows (inr t) (inr f) = let e : 0 ≡ 4 = ap (λ (s : Schema). length s.tables) (sym t.0 ∙ f.0) in omega (arith, e)
+none_of_other settings db rows (inl t) (inr (inl f)) = f.1 rows t.1
+none_of_other settings db rows (inl t) (inr (inr f)) = not_both db.schema t.0 f.0
+none_of_other settings db rows (inr (inl t)) (inl f) = f.1 t.0
+none_of_other settings db rows (inr (inl t)) (inr (inl f)) = no_tables db.schema t.0 f.0
+none_of_other settings db rows (inr (inl t)) (inr (inr f)) = no_first db.schema t.0 f.0
+none_of_other settings db rows (inr (inr t)) (inl f) = f.2 t.1.schema
+none_of_other settings db rows (inr (inr t)) (inr (inl f)) = not_both db.schema f.0 t.1.schema
+none_of_other settings db rows (inr (inr t)) (inr (inr f)) = true≢false (sym t.1.sound_rows ∙ f.1 t.0 t.1.said)
 
-pub not_other : (settings : Settled) (s : State) (rows : Rows) → Adopts settings s rows → ¬ IsOther s
+pub not_other : (settings : Settled) (s : State) (rows : Rows) → Adopts settings s rows → ¬ IsOther settings.cell s
 not_other settings s rows adopts other = none_of_other settings s.committed rows adopts.takes other.foreign
 
 pub adopts : {S : Type 0} (g : Ghosts S) (settings : Settled) (old mid : Held S) (rows : Rows) → IsReopened g old mid → HasCleanDisk (state g mid) → Takes settings (state g mid).now rows → Adopts settings (state g old) rows
 adopts g settings old mid rows opened clean takes = record { has = opened.has clean; takes = subst (λ (db : Database). Takes settings db rows) (opened.same clean) takes }
 
-pub is_other : {S : Type 0} (g : Ghosts S) (old mid : Held S) → IsReopened g old mid → HasCleanDisk (state g mid) → IsForeign (state g mid).now → IsOther (state g old)
-is_other g old mid opened clean foreign = record { has = opened.has clean; foreign = subst IsForeign (opened.same clean) foreign }
+pub is_other : {S : Type 0} (g : Ghosts S) (cell : List ℕ) (old mid : Held S) → IsReopened g old mid → HasCleanDisk (state g mid) → IsForeign cell (state g mid).now → IsOther cell (state g old)
+is_other g cell old mid opened clean foreign = record { has = opened.has clean; foreign = subst (IsForeign cell) (opened.same clean) foreign }
+
+pub is_full : {S : Type 0} (g : Ghosts S) (cell : List ℕ) (old mid : Held S) → IsReopened g old mid → HasCleanDisk (state g mid) → IsAtItsEnd cell (state g mid).now → IsFull cell (state g old)
+is_full g cell old mid opened clean full = record { has = opened.has clean; at_end = subst (IsAtItsEnd cell) (opened.same clean) full }
 
 -- ---- the ends
 
@@ -179,7 +217,7 @@ came_back g settings old mid new store opened left quiet = record {
       let mid_clean : HasCleanDisk (state g mid) = omega (arith, left.clean, at) in
       elim (left.crash at db (quiet.outcomes db may)) [
         | inl b ↦ inl (opened.crash mid_clean db b)
-        | inr m ↦ inr m
+        | inr m ↦ inr (subst (λ (d : Database). IsTakenAs settings d db) (opened.same mid_clean) m)
       ];
 }
 

@@ -4,3 +4,4 @@ pub mod Opened
 pub mod Adoptions
 pub mod StoreCases
 pub mod Closings
+pub mod Carryings

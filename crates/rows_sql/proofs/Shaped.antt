@@ -18,8 +18,9 @@ use Rattle.sqlite_rules.specs.Lists.{Has}
 use Rattle.sqlite_rules.proofs.ListLemmas.{has_filtered}
 use Rattle.sqlite_rules.proofs.PlaceLemmas.{row_at_is}
 use Rattle.sqlite.specs.Effect.{Database, IsDatabase}
-use Rattle.rows_schema.specs.OurSchema.{the_schema, meta, nodes, sessions, locks}
+use Rattle.rows_schema.specs.OurSchema.{first_schema, the_schema, meta, nodes, sessions, locks, children}
 use Rattle.rows_edits.specs.Ongoing.{IsStore}
+use Rattle.rows_edits.specs.Carrying.{IsFirstStore}
 
 zip_has : {A B : Type 0} (R : A → B → Type 0) (xs : List A) (ys : List B) (y : B) → AllZip R xs ys → Has ys y → (x : A) × Has xs x × R x y
 zip_has R [] [] y z h = absurd h
@@ -51,15 +52,32 @@ module _ (objects : List Row) (shape : ℕ → Shape) (reals : ℕ → ℕ) (tre
       let found = zip_has IsTableRow (filter is_table_row objects) tables table z h in
       shaped_by table found.0 (has_filtered is_table_row objects found.0 found.1).0 found.2
 
-pub is_store : (v : View) (db : Database) → db.trees ≡ v.trees → db.schema ≡ the_schema → IsDatabase db → IsListed (v.trees catalog_tree) v.shape v.reals → IsOrdered v.shape v.trees → IsStore db
-is_store v db same ours sound listed ordered =
+-- each table of a database has rowids that rise
+shaped_as : (schema : Schema) (v : View) (db : Database) → db.trees ≡ v.trees → db.schema ≡ schema → IsDatabase db → IsListed (v.trees catalog_tree) v.shape v.reals → IsOrdered v.shape v.trees → (table : Table) → Has schema.tables table → IsShaped Rows (db.trees table.tree)
+shaped_as schema v db same ours sound listed ordered table h =
     let rises : IsTable (v.trees catalog_tree) = (subst (λ s. IsShaped s (v.trees catalog_tree)) listed.itself.0 (ordered catalog_tree)).0 in
     let zip = subst (λ (s : Schema). AllZip IsTableRow (filter is_table_row (db.trees catalog_tree)) s.tables) ours sound.lists.listed.tables in
-    let zipped = subst (λ (t : Trees). AllZip IsTableRow (filter is_table_row (t catalog_tree)) the_schema.tables) same zip in
-    let at : (table : Table) → Has the_schema.tables table → IsShaped Rows (db.trees table.tree) = λ table h.
-    subst (λ (t : Trees). IsShaped Rows (t table.tree)) (sym same) (shaped (v.trees catalog_tree) v.shape v.reals v.trees listed rises ordered the_schema.tables zipped table h) in
+    let zipped = subst (λ (t : Trees). AllZip IsTableRow (filter is_table_row (t catalog_tree)) schema.tables) same zip in
+    subst (λ (t : Trees). IsShaped Rows (t table.tree)) (sym same) (shaped (v.trees catalog_tree) v.shape v.reals v.trees listed rises ordered schema.tables zipped table h)
+
+pub is_store : (v : View) (db : Database) → db.trees ≡ v.trees → db.schema ≡ the_schema → IsDatabase db → IsListed (v.trees catalog_tree) v.shape v.reals → IsOrdered v.shape v.trees → IsStore db
+is_store v db same ours sound listed ordered =
+    let at = shaped_as the_schema v db same ours sound listed ordered in
     record {
       schema = ours;
+      sound = sound;
+      metas = at meta (inl refl);
+      nodes = at nodes (inr (inl refl));
+      sessions = at sessions (inr (inr (inl refl)));
+      locks = at locks (inr (inr (inr (inl refl))));
+      children = at children (inr (inr (inr (inr (inl refl)))));
+    }
+
+pub is_first_store : (v : View) (db : Database) → db.trees ≡ v.trees → db.schema ≡ first_schema → IsDatabase db → IsListed (v.trees catalog_tree) v.shape v.reals → IsOrdered v.shape v.trees → IsFirstStore db
+is_first_store v db same first sound listed ordered =
+    let at = shaped_as first_schema v db same first sound listed ordered in
+    record {
+      schema = first;
       sound = sound;
       metas = at meta (inl refl);
       nodes = at nodes (inr (inl refl));

@@ -1,5 +1,5 @@
 -- Taking a database over.
-use Rattle.std.specs.Prelude.{◌≡◌, ◌≢◌, ◌⊎◌, ◌≤◌, false, IsTrue}
+use Rattle.std.specs.Prelude.{◌≡◌, ◌≢◌, ◌⊎◌, ◌≤◌, ◌<◌, ◌+◌, ℕ, List, true, false, IsTrue}
 use Rattle.sqlite_trees.specs.declared.store.Store.{Ghosts}
 use Rattle.sqlite_trees.specs.View.{doubt, IsClean}
 use Rattle.sqlite.specs.Tree.{Trees}
@@ -9,11 +9,16 @@ use Rattle.sqlite.specs.Held.{Held, state}
 use Rattle.rows_cell.specs.Opening.{opening}
 use Rattle.settings_core.specs.Settings.{Settled}
 use Rattle.rows_cell.specs.declared.tables.Rows.{Rows}
-use Rattle.rows_schema.specs.OurSchema.{the_schema}
-use Rattle.rows_read.specs.Held.{Says}
-use Rattle.rows_read.specs.Ready.{tables_of}
+use Rattle.node_core.specs.Limits.{number_limit}
+use Rattle.rows_cell.specs.Sound.{sound}
+use Rattle.rows_cell.specs.Rows.{map_of}
+use Rattle.rows_schema.specs.OurSchema.{first_schema, the_schema}
+use Rattle.rows_schema.specs.declared.ours.Version.TheVariants.{First}
+use Rattle.rows_read.specs.Held.{Says, SaysAs}
+use Rattle.rows_read.specs.Ready.{tables_of, tables_as}
 use Rattle.rows_edits.specs.Ongoing.{IsStore}
 use Rattle.rows_edits.specs.Creation.{no_schema}
+use Rattle.rows_edits.specs.Carrying.{IsFirstStore}
 
 -- a connection that was just opened: nothing is begun, and of a store the rowids of each table rise
 pub record IsAnew (s : State) : Type 0 where
@@ -22,14 +27,33 @@ pub record IsAnew (s : State) : Type 0 where
   pub settled : HasCleanDisk s → s.committed ≡ s.now
   pub listed : HasCleanDisk s → IsDatabase s.now
   pub store : HasCleanDisk s → s.now.schema ≡ the_schema → IsStore s.now
+  pub first : HasCleanDisk s → s.now.schema ≡ first_schema → IsFirstStore s.now
 
--- the rows that its tables say; or the opening rows, where there is no table yet
+-- it is a store of the first version, which says these rows, and by its rules a cell of this name may have them
+pub record SaysFirst (cell : List ℕ) (db : Database) (rows : Rows) : Type 0 where
+  pub schema : db.schema ≡ first_schema
+  pub said : SaysAs First (tables_as First db.trees) rows
+  pub sound_rows : sound cell rows ≡ true
+
+-- what a store of the first version is carried over as: the same rows, of the next epoch
+abbrev pub carried : Rows → Rows
+carried rows = record rows { epoch = rows.epoch + 1 }
+
+-- the rows that its tables say; the opening rows, where there is no table yet; or those that it is carried over as
 abbrev pub Takes : Settled → Database → Rows → Type 0
-Takes settings db rows = ((db.schema ≡ the_schema) × Says (tables_of db.trees) rows) ⊎ ((db.schema ≡ no_schema) × (rows ≡ opening settings))
+Takes settings db rows =
+    ((db.schema ≡ the_schema) × Says (tables_of db.trees) rows)
+    ⊎ (((db.schema ≡ no_schema) × (rows ≡ opening settings)) ⊎ ((before : Rows) × SaysFirst settings.cell db before × (before.epoch < number_limit) × (rows ≡ carried before)))
 
--- it has other tables, or they say no rows
-abbrev pub IsForeign : Database → Type 0
-IsForeign db = ((db.schema ≢ the_schema) × (db.schema ≢ no_schema)) ⊎ ((db.schema ≡ the_schema) × ((rows : Rows) → ¬ Says (tables_of db.trees) rows))
+-- it has other tables; or they say no rows; or it is of the first version, and says none that a cell of this name may have
+abbrev pub IsForeign : List ℕ → Database → Type 0
+IsForeign cell db =
+    ((db.schema ≢ the_schema) × (db.schema ≢ no_schema) × (db.schema ≢ first_schema))
+    ⊎ (((db.schema ≡ the_schema) × ((rows : Rows) → ¬ Says (tables_of db.trees) rows)) ⊎ ((db.schema ≡ first_schema) × ((rows : Rows) → SaysAs First (tables_as First db.trees) rows → sound cell rows ≡ false)))
+
+-- it is of the first version, and its epoch can't go on
+abbrev pub IsAtItsEnd : List ℕ → Database → Type 0
+IsAtItsEnd cell db = (rows : Rows) × SaysFirst cell db rows × (rows.epoch ≡ number_limit)
 
 -- its rows are taken over: it is a store that says them, and all of them is committed
 pub record IsTaken {S : Type 0} (g : Ghosts S) (settings : Settled) (old new : Held S) (rows : Rows) : Type 0 where
@@ -41,10 +65,14 @@ pub record IsTaken {S : Type 0} (g : Ghosts S) (settings : Settled) (old new : H
   pub said : HasCleanDisk (state g new) → Says (tables_of (state g new).now.trees) rows
   pub takes : HasCleanDisk (state g new) → Takes settings (state g old).now rows
 
--- its rows aren't taken over: a crash leaves what it could leave before, or a new store
+-- these trees are a store of rows that the database is taken over as
+abbrev pub IsTakenAs : Settled → Database → Trees → Type 0
+IsTakenAs settings before db = (rows : Rows) × Takes settings before rows × Says (tables_of db) rows
+
+-- its rows aren't taken over: a crash leaves what it could leave before, or the store that it was to become, whole
 pub record IsLeftAlone {S : Type 0} (g : Ghosts S) (settings : Settled) (old new : Held S) : Type 0 where
   pub clean : doubt (state g old).is_clean ≤ doubt (state g new).is_clean
-  pub crash : HasCleanDisk (state g new) → (db : Trees) → (state g new).may_leave db → (state g old).may_leave db ⊎ Says (tables_of db) (opening settings)
+  pub crash : HasCleanDisk (state g new) → (db : Trees) → (state g new).may_leave db → (state g old).may_leave db ⊎ IsTakenAs settings (state g old).now db
 
 -- a connection that is open: its last commit is a database, whose trees list its schema and obey it
 pub record HasDatabase (s : State) : Type 0 where
@@ -59,17 +87,28 @@ pub record IsReopened {S : Type 0} (g : Ghosts S) (old new : Held S) : Type 0 wh
   pub same : HasCleanDisk (state g new) → (state g new).now ≡ (state g old).committed
   pub crash : HasCleanDisk (state g new) → (db : Trees) → (state g new).may_leave db → (state g old).may_leave db
 
--- behind a refusal the store comes back: a crash leaves what it could leave before, or a new store
+-- behind a refusal the store comes back: a crash leaves what it could leave before, or the store that it was to become, whole
 pub record ComesBack {S : Type 0} (g : Ghosts S) (settings : Settled) (old : Held S) (store : S) : Type 0 where
   pub clean : doubt (state g old).is_clean ≤ doubt (g.view store).is_clean
-  pub crash : IsClean (g.view store) → (db : Trees) → g.recovers store db → (state g old).may_leave db ⊎ Says (tables_of db) (opening settings)
+  pub crash : IsClean (g.view store) → (db : Trees) → g.recovers store db → (state g old).may_leave db ⊎ IsTakenAs settings (state g old).committed db
 
--- what a connection is taken over as: its last commit is a database, and these are the rows that it says, or the opening rows where it has no table
+-- what a connection is taken over as: its last commit is a database, and these are the rows that it is taken over as
 pub record Adopts (settings : Settled) (s : State) (rows : Rows) : Type 0 where
   pub has : HasDatabase s
   pub takes : Takes settings s.committed rows
 
--- its last commit is a database, and not that of a cell
-pub record IsOther (s : State) : Type 0 where
+-- its last commit is a database, and not that of a cell of this name
+pub record IsOther (cell : List ℕ) (s : State) : Type 0 where
   pub has : HasDatabase s
-  pub foreign : IsForeign s.committed
+  pub foreign : IsForeign cell s.committed
+
+-- its last commit is a store of the first version, whose epoch can't go on
+pub record IsFull (cell : List ℕ) (s : State) : Type 0 where
+  pub has : HasDatabase s
+  pub at_end : IsAtItsEnd cell s.committed
+
+-- whatever a store of the first version is taken over as has its map, its sessions and its locks, and is of the next epoch
+abbrev pub CarryingKeeps : Type 0
+CarryingKeeps =
+    (settings : Settled) (db : Database) (before after : Rows) → SaysFirst settings.cell db before → Takes settings db after
+    → (map_of after ≡ map_of before) × (after.sessions ≡ before.sessions) × (after.locks ≡ before.locks) × (after.epoch ≡ before.epoch + 1)

@@ -7,3 +7,4 @@ pub use Rattle.rows_edits.specs.Ongoing
 pub mod Keeping
 pub mod Adopting
 pub mod Closed
+pub mod Carrying

@@ -1,5 +1,5 @@
 //! Taking a database over.
-ghost use Rattle.std.specs.Prelude.{◌≡◌, ◌↔◌, ◌≤◌, Err, IfOk, IfErr, IsTrue};
+ghost use Rattle.std.specs.Prelude.{◌≡◌, ◌≢◌, ◌↔◌, ◌≤◌, Err, IfOk, IfErr, IsTrue};
 ghost use Rattle.sqlite_trees.specs.View.{doubt, IsClean};
 ghost use Rattle.sqlite.specs.Steps.{IsFresh};
 ghost use Rattle.sqlite.specs.State.{HasCleanDisk};
@@ -10,13 +10,14 @@ ghost use Rattle.rows_schema.specs.OurSchema.{the_schema};
 ghost use Rattle.rows_edits.specs.Creation.{no_schema, puts_of};
 ghost use Rattle.rows_read.specs.Held.{Says};
 ghost use Rattle.rows_read.specs.Ready.{tables_of};
-ghost use Rattle.rows_sql.specs.Adopting.{IsAnew, IsForeign, IsTaken, IsLeftAlone, IsReopened};
+ghost use Rattle.rows_sql.specs.Adopting.{IsAnew, IsForeign, IsAtItsEnd, IsTaken, IsLeftAlone, IsReopened};
 
+use crate::carrying::take_first;
 use plain::Items;
 use rows_cell::{Edit, ListRecords, Records, Rows, StoreFault};
 use rows_edits::make_store;
 use rows_read::load_said;
-use rows_schema::is_ours;
+use rows_schema::{Version, version_of};
 use settings_core::Settings;
 use sqlite::{Alter, Connection, Error};
 use sqlite_schema::schema::Schema;
@@ -97,6 +98,7 @@ fn take_new<S: Alter>(
     ensures ok { IfOk result (λ rows. IsTaken S.Store settings.now conn.old conn.new rows) }
     ensures err { IfErr result (λ e. IsLeftAlone S.Store settings.now conn.old conn.new) }
     ensures why { result ≡ Err StoreFault.Damaged → ⊥ }
+    ensures counted { result ≡ Err StoreFault.Exhausted → ⊥ }
 {
     let rows = opening_rows(alloc, settings)?;
     let edits = edits_of(alloc, &rows)?;
@@ -117,11 +119,14 @@ fn take_store<S: Alter>(
     ensures ok { IfOk result (λ rows. IsTaken S.Store settings.now conn.old conn.new rows) }
     ensures err { IfErr result (λ e. IsLeftAlone S.Store settings.now conn.old conn.new) }
     ensures why { HasCleanDisk (state S.Store conn.new) → result ≡ Err StoreFault.Damaged → (rows : Held) → ¬ Says (tables_of (state S.Store conn.old).now.trees) rows }
+    ensures counted { result ≡ Err StoreFault.Exhausted → ⊥ }
 {
     load_said(alloc, conn)
 }
 
-/// Takes the rows of a database over: those of a store as they are; and where there is no table, a new store is made.
+/// Takes the rows of a database over: those of a store as they are; one of the first version is carried over; and where
+/// there is no table, a new store is made.
+#[tactic(auto, using(crate::proofs::Adoptions::foreign_none, crate::proofs::Adoptions::foreign_store, crate::proofs::Adoptions::foreign_first))]
 pub(crate) fn take_over<S: Alter>(
     alloc: Global,
     conn: &mut Connection<S>,
@@ -130,11 +135,29 @@ pub(crate) fn take_over<S: Alter>(
     requires { IsAnew (state S.Store conn.old) }
     ensures ok { IfOk result (λ rows. IsTaken S.Store settings.now conn.old conn.new rows) }
     ensures err { IfErr result (λ e. IsLeftAlone S.Store settings.now conn.old conn.new) }
-    ensures why { HasCleanDisk (state S.Store conn.new) → result ≡ Err StoreFault.Damaged → IsForeign (state S.Store conn.old).now }
+    ensures why { HasCleanDisk (state S.Store conn.new) → result ≡ Err StoreFault.Damaged → IsForeign settings.now.cell (state S.Store conn.old).now }
+    ensures full { HasCleanDisk (state S.Store conn.new) → result ≡ Err StoreFault.Exhausted → IsAtItsEnd settings.now.cell (state S.Store conn.old).now }
 {
-    if is_ours(alloc, conn.schema())? {
-        return take_store(alloc, conn, settings);
+    let version = version_of(alloc, conn.schema())?;
+    match version {
+        Some(Version::Second) => take_store(alloc, conn, settings),
+        Some(Version::First) => take_first(alloc, conn, settings),
+        None => take_none(alloc, conn, settings),
     }
+}
+
+// Takes a database over that is no store: a new one is made where there is no table.
+fn take_none<S: Alter>(
+    alloc: Global,
+    conn: &mut Connection<S>,
+    settings: &Settings,
+) -> Result<Rows, StoreFault>
+    requires { IsAnew (state S.Store conn.old) }
+    ensures ok { IfOk result (λ rows. IsTaken S.Store settings.now conn.old conn.new rows) }
+    ensures err { IfErr result (λ e. IsLeftAlone S.Store settings.now conn.old conn.new) }
+    ensures why { HasCleanDisk (state S.Store conn.new) → result ≡ Err StoreFault.Damaged → (state S.Store conn.old).now.schema ≢ no_schema }
+    ensures counted { result ≡ Err StoreFault.Exhausted → ⊥ }
+{
     if !is_nothing(conn.schema()) {
         return Err(StoreFault::Damaged);
     }

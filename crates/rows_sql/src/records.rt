@@ -7,7 +7,7 @@ ghost use Rattle.rows_cell.specs.declared.tables.Rows.{Rows as Held};
 ghost use Rattle.rows_read.specs.Held.{Says};
 ghost use Rattle.rows_read.specs.Ready.{tables_of};
 ghost use Rattle.rows_sql.specs.Keeping.{noted, stood, IsLeft};
-ghost use Rattle.rows_sql.specs.Adopting.{Adopts, ComesBack, IsOther};
+ghost use Rattle.rows_sql.specs.Adopting.{Adopts, ComesBack, IsOther, IsFull};
 
 use crate::adoption::{reopen, take_over};
 use crate::steps::{goes_on, is_committed, load_sound};
@@ -30,7 +30,7 @@ pub enum Note {
     Tried,
 }
 
-/// The rows of a cell in the four tables of a database, over any store of the kit's `sqlite`: a file that sqlite3 reads,
+/// The rows of a cell in the five tables of a database, over any store of the kit's `sqlite`: a file that sqlite3 reads,
 /// or memory. Each change is one transaction.
 pub struct SqlRecords<S: Alter> {
     alloc: Global,
@@ -151,11 +151,13 @@ impl<S: Alter> Records for SqlRecords<S> {
 
 impl<S: Alter + Drop> SqlRecords<S> {
     /// Takes a database over. What isn't committed there is undone. The rows of a store are taken as they are, whether a
-    /// cell may have them or not; where there is no table, the four tables are made and the opening rows put, in one
-    /// transaction.
+    /// cell may have them or not; where there is no table, the five tables are made and the opening rows put, in one
+    /// transaction. A store of the first version is carried over, where a cell of this name may have its rows: one
+    /// transaction makes it a store of now, of the next epoch, with one statement for each node.
     ///
-    /// Refused as `Damaged` where other tables are there, or where the tables say no rows; as `Refused` where the database
-    /// can't be read or written. The store then comes back, over which a connection can be opened.
+    /// Refused as `Damaged` where other tables are there, or where the tables say no rows, in the first version none that a
+    /// cell of this name may have; as `Exhausted` where the epoch of a store of the first version can't go on; as `Refused`
+    /// where the database can't be read or written. The store then comes back, over which a connection can be opened.
     pub fn adopt(
         alloc: Global,
         conn: Connection<S>,
@@ -168,9 +170,10 @@ impl<S: Alter + Drop> SqlRecords<S> {
         ensures doubted { IfOk result (λ records. doubt (state S.Store conn).is_clean ≤ records.doubt) }
         ensures undoubted { IfOk result (λ records. ((store : S) → IsClean (S.Store.view store)) → records.doubt ≡ 0) }
         ensures rows { IfOk result (λ records. records.doubt ≡ 0 → Adopts settings.now (state S.Store conn) records.rows) }
-        ensures ours { IfOk result (λ records. records.doubt ≡ 0 → ¬ IsOther (state S.Store conn)) }
+        ensures ours { IfOk result (λ records. records.doubt ≡ 0 → ¬ IsOther settings.now.cell (state S.Store conn)) }
         ensures back { IfErr result (λ e. ComesBack S.Store settings.now conn e.1) }
-        ensures damaged { IfErr result (λ e. IsClean (S.Store.view e.1) → e.0 ≡ StoreFault.Damaged → IsOther (state S.Store conn)) }
+        ensures damaged { IfErr result (λ e. IsClean (S.Store.view e.1) → e.0 ≡ StoreFault.Damaged → IsOther settings.now.cell (state S.Store conn)) }
+        ensures full { IfErr result (λ e. IsClean (S.Store.view e.1) → e.0 ≡ StoreFault.Exhausted → IsFull settings.now.cell (state S.Store conn)) }
     {
         let cell = match settings.cell().clone() {
             Ok(cell) => cell,

@@ -1,7 +1,7 @@
-use Rattle.std.proofs.Common.{◌≡◌, ◌+◌, ◌<◌, suc, length, rules, ◌∷◌, drop, drop-cons, add-one, sym, ap, ◌∙◌, subst}
+use Rattle.std.proofs.Common.{◌≡◌, ◌+◌, ◌<◌, suc, length, rules, arith, [], ◌∷◌, drop, drop-cons, add-one, sym, ap, ◌∙◌, subst}
+use Rattle.std.proofs.lemmas.List.{drop_all}
 use Rattle.sqlite.specs.Held.{state}
-use Rattle.rows_edits.proofs.Steps.{Along}
-use Rattle.rows_edits.proofs.Steps.{along_step}
+use Rattle.rows_edits.proofs.Steps.{Along, along_step, all_done}
 use Rattle.rows_edits.proofs.changes.edit_all.Goals as goal
 
 pub loop-it-preserved : goal.loop-it-preserved
@@ -18,3 +18,11 @@ loop-it-preserved g c =
       along = along_step all left c.it-item.result a b (state g.S.Store c.edit.new.tx.conn.now) (subst (λ l. Along all l a b) is c.loop-it.invariant.along)
           c.in_ok-edit.ensures.ok c.edit.ensures.kept c.edit.ensures.survives;
     }
+
+pub returns-clause-ok : goal.returns-clause-ok
+returns-clause-ok g c clean =
+    let all = c.args.change.now in
+    let a = state g.S.Store c.args.tx.now.conn.now in
+    let b = state g.S.Store c.loop-it.tx.conn.now in
+    let none : drop c.loop-it.it-index all ≡ [] = drop_all c.loop-it.it-index all (grind (arith, c.loop-it-test.false)) in
+    all_done all a b (subst (λ l. Along all l a b) none c.loop-it.invariant.along) clean

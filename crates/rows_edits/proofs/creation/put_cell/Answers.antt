@@ -3,7 +3,7 @@ use Rattle.names_cell.specs.Text.{is_component}
 use Rattle.sqlite_value.specs.declared.value.Value.TheVariants.{Text, Blob}
 use Rattle.sqlite_value.specs.Order.{Row}
 use Rattle.sqlite.specs.Held.{state}
-use Rattle.rows_edits.specs.Creation.{PutsCell, put_cell_text}
+use Rattle.rows_edits.specs.Creation.{put_cell_text}
 use Rattle.rows_edits.specs.Ongoing.{RanInside}
 use Rattle.rows_edits.proofs.Steps.{ok_then}
 use Rattle.rows_edits.proofs.PutCell.{cell_there}

@@ -5,7 +5,7 @@ use Rattle.rows_cell.specs.declared.tables.Rows.{Rows}
 use Rattle.rows_cell.specs.declared.records.StoreFault.{StoreFault}
 use Rattle.rows_sql.specs.Keeping.{Stood, stood, Keeps}
 use Rattle.rows_sql.specs.Adopting.{Adopts}
-use Rattle.rows_sql.proofs.Adoptions.{keeps_taken, adopts, not_other, is_other}
+use Rattle.rows_sql.proofs.Adoptions.{keeps_taken, adopts, not_other, is_other, is_full}
 use Rattle.rows_sql.proofs.records.SqlRecords.adopt.Goals as goal
 
 pub invariant_of-result : goal.invariant_of-result
@@ -38,7 +38,17 @@ returns-in-Err-take_over-clause-damaged g c clean is =
     let opened = c.in-Ok-reopen.ensures.ok in
     let then : HasCleanDisk (state g.S.Store c.take_over.new.conn) = omega (arith, quiet.clean, clean) in
     let was : HasCleanDisk mid = omega (arith, left.clean, then) in
-    is_other g.S.Store c.args.conn c.in-Ok-reopen.conn opened was (c.take_over.ensures.why then (c.in-Err-take_over.is ∙ ap (λ (f : StoreFault). Err f) is))
+    is_other g.S.Store c.args.settings.now.cell c.args.conn c.in-Ok-reopen.conn opened was (c.take_over.ensures.why then (c.in-Err-take_over.is ∙ ap (λ (f : StoreFault). Err f) is))
+
+pub returns-in-Err-take_over-clause-full : goal.returns-in-Err-take_over-clause-full
+returns-in-Err-take_over-clause-full g c clean is =
+    let mid = state g.S.Store c.in-Ok-reopen.conn in
+    let left = c.in-Err-take_over.ensures.err in
+    let quiet = c.into_store-in-Err-take_over.ensures.quiet in
+    let opened = c.in-Ok-reopen.ensures.ok in
+    let then : HasCleanDisk (state g.S.Store c.take_over.new.conn) = omega (arith, quiet.clean, clean) in
+    let was : HasCleanDisk mid = omega (arith, left.clean, then) in
+    is_full g.S.Store c.args.settings.now.cell c.args.conn c.in-Ok-reopen.conn opened was (c.take_over.ensures.full then (c.in-Err-take_over.is ∙ ap (λ (f : StoreFault). Err f) is))
 
 pub returns-in-Ok-take_over-clause-doubted : goal.returns-in-Ok-take_over-clause-doubted
 returns-in-Ok-take_over-clause-doubted g c = omega (arith, c.in-Ok-reopen.ensures.ok.clean, c.in-Ok-take_over.ensures.ok.clean)

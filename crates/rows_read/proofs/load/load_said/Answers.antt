@@ -1,8 +1,0 @@
-use Rattle.rows_read.proofs.SaidTables.{said_rows, says_read}
-use Rattle.rows_read.proofs.load.load_said.Goals as goal
-
-pub returns-in-Ok-clause-rows : goal.returns-in-Ok-clause-rows
-returns-in-Ok-clause-rows g c clean ready = said_rows _ _ (c.in-Ok.ensures.shown clean ready) c.said_by.result c.said_by.ensures.rows
-
-pub returns-in-Ok-clause-damaged : goal.returns-in-Ok-clause-damaged
-returns-in-Ok-clause-damaged g c clean ready is rows says = c.said_by.ensures.damaged is rows (says_read _ _ rows (c.in-Ok.ensures.shown clean ready) says)

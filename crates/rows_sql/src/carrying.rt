@@ -1,0 +1,81 @@
+//! Taking a store of the first version over.
+ghost use Rattle.std.specs.Prelude.{◌≡◌, ◌<◌, true, false, Err, IfOk, IfErr, OnOk};
+ghost use Rattle.node_core.specs.Limits.{number_limit};
+ghost use Rattle.sqlite.specs.State.{HasCleanDisk};
+ghost use Rattle.sqlite.specs.Held.{state};
+ghost use Rattle.rows_cell.specs.Sound.{sound};
+ghost use Rattle.rows_cell.specs.declared.tables.Rows.{Rows as Held};
+ghost use Rattle.rows_schema.specs.OurSchema.{first_schema};
+ghost use Rattle.rows_schema.specs.declared.ours.Version.TheVariants.{First};
+ghost use Rattle.rows_read.specs.Held.{SaysAs};
+ghost use Rattle.rows_read.specs.Ready.{IsReadyAs, IsStillAs, QuietAs, tables_as};
+ghost use Rattle.rows_sql.specs.Adopting.{IsAnew, IsAtItsEnd, IsTaken, IsLeftAlone, carried};
+ghost use Rattle.rows_sql.specs.Carrying.{Becomes, Remains};
+
+use node_core::NUMBER_LIMIT;
+use rows_cell::{Rows, StoreFault, is_sound};
+use rows_edits::carry_over;
+use rows_read::{children_of, load_as};
+use rows_schema::Version;
+use settings_core::Settings;
+use sqlite::{Alter, Connection};
+use std::alloc::Global;
+
+// The rows of a store of the first version, where a cell of this name may have them, and its epoch can go on.
+#[tactic(auto, using(crate::proofs::Carryings::epoch_low, crate::proofs::Carryings::epoch_last))]
+fn load_first<S: Alter>(
+    alloc: Global,
+    conn: &mut Connection<S>,
+    settings: &Settings,
+) -> Result<Rows, StoreFault>
+    ensures rows { HasCleanDisk (state S.Store conn.new) → IsReadyAs First (state S.Store conn.old) → IfOk result (λ rows. SaysAs First (tables_as First (state S.Store conn.old).now.trees) rows) }
+    ensures fits { IfOk result (λ rows. (sound settings.now.cell rows ≡ true) × (rows.epoch < number_limit)) }
+    ensures damaged { HasCleanDisk (state S.Store conn.new) → IsReadyAs First (state S.Store conn.old) → result ≡ Err StoreFault.Damaged → (rows : Held) → SaysAs First (tables_as First (state S.Store conn.old).now.trees) rows → sound settings.now.cell rows ≡ false }
+    ensures full { HasCleanDisk (state S.Store conn.new) → IsReadyAs First (state S.Store conn.old) → result ≡ Err StoreFault.Exhausted → (rows : Held) × SaysAs First (tables_as First (state S.Store conn.old).now.trees) rows × (sound settings.now.cell rows ≡ true) × (rows.epoch ≡ number_limit) }
+    ensures quiet { QuietAs First S.Store conn.old conn.new }
+    ensures still { HasCleanDisk (state S.Store conn.new) → IsReadyAs First (state S.Store conn.old) → OnOk result (IsStillAs First (state S.Store conn.old) (state S.Store conn.new)) }
+{
+    let rows = load_as(alloc, conn, Version::First)?;
+    if !is_sound(alloc, settings.cell(), &rows)? {
+        return Err(StoreFault::Damaged);
+    }
+    if rows.epoch == NUMBER_LIMIT {
+        return Err(StoreFault::Exhausted);
+    }
+    Ok(rows)
+}
+
+// Carries a store over that says these rows.
+fn carry<S: Alter>(alloc: Global, conn: &mut Connection<S>, rows: Rows) -> Result<Rows, StoreFault>
+    requires idle { conn.old.in_transaction ≡ false }
+    requires below { rows.epoch < number_limit }
+    ensures ok { IfOk result (λ next. (next ≡ carried rows) × Becomes S.Store rows conn.old conn.new) }
+    ensures err { IfErr result (λ e. Remains S.Store rows conn.old conn.new) }
+    ensures why { (result ≡ Err StoreFault.Damaged → ⊥) × (result ≡ Err StoreFault.Exhausted → ⊥) }
+{
+    let children = children_of(alloc, &rows.nodes)?;
+    let mut rows = rows;
+    rows.epoch += 1;
+    match carry_over(conn, &children, rows.epoch) {
+        Ok(()) => Ok(rows),
+        Err(_) => Err(StoreFault::Refused),
+    }
+}
+
+/// Carries a store of the first version over: its rows are tested by the rules of that version, and then one transaction
+/// makes it a store of now, of the next epoch.
+pub(crate) fn take_first<S: Alter>(
+    alloc: Global,
+    conn: &mut Connection<S>,
+    settings: &Settings,
+) -> Result<Rows, StoreFault>
+    requires anew { IsAnew (state S.Store conn.old) }
+    requires first { (state S.Store conn.old).now.schema ≡ first_schema }
+    ensures ok { IfOk result (λ rows. IsTaken S.Store settings.now conn.old conn.new rows) }
+    ensures err { IfErr result (λ e. IsLeftAlone S.Store settings.now conn.old conn.new) }
+    ensures why { HasCleanDisk (state S.Store conn.new) → result ≡ Err StoreFault.Damaged → (rows : Held) → SaysAs First (tables_as First (state S.Store conn.old).now.trees) rows → sound settings.now.cell rows ≡ false }
+    ensures full { HasCleanDisk (state S.Store conn.new) → result ≡ Err StoreFault.Exhausted → IsAtItsEnd settings.now.cell (state S.Store conn.old).now }
+{
+    let rows = load_first(alloc, conn, settings)?;
+    carry(alloc, conn, rows)
+}
