@@ -1,6 +1,7 @@
 //! Worlds over stores in SQL, in files that are kept in memory.
 use crate::files::{Store, closed, no_files, opened, said};
 use crate::records::{adopted, prints};
+use crate::stores::{LOCKS, META, NODES, OPENING, SESSIONS};
 use rows_sql::SqlRecords;
 use settings_core::Settings;
 use sqlite::Files;
@@ -21,11 +22,15 @@ const TWO_CLIENTS_LINES: &str =
 enum Act {
     // Steps of a world over it, and the lines that they print.
     Run(&'static str, &'static str),
-    // A statement of another program.
-    Statement(&'static str),
+    // Statements of another program.
+    Statements(&'static str),
     // What a test says of its files, and of the database file alone: each act before closed the store as one file.
     Says(&'static str),
 }
+
+// The rows behind these steps, of a new store of the first version.
+const TWO_CLIENTS_ROWS: &str =
+    "UPDATE meta SET epoch = 1, next_instance = 5; INSERT INTO nodes VALUES ('/ls/c/f', 4, 0, 0, 1, 1, 0, 'base', 'base', 'base', x'61'); INSERT INTO sessions VALUES (1, 'ann', 1), (2, 'bob', 1)";
 
 const STORES: &[(&str, &[Act])] = &[
     (
@@ -44,10 +49,24 @@ const STORES: &[(&str, &[Act])] = &[
         ],
     ),
     (
+        "store_of_the_first_version",
+        &[
+            Act::Statements(META),
+            Act::Statements(NODES),
+            Act::Statements(SESSIONS),
+            Act::Statements(LOCKS),
+            Act::Statements(OPENING),
+            Act::Statements(TWO_CLIENTS_ROWS),
+            Act::Says("sound epoch 1 nodes 4 sessions 2 locks 0"),
+            Act::Run("up 0", "up 3"),
+            Act::Says("sound epoch 3 nodes 4 sessions 2 locks 0"),
+        ],
+    ),
+    (
         "store_without_a_parent",
         &[
             Act::Run(TWO_CLIENTS, TWO_CLIENTS_LINES),
-            Act::Statement("DELETE FROM nodes WHERE name = '/ls/c/acl'"),
+            Act::Statements("DELETE FROM nodes WHERE name = '/ls/c/acl'"),
             Act::Says("refused 16 StoreDamaged"),
             Act::Run("up 0", "refused 16 StoreDamaged"),
         ],
@@ -80,7 +99,7 @@ fn run(
 
 fn state(alloc: Global, files: Files<Memory>, sql: &str) -> Result<(bool, Files<Memory>), Fail> {
     let mut conn = opened(alloc, files)?;
-    let is_done = conn.execute(sql, &[]).is_ok();
+    let is_done = conn.execute_batch(sql).is_ok();
     Ok((is_done, closed(conn)?))
 }
 
@@ -105,7 +124,7 @@ fn done(
 ) -> Result<(bool, Files<Memory>), Fail> {
     match act {
         Act::Run(steps, lines) => run(alloc, settings, files, steps, lines),
-        Act::Statement(sql) => state(alloc, files, sql),
+        Act::Statements(sql) => state(alloc, files, sql),
         Act::Says(line) => Ok((is_said(alloc, &files, line), files)),
     }
 }
