@@ -6,6 +6,8 @@ mod events;
 #[cfg(test)]
 mod masters;
 #[cfg(test)]
+mod moments;
+#[cfg(test)]
 mod parts;
 #[cfg(test)]
 mod sessions;

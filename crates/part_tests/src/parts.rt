@@ -103,7 +103,8 @@ const CLIENTS: &[(&str, &[(Turn, &str)])] = &[
     ),
 ];
 
-fn client(alloc: Global) -> Result<Client, Fail> {
+/// The client 1, for `ann`.
+pub(crate) fn client(alloc: Global) -> Result<Client, Fail> {
     let principal = Principal::parse(alloc, "ann")?;
     let number = ClientNumber::new(1).ok_or("client")?;
     Ok(Client::new(alloc, number, principal))
