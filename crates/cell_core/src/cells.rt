@@ -96,8 +96,8 @@ impl Cell {
         self.master.restore_moment(before);
     }
 
-    /// Notes until when nothing is to be done for sessions, so that until then nobody looks for one. To be called where
-    /// nothing is to be done; elsewhere it does no harm. Takes no memory.
+    /// Notes until when no lock reopens, and a client that wasn't heard from, so that until then nobody looks for one. To
+    /// be called where nothing is to be done; elsewhere it does no harm. Takes no memory.
     pub fn note_quiet(&mut self)
         ensures { self.new ≡ self.old }
     {

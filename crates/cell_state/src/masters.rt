@@ -144,15 +144,15 @@ impl Master {
     {
         let before = self.clock;
         self.clock = before.max(now);
+        self.sessions.note_moment(self.clock);
         before
     }
 
-    /// Notes until when nothing is to be done for sessions, and no lock reopens, so that until then nobody looks for one.
-    /// To be called where nothing is to be done; elsewhere it does no harm. Takes no memory.
+    /// Notes until when no lock reopens, and a client that wasn't heard from, so that until then nobody looks for one. To
+    /// be called where nothing is to be done; elsewhere it does no harm. Takes no memory.
     pub fn note_quiet(&mut self)
         ensures { self.new ≡ self.old }
     {
-        self.sessions.note_quiet(self.clock);
         self.locks.note_quiet(self.clock);
         if self.recovering {
             self.sessions.note_unheard();

@@ -60,11 +60,19 @@ pub(crate) fn no_files(alloc: Global) -> Files<Memory> {
 }
 
 pub(crate) fn opened(alloc: Global, files: Files<Memory>) -> Result<Connection<Store>, Fail> {
+    opened_with(alloc, files, Options::new(7))
+}
+
+pub(crate) fn opened_with(
+    alloc: Global,
+    files: Files<Memory>,
+    options: Options,
+) -> Result<Connection<Store>, Fail> {
     if !files.log.may_be_used() || !files.db.may_be_used() {
         return Err(Fail::from("usable"));
     }
     Ok(
-        Connection::open_files(alloc, files, Options::new(7))
+        Connection::open_files(alloc, files, options)
             .ok()
             .ok_or("opened")?,
     )

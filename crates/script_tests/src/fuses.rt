@@ -13,7 +13,8 @@ use sqlite_disk::{Fuse, Memory};
 use std::alloc::Global;
 use std::test::Fail;
 
-type Disk = Fuse<Memory>;
+/// A file in memory that stops.
+pub(crate) type Disk = Fuse<Memory>;
 
 const BEFORE: &str = "sound epoch 0 nodes 3 sessions 0 locks 0";
 
@@ -38,9 +39,9 @@ enum Came {
     Committed,
 }
 
-// What of the files goes through how many calls.
+/// Which of the files stops.
 #[derive(Clone, Copy)]
-enum Stops {
+pub(crate) enum Stops {
     Log,
     Database,
 }
@@ -52,7 +53,8 @@ fn disk(alloc: Global, calls: u64) -> Disk
     Fuse::new(Memory::new(alloc), calls)
 }
 
-fn files(alloc: Global, stops: Stops, calls: u64) -> Files<Disk>
+/// New files, of which one stops behind so many calls.
+pub(crate) fn files(alloc: Global, stops: Stops, calls: u64) -> Files<Disk>
     ensures log { IsTrue (memory_is_usable (inner_of result.log)) × IsFresh result.log }
     ensures db { IsTrue (memory_is_usable (inner_of result.db)) × IsFresh result.db }
 {

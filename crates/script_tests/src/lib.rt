@@ -30,6 +30,8 @@ mod runs;
 #[cfg(test)]
 mod scripts;
 #[cfg(test)]
+mod stops;
+#[cfg(test)]
 mod stores;
 #[cfg(test)]
 mod streams;

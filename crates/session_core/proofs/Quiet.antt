@@ -1,6 +1,6 @@
 -- What is known of all sessions at once, as each step leaves them.
-use Rattle.std.proofs.Common.{◌≡◌, ℕ, ◌<◌, ◌≤◌, ◌+◌, ◌-◌, ◌/◌, ◌^◌, List, [], ◌∷◌, Bool, true, false, cond, Option, Some, None, refl, sym, ap, ◌∙◌, arith, subst}
-use Rattle.std.specs.Prelude.{not, ◌&&◌, ◌||◌, find, nat_le, min, max, All, IfSome, is_none}
+use Rattle.std.proofs.Common.{◌≡◌, ◌≢◌, ℕ, nat_eq, ◌<◌, ◌≤◌, ◌+◌, ◌-◌, ◌/◌, ◌^◌, List, [], ◌∷◌, Bool, true, false, cond, Option, Some, None, refl, sym, ap, ◌∙◌, arith, subst}
+use Rattle.std.specs.Prelude.{not, ◌&&◌, ◌||◌, nat_le, max, All, is_some}
 use Rattle.std.specs.Option.{option_map, option_map_or}
 use Rattle.std.specs.List.{list_all, list_any}
 use Rattle.std.specs.Ordering.{nat_cmp}
@@ -14,45 +14,100 @@ use Rattle.session_core.specs.declared.records.Session.{Session}
 use Rattle.node_core.specs.Limits.{number_limit}
 use Rattle.event_core.specs.Queue.{count_of, is_exhausted}
 use Rattle.session_core.specs.Session.{events_of, owes, has_heard, nears_timeout, is_due, is_client_expired, is_client_due}
-use Rattle.session_core.specs.Sessions.{SessionTable, has_spent_events, all_heard, lowest, passes, IsLowest}
-use Rattle.session_core.specs.Quiet.{quiet_until, is_client_unheard, AreQuietUntil, HaveAtMost}
+use Rattle.session_core.specs.Sessions.{SessionTable, has_spent_events, all_heard, passes, AreAllAmong}
+use Rattle.timer_core.specs.Timers.{TimerState, never, has_key, wakes}
+use Rattle.session_core.specs.declared.bounds.Bounds.{Bounds}
+use Rattle.session_core.specs.declared.bounds.Moments.{Moments}
+use Rattle.session_core.specs.Quiet.{end_moment, answer_moment, moments_of, IsNoted, AreNoted, is_client_unheard, HaveAtMost}
+use Rattle.session_core.proofs.OneClient.{lookup_set, lookup_set_apart, lookup_put, lookup_put_apart}
 
 -- ---- what is noted, as sessions come, change and go
 
--- a session is quiet until its own moment at least
-abbrev pub Quiet : {K : Type 0} → ℕ → ℕ → Session K → Type 0
-Quiet lease moment session = moment ≤ quiet_until lease session
+-- each step's own session, and all others
+abbrev pub KeepsOthers : ℕ → TimerState → TimerState → TimerState → TimerState → Type 0
+KeepsOthers client ends answers ends' answers' = (k : ℕ) (m : Moments) → nat_eq k client ≡ false → IsNoted ends answers k m → IsNoted ends' answers' k m
 
-at_least : (moment until own : ℕ) → until ≡ own → min moment until ≤ own
-at_least moment until own h = omega arith
+same_number : (a b : ℕ) → nat_eq a b ≡ true → a ≡ b
+same_number a b h = grind (arith, nat_tests)
 
-earlier : {K : Type 0} (lease moment least : ℕ) (entries : List (ℕ × Session K)) → least ≤ moment → AreQuietUntil K lease moment entries → All (Quiet {K = K} lease least) (values_of entries)
-earlier {K} lease moment least entries le h = All-weaker (Quiet {K = K} lease moment) (Quiet lease least) (λ session k. omega arith) (values_of entries) h.all
+other_number : (a b : ℕ) → nat_eq a b ≡ false → a ≢ b
+other_number a b h = λ e. absurd (grind (arith, nat_tests))
 
-pub none_quiet : {K : Type 0} (lease moment : ℕ) → AreQuietUntil K lease moment []
-none_quiet {K} lease moment = record { all = All-nil (Quiet {K = K} lease moment) }
+pub none_noted : {K : Type 0} (lease : ℕ) (ends answers : TimerState) → AreNoted K lease ends answers []
+none_noted {K} lease ends answers = record { each = λ client session found. absurd (cc) }
 
-pub quiet_with_new : {K : Type 0} (lease moment until client : ℕ) (session : Session K) (old new : List (ℕ × Session K)) → AreQuietUntil K lease moment old → until ≡ quiet_until lease session → new ≡ insert_entry nat_cmp old client session → AreQuietUntil K lease (min moment until) new
-quiet_with_new {K} lease moment until client session old new h own is = record {
-  all =
-      let kept = earlier lease moment (min moment until) old (omega arith) h in
-      let P : List (ℕ × Session K) → Type 0 = λ es. All (Quiet {K = K} lease (min moment until)) (values_of es) in
-      subst P (sym is) (All-values-insert_entry nat_cmp client session (Quiet lease (min moment until)) old kept (at_least moment until (quiet_until lease session) own));
+some_same : {K : Type 0} (a b : Session K) (o : Option (Session K)) → o ≡ Some a → o ≡ Some b → a ≡ b
+some_same a b o h g = cc
+
+noted_as : {K : Type 0} (lease : ℕ) (ends answers : TimerState) (client k : ℕ) (own session : Session K) (m : Moments) → m ≡ moments_of lease own → own ≡ session → k ≡ client → IsNoted ends answers client m → IsNoted ends answers k (moments_of lease session)
+noted_as {K} lease ends answers client k own session m is same at h =
+    let P : Session K → Type 0 = λ s. IsNoted ends answers k (moments_of lease s) in
+    let Q : ℕ → Type 0 = λ n. IsNoted ends answers n (moments_of lease own) in
+    subst P same (subst Q (sym at) (subst (IsNoted ends answers client) is h))
+
+pub noted_with_new : {K : Type 0} (lease : ℕ) (ends answers ends' answers' : TimerState) (client : ℕ) (session : Session K) (m : Moments) (old new : List (ℕ × Session K)) → AreNoted K lease ends answers old → m ≡ moments_of lease session → IsNoted ends' answers' client m → ((k : ℕ) (n : Moments) → IsNoted ends answers k n → IsNoted ends' answers' k n) → new ≡ insert_entry nat_cmp old client session → AreNoted K lease ends' answers' new
+noted_with_new {K} lease ends answers ends' answers' client session m old new h is own kept put = record {
+  each = λ k s found.
+      let there : lookup (is_at (nat_cmp k)) (insert_entry nat_cmp old client session) ≡ Some s = sym (ap (lookup (is_at (nat_cmp k))) put) ∙ found in
+      (elim (nat_eq k client) as (λ b. nat_eq k client ≡ b → IsNoted ends' answers' k (moments_of lease s)) [
+        | true ↦ (λ e.
+            let at : k ≡ client = same_number k client e in
+            let mine : lookup (is_at (nat_cmp k)) (insert_entry nat_cmp old client session) ≡ Some session = ap (λ n. lookup (is_at (nat_cmp n)) (insert_entry nat_cmp old client session)) at ∙ lookup_put client old session in
+            noted_as lease ends' answers' client k session s m is (some_same session s _ mine there) at own)
+        | false ↦ (λ e. kept k (moments_of lease s) (h.each k s (sym (lookup_put_apart client k (other_number k client e) old session) ∙ there)))
+      ]) refl;
 }
 
-pub quiet_changed : {K : Type 0} (lease moment until client : ℕ) (session : Session K) (old new : List (ℕ × Session K)) → AreQuietUntil K lease moment old → until ≡ quiet_until lease session → new ≡ set_value (is_at (nat_cmp client)) old session → AreQuietUntil K lease (min moment until) new
-quiet_changed {K} lease moment until client session old new h own is = record {
-  all =
-      let kept = earlier lease moment (min moment until) old (omega arith) h in
-      let P : List (ℕ × Session K) → Type 0 = λ es. All (Quiet {K = K} lease (min moment until)) (values_of es) in
-      subst P (sym is) (All-values-set_value (is_at (nat_cmp client)) (Quiet lease (min moment until)) old session kept (at_least moment until (quiet_until lease session) own));
+pub noted_changed : {K : Type 0} (lease : ℕ) (ends answers ends' answers' : TimerState) (client : ℕ) (before after : Session K) (m n : Moments) (old new : List (ℕ × Session K)) → AreNoted K lease ends answers old → lookup (is_at (nat_cmp client)) old ≡ Some before → m ≡ moments_of lease before → n ≡ moments_of lease after → (IsNoted ends answers client m → IsNoted ends' answers' client n) → KeepsOthers client ends answers ends' answers' → new ≡ set_value (is_at (nat_cmp client)) old after → AreNoted K lease ends' answers' new
+noted_changed {K} lease ends answers ends' answers' client before after m n old new h was m_is n_is own others put = record {
+  each = λ k s found.
+      let there : lookup (is_at (nat_cmp k)) (set_value (is_at (nat_cmp client)) old after) ≡ Some s = sym (ap (lookup (is_at (nat_cmp k))) put) ∙ found in
+      (elim (nat_eq k client) as (λ b. nat_eq k client ≡ b → IsNoted ends' answers' k (moments_of lease s)) [
+        | true ↦ (λ e.
+            let at : k ≡ client = same_number k client e in
+            let set : lookup (is_at (nat_cmp k)) (set_value (is_at (nat_cmp client)) old after) ≡ Some after =
+            ap (λ x. lookup (is_at (nat_cmp x)) (set_value (is_at (nat_cmp client)) old after)) at ∙ (lookup_set client old after ∙ ap (option_map (λ (w : Session K). after)) was) in
+            let mine : IsNoted ends answers client m = subst (IsNoted ends answers client) (sym m_is) (h.each client before was) in
+            noted_as lease ends' answers' client k after s n n_is (some_same after s _ set there) at (own mine))
+        | false ↦ (λ e. others k (moments_of lease s) e (h.each k s (sym (lookup_set_apart client k (other_number k client e) old after) ∙ there)))
+      ]) refl;
 }
 
-pub quiet_without : {K : Type 0} (lease moment client : ℕ) (old new : List (ℕ × Session K)) → AreQuietUntil K lease moment old → new ≡ remove_entry (is_at (nat_cmp client)) old → AreQuietUntil K lease moment new
-quiet_without {K} lease moment client old new h is = record {
-  all =
-      let P : List (ℕ × Session K) → Type 0 = λ es. All (Quiet {K = K} lease moment) (values_of es) in
-      subst P (sym is) (All-map-remove_entry (is_at (nat_cmp client)) (λ (e : ℕ × Session K). e.1) (Quiet lease moment) old h.all);
+unless : {K : Type 0} (b : Bool) (o : Option (Session K)) (s : Session K) → cond b None o ≡ Some s → o ≡ Some s
+unless true o s h = absurd (cc)
+unless false o s h = h
+
+pub noted_without : {K : Type 0} (lease : ℕ) (ends answers : TimerState) (client : ℕ) (old new : List (ℕ × Session K)) → AreNoted K lease ends answers old → ((q : ℕ) → lookup (is_at (nat_cmp q)) new ≡ cond (is_at (nat_cmp client) q) None (lookup (is_at (nat_cmp q)) old)) → AreNoted K lease ends answers new
+noted_without {K} lease ends answers client old new h is = record {
+  each = λ k s found. h.each k s (unless (is_at (nat_cmp client) k) (lookup (is_at (nat_cmp k)) old) s (sym (is k) ∙ found));
+}
+
+pub noted_more : {K : Type 0} (lease : ℕ) (ends answers ends' answers' : TimerState) (entries : List (ℕ × Session K)) → AreNoted K lease ends answers entries → ((k : ℕ) (n : Moments) → IsNoted ends answers k n → IsNoted ends' answers' k n) → AreNoted K lease ends' answers' entries
+noted_more {K} lease ends answers ends' answers' entries h kept = record { each = λ k s found. kept k (moments_of lease s) (h.each k s found) }
+
+-- one session is put off to its own moment
+pub noted_end : {K : Type 0} (lease : ℕ) (ends answers ends' : TimerState) (client moment : ℕ) (entries : List (ℕ × Session K)) → AreNoted K lease ends answers entries → moment ≡ option_map_or end_moment (lookup (is_at (nat_cmp client)) entries) never → wakes ends' client moment ≡ true → ((k m : ℕ) → nat_eq k client ≡ false → wakes ends k m ≡ true → wakes ends' k m ≡ true) → AreNoted K lease ends' answers entries
+noted_end {K} lease ends answers ends' client moment entries h is own others = record {
+  each = λ k s found.
+      (elim (nat_eq k client) as (λ b. nat_eq k client ≡ b → IsNoted ends' answers k (moments_of lease s)) [
+        | true ↦ (λ e.
+            let at : k ≡ client = same_number k client e in
+            let of_own : moment ≡ end_moment s = is ∙ (ap (λ n. option_map_or end_moment (lookup (is_at (nat_cmp n)) entries) never) (sym at) ∙ ap (λ (o : Option (Session K)). option_map_or end_moment o never) found) in
+            (ap (λ n. wakes ends' n (end_moment s)) at ∙ (ap (wakes ends' client) (sym of_own) ∙ own), (h.each k s found).1))
+        | false ↦ (λ e. (others k (end_moment s) e (h.each k s found).0, (h.each k s found).1))
+      ]) refl;
+}
+
+pub noted_answer : {K : Type 0} (lease : ℕ) (ends answers answers' : TimerState) (client moment : ℕ) (entries : List (ℕ × Session K)) → AreNoted K lease ends answers entries → moment ≡ option_map_or (answer_moment lease) (lookup (is_at (nat_cmp client)) entries) never → wakes answers' client moment ≡ true → ((k m : ℕ) → nat_eq k client ≡ false → wakes answers k m ≡ true → wakes answers' k m ≡ true) → AreNoted K lease ends answers' entries
+noted_answer {K} lease ends answers answers' client moment entries h is own others = record {
+  each = λ k s found.
+      (elim (nat_eq k client) as (λ b. nat_eq k client ≡ b → IsNoted ends answers' k (moments_of lease s)) [
+        | true ↦ (λ e.
+            let at : k ≡ client = same_number k client e in
+            let of_own : moment ≡ answer_moment lease s = is ∙ (ap (λ n. option_map_or (answer_moment lease) (lookup (is_at (nat_cmp n)) entries) never) (sym at) ∙ ap (λ (o : Option (Session K)). option_map_or (answer_moment lease) o never) found) in
+            ((h.each k s found).0, ap (λ n. wakes answers' n (answer_moment lease s)) at ∙ (ap (wakes answers' client) (sym of_own) ∙ own)))
+        | false ↦ (λ e. ((h.each k s found).0, others k (answer_moment lease s) e (h.each k s found).1))
+      ]) refl;
 }
 
 -- ---- how many events a session has, as sessions come, change and go
@@ -97,21 +152,24 @@ within_without {K} most client old new h is = record {
 
 -- ---- what is kept of all sessions
 
-abbrev pub IsKept : (K : Type 0) → ℕ → ℕ → ℕ → List (ℕ × Session K) → Type 0
-IsKept K lease moment most entries = (least_lease ≤ lease) × (lease ≤ longest_lease) × AreQuietUntil K lease moment entries × HaveAtMost K most entries
+abbrev pub IsKept : (K : Type 0) → ℕ → Bounds → List (ℕ × Session K) → Type 0
+IsKept K lease bounds entries = (least_lease ≤ lease) × (lease ≤ longest_lease) × AreNoted K lease bounds.ends bounds.answers entries × HaveAtMost K bounds.most_events entries
 
-pub kept_with_new : {K : Type 0} (lease moment most least more client : ℕ) (session : Session K) (old new : List (ℕ × Session K)) → IsKept K lease moment most old → least ≡ min moment (quiet_until lease session) → more ≡ max most (count_of (events_of session)) → new ≡ insert_entry nat_cmp old client session → IsKept K lease least more new
-kept_with_new {K} lease moment most least more client session old new h is more_is put =
-    let P : ℕ → Type 0 = λ m. AreQuietUntil K lease m new in
-    (h.0, h.1, subst P (sym is) (quiet_with_new lease moment (quiet_until lease session) client session old new h.2 refl put), within_with_new most more client session old new h.3 more_is put)
+pub kept_with_new : {K : Type 0} (lease : ℕ) (bounds new_bounds : Bounds) (client : ℕ) (session : Session K) (m : Moments) (count : ℕ) (old new : List (ℕ × Session K)) → IsKept K lease bounds old → m ≡ moments_of lease session → count ≡ count_of (events_of session) → new_bounds.most_events ≡ max bounds.most_events count → IsNoted new_bounds.ends new_bounds.answers client m → ((k : ℕ) (n : Moments) → IsNoted bounds.ends bounds.answers k n → IsNoted new_bounds.ends new_bounds.answers k n) → new ≡ insert_entry nat_cmp old client session → IsKept K lease new_bounds new
+kept_with_new {K} lease bounds new_bounds client session m count old new h is count_is more own kept put =
+    (h.0, h.1, noted_with_new lease bounds.ends bounds.answers new_bounds.ends new_bounds.answers client session m old new h.2 is own kept put, within_with_new bounds.most_events new_bounds.most_events client session old new h.3 (more ∙ ap (max bounds.most_events) count_is) put)
 
-pub kept_changed : {K : Type 0} (lease moment most least more client : ℕ) (session : Session K) (old new : List (ℕ × Session K)) → IsKept K lease moment most old → least ≡ min moment (quiet_until lease session) → more ≡ max most (count_of (events_of session)) → new ≡ set_value (is_at (nat_cmp client)) old session → IsKept K lease least more new
-kept_changed {K} lease moment most least more client session old new h is more_is put =
-    let P : ℕ → Type 0 = λ m. AreQuietUntil K lease m new in
-    (h.0, h.1, subst P (sym is) (quiet_changed lease moment (quiet_until lease session) client session old new h.2 refl put), within_changed most more client session old new h.3 more_is put)
+pub kept_changed : {K : Type 0} (lease : ℕ) (bounds new_bounds : Bounds) (client : ℕ) (before after : Session K) (m n : Moments) (count : ℕ) (old new : List (ℕ × Session K)) → IsKept K lease bounds old → lookup (is_at (nat_cmp client)) old ≡ Some before → m ≡ moments_of lease before → n ≡ moments_of lease after → count ≡ count_of (events_of after) → new_bounds.most_events ≡ max bounds.most_events count → (IsNoted bounds.ends bounds.answers client m → IsNoted new_bounds.ends new_bounds.answers client n) → KeepsOthers client bounds.ends bounds.answers new_bounds.ends new_bounds.answers → new ≡ set_value (is_at (nat_cmp client)) old after → IsKept K lease new_bounds new
+kept_changed {K} lease bounds new_bounds client before after m n count old new h was m_is n_is count_is more own others put =
+    (h.0, h.1, noted_changed lease bounds.ends bounds.answers new_bounds.ends new_bounds.answers client before after m n old new h.2 was m_is n_is own others put, within_changed bounds.most_events new_bounds.most_events client after old new h.3 (more ∙ ap (max bounds.most_events) count_is) put)
 
-pub kept_without : {K : Type 0} (lease moment most client : ℕ) (old new : List (ℕ × Session K)) → IsKept K lease moment most old → new ≡ remove_entry (is_at (nat_cmp client)) old → IsKept K lease moment most new
-kept_without lease moment most client old new h put = (h.0, h.1, quiet_without lease moment client old new h.2 put, within_without most client old new h.3 put)
+pub kept_without : {K : Type 0} (lease : ℕ) (bounds : Bounds) (client : ℕ) (old new : List (ℕ × Session K)) → IsKept K lease bounds old → ((q : ℕ) → lookup (is_at (nat_cmp q)) new ≡ cond (is_at (nat_cmp client) q) None (lookup (is_at (nat_cmp q)) old)) → new ≡ remove_entry (is_at (nat_cmp client)) old → IsKept K lease bounds new
+kept_without lease bounds client old new h is put = (h.0, h.1, noted_without lease bounds.ends bounds.answers client old new h.2 is, within_without bounds.most_events client old new h.3 put)
+
+pub kept_turned : {K : Type 0} (lease : ℕ) (bounds new_bounds : Bounds) (entries : List (ℕ × Session K)) → IsKept K lease bounds entries → new_bounds.most_events ≡ bounds.most_events → ((k : ℕ) (n : Moments) → IsNoted bounds.ends bounds.answers k n → IsNoted new_bounds.ends new_bounds.answers k n) → IsKept K lease new_bounds entries
+kept_turned {K} lease bounds new_bounds entries h same kept =
+    let P : ℕ → Type 0 = λ most. HaveAtMost K most entries in
+    (h.0, h.1, noted_more lease bounds.ends bounds.answers new_bounds.ends new_bounds.answers entries h.2 kept, subst P (sym same) h.3)
 
 -- ---- below that number no session's events are at their end
 
@@ -126,90 +184,55 @@ none_spent {K} most (e ∷ es) lt h =
 pub nobody_is_spent : {K : Type 0} (view s : SessionTable K) (most : ℕ) → view ≡ s → HaveAtMost K most view.sessions → most < number_limit → false ≡ has_spent_events s
 nobody_is_spent view s most same h lt = sym (none_spent most view.sessions lt h.all) ∙ ap has_spent_events same
 
--- ---- before that moment nobody is looked for
+-- ---- who is to be looked at by a moment
 
-unexpired : (live none owing : Bool) (moment now timeout answer : ℕ) → now < moment → moment ≤ cond live (cond none timeout (cond owing 0 answer)) (2 ^ 64 - 1) → answer ≤ timeout → (live && nat_le timeout now) ≡ false
-unexpired false none owing moment now timeout answer lt le under = refl
-unexpired true true owing moment now timeout answer lt le under = grind (arith, nat_tests)
-unexpired true false true moment now timeout answer lt le under = absurd (omega arith)
-unexpired true false false moment now timeout answer lt le under = grind (arith, nat_tests)
+ends_by : (live : Bool) (timeout now : ℕ) → (live && nat_le timeout now) ≡ true → cond live timeout never ≤ now
+ends_by true timeout now h = grind (arith, nat_tests)
+ends_by false timeout now h = absurd (cc)
 
-undue : (live owing : Bool) (moment now timeout limit : ℕ) → now < moment → moment ≤ cond live (cond owing 0 (timeout - limit)) (2 ^ 64 - 1) → (live && (owing || nat_le (timeout - now) limit)) ≡ false
-undue false owing moment now timeout limit lt le = refl
-undue true true moment now timeout limit lt le = absurd (omega arith)
-undue true false moment now timeout limit lt le = grind (arith, nat_tests)
+answers_by : (live owing : Bool) (timeout limit now : ℕ) → (live && (owing || nat_le (timeout - now) limit)) ≡ true → cond (live && true) (cond owing 0 (timeout - limit)) never ≤ now
+answers_by true true timeout limit now h = omega arith
+answers_by true false timeout limit now h = grind (arith, nat_tests)
+answers_by false owing timeout limit now h = absurd (cc)
 
-not_expired : {K : Type 0} (lease moment now client : ℕ) (session : Session K) → now < moment → Quiet lease moment session → is_client_expired now client session ≡ false
-not_expired lease moment now client session lt h =
-    unexpired session.live (is_none session.parked) (owes session) moment now session.timeout (session.timeout - (3000 + lease / 16)) lt h (omega arith)
-
-not_due : {K : Type 0} (lease moment now client : ℕ) (session : Session K) → now < moment → Quiet lease moment session → is_due lease now session ≡ false
-not_due {K} lease moment now client session lt h =
-    (elim session.parked as (λ o. moment ≤ cond session.live (cond (is_none o) session.timeout (cond (owes session) 0 (session.timeout - (3000 + lease / 16)))) (2 ^ 64 - 1) → option_map_or (λ beat. session.live && (owes session || nears_timeout lease now session)) o false ≡ false) [
-      | None ↦ (λ k. refl)
-      | Some beat ↦ (λ k. undue session.live (owes session) moment now session.timeout (3000 + lease / 16) lt k)
+due_by : {K : Type 0} (lease now : ℕ) (session : Session K) → is_due lease now session ≡ true → answer_moment lease session ≤ now
+due_by {K} lease now session h =
+    (elim session.parked as (λ o. option_map_or (λ beat. session.live && (owes session || nears_timeout lease now session)) o false ≡ true → cond (session.live && is_some o) (cond (owes session) 0 (session.timeout - (3000 + lease / 16))) never ≤ now) [
+      | None ↦ (λ k. absurd (cc))
+      | Some beat ↦ (λ k. answers_by session.live (owes session) session.timeout (3000 + lease / 16) now k)
     ]) h
 
--- a test that no session passes finds none
-abbrev NonePasses : {K : Type 0} → (ℕ → Session K → Bool) → List (ℕ × Session K) → Type 0
-NonePasses {K} test entries = All (λ session. (client : ℕ) → test client session ≡ false) (values_of entries)
+and_second : (a b : Bool) → (a && b) ≡ true → b ≡ true
+and_second true b h = h
+and_second false b h = absurd (cc)
 
-none_found : {K : Type 0} (test : ℕ → Session K → Bool) (es : List (ℕ × Session K)) → NonePasses test es → find (λ e. test e.0 e.1) es ≡ None
-none_found test [] h = refl
-none_found {K} test (e ∷ es) h =
-    let P : Session K → Type 0 = λ session. (client : ℕ) → test client session ≡ false in
-    rw (All-head P e.1 (values_of es) h e.0) (none_found test es (All-tail P e.1 (values_of es) h))
+-- the session of a client that passes
+passing : {K : Type 0} (s : SessionTable K) (test : ℕ → Session K → Bool) (client : ℕ) (P : Type 0) → ((session : Session K) → lookup (is_at (nat_cmp client)) s.sessions ≡ Some session → test client session ≡ true → P) → passes s test client ≡ true → P
+passing {K} s test client P f h =
+    (elim (lookup (is_at (nat_cmp client)) s.sessions) as (λ o. lookup (is_at (nat_cmp client)) s.sessions ≡ o → option_map_or (test client) o false ≡ true → P) [
+      | None ↦ (λ e k. absurd (cc))
+      | Some session ↦ (λ e k. f session e k)
+    ]) refl h
 
-none_passes : {K : Type 0} (s : SessionTable K) (test : ℕ → Session K → Bool) → NonePasses test s.sessions → (other : ℕ) → passes s test other ≡ false
-none_passes {K} s test h other =
-    let P : Session K → Type 0 = λ session. (client : ℕ) → test client session ≡ false in
-    (elim (lookup (is_at (nat_cmp other)) s.sessions) as (λ o. IfSome o P → option_map_or (test other) o false ≡ false) [
-      | None ↦ (λ k. refl)
-      | Some session ↦ (λ k. k other)
-    ]) (IfSome-lookup_from_All P (is_at (nat_cmp other)) s.sessions h)
+pub ends_among : {K : Type 0} (view s : SessionTable K) (ends answers : TimerState) (clients : List ℕ) (now : ℕ) → view ≡ s → AreNoted K view.lease ends answers view.sessions → ((k m : ℕ) → wakes ends k m ≡ true → m ≤ now → has_key clients k ≡ true) → AreAllAmong s (is_client_expired now) clients
+ends_among {K} view s ends answers clients now same h known =
+    let P : SessionTable K → Type 0 = λ x. AreAllAmong x (is_client_expired now) clients in
+    subst P same (λ client. passing view (is_client_expired now) client (has_key clients client ≡ true) (λ session there holds. known client (end_moment session) (h.each client session there).0 (ends_by session.live session.timeout now holds)))
 
-nobody : {K : Type 0} (s : SessionTable K) (test : ℕ → Session K → Bool) → NonePasses test s.sessions → (None ≡ lowest s test) × IsLowest s test None
-nobody {K} s test h = (sym (ap (λ (o : Option (ℕ × Session K)). option_map (λ e. e.0) o) (none_found test s.sessions h)), none_passes s test h)
-
-pub nobody_expires : {K : Type 0} (view s : SessionTable K) (moment now : ℕ) → view ≡ s → AreQuietUntil K view.lease moment view.sessions → now < moment → (None ≡ lowest s (is_client_expired now)) × IsLowest s (is_client_expired now) None
-nobody_expires {K} view s moment now same h lt =
-    let P : SessionTable K → Type 0 = λ x. (None ≡ lowest x (is_client_expired now)) × IsLowest x (is_client_expired now) None in
-    subst P same (nobody view (is_client_expired now) (All-weaker (Quiet {K = K} view.lease moment) (λ session. (client : ℕ) → is_client_expired now client session ≡ false) (λ session k client. not_expired view.lease moment now client session lt k) (values_of view.sessions) h.all))
-
-and_false : (a b : Bool) → b ≡ false → (a && b) ≡ false
-and_false true b h = h
-and_false false b h = refl
-
-pub nobody_is_due : {K : Type 0} (view s : SessionTable K) (moment now : ℕ) → view ≡ s → AreQuietUntil K view.lease moment view.sessions → now < moment → (None ≡ lowest s (is_client_due s.lease now)) × IsLowest s (is_client_due s.lease now) None
-nobody_is_due {K} view s moment now same h lt =
-    let P : SessionTable K → Type 0 = λ x. (None ≡ lowest x (is_client_due x.lease now)) × IsLowest x (is_client_due x.lease now) None in
-    subst P same (nobody view (is_client_due view.lease now) (All-weaker (Quiet {K = K} view.lease moment) (λ session. (client : ℕ) → is_client_due view.lease now client session ≡ false) (λ session k client. and_false _ (is_due view.lease now session) (not_due view.lease moment now client session lt k)) (values_of view.sessions) h.all))
-
--- ---- the moment is found
-
--- who is above `least` and above what is left is above all
-abbrev pub IsLeast : {K : Type 0} → ℕ → ℕ → List (Session K) → List (ℕ × Session K) → Type 0
-IsLeast {K} lease least left entries = (moment : ℕ) → moment ≤ least → All (Quiet {K = K} lease moment) left → AreQuietUntil K lease moment entries
-
-pub least_first : {K : Type 0} (lease least : ℕ) (entries : List (ℕ × Session K)) → IsLeast lease least (values_of entries) entries
-least_first lease least entries moment le h = record { all = h }
-
-pub least_more : {K : Type 0} (lease least until less : ℕ) (left next : List (Session K)) (session : Session K) (entries : List (ℕ × Session K)) → IsLeast lease least left entries → left ≡ session ∷ next → until ≡ quiet_until lease session → less ≡ min least until → IsLeast lease less next entries
-least_more {K} lease least until less left next session entries h steps own is moment le rest =
-    let P : List (Session K) → Type 0 = λ all. All (Quiet lease moment) all in
-    let own_le : moment ≤ quiet_until lease session = omega arith in
-    h moment (omega arith) (subst P (sym steps) (All-cons (Quiet lease moment) session next own_le rest))
-
-pub least_last : {K : Type 0} (lease least : ℕ) (left : List (Session K)) (entries : List (ℕ × Session K)) → IsLeast lease least left entries → left ≡ [] → AreQuietUntil K lease least entries
-least_last {K} lease least left entries h steps =
-    let P : List (Session K) → Type 0 = λ all. All (Quiet lease least) all in
-    h least (omega arith) (subst P (sym steps) (All-nil (Quiet {K = K} lease least)))
+pub answers_among : {K : Type 0} (view s : SessionTable K) (ends answers : TimerState) (clients : List ℕ) (now : ℕ) → view ≡ s → AreNoted K view.lease ends answers view.sessions → ((k m : ℕ) → wakes answers k m ≡ true → m ≤ now → has_key clients k ≡ true) → AreAllAmong s (is_client_due s.lease now) clients
+answers_among {K} view s ends answers clients now same h known =
+    let P : SessionTable K → Type 0 = λ x. AreAllAmong x (is_client_due x.lease now) clients in
+    subst P same (λ client. passing view (is_client_due view.lease now) client (has_key clients client ≡ true) (λ session there holds. known client (answer_moment view.lease session) (h.each client session there).1 (due_by view.lease now session (and_second _ (is_due view.lease now session) holds))))
 
 -- ---- one that wasn't heard from
 
 first_false : (a b : Bool) → not a ≡ true → (a && b) ≡ false
 first_false true b h = absurd (cc)
 first_false false b h = refl
+
+and_false : (a b : Bool) → b ≡ false → (a && b) ≡ false
+and_false true b h = h
+and_false false b h = refl
 
 unheard_in : {K : Type 0} (test : ℕ → Bool) (es : List (ℕ × Session K)) → option_map_or (λ session. not (has_heard session)) (lookup test es) false ≡ true → list_all (λ e. has_heard e.1) es ≡ false
 unheard_in test [] h = absurd (cc)

@@ -1,23 +1,34 @@
 -- What is known of all sessions at once, so that none has to be looked for.
-use Rattle.std.specs.Prelude.{ℕ, Bool, not, ◌≤◌, ◌+◌, ◌-◌, ◌/◌, ◌^◌, List, All, if◌then◌else◌, is_none}
-use Rattle.std.specs.Map.{values_of}
+use Rattle.std.specs.Prelude.{◌≡◌, ℕ, Bool, true, not, ◌&&◌, ◌≤◌, ◌+◌, ◌-◌, ◌/◌, List, All, Some, if◌then◌else◌, is_some}
+use Rattle.std.specs.Map.{values_of, lookup}
+use Rattle.std.specs.BTreeMap.{is_at}
+use Rattle.std.specs.Ordering.{nat_cmp}
+use Rattle.timer_core.specs.Timers.{TimerState, never, wakes}
+use Rattle.session_core.specs.declared.bounds.Moments.{Moments}
 use Rattle.session_core.specs.declared.records.Session.{Session}
 use Rattle.event_core.specs.Queue.{count_of}
 use Rattle.session_core.specs.Session.{owes, has_heard, events_of}
 
--- from this moment on a Beat that waits is answered, though nothing waits for its client
+-- from this moment on the master may end the session
+abbrev pub end_moment : {K : Type 0} → Session K → ℕ
+end_moment session = if session.live then session.timeout else never
+
+-- from this moment on its Beat is to be answered
 abbrev pub answer_moment : {K : Type 0} → ℕ → Session K → ℕ
-answer_moment lease session = session.timeout - (3000 + lease / 16)
+answer_moment lease session =
+    if session.live && is_some session.parked then (if owes session then 0 else session.timeout - (3000 + lease / 16))
+    else never
 
--- before this moment a session neither expires nor is its Beat to be answered
-abbrev pub quiet_until : {K : Type 0} → ℕ → Session K → ℕ
-quiet_until lease session =
-    if session.live then (if is_none session.parked then session.timeout else if owes session then 0 else answer_moment lease session)
-    else 2 ^ 64 - 1
+abbrev pub moments_of : {K : Type 0} → ℕ → Session K → Moments
+moments_of lease session = record { end = end_moment session; answer = answer_moment lease session }
 
--- before this moment nothing is to be done for any session
-pub record AreQuietUntil (K : Type 0) (lease moment : ℕ) (entries : List (ℕ × Session K)) : Type 0 where
-  pub all : All (λ session. moment ≤ quiet_until lease session) (values_of entries)
+-- the client is looked at from its moments on
+abbrev pub IsNoted : TimerState → TimerState → ℕ → Moments → Type 0
+IsNoted ends answers client moments = (wakes ends client moments.end ≡ true) × (wakes answers client moments.answer ≡ true)
+
+-- each session is looked at from its moments on
+pub record AreNoted (K : Type 0) (lease : ℕ) (ends answers : TimerState) (entries : List (ℕ × Session K)) : Type 0 where
+  pub each : (client : ℕ) (session : Session K) → lookup (is_at (nat_cmp client)) entries ≡ Some session → IsNoted ends answers client (moments_of lease session)
 
 -- no session has more events than this
 pub record HaveAtMost (K : Type 0) (most : ℕ) (entries : List (ℕ × Session K)) : Type 0 where

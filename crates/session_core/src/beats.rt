@@ -9,6 +9,7 @@ use crate::records::{Offer, Parked, Session};
 use crate::sessions::Sessions;
 use messages_cell::Beat;
 use node_core::Fault;
+use std::collections::BTreeSet;
 use tags_cell::ClientNumber;
 
 impl<K> Session<K> {
@@ -65,7 +66,7 @@ impl<K> Session<K> {
 }
 
 impl<K> Sessions<K> {
-    ghost use Rattle.session_core.specs.Sessions.{session_of, with_session, lowest, IsLowest, offer_of};
+    ghost use Rattle.session_core.specs.Sessions.{session_of, with_session, lowest, passes, IsLowest, offer_of, AreAllAmong};
 
     /// Why a Beat would be refused, if it would: the test that `beat` makes first. Takes no memory.
     pub fn beat_fault(&self, beat: &Beat) -> Option<Fault>
@@ -100,8 +101,11 @@ impl<K> Sessions<K> {
             return Err(fault);
         }
         if let Some(session) = self.map.get_mut(&client) {
+            let before = session.moments(self.lease);
             session.take_beat(beat, received);
-            self.bounds = self.bounds.with(session, self.lease);
+            let after = session.moments(self.lease);
+            self.bounds
+                .change(client, before, after, session.event_count());
         }
         Ok(())
     }
@@ -112,9 +116,40 @@ impl<K> Sessions<K> {
         ensures value { result ≡ lowest self.now (is_client_due self.now.lease now) }
         ensures lowest { IsLowest self.now (is_client_due self.now.lease now) result }
     {
-        if now < self.bounds.quiet {
-            return None;
+        match self.bounds.answers.soon(now) {
+            Some(clients) => self.due_among(clients, now),
+            None => self.due_of_all(now),
         }
+    }
+
+    // Where each one whose Beat is to be answered is among these clients.
+    fn due_among(&self, clients: &BTreeSet<u64>, now: u64) -> Option<ClientNumber>
+        requires { AreAllAmong self.now (is_client_due self.now.lease now) clients.now.keys }
+        ensures value { result ≡ lowest self.now (is_client_due self.now.lease now) }
+        ensures lowest { IsLowest self.now (is_client_due self.now.lease now) result }
+    {
+        let _ordered = self.map.len();
+        for number in clients.iter() {
+            if let Some(client) = self.due_at(*number, now) {
+                return Some(client);
+            }
+        }
+        None
+    }
+
+    fn due_at(&self, number: u64, now: u64) -> Option<ClientNumber>
+        ensures { result ≡ (if passes self.now (is_client_due self.now.lease now) number then Some number else None) }
+    {
+        match self.map.get(&number) {
+            None => None,
+            Some(session) => due_client(number, session, self.lease, now),
+        }
+    }
+
+    fn due_of_all(&self, now: u64) -> Option<ClientNumber>
+        ensures value { result ≡ lowest self.now (is_client_due self.now.lease now) }
+        ensures lowest { IsLowest self.now (is_client_due self.now.lease now) result }
+    {
         for (number, session) in self.map.iter() {
             if let Some(client) = due_client(*number, session, self.lease, now) {
                 return Some(client);
@@ -144,8 +179,11 @@ impl<K> Sessions<K> {
         let until = now + self.lease;
         let number = client.get();
         if let Some(session) = self.map.get_mut(&number) {
+            let before = session.moments(self.lease);
             session.end_beat(until);
-            self.bounds = self.bounds.with(session, self.lease);
+            let after = session.moments(self.lease);
+            self.bounds
+                .change(number, before, after, session.event_count());
         }
     }
 }

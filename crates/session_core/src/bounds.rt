@@ -1,41 +1,70 @@
 //! What is known of all sessions at once.
-ghost use Rattle.std.specs.Prelude.{◌≡◌, ◌≤◌, ◌-◌, ◌^◌, min, max};
-ghost use Rattle.lease_core.specs.Lease.{longest_lease};
-ghost use Rattle.event_core.specs.Queue.{count_of};
-ghost use Rattle.session_core.specs.Session.{events_of};
-ghost use Rattle.session_core.specs.Quiet.{quiet_until};
+ghost use Rattle.std.specs.Prelude.{◌≡◌, ℕ, [], false, nat_eq, max};
+ghost use Rattle.session_core.specs.Quiet.{IsNoted};
 
-use crate::records::Session;
+use std::alloc::Global;
+use timer_core::Timers;
+
+// From when on something may be to be done for a session by itself: `u64::MAX` stands for never.
+#[derive(Clone, Copy)]
+pub(crate) struct Moments {
+    // The master may end it.
+    pub(crate) end: u64,
+    // Its Beat is to be answered.
+    pub(crate) answer: u64,
+}
 
 // What is known of all sessions at once, so that none has to be looked for.
-#[derive(Clone, Copy)]
+#[derive(Drop)]
 pub(crate) struct Bounds {
-    // Before this moment nothing is to be done for any session.
-    pub(crate) quiet: u64,
     // No session has more events in this epoch.
     pub(crate) most_events: u64,
+    // When the master may end each.
+    pub(crate) ends: Timers,
+    // When the Beat of each is to be answered.
+    pub(crate) answers: Timers,
 }
 
 impl Bounds {
     // Those of no sessions.
-    pub(crate) fn none() -> Bounds
-        ensures { result ≡ record { quiet = 2 ^ 64 - 1; most_events = 0 } }
+    pub(crate) fn none(alloc: Global) -> Bounds
+        ensures { result ≡ record { most_events = 0; ends = record { soon = []; later = []; lost = false }; answers = record { soon = []; later = []; lost = false } } }
     {
         Bounds {
-            quiet: u64::MAX,
             most_events: 0,
+            ends: Timers::new(alloc),
+            answers: Timers::new(alloc),
         }
     }
 
-    // Those of one session more.
-    pub(crate) fn with<K>(self, session: &Session<K>, lease: u64) -> Bounds
-        requires { lease ≤ longest_lease }
-        ensures quiet { result.quiet ≡ min self.quiet (quiet_until lease session.now) }
-        ensures events { result.most_events ≡ max self.most_events (count_of (events_of session.now)) }
+    // Those of one session more, which has so many events.
+    pub(crate) fn add(&mut self, client: u64, moments: Moments, events: u64)
+        ensures events { self.new.most_events ≡ max self.old.most_events events }
+        ensures own { IsNoted self.new.ends self.new.answers client moments }
+        ensures kept { (k : ℕ) (m : Moments) → IsNoted self.old.ends self.old.answers k m → IsNoted self.new.ends self.new.answers k m }
     {
-        Bounds {
-            quiet: self.quiet.min(session.quiet_until(lease)),
-            most_events: self.most_events.max(session.event_count()),
-        }
+        self.most_events = self.most_events.max(events);
+        self.ends.set(client, moments.end);
+        self.answers.set(client, moments.answer);
+    }
+
+    // A session with these moments has other ones, and so many events.
+    pub(crate) fn change(&mut self, client: u64, before: Moments, after: Moments, events: u64)
+        ensures events { self.new.most_events ≡ max self.old.most_events events }
+        ensures own { IsNoted self.old.ends self.old.answers client before → IsNoted self.new.ends self.new.answers client after }
+        ensures others { (k : ℕ) (m : Moments) → nat_eq k client ≡ false → IsNoted self.old.ends self.old.answers k m → IsNoted self.new.ends self.new.answers k m }
+    {
+        self.most_events = self.most_events.max(events);
+        self.ends.change(client, before.end, after.end);
+        self.answers.change(client, before.answer, after.answer);
+    }
+
+    // Finds those for whom something may be to be done now.
+    pub(crate) fn turn(&mut self, now: u64)
+        ensures events { self.new.most_events ≡ self.old.most_events }
+        ensures kept { (k : ℕ) (m : Moments) → IsNoted self.old.ends self.old.answers k m → IsNoted self.new.ends self.new.answers k m }
+    {
+        self.ends.turn(now);
+        self.answers.turn(now);
     }
 }

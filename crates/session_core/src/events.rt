@@ -51,8 +51,11 @@ impl<K> Sessions<K> {
         ensures { self.new ≡ with_session self.old client (told event) }
     {
         if let Some(session) = self.map.get_mut(&client) {
+            let before = session.moments(self.lease);
             session.tell(event);
-            self.bounds = self.bounds.with(session, self.lease);
+            let after = session.moments(self.lease);
+            self.bounds
+                .change(client, before, after, session.event_count());
         }
     }
 

@@ -1,25 +1,92 @@
-//! Until when nothing is to be done for sessions by themselves.
-ghost use Rattle.std.specs.Prelude.{◌≡◌, ◌≤◌};
+//! When something is to be done for sessions by themselves.
+ghost use Rattle.std.specs.Prelude.{◌≡◌};
 ghost use Rattle.std.specs.Option.{option_map_or};
-ghost use Rattle.lease_core.specs.Lease.{longest_lease};
-ghost use Rattle.session_core.specs.Quiet.{AreQuietUntil, is_client_unheard};
+ghost use Rattle.timer_core.specs.Timers.{never};
+ghost use Rattle.session_core.specs.Quiet.{end_moment, answer_moment, is_client_unheard};
 
-use crate::records::Session;
 use crate::sessions::Sessions;
-use std::collections::BTreeMap;
 
 impl<K> Sessions<K> {
-    ghost use Rattle.session_core.specs.Sessions.{lowest, passes};
+    ghost use Rattle.session_core.specs.Sessions.{lowest, passes, session_of};
 
-    /// Notes for how long from `now` on no session expires and no Beat falls due, so that until then `expired` and `due`
-    /// look at no session. To be called where both found nobody; elsewhere it does no harm. Takes no memory.
-    pub fn note_quiet(&mut self, now: u64)
+    /// Finds the sessions that expire and the Beats that fall due by `now`, so that from then on `expired` and `due` look at
+    /// these alone. To be called with each moment; elsewhere it does no harm. Takes no memory that it can't do without: where
+    /// there is none `expired` and `due` look at all sessions.
+    pub fn note_moment(&mut self, now: u64)
         ensures { self.new ≡ self.old }
     {
-        if now < self.bounds.quiet {
-            return;
+        self.bounds.turn(now);
+        self.put_ends_off(now);
+        self.put_answers_off(now);
+    }
+
+    fn put_ends_off(&mut self, now: u64)
+        ensures { self.new ≡ self.old }
+    {
+        for _ in 0..self.bounds.ends.count() {
+            if !self.put_end_off(now) {
+                return;
+            }
         }
-        self.bounds.quiet = least_quiet(&self.map, self.lease);
+    }
+
+    fn put_answers_off(&mut self, now: u64)
+        ensures { self.new ≡ self.old }
+    {
+        for _ in 0..self.bounds.answers.count() {
+            if !self.put_answer_off(now) {
+                return;
+            }
+        }
+    }
+
+    // The first session that may be ended isn't to be looked at before its own moment. False where that has come.
+    fn put_end_off(&mut self, now: u64) -> bool
+        ensures { self.new ≡ self.old }
+    {
+        let Some(client) = self.bounds.ends.first() else {
+            return false;
+        };
+        let moment = self.end_of(client);
+        if moment <= now {
+            return false;
+        }
+        self.bounds.ends.put_off(client, moment);
+        true
+    }
+
+    // The first session whose Beat may be to be answered isn't to be looked at before its own moment. False where that
+    // has come.
+    fn put_answer_off(&mut self, now: u64) -> bool
+        ensures { self.new ≡ self.old }
+    {
+        let Some(client) = self.bounds.answers.first() else {
+            return false;
+        };
+        let moment = self.answer_of(client);
+        if moment <= now {
+            return false;
+        }
+        self.bounds.answers.put_off(client, moment);
+        true
+    }
+
+    fn end_of(&self, client: u64) -> u64
+        ensures { result ≡ option_map_or end_moment (session_of self.now client) never }
+    {
+        match self.map.get(&client) {
+            None => u64::MAX,
+            Some(session) => session.end_moment(),
+        }
+    }
+
+    fn answer_of(&self, client: u64) -> u64
+        ensures { result ≡ option_map_or (answer_moment self.now.lease) (session_of self.now client) never }
+    {
+        match self.map.get(&client) {
+            None => u64::MAX,
+            Some(session) => session.answer_moment(self.lease),
+        }
     }
 
     /// Notes a client that wasn't heard from, so that `all_heard` looks at that one alone until it is. To be called where
@@ -56,16 +123,4 @@ impl<K> Sessions<K> {
         }
         None
     }
-}
-
-// Before this moment nothing is to be done for any of these sessions.
-fn least_quiet<K>(map: &BTreeMap<u64, Session<K>>, lease: u64) -> u64
-    requires { lease ≤ longest_lease }
-    ensures { AreQuietUntil K lease result map.now.entries }
-{
-    let mut least = u64::MAX;
-    for session in map.values() {
-        least = least.min(session.quiet_until(lease));
-    }
-    least
 }

@@ -3,8 +3,9 @@ ghost use Rattle.std.specs.Prelude.{◌≡◌, ◌≤◌};
 ghost use Rattle.lease_core.specs.Lease.{longest_lease};
 ghost use Rattle.event_core.specs.Queue.{count_of, has_waiting};
 ghost use Rattle.session_core.specs.Session.{is_owing, events_of, owes, nears_timeout, is_due, has_heard, is_expired};
-ghost use Rattle.session_core.specs.Quiet.{quiet_until};
+ghost use Rattle.session_core.specs.Quiet.{moments_of, end_moment, answer_moment};
 
+use crate::bounds::Moments;
 use event_core::EventQueue;
 use names_cell::Principal;
 use tags_cell::MessageNumber;
@@ -124,16 +125,31 @@ impl<K> Session<K> {
         self.owes() || self.nears_timeout(lease, now)
     }
 
-    // Before this moment it neither expires nor is its Beat to be answered.
-    pub(crate) fn quiet_until(&self, lease: u64) -> u64
+    // From when on something may be to be done for it.
+    pub(crate) fn moments(&self, lease: u64) -> Moments
         requires { lease ≤ longest_lease }
-        ensures { result ≡ quiet_until lease self.now }
+        ensures { result ≡ moments_of lease self.now }
     {
-        if !self.live {
-            return u64::MAX;
+        Moments {
+            end: self.end_moment(),
+            answer: self.answer_moment(lease),
         }
-        if self.parked.is_none() {
-            return self.timeout;
+    }
+
+    // From this moment on the master may end it.
+    pub(crate) fn end_moment(&self) -> u64
+        ensures { result ≡ end_moment self.now }
+    {
+        if self.live { self.timeout } else { u64::MAX }
+    }
+
+    // From this moment on its Beat is to be answered.
+    pub(crate) fn answer_moment(&self, lease: u64) -> u64
+        requires { lease ≤ longest_lease }
+        ensures { result ≡ answer_moment lease self.now }
+    {
+        if !self.live || self.parked.is_none() {
+            return u64::MAX;
         }
         if self.owes() {
             0

@@ -31,13 +31,13 @@ impl<K> Model for Sessions<K> {
     ghost use Rattle.std.specs.Prelude.{◌≤◌};
     ghost use Rattle.lease_core.specs.Lease.{least_lease, longest_lease};
     ghost use Rattle.session_core.specs.Sessions.{SessionTable};
-    ghost use Rattle.session_core.specs.Quiet.{AreQuietUntil, HaveAtMost};
+    ghost use Rattle.session_core.specs.Quiet.{AreNoted, HaveAtMost};
 
     ghost Value = { SessionTable K };
 
     ghost view = { λ s. record { lease = s.lease; sessions = s.map.entries } };
 
-    ghost invariant = { λ s. (least_lease ≤ s.lease) × (s.lease ≤ longest_lease) × AreQuietUntil K s.lease s.bounds.quiet s.map.entries × HaveAtMost K s.bounds.most_events s.map.entries };
+    ghost invariant = { λ s. (least_lease ≤ s.lease) × (s.lease ≤ longest_lease) × AreNoted K s.lease s.bounds.ends s.bounds.answers s.map.entries × HaveAtMost K s.bounds.most_events s.map.entries };
 }
 
 impl<K> Sessions<K> {
@@ -52,7 +52,7 @@ impl<K> Sessions<K> {
             alloc,
             lease,
             map: BTreeMap::new(alloc),
-            bounds: Bounds::none(),
+            bounds: Bounds::none(alloc),
             unheard: 0,
         }
     }
@@ -122,9 +122,10 @@ impl<K: Drop> Sessions<K> {
         ensures err { OnErr result (self.new ≡ self.old) }
     {
         let session = recovered_session(self.alloc, principal, live, now)?;
-        let bounds = self.bounds.with(&session, self.lease);
+        let moments = session.moments(self.lease);
+        let events = session.event_count();
         drop(self.map.insert(client, session)?);
-        self.bounds = bounds;
+        self.bounds.add(client, moments, events);
         Ok(())
     }
 }

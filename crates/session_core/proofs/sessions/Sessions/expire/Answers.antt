@@ -4,5 +4,5 @@ use Rattle.session_core.proofs.sessions.Sessions.expire.Goals as goal
 
 pub invariant_of-self : goal.invariant_of-self
 invariant_of-self g c =
-    kept_changed c.self.inside.lease c.self.inside.bounds.quiet c.self.inside.bounds.most_events c.with-self-inside.result.quiet c.with-self-inside.result.most_events c.args.client c.end.new.self c.self.inside.map.entries (c.get_mut.follows.lender c.end.new.self).entries c.self.invariant
-    (search rules) (search rules) (search rules)
+    kept_changed c.self.inside.lease c.self.inside.bounds c.change.new.self c.args.client c.in-Some.session.now c.end.new.self c.moments-before.result c.moments-after.result c.event_count.result c.self.inside.map.entries (c.get_mut.follows.lender c.end.new.self).entries c.self.invariant
+    (search rules) c.moments-before.ensures c.moments-after.ensures c.event_count.ensures c.change.ensures.events c.change.ensures.own c.change.ensures.others (search rules)

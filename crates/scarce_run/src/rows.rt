@@ -29,3 +29,13 @@ pub(crate) const ROWS: &[Row] = &[
         38,
     ),
 ];
+
+/// What the client 1 does, and a watch.
+pub(crate) const CALLS: &str =
+    "beat 1; take 1; sweep; give 2; sweep; ask 1 open /ls/c/f rw must file permanent 61; take 3; sweep; give 4; sweep; ask 1 read 1; take 5; give 6; sweep; ask 1 read 1; ask 1 set 1 62; take 7; sweep; beat 1; take 8; sweep; give 9; sweep; beat 1; take 10; sweep; give 11; sweep; ask 1 read 1; take 12; give 13; sweep";
+
+/// In how many of these calls memory is refused at least, in how many hits, and how often the keeper falls late.
+pub(crate) const CALLS_LEAST: (u64, u64, u64) = (20, 1, 1);
+
+/// The pass that is retired, and the watch that is closed.
+pub(crate) const ENDS_LEAST: u64 = 2;
