@@ -93,6 +93,7 @@ static struct bytes viewed(uint64_t number, const char *content) {
     for (int i = 0; i < 3; i++) put_text(&made, "base");
     put(&made, 0, 1);
     put_text(&made, content);
+    put(&made, 0, 4); /* no children */
     return made;
 }
 

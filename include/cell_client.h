@@ -97,8 +97,9 @@ uint32_t cell_client_beat(struct cell_client *client, uint64_t now);
  * own number for it, as a word (8 bytes, big-endian); and of client, epoch and number, which the client puts by itself, nothing
  * counts but that they are in their ranges. A SetSequencer has the sequencer's bytes at the end; else what stands there isn't used.
  *
- * SEND: the call is outstanding until its reply was given. SERVED: an Open or a read out of the cache. DONE: the Close of a handle
- * whose node stays open for others. Else a refusal: NOT_FOUND and STALE_INSTANCE out of the cache, all others as above.
+ * SEND: the call is outstanding until its reply was given. SERVED: an Open, a read or a ReadDir out of the cache; the lines show the
+ * view, of a directory with its children. DONE: the Close of a handle whose node stays open for others. Else a refusal: NOT_FOUND
+ * and STALE_INSTANCE out of the cache, all others as above.
  */
 uint32_t cell_client_ask(struct cell_client *client, uint64_t now, const uint8_t *call, size_t call_length);
 

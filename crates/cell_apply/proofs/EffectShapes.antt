@@ -5,7 +5,7 @@ use Rattle.std.specs.Option.{option_map_or}
 use Rattle.names_cell.specs.Text.{parent_of}
 use Rattle.node_core.specs.declared.refusals.Fault.{Fault}
 use Rattle.node_core.specs.declared.refusals.Fault.TheVariants as faults
-use Rattle.node_core.specs.declared.views.View.{View}
+use Rattle.node_core.specs.declared.nodes.Node.{Node}
 use Rattle.node_core.specs.declared.views.Mod.{Mod}
 use Rattle.node_core.specs.declared.views.Mod.TheVariants.{Put, Gone}
 use Rattle.node_core.specs.declared.kinds.Kind.{Kind}
@@ -41,7 +41,7 @@ use Rattle.cell_parts.specs.Keys.{key_of}
 use Rattle.cell_apply.specs.declared.effects.Effect.{Effect}
 use Rattle.cell_apply.specs.declared.effects.Leave.{Leave}
 use Rattle.cell_apply.specs.declared.effects.Locking.TheVariants as lockings
-use Rattle.cell_apply.specs.Effect.{answered, refused, changes_to, is_last, opened_effect, new_view, acls_of, create_made, create_numbered, create_permitted, create_in, create_under, create_new, create_over, create_effect, create_tested, create_under_sequencer, open_effect, lock_put, acquire_by, try_by, release_by, close_by, close_under, generation_fits, with_content, with_acls, put_at, deleted, delete_at, change_at, change_on, effect_on, handle_effect, effect}
+use Rattle.cell_apply.specs.Effect.{answered, refused, changes_to, is_last, opened_effect, new_node, acls_of, create_made, create_numbered, create_permitted, create_in, create_under, create_new, create_over, create_effect, create_tested, create_under_sequencer, open_effect, lock_put, acquire_by, try_by, release_by, close_by, close_under, generation_fits, with_content, with_acls, put_at, deleted, delete_at, change_at, change_on, effect_on, handle_effect, effect}
 
 -- it ends with an answer, changes the map beside that, deletes a node with its lock, takes a lock, waits for it, or leaves it
 pub data Shape : Type 0 where
@@ -88,28 +88,28 @@ module _ (s : MasterState) where
   of_opened : (opened : Result Handle Fault) → HasShape (opened_effect (name_space s) opened)
   of_opened opened = (Ends (opened_note (name_space s) opened) (opened_answer (name_space s) opened), refl)
 
-  of_made : (opening : Open) (view : View) (opened : Result Handle Fault) → HasShape (create_made (name_space s) opening view opened)
-  of_made opening view (Ok handle) = (Applies (opened_note (name_space s) (Ok handle)) (record { change = Put opening.name view; next_instance = s.next_instance + 1 }) (opened_answer (name_space s) (Ok handle)), refl)
-  of_made opening view (Err fault) = of_fault fault
+  of_made : (opening : Open) (node : Node) (opened : Result Handle Fault) → HasShape (create_made (name_space s) opening node opened)
+  of_made opening node (Ok handle) = (Applies (opened_note (name_space s) (Ok handle)) (record { change = Put opening.name node; next_instance = s.next_instance + 1 }) (opened_answer (name_space s) (Ok handle)), refl)
+  of_made opening node (Err fault) = of_fault fault
 
-  of_numbered : (client number : ℕ) (opening : Open) (view : View) → HasShape (create_numbered (name_space s) (caller s client) number opening view)
-  of_numbered client number opening view =
-      let opened = new_handle (name_space s) (caller s client) number opening view in
-      either (is_last s.next_instance) (refused faults.Exhausted) (create_made (name_space s) opening view opened) (of_fault faults.Exhausted) (of_made opening view opened)
+  of_numbered : (client number : ℕ) (opening : Open) (node : Node) → HasShape (create_numbered (name_space s) (caller s client) number opening node)
+  of_numbered client number opening node =
+      let opened = new_handle (name_space s) (caller s client) number opening node in
+      either (is_last s.next_instance) (refused faults.Exhausted) (create_made (name_space s) opening node opened) (of_fault faults.Exhausted) (of_made opening node opened)
 
-  of_permitted : (client number : ℕ) (opening : Open) (view : View) → HasShape (create_permitted (name_space s) (caller s client) number opening view)
-  of_permitted client number opening view =
-      by_option (missing_right (name_space s) (caller s client) opening.mode view) (λ right. refused (faults.Denied right)) (create_numbered (name_space s) (caller s client) number opening view) (λ right. of_fault (faults.Denied right))
-      (of_numbered client number opening view)
+  of_permitted : (client number : ℕ) (opening : Open) (node : Node) → HasShape (create_permitted (name_space s) (caller s client) number opening node)
+  of_permitted client number opening node =
+      by_option (missing_right (name_space s) (caller s client) opening.mode node) (λ right. refused (faults.Denied right)) (create_numbered (name_space s) (caller s client) number opening node) (λ right. of_fault (faults.Denied right))
+      (of_numbered client number opening node)
 
-  of_kind : (client number : ℕ) (opening : Open) (create : Create) (above : View) (kind : Kind) → HasShape (create_in (name_space s) (caller s client) number opening create above kind)
+  of_kind : (client number : ℕ) (opening : Open) (create : Create) (above : Node) (kind : Kind) → HasShape (create_in (name_space s) (caller s client) number opening create above kind)
   of_kind client number opening create above File = of_fault (faults.WrongKind File)
   of_kind client number opening create above Directory =
-      let view : View = new_view s.next_instance create.node create.life (acls_of above create.acls) in
-      either (may (name_space s) (caller s client) above rights.Write) (create_permitted (name_space s) (caller s client) number opening view) (refused (faults.Denied rights.Write)) (of_permitted client number opening view)
+      let node : Node = new_node s.next_instance create.node create.life (acls_of above create.acls) in
+      either (may (name_space s) (caller s client) above rights.Write) (create_permitted (name_space s) (caller s client) number opening node) (refused (faults.Denied rights.Write)) (of_permitted client number opening node)
       (of_fault (faults.Denied rights.Write))
 
-  of_above : (client number : ℕ) (opening : Open) (create : Create) (o : Option View) → HasShape (create_under (name_space s) (caller s client) number opening create o)
+  of_above : (client number : ℕ) (opening : Open) (create : Create) (o : Option Node) → HasShape (create_under (name_space s) (caller s client) number opening create o)
   of_above client number opening create None = of_fault faults.NotFound
   of_above client number opening create (Some above) = of_kind client number opening create above above.kind
 
@@ -118,13 +118,13 @@ module _ (s : MasterState) where
       by_option (parent_of opening.name) (λ parent. create_under (name_space s) (caller s client) number opening create (get_node s.nodes parent)) (refused faults.NotFound)
       (λ parent. of_above client number opening create (get_node s.nodes parent)) (of_fault faults.NotFound)
 
-  of_present : (client number : ℕ) (opening : Open) (disposition : Disposition) (view : View) → HasShape (create_over (name_space s) (caller s client) number opening disposition view)
-  of_present client number opening Must view = of_fault faults.Exists
-  of_present client number opening May view = of_opened (open_present (name_space s) (caller s client) number opening view)
+  of_present : (client number : ℕ) (opening : Open) (disposition : Disposition) (node : Node) → HasShape (create_over (name_space s) (caller s client) number opening disposition node)
+  of_present client number opening Must node = of_fault faults.Exists
+  of_present client number opening May node = of_opened (open_present (name_space s) (caller s client) number opening node)
 
   of_create : (client number : ℕ) (opening : Open) (create : Create) → HasShape (create_effect (name_space s) (caller s client) number opening create)
   of_create client number opening create =
-      by_option (get_node s.nodes opening.name) (λ view. create_over (name_space s) (caller s client) number opening create.disposition view) (create_new (name_space s) (caller s client) number opening create)
+      by_option (get_node s.nodes opening.name) (λ node. create_over (name_space s) (caller s client) number opening create.disposition node) (create_new (name_space s) (caller s client) number opening create)
       (of_present client number opening create.disposition) (of_new client number opening create)
 
   of_tested : (client number : ℕ) (opening : Open) (create : Create) → HasShape (create_tested (name_space s) (caller s client) number opening create)
@@ -161,17 +161,17 @@ module _ (s : MasterState) where
   of_left handle note None = (Ends note results.Closed, refl)
   of_left handle note (Some turn) = (Leaves note (record { name = handle.name; instance = handle.instance; held = holds_lock (name_space s) handle; turn = turn }) results.Closed, refl)
 
-  of_closed : (handle : Handle) (note : Option Note) (o : Option View) → HasShape (record { note = note; change = None; locking = close_under (name_space s) handle o; answer = Some results.Closed })
+  of_closed : (handle : Handle) (note : Option Note) (o : Option Node) → HasShape (record { note = note; change = None; locking = close_under (name_space s) handle o; answer = Some results.Closed })
   of_closed handle note None = (Ends note results.Closed, refl)
-  of_closed handle note (Some view) = of_left handle note (closed_by (lock_under (name_space s) handle) (owner_of handle))
+  of_closed handle note (Some node) = of_left handle note (closed_by (lock_under (name_space s) handle) (owner_of handle))
 
   -- ---- a change of a node that stands
 
-  of_put : (handle : Handle) (present : ℕ) (wanted : Option ℕ) (view : View) → HasShape (put_at (name_space s) handle present wanted view)
-  of_put handle present wanted view =
-      let written : Effect = changes_to (Put handle.name view) s.next_instance results.Done in
+  of_put : (handle : Handle) (present : ℕ) (wanted : Option ℕ) (node : Node) → HasShape (put_at (name_space s) handle present wanted node)
+  of_put handle present wanted node =
+      let written : Effect = changes_to (Put handle.name node) s.next_instance results.Done in
       either (generation_fits wanted present) (cond (is_last present) (refused faults.Exhausted) written) (refused (faults.WrongGeneration present))
-      (either (is_last present) (refused faults.Exhausted) written (of_fault faults.Exhausted) (of_change (Put handle.name view) s.next_instance results.Done))
+      (either (is_last present) (refused faults.Exhausted) written (of_fault faults.Exhausted) (of_change (Put handle.name node) s.next_instance results.Done))
       (of_fault (faults.WrongGeneration present))
 
   of_deleted : (handle : Handle) → HasShape (deleted (name_space s) handle)
@@ -181,28 +181,28 @@ module _ (s : MasterState) where
   of_delete handle =
       either (has_children s.nodes handle.name || is_none (parent_of handle.name)) (refused faults.NotEmpty) (deleted (name_space s) handle) (of_fault faults.NotEmpty) (of_deleted handle)
 
-  of_node : (handle : Handle) (call : Call) (view : View) → HasShape (change_at (name_space s) s.clock handle call view)
-  of_node handle (calls.Set bytes content generation) view = of_put handle view.content_generation generation (with_content view content)
-  of_node handle (calls.SetAcl bytes acls generation) view = of_put handle view.acl_generation generation (with_acls view acls)
-  of_node handle (calls.Delete bytes) view = of_delete handle
-  of_node handle (calls.Acquire bytes mode) view = of_acquired handle (claim_of handle mode) (acquired (lock_under (name_space s) handle) (claim_of handle mode))
-  of_node handle (calls.TryAcquire bytes mode) view = of_tried handle (claim_of handle mode) (tried (lock_under (name_space s) handle) (claim_of handle mode) s.clock)
-  of_node handle (calls.Release bytes) view = of_released handle (released (lock_under (name_space s) handle) (owner_of handle))
-  of_node handle (calls.Open opening) view = of_fault faults.BadHandle
-  of_node handle (calls.Close bytes) view = of_fault faults.BadHandle
-  of_node handle (calls.Read bytes) view = of_fault faults.BadHandle
-  of_node handle (calls.Stat bytes) view = of_fault faults.BadHandle
-  of_node handle (calls.List bytes) view = of_fault faults.BadHandle
-  of_node handle (calls.GetSequencer bytes) view = of_fault faults.BadHandle
-  of_node handle (calls.SetSequencer bytes) view = of_fault faults.BadHandle
-  of_node handle (calls.CheckSequencer bytes) view = of_fault faults.BadHandle
+  of_node : (handle : Handle) (call : Call) (node : Node) → HasShape (change_at (name_space s) s.clock handle call node)
+  of_node handle (calls.Set bytes content generation) node = of_put handle node.content_generation generation (with_content node content)
+  of_node handle (calls.SetAcl bytes acls generation) node = of_put handle node.acl_generation generation (with_acls node acls)
+  of_node handle (calls.Delete bytes) node = of_delete handle
+  of_node handle (calls.Acquire bytes mode) node = of_acquired handle (claim_of handle mode) (acquired (lock_under (name_space s) handle) (claim_of handle mode))
+  of_node handle (calls.TryAcquire bytes mode) node = of_tried handle (claim_of handle mode) (tried (lock_under (name_space s) handle) (claim_of handle mode) s.clock)
+  of_node handle (calls.Release bytes) node = of_released handle (released (lock_under (name_space s) handle) (owner_of handle))
+  of_node handle (calls.Open opening) node = of_fault faults.BadHandle
+  of_node handle (calls.Close bytes) node = of_fault faults.BadHandle
+  of_node handle (calls.Read bytes) node = of_fault faults.BadHandle
+  of_node handle (calls.Stat bytes) node = of_fault faults.BadHandle
+  of_node handle (calls.List bytes) node = of_fault faults.BadHandle
+  of_node handle (calls.GetSequencer bytes) node = of_fault faults.BadHandle
+  of_node handle (calls.SetSequencer bytes) node = of_fault faults.BadHandle
+  of_node handle (calls.CheckSequencer bytes) node = of_fault faults.BadHandle
 
   -- ---- any call
 
   of_application : (handle : Handle) (call : Call) (o : Option CallResult) → HasShape (option_map_or (λ answer. answered answer) o (change_on (name_space s) s.clock handle call))
   of_application handle call o =
       by_option o (λ answer. answered answer) (change_on (name_space s) s.clock handle call) of_answer
-      (by_option (node_of_handle (name_space s) handle) (λ view. change_at (name_space s) s.clock handle call view) (refused faults.StaleInstance) (of_node handle call) (of_fault faults.StaleInstance))
+      (by_option (node_of_handle (name_space s) handle) (λ node. change_at (name_space s) s.clock handle call node) (refused faults.StaleInstance) (of_node handle call) (of_fault faults.StaleInstance))
 
   of_call : (handle : Handle) (call : Call) (sequencer : Option (List ℕ)) → HasShape (effect_on (name_space s) s.clock handle call sequencer)
   of_call handle (calls.Close bytes) sequencer = of_closed handle (Some (record { key = key_of handle; state = states.Closed })) (node_of_handle (name_space s) handle)

@@ -3,7 +3,7 @@ use Rattle.std.specs.Prelude.{ℕ, Bool, true, ◌==◌, ◌+◌, ◌||◌, nat_
 use Rattle.std.specs.Option.{option_map_or}
 use Rattle.names_cell.specs.Text.{parent_of}
 use Rattle.node_core.specs.declared.refusals.Fault.{Fault}
-use Rattle.node_core.specs.declared.views.View.{View}
+use Rattle.node_core.specs.declared.nodes.Node.{Node}
 use Rattle.node_core.specs.declared.views.Mod.{Mod}
 use Rattle.node_core.specs.declared.views.Mod.TheVariants.{Put, Gone}
 use Rattle.node_core.specs.declared.kinds.Kind.{Kind}
@@ -79,13 +79,13 @@ content_of (made.File content) = content
 content_of made.Directory = []
 
 -- the names that are given, or those of the parent
-abbrev pub acls_of : View → Option AclNames → AclNames
+abbrev pub acls_of : Node → Option AclNames → AclNames
 acls_of above (Some acls) = acls
 acls_of above None = record { read = above.read; write = above.write; change = above.change }
 
 -- a new node under a directory
-abbrev pub new_view : ℕ → NewNode → Life → AclNames → View
-new_view instance node life acls = record {
+abbrev pub new_node : ℕ → NewNode → Life → AclNames → Node
+new_node instance node life acls = record {
   kind = kind_of node;
   instance = instance;
   content_generation = first_generation node;
@@ -98,33 +98,33 @@ new_view instance node life acls = record {
 }
 
 -- the new node is put, and its handle is open
-abbrev pub create_made : NameSpace → Open → View → Result Handle Fault → Effect
-create_made space opening view (Err fault) = refused fault
-create_made space opening view (Ok handle) = record {
+abbrev pub create_made : NameSpace → Open → Node → Result Handle Fault → Effect
+create_made space opening node (Err fault) = refused fault
+create_made space opening node (Ok handle) = record {
   note = opened_note space (Ok handle);
-  change = Some (record { change = Put opening.name view; next_instance = space.next_instance + 1 });
+  change = Some (record { change = Put opening.name node; next_instance = space.next_instance + 1 });
   locking = Nothing;
   answer = Some (opened_answer space (Ok handle));
 }
 
-abbrev pub create_numbered : NameSpace → Caller → ℕ → Open → View → Effect
-create_numbered space caller number opening view =
-    if is_last space.next_instance then refused faults.Exhausted else create_made space opening view (new_handle space caller number opening view)
+abbrev pub create_numbered : NameSpace → Caller → ℕ → Open → Node → Effect
+create_numbered space caller number opening node =
+    if is_last space.next_instance then refused faults.Exhausted else create_made space opening node (new_handle space caller number opening node)
 
 -- the rights of the mode, on the ACLs of the new node
-abbrev pub create_permitted : NameSpace → Caller → ℕ → Open → View → Effect
-create_permitted space caller number opening view =
-    option_map_or (λ right. refused (faults.Denied right)) (missing_right space caller opening.mode view) (create_numbered space caller number opening view)
+abbrev pub create_permitted : NameSpace → Caller → ℕ → Open → Node → Effect
+create_permitted space caller number opening node =
+    option_map_or (λ right. refused (faults.Denied right)) (missing_right space caller opening.mode node) (create_numbered space caller number opening node)
 
 -- write on the directory above comes first
-abbrev pub create_in : NameSpace → Caller → ℕ → Open → Create → View → Kind → Effect
+abbrev pub create_in : NameSpace → Caller → ℕ → Open → Create → Node → Kind → Effect
 create_in space caller number opening create above kinds.File = refused (faults.WrongKind kinds.File)
 create_in space caller number opening create above kinds.Directory =
     if may space caller above rights.Write
-    then create_permitted space caller number opening (new_view space.next_instance create.node create.life (acls_of above create.acls))
+    then create_permitted space caller number opening (new_node space.next_instance create.node create.life (acls_of above create.acls))
     else refused (faults.Denied rights.Write)
 
-abbrev pub create_under : NameSpace → Caller → ℕ → Open → Create → Option View → Effect
+abbrev pub create_under : NameSpace → Caller → ℕ → Open → Create → Option Node → Effect
 create_under space caller number opening create None = refused faults.NotFound
 create_under space caller number opening create (Some above) = create_in space caller number opening create above above.kind
 
@@ -133,13 +133,13 @@ create_new space caller number opening create =
     option_map_or (λ parent. create_under space caller number opening create (get_node space.nodes parent)) (parent_of opening.name) (refused faults.NotFound)
 
 -- a node of the name is there: it is opened where it may be
-abbrev pub create_over : NameSpace → Caller → ℕ → Open → Disposition → View → Effect
-create_over space caller number opening Must view = refused faults.Exists
-create_over space caller number opening May view = opened_effect space (open_present space caller number opening view)
+abbrev pub create_over : NameSpace → Caller → ℕ → Open → Disposition → Node → Effect
+create_over space caller number opening Must node = refused faults.Exists
+create_over space caller number opening May node = opened_effect space (open_present space caller number opening node)
 
 abbrev pub create_effect : NameSpace → Caller → ℕ → Open → Create → Effect
 create_effect space caller number opening create =
-    option_map_or (λ view. create_over space caller number opening create.disposition view) (get_node space.nodes opening.name) (create_new space caller number opening create)
+    option_map_or (λ node. create_over space caller number opening create.disposition node) (get_node space.nodes opening.name) (create_new space caller number opening create)
 
 -- its content and its lock-delay are tested again
 abbrev pub create_tested : NameSpace → Caller → ℕ → Open → Create → Effect
@@ -206,9 +206,9 @@ close_by space handle None = Nothing
 close_by space handle (Some turn) = leaving_by handle (holds_lock space handle) turn
 
 -- where its node is gone, so is the lock
-abbrev pub close_under : NameSpace → Handle → Option View → Locking
+abbrev pub close_under : NameSpace → Handle → Option Node → Locking
 close_under space handle None = Nothing
-close_under space handle (Some view) = close_by space handle (closed_by (lock_under space handle) (owner_of handle))
+close_under space handle (Some node) = close_by space handle (closed_by (lock_under space handle) (owner_of handle))
 
 -- a handle that is closed lets its lock go, or waits for it no longer
 abbrev pub close_at : NameSpace → Handle → Effect
@@ -226,16 +226,16 @@ abbrev pub generation_fits : Option ℕ → ℕ → Bool
 generation_fits None present = true
 generation_fits (Some wanted) present = wanted == present
 
-abbrev pub with_content : View → List ℕ → View
-with_content view content = record view { content_generation = view.content_generation + 1; content = content }
+abbrev pub with_content : Node → List ℕ → Node
+with_content node content = record node { content_generation = node.content_generation + 1; content = content }
 
-abbrev pub with_acls : View → AclNames → View
-with_acls view acls = record view { acl_generation = view.acl_generation + 1; read = acls.read; write = acls.write; change = acls.change }
+abbrev pub with_acls : Node → AclNames → Node
+with_acls node acls = record node { acl_generation = node.acl_generation + 1; read = acls.read; write = acls.write; change = acls.change }
 
-abbrev pub put_at : NameSpace → Handle → ℕ → Option ℕ → View → Effect
-put_at space handle present wanted view =
+abbrev pub put_at : NameSpace → Handle → ℕ → Option ℕ → Node → Effect
+put_at space handle present wanted node =
     if generation_fits wanted present
-    then (if is_last present then refused faults.Exhausted else changes_to (Put handle.name view) space.next_instance results.Done)
+    then (if is_last present then refused faults.Exhausted else changes_to (Put handle.name node) space.next_instance results.Done)
     else refused (faults.WrongGeneration present)
 
 -- the node goes, and its lock with it
@@ -253,24 +253,24 @@ delete_at space handle =
     if has_children space.nodes handle.name || is_none (parent_of handle.name) then refused faults.NotEmpty
     else deleted space handle
 
-abbrev pub change_at : NameSpace → ℕ → Handle → Call → View → Effect
-change_at space now handle (calls.Set bytes content generation) view = put_at space handle view.content_generation generation (with_content view content)
-change_at space now handle (calls.SetAcl bytes acls generation) view = put_at space handle view.acl_generation generation (with_acls view acls)
-change_at space now handle (calls.Delete bytes) view = delete_at space handle
-change_at space now handle (calls.Acquire bytes mode) view = acquire_at space handle mode
-change_at space now handle (calls.TryAcquire bytes mode) view = try_at space now handle mode
-change_at space now handle (calls.Release bytes) view = release_at space handle
-change_at space now handle (calls.Open opening) view = refused faults.BadHandle
-change_at space now handle (calls.Close bytes) view = refused faults.BadHandle
-change_at space now handle (calls.Read bytes) view = refused faults.BadHandle
-change_at space now handle (calls.Stat bytes) view = refused faults.BadHandle
-change_at space now handle (calls.List bytes) view = refused faults.BadHandle
-change_at space now handle (calls.GetSequencer bytes) view = refused faults.BadHandle
-change_at space now handle (calls.SetSequencer bytes) view = refused faults.BadHandle
-change_at space now handle (calls.CheckSequencer bytes) view = refused faults.BadHandle
+abbrev pub change_at : NameSpace → ℕ → Handle → Call → Node → Effect
+change_at space now handle (calls.Set bytes content generation) node = put_at space handle node.content_generation generation (with_content node content)
+change_at space now handle (calls.SetAcl bytes acls generation) node = put_at space handle node.acl_generation generation (with_acls node acls)
+change_at space now handle (calls.Delete bytes) node = delete_at space handle
+change_at space now handle (calls.Acquire bytes mode) node = acquire_at space handle mode
+change_at space now handle (calls.TryAcquire bytes mode) node = try_at space now handle mode
+change_at space now handle (calls.Release bytes) node = release_at space handle
+change_at space now handle (calls.Open opening) node = refused faults.BadHandle
+change_at space now handle (calls.Close bytes) node = refused faults.BadHandle
+change_at space now handle (calls.Read bytes) node = refused faults.BadHandle
+change_at space now handle (calls.Stat bytes) node = refused faults.BadHandle
+change_at space now handle (calls.List bytes) node = refused faults.BadHandle
+change_at space now handle (calls.GetSequencer bytes) node = refused faults.BadHandle
+change_at space now handle (calls.SetSequencer bytes) node = refused faults.BadHandle
+change_at space now handle (calls.CheckSequencer bytes) node = refused faults.BadHandle
 
 abbrev pub change_on : NameSpace → ℕ → Handle → Call → Effect
-change_on space now handle call = option_map_or (λ view. change_at space now handle call view) (node_of_handle space handle) (refused faults.StaleInstance)
+change_on space now handle call = option_map_or (λ node. change_at space now handle call node) (node_of_handle space handle) (refused faults.StaleInstance)
 
 -- ---- by the cell itself
 

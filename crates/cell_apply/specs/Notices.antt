@@ -2,7 +2,7 @@
 use Rattle.std.specs.Prelude.{ℕ, Bool, true, false, ◌==◌, List, [], ◌∷◌, ◌++◌, Option, Some, None, if◌then◌else◌, is_none}
 use Rattle.std.specs.Option.{option_map, option_map_or, option_and_then}
 use Rattle.names_cell.specs.Text.{parent_of}
-use Rattle.node_core.specs.declared.views.View.{View}
+use Rattle.node_core.specs.declared.nodes.Node.{Node}
 use Rattle.node_core.specs.declared.views.Mod.{Mod}
 use Rattle.node_core.specs.declared.views.Mod.TheVariants.{Put, Gone}
 use Rattle.node_core.specs.Nodes.{get_node}
@@ -28,19 +28,19 @@ abbrev pub above : MasterState → List ℕ → (ℕ → Notice) → List Notice
 above s name notice = option_map_or (λ directory. notice directory.instance ∷ []) (option_and_then (get_node s.nodes) (parent_of name)) []
 
 -- a new child, other content, or other ACLs, which are told to nobody
-abbrev pub put_notices : MasterState → List ℕ → View → Option View → List Notice
-put_notices s name view None = above s name (λ directory. notices.ChildAdded directory name)
-put_notices s name view (Some former) =
-    if former.content_generation == view.content_generation then []
-    else notices.Contents view.instance view.content_generation ∷ above s name (λ directory. notices.ChildModified directory name)
+abbrev pub put_notices : MasterState → List ℕ → Node → Option Node → List Notice
+put_notices s name node None = above s name (λ directory. notices.ChildAdded directory name)
+put_notices s name node (Some former) =
+    if former.content_generation == node.content_generation then []
+    else notices.Contents node.instance node.content_generation ∷ above s name (λ directory. notices.ChildModified directory name)
 
 -- a node that goes
-abbrev pub gone_notices : MasterState → List ℕ → Option View → List Notice
+abbrev pub gone_notices : MasterState → List ℕ → Option Node → List Notice
 gone_notices s name None = []
 gone_notices s name (Some former) = notices.Invalid former.instance ∷ above s name (λ directory. notices.ChildRemoved directory name)
 
 abbrev pub mod_notices : MasterState → Mod → List Notice
-mod_notices s (Put name view) = put_notices s name view (get_node s.nodes name)
+mod_notices s (Put name node) = put_notices s name node (get_node s.nodes name)
 mod_notices s (Gone name) = gone_notices s name (get_node s.nodes name)
 
 abbrev pub change_notices : MasterState → Option Change → List Notice

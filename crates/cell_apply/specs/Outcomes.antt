@@ -1,6 +1,9 @@
 -- What is printed and sent of an effect, and which locks it changes.
 use Rattle.std.specs.Prelude.{ℕ, List, [], ◌∷◌, ◌++◌, Option, Some, None}
+use Rattle.node_core.specs.Nodes.{Nodes, listing}
 use Rattle.node_core.specs.declared.lines.Line.{Line}
+use Rattle.node_core.specs.declared.views.Mod.{Mod}
+use Rattle.node_core.specs.declared.views.Mod.TheVariants.{Put, Gone}
 use Rattle.messages_cell.specs.declared.outs.CallResult.{CallResult}
 use Rattle.messages_cell.specs.declared.outs.Reply.{Reply}
 use Rattle.cell_update.specs.declared.updates.LockPut.{LockPut}
@@ -47,10 +50,15 @@ lock_ended _ = None
 
 -- ---- calls
 
+-- what is listed of the node that a change puts
+abbrev pub put_listing : Nodes → Mod → List (List ℕ)
+put_listing nodes (Put name node) = listing nodes name node.kind
+put_listing nodes (Gone name) = []
+
 -- the line of a change of the map, if there is one
-abbrev pub applied_lines : ℕ → ℕ → Option Change → List Line
-applied_lines client number None = []
-applied_lines client number (Some change) = lines.Applied client number change.change ∷ []
+abbrev pub applied_lines : Nodes → ℕ → ℕ → Option Change → List Line
+applied_lines nodes client number None = []
+applied_lines nodes client number (Some change) = lines.Applied client number change.change (put_listing nodes change.change) ∷ []
 
 -- a call that waits for a lock has no reply yet
 abbrev pub own_replies : MasterState → ℕ → ℕ → Option CallResult → List Reply

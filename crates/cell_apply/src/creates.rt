@@ -2,7 +2,7 @@
 ghost use Rattle.std.specs.Prelude.{◌≡◌, ◌<◌, ◌+◌, ◌-◌, ◌^◌, None, Ok, IfOk};
 ghost use Rattle.node_core.specs.declared.views.Mod.TheVariants.{Put};
 ghost use Rattle.cell_state.specs.NameSpace.{name_space, caller};
-ghost use Rattle.cell_apply.specs.Effect.{create_effect, create_over, create_new, create_in, create_permitted, create_numbered, create_made, new_view, kind_of, first_generation, content_of, acls_of};
+ghost use Rattle.cell_apply.specs.Effect.{create_effect, create_over, create_new, create_in, create_permitted, create_numbered, create_made, new_node, kind_of, first_generation, content_of, acls_of};
 ghost use Rattle.cell_state.specs.Lookups.{may};
 
 use crate::effects::{Effect, Locking, opened_effect};
@@ -10,7 +10,7 @@ use cell_state::Master;
 use cell_update::Change;
 use messages_cell::{AclNames, Create, Disposition, NewNode, Open};
 use names_cell::Name;
-use node_core::{Fault, Kind, Mod, NUMBER_LIMIT, Right, View};
+use node_core::{Fault, Kind, Mod, NUMBER_LIMIT, Node, Right};
 use plain::Bytes;
 use std::alloc::{AllocError, Global};
 use tags_cell::{ClientNumber, Handle, MessageNumber};
@@ -26,7 +26,7 @@ pub(crate) fn create_effect(
 {
     match master.map().get(&opening.name) {
         None => create_new(master, client, number, opening, create),
-        Some(view) => create_over(master, client, number, opening, create.disposition, view),
+        Some(node) => create_over(master, client, number, opening, create.disposition, node),
     }
 }
 
@@ -37,14 +37,14 @@ fn create_over(
     number: MessageNumber,
     opening: &Open,
     disposition: Disposition,
-    view: &View,
+    node: &Node,
 ) -> Result<Effect, AllocError>
-    ensures { IfOk result (λ done. done ≡ create_over (name_space master.now) (caller master.now client) number opening.now disposition view.now) }
+    ensures { IfOk result (λ done. done ≡ create_over (name_space master.now) (caller master.now client) number opening.now disposition node.now) }
 {
     match disposition {
         Disposition::Must => Ok(Effect::refused(Fault::Exists)),
         Disposition::May => {
-            let opened = master.open_present(client, number, opening, view)?;
+            let opened = master.open_present(client, number, opening, node)?;
             opened_effect(master, opened)
         }
     }
@@ -69,7 +69,7 @@ fn create_new(
 }
 
 // A node is added by clients that may write the directory above.
-fn may_add(master: &Master, client: ClientNumber, above: &View) -> Result<bool, AllocError>
+fn may_add(master: &Master, client: ClientNumber, above: &Node) -> Result<bool, AllocError>
     ensures { IfOk result (λ allowed. allowed ≡ may (name_space master.now) (caller master.now client) above.now Right.Write) }
 {
     master.may(client, above, Right::Write)
@@ -82,7 +82,7 @@ fn create_in(
     number: MessageNumber,
     opening: &Open,
     create: &Create,
-    above: &View,
+    above: &Node,
 ) -> Result<Effect, AllocError>
     ensures { IfOk result (λ done. done ≡ create_in (name_space master.now) (caller master.now client) number opening.now create.now above.now above.now.kind) }
 {
@@ -92,8 +92,8 @@ fn create_in(
             if !may_add(master, client, above)? {
                 return Ok(Effect::refused(Fault::Denied(Right::Write)));
             }
-            let view = new_view(master, above, create)?;
-            create_permitted(master, client, number, opening, view)
+            let node = new_node(master, above, create)?;
+            create_permitted(master, client, number, opening, node)
         }
     }
 }
@@ -104,14 +104,14 @@ fn create_permitted(
     client: ClientNumber,
     number: MessageNumber,
     opening: &Open,
-    view: View,
+    node: Node,
 ) -> Result<Effect, AllocError>
-    ensures { IfOk result (λ done. done ≡ create_permitted (name_space master.now) (caller master.now client) number opening.now view) }
+    ensures { IfOk result (λ done. done ≡ create_permitted (name_space master.now) (caller master.now client) number opening.now node) }
 {
-    if let Some(right) = master.missing_right(client, opening.mode, &view)? {
+    if let Some(right) = master.missing_right(client, opening.mode, &node)? {
         return Ok(Effect::refused(Fault::Denied(right)));
     }
-    create_numbered(master, client, number, opening, view)
+    create_numbered(master, client, number, opening, node)
 }
 
 fn create_numbered(
@@ -119,15 +119,15 @@ fn create_numbered(
     client: ClientNumber,
     number: MessageNumber,
     opening: &Open,
-    view: View,
+    node: Node,
 ) -> Result<Effect, AllocError>
-    ensures { IfOk result (λ done. done ≡ create_numbered (name_space master.now) (caller master.now client) number opening.now view) }
+    ensures { IfOk result (λ done. done ≡ create_numbered (name_space master.now) (caller master.now client) number opening.now node) }
 {
     if master.next_instance() >= NUMBER_LIMIT {
         return Ok(Effect::refused(Fault::Exhausted));
     }
-    match master.new_handle(client, number, opening, &view)? {
-        Ok(handle) => create_made(master, opening, view, handle),
+    match master.new_handle(client, number, opening, &node)? {
+        Ok(handle) => create_made(master, opening, node, handle),
         Err(fault) => Ok(Effect::refused(fault)),
     }
 }
@@ -136,14 +136,14 @@ fn create_numbered(
 fn create_made(
     master: &Master,
     opening: &Open,
-    view: View,
+    node: Node,
     handle: Handle,
 ) -> Result<Effect, AllocError>
     requires { master.now.next_instance < 2 ^ 63 - 1 }
-    ensures { IfOk result (λ done. done ≡ create_made (name_space master.now) opening.now view (Ok handle)) }
+    ensures { IfOk result (λ done. done ≡ create_made (name_space master.now) opening.now node (Ok handle)) }
 {
     let name = opening.name.clone()?;
-    let change = made_change(master, name, view);
+    let change = made_change(master, name, node);
     let (note, answer) = master.opened(Ok(handle))?;
     Ok(Effect {
         note,
@@ -154,26 +154,26 @@ fn create_made(
 }
 
 // The new node's instance is given but once.
-fn made_change(master: &Master, name: Name, view: View) -> Change
+fn made_change(master: &Master, name: Name, node: Node) -> Change
     requires { master.now.next_instance < 2 ^ 63 - 1 }
-    ensures { result ≡ record { change = Put name view; next_instance = master.now.next_instance + 1 } }
+    ensures { result ≡ record { change = Put name node; next_instance = master.now.next_instance + 1 } }
 {
     Change {
-        change: Mod::Put(name, view),
+        change: Mod::Put(name, node),
         next_instance: master.next_instance() + 1,
     }
 }
 
 // A new node under a directory.
-fn new_view(master: &Master, above: &View, create: &Create) -> Result<View, AllocError>
-    ensures { IfOk result (λ view. view ≡ new_view master.now.next_instance create.now.node create.now.life (acls_of above.now create.now.acls)) }
+fn new_node(master: &Master, above: &Node, create: &Create) -> Result<Node, AllocError>
+    ensures { IfOk result (λ node. node ≡ new_node master.now.next_instance create.now.node create.now.life (acls_of above.now create.now.acls)) }
 {
     let AclNames {
         read,
         write,
         change,
     } = acls_of(above, &create.acls)?;
-    Ok(View {
+    Ok(Node {
         kind: kind_of(&create.node),
         instance: master.next_instance(),
         content_generation: first_generation(&create.node),
@@ -187,7 +187,7 @@ fn new_view(master: &Master, above: &View, create: &Create) -> Result<View, Allo
 }
 
 // The names that are given, or those of the parent.
-fn acls_of(above: &View, acls: &Option<AclNames>) -> Result<AclNames, AllocError>
+fn acls_of(above: &Node, acls: &Option<AclNames>) -> Result<AclNames, AllocError>
     ensures { IfOk result (λ names. names ≡ acls_of above.now acls.now) }
 {
     match acls {
@@ -196,7 +196,7 @@ fn acls_of(above: &View, acls: &Option<AclNames>) -> Result<AclNames, AllocError
     }
 }
 
-fn parent_acls(above: &View) -> Result<AclNames, AllocError>
+fn parent_acls(above: &Node) -> Result<AclNames, AllocError>
     ensures { IfOk result (λ names. names ≡ acls_of above.now None) }
 {
     Ok(AclNames {

@@ -11,7 +11,7 @@ use cell_state::Master;
 use cell_update::{Change, LockPut};
 use messages_cell::{Call, CallResult};
 use names_cell::Name;
-use node_core::{Fault, Mod, View};
+use node_core::{Fault, Mod, Node};
 use plain::Items;
 use std::alloc::{AllocError, Global};
 use tags_cell::ClientNumber;
@@ -32,23 +32,23 @@ fn mod_notices(master: &Master, change: &Mod) -> Result<Items<Notice>, AllocErro
     ensures { IfOk result (λ notices. notices ≡ mod_notices master.now change.now) }
 {
     match change {
-        Mod::Put(name, view) => put_notices(master, name, view),
+        Mod::Put(name, node) => put_notices(master, name, node),
         Mod::Gone(name) => gone_notices(master, name),
     }
 }
 
 // A new child, or another content. Of other ACLs nobody is told.
-fn put_notices(master: &Master, name: &Name, view: &View) -> Result<Items<Notice>, AllocError>
-    ensures { IfOk result (λ notices. notices ≡ put_notices master.now name.now view.now (get_node master.now.nodes name.now)) }
+fn put_notices(master: &Master, name: &Name, node: &Node) -> Result<Items<Notice>, AllocError>
+    ensures { IfOk result (λ notices. notices ≡ put_notices master.now name.now node.now (get_node master.now.nodes name.now)) }
 {
     let Some(former) = master.map().get(name) else {
         return added_above(master, name);
     };
-    if former.content_generation == view.content_generation {
+    if former.content_generation == node.content_generation {
         return Ok(Items::new(master.alloc()));
     }
     let mut notices = Items::new(master.alloc());
-    notices.push(Notice::Contents(view.instance, view.content_generation))?;
+    notices.push(Notice::Contents(node.instance, node.content_generation))?;
     notices.append(modified_above(master, name)?)?;
     Ok(notices)
 }

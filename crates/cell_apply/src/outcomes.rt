@@ -1,13 +1,13 @@
 //! What is printed and sent of an effect, and which locks it changes.
 ghost use Rattle.std.specs.Prelude.{◌≡◌, ◌++◌, Some, None, IfOk};
-ghost use Rattle.cell_apply.specs.Outcomes.{leave_lines, locking_lines, locking_replies, left_put, locking_puts, lock_ended, applied_lines, own_replies, effect_replies};
+ghost use Rattle.cell_apply.specs.Outcomes.{leave_lines, locking_lines, locking_replies, left_put, locking_puts, lock_ended, put_listing, applied_lines, own_replies, effect_replies};
 
 use crate::effects::{Effect, Leave, Locking};
 use cell_state::Master;
 use cell_update::{Change, LockPut, line_if, locked_line, locked_lines, replies_to, turn_replies};
 use lock_core::Turn;
 use messages_cell::{CallResult, Reply};
-use node_core::{Fault, Line};
+use node_core::{Fault, Line, Listing, Mod};
 use plain::Items;
 use std::alloc::{AllocError, Global};
 use tags_cell::{ClientNumber, MessageNumber};
@@ -81,15 +81,15 @@ fn own_replies(
 
 /// What is printed of a change or a lock.
 pub fn effect_lines(
-    alloc: Global,
+    master: &Master,
     client: u64,
     number: u64,
     effect: &Effect,
 ) -> Result<Items<Line>, AllocError>
-    ensures { IfOk result (λ printed. printed ≡ applied_lines client number effect.now.change ++ locking_lines client effect.now.locking) }
+    ensures { IfOk result (λ printed. printed ≡ applied_lines master.now.nodes client number effect.now.change ++ locking_lines client effect.now.locking) }
 {
-    let mut printed = applied_lines(alloc, client, number, &effect.change)?;
-    printed.append(locking_lines(alloc, client, &effect.locking)?)?;
+    let mut printed = applied_lines(master, client, number, &effect.change)?;
+    printed.append(locking_lines(master.alloc(), client, &effect.locking)?)?;
     Ok(printed)
 }
 
@@ -141,17 +141,33 @@ fn left_put(leave: Leave) -> LockPut
 
 // The line of a change of the map, if there is one.
 fn applied_lines(
-    alloc: Global,
+    master: &Master,
     client: u64,
     number: u64,
     change: &Option<Change>,
 ) -> Result<Items<Line>, AllocError>
-    ensures { IfOk result (λ printed. printed ≡ applied_lines client number change.now) }
+    ensures { IfOk result (λ printed. printed ≡ applied_lines master.now.nodes client number change.now) }
 {
-    let mut printed = Items::new(alloc);
+    let mut printed = Items::new(master.alloc());
     if let Some(applied) = change {
-        let shown = applied.change.clone()?;
-        printed.push(Line::Applied(client, number, shown))?;
+        printed.push(applied_line(master, client, number, &applied.change)?)?;
     }
     Ok(printed)
+}
+
+fn applied_line(master: &Master, client: u64, number: u64, change: &Mod) -> Result<Line, AllocError>
+    ensures { IfOk result (λ line. line ≡ Line.Applied client number change.now (put_listing master.now.nodes change.now)) }
+{
+    let listed = put_listing(master, change)?;
+    Ok(Line::Applied(client, number, change.clone()?, listed))
+}
+
+// What is listed of a directory that is put.
+fn put_listing(master: &Master, change: &Mod) -> Result<Listing, AllocError>
+    ensures { IfOk result (λ listed. listed ≡ put_listing master.now.nodes change.now) }
+{
+    match change {
+        Mod::Put(name, node) => master.map().listing(name, node.kind),
+        Mod::Gone(_) => Ok(Listing::new()),
+    }
 }

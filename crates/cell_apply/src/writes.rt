@@ -7,7 +7,7 @@ use crate::effects::Effect;
 use crate::locks::{acquire_at, deleted, release_at, try_at};
 use cell_state::Master;
 use messages_cell::{AclNames, Call, CallResult};
-use node_core::{Fault, Mod, NUMBER_LIMIT, View};
+use node_core::{Fault, Mod, NUMBER_LIMIT, Node};
 use plain::Bytes;
 use std::alloc::AllocError;
 use tags_cell::Handle;
@@ -17,7 +17,7 @@ pub(crate) fn change_on(master: &Master, handle: &Handle, call: &Call) -> Result
 {
     match master.node_of(handle) {
         None => Ok(Effect::refused(Fault::StaleInstance)),
-        Some(view) => change_at(master, handle, call, view),
+        Some(node) => change_at(master, handle, call, node),
     }
 }
 
@@ -25,21 +25,21 @@ fn change_at(
     master: &Master,
     handle: &Handle,
     call: &Call,
-    view: &View,
+    node: &Node,
 ) -> Result<Effect, AllocError>
-    ensures { IfOk result (λ done. done ≡ change_at (name_space master.now) master.now.clock handle.now call.now view.now) }
+    ensures { IfOk result (λ done. done ≡ change_at (name_space master.now) master.now.clock handle.now call.now node.now) }
 {
     match call {
         Call::Set {
             content,
             generation,
             ..
-        } => set_at(master, handle, view, content, *generation),
+        } => set_at(master, handle, node, content, *generation),
         Call::SetAcl {
             acls,
             generation,
             ..
-        } => set_acl_at(master, handle, view, acls, *generation),
+        } => set_acl_at(master, handle, node, acls, *generation),
         Call::Delete(_) => delete_at(master, handle),
         Call::Acquire { mode, .. } => acquire_at(master, handle, *mode),
         Call::TryAcquire { mode, .. } => try_at(master, handle, *mode),
@@ -56,39 +56,39 @@ fn change_at(
 fn set_at(
     master: &Master,
     handle: &Handle,
-    view: &View,
+    node: &Node,
     content: &Bytes,
     generation: Option<u64>,
 ) -> Result<Effect, AllocError>
-    ensures { IfOk result (λ done. done ≡ put_at (name_space master.now) handle.now view.now.content_generation generation (with_content view.now content.now)) }
+    ensures { IfOk result (λ done. done ≡ put_at (name_space master.now) handle.now node.now.content_generation generation (with_content node.now content.now)) }
 {
-    let present = view.content_generation;
+    let present = node.content_generation;
     if !generation_fits(generation, present) {
         return Ok(Effect::refused(Fault::WrongGeneration(present)));
     }
     if present >= NUMBER_LIMIT {
         return Ok(Effect::refused(Fault::Exhausted));
     }
-    put(master, handle, with_content(view, content)?)
+    put(master, handle, with_content(node, content)?)
 }
 
 fn set_acl_at(
     master: &Master,
     handle: &Handle,
-    view: &View,
+    node: &Node,
     acls: &AclNames,
     generation: Option<u64>,
 ) -> Result<Effect, AllocError>
-    ensures { IfOk result (λ done. done ≡ put_at (name_space master.now) handle.now view.now.acl_generation generation (with_acls view.now acls.now)) }
+    ensures { IfOk result (λ done. done ≡ put_at (name_space master.now) handle.now node.now.acl_generation generation (with_acls node.now acls.now)) }
 {
-    let present = view.acl_generation;
+    let present = node.acl_generation;
     if !generation_fits(generation, present) {
         return Ok(Effect::refused(Fault::WrongGeneration(present)));
     }
     if present >= NUMBER_LIMIT {
         return Ok(Effect::refused(Fault::Exhausted));
     }
-    put(master, handle, with_acls(view, acls)?)
+    put(master, handle, with_acls(node, acls)?)
 }
 
 // The root and a directory with children stay.
@@ -101,11 +101,11 @@ fn delete_at(master: &Master, handle: &Handle) -> Result<Effect, AllocError>
     deleted(master, handle)
 }
 
-// The node of the handle gets this view.
-fn put(master: &Master, handle: &Handle, view: View) -> Result<Effect, AllocError>
-    ensures { IfOk result (λ done. done ≡ changes_to (Mod.Put handle.now.name view) master.now.next_instance CallResult.Done) }
+// This node is put at the handle's name.
+fn put(master: &Master, handle: &Handle, node: Node) -> Result<Effect, AllocError>
+    ensures { IfOk result (λ done. done ≡ changes_to (Mod.Put handle.now.name node) master.now.next_instance CallResult.Done) }
 {
-    let change = Mod::Put(handle.name.clone()?, view);
+    let change = Mod::Put(handle.name.clone()?, node);
     Ok(Effect::changes_to(change, master.next_instance(), CallResult::Done))
 }
 
@@ -119,36 +119,36 @@ fn generation_fits(generation: Option<u64>, present: u64) -> bool
     }
 }
 
-fn with_content(view: &View, content: &Bytes) -> Result<View, AllocError>
-    requires { view.now.content_generation < 2 ^ 63 - 1 }
-    ensures { IfOk result (λ new. new ≡ with_content view.now content.now) }
+fn with_content(node: &Node, content: &Bytes) -> Result<Node, AllocError>
+    requires { node.now.content_generation < 2 ^ 63 - 1 }
+    ensures { IfOk result (λ new. new ≡ with_content node.now content.now) }
 {
-    Ok(View {
-        kind: view.kind,
-        instance: view.instance,
-        content_generation: view.content_generation + 1,
-        acl_generation: view.acl_generation,
-        read: view.read.clone()?,
-        write: view.write.clone()?,
-        change: view.change.clone()?,
-        life: view.life,
+    Ok(Node {
+        kind: node.kind,
+        instance: node.instance,
+        content_generation: node.content_generation + 1,
+        acl_generation: node.acl_generation,
+        read: node.read.clone()?,
+        write: node.write.clone()?,
+        change: node.change.clone()?,
+        life: node.life,
         content: content.clone()?,
     })
 }
 
-fn with_acls(view: &View, acls: &AclNames) -> Result<View, AllocError>
-    requires { view.now.acl_generation < 2 ^ 63 - 1 }
-    ensures { IfOk result (λ new. new ≡ with_acls view.now acls.now) }
+fn with_acls(node: &Node, acls: &AclNames) -> Result<Node, AllocError>
+    requires { node.now.acl_generation < 2 ^ 63 - 1 }
+    ensures { IfOk result (λ new. new ≡ with_acls node.now acls.now) }
 {
-    Ok(View {
-        kind: view.kind,
-        instance: view.instance,
-        content_generation: view.content_generation,
-        acl_generation: view.acl_generation + 1,
+    Ok(Node {
+        kind: node.kind,
+        instance: node.instance,
+        content_generation: node.content_generation,
+        acl_generation: node.acl_generation + 1,
         read: acls.read.clone()?,
         write: acls.write.clone()?,
         change: acls.change.clone()?,
-        life: view.life,
-        content: view.content.clone()?,
+        life: node.life,
+        content: node.content.clone()?,
     })
 }

@@ -9,7 +9,7 @@ use Rattle.std.specs.List.Sorted.{IsStrictlySortedBy}
 use Rattle.std.specs.Map.{keys_of, lookup}
 use Rattle.std.specs.BTreeMap.{is_at}
 use Rattle.std.proofs.lemmas.Map.Lookups.{exact_bytes}
-use Rattle.node_core.specs.declared.views.View.{View}
+use Rattle.node_core.specs.declared.nodes.Node.{Node}
 use Rattle.cell_parts.specs.declared.pending.Idle.{Idle}
 use Rattle.cell_state.specs.State.{MasterState}
 use Rattle.cell_parts.specs.EphemeralNames.{is_ephemeral, NameTable, is_named, AreNamed}
@@ -25,7 +25,7 @@ InOrder es = IsStrictlySortedBy (slice_cmp nat_cmp) (keys_of es)
 
 -- the name of each node that is to go is among these
 abbrev HasToGo : MasterState → NameTable → Type 0
-HasToGo s names = (q : List ℕ) (w : View) → lookup (At q) s.nodes ≡ Some w → is_to_go s (q, w) ≡ true → is_named names q ≡ true
+HasToGo s names = (q : List ℕ) (w : Node) → lookup (At q) s.nodes ≡ Some w → is_to_go s (q, w) ≡ true → is_named names q ≡ true
 
 -- another than the first stands behind it
 another : (names : NameTable) (n : List ℕ × Unit {0}) (q : List ℕ) → At q n.0 ≡ false → is_named (n ∷ names) q ≡ true → is_named names q ≡ true
@@ -44,7 +44,7 @@ not_below names n q behind less h =
     ]) refl among
 
 -- the names behind one that doesn't go
-has_rest : (s : MasterState) (names : NameTable) (n : List ℕ × Unit {0}) → HasToGo s (n ∷ names) → ((w : View) → lookup (At n.0) s.nodes ≡ Some w → is_to_go s (n.0, w) ≡ true → ⊥) → HasToGo s names
+has_rest : (s : MasterState) (names : NameTable) (n : List ℕ × Unit {0}) → HasToGo s (n ∷ names) → ((w : Node) → lookup (At n.0) s.nodes ≡ Some w → is_to_go s (n.0, w) ≡ true → ⊥) → HasToGo s names
 has_rest s names n has stays = λ q w h goes.
     (elim (At q n.0) as (λ b. At q n.0 ≡ b → is_named names q ≡ true) [
       | true ↦ (λ c.
@@ -54,7 +54,7 @@ has_rest s names n has stays = λ q w h goes.
       | false ↦ (λ c. another names n q c (has q w h goes))
     ]) refl
 
-abbrev pub Picked : MasterState → List ℕ → Option View → Option Idle
+abbrev pub Picked : MasterState → List ℕ → Option Node → Option Idle
 Picked s name o = option_map_or (λ view. cond (is_to_go s (name, view)) (Some (idle_of (name, view))) None) o None
 
 first_is : (s : MasterState) (names : NameTable) → InOrder s.nodes → InOrder names → HasToGo s names → first_idle s names ≡ option_map idle_of (find (is_to_go s) s.nodes)
@@ -81,7 +81,7 @@ first_is s (n ∷ names) sorted in_order has =
     ]) refl
 
 -- what is to go is ephemeral
-goes_as : (s : MasterState) (name : List ℕ) (view : View) → is_to_go s (name, view) ≡ true → is_ephemeral view.life ≡ true
+goes_as : (s : MasterState) (name : List ℕ) (view : Node) → is_to_go s (name, view) ≡ true → is_ephemeral view.life ≡ true
 goes_as s name view h =
     let life : Bool = is_ephemeral view.life in
     let closed : Bool = not (has_open s view.instance) in

@@ -8,9 +8,9 @@ use Rattle.node_core.specs.declared.kinds.Kind.{Kind}
 use Rattle.node_core.specs.declared.kinds.Kind.TheVariants as kinds
 use Rattle.node_core.specs.declared.kinds.Right.{Right}
 use Rattle.node_core.specs.declared.kinds.Right.TheVariants as rights
-use Rattle.node_core.specs.declared.views.View.{View}
+use Rattle.node_core.specs.declared.nodes.Node.{Node}
 use Rattle.node_core.specs.Limits.{content_limit}
-use Rattle.node_core.specs.Nodes.{get_node}
+use Rattle.node_core.specs.Nodes.{get_node, view_of, view_at}
 use Rattle.tags_cell.specs.Modes.{has_right}
 use Rattle.tags_cell.specs.Handles.{read_handle, is_ordinal}
 use Rattle.tags_cell.specs.declared.handles.Handle.{Handle}
@@ -28,12 +28,14 @@ use Rattle.cell_state.specs.State.{MasterState}
 use Rattle.cell_state.specs.Lookups.{own_handle, shown_handle, node_of_handle, is_usable, handle_state_of, list_answer, answer_on, answer_on_node, answer_under, missing_right, open_present, plain_open, opened_answer, is_of_cell, sequencer_fault, sequencer_result, release_fault, lock_under}
 use Rattle.cell_parts.specs.Calls.{needing, write_fault, is_too_long}
 use Rattle.cell_parts.specs.Keys.{key_of}
+use Rattle.cell_core.specs.declared.asking.Touched.{Touched}
+use Rattle.cell_core.specs.declared.asking.Touched.TheVariants.{WithParent}
 use Rattle.cell_core.specs.Step.{names_of, task_of, admission_for, touched_by, viewed_name, told_by_open, handle_admission, admission_of_open, admission_of, admission_under, check_admission, answering}
 use Rattle.tags_cell.specs.declared.sequencers.Sequencer.{Sequencer}
 use Rattle.lock_core.specs.State.{hold_of}
 use Rattle.lock_core.specs.Locks.{sequencer_of}
 use Rattle.cell_parts.specs.Claims.{owner_of}
-use Rattle.cell_core.specs.Names.{name_changed, names_touched, name_asked, shown_by}
+use Rattle.cell_core.specs.Names.{call_touched, names_touched, name_asked, shown_by}
 
 -- a handle that is shown is the one whose bytes are shown
 shown_read : (s : MasterState) (client : ℕ) (o : Option Handle) (handle : Handle) → option_map_or (λ h. own_handle s client h) o None ≡ Some handle → o ≡ Some handle
@@ -49,16 +51,16 @@ read_touched : (s : MasterState) (client : ℕ) (call : Call) (sequencer : Optio
 read_touched s client call sequencer bytes None is h = cc
 read_touched s client call sequencer bytes (Some handle) is h = ap (option_and_then (λ handle. touched_by handle call)) (sym (shown_read s client (read_handle s.secret bytes) handle is))
 
-open_touched : (s : MasterState) (client number : ℕ) (opening : Open) (o : Option Create) → (admission_of_open s client number opening o).answer ≡ None → (admission_of_open s client number opening o).touched ≡ option_map (λ create. opening.name) o
+open_touched : (s : MasterState) (client number : ℕ) (opening : Open) (o : Option Create) → (admission_of_open s client number opening o).answer ≡ None → (admission_of_open s client number opening o).touched ≡ option_map (λ create. WithParent opening.name) o
 open_touched s client number opening None h = cc
 open_touched s client number opening (Some create) h = refl
 
 -- an Open whose sequencer was tested
-under_touched : (s : MasterState) (client number : ℕ) (opening : Open) (o : Option Fault) → (admission_under s client number opening o).answer ≡ None → (admission_under s client number opening o).touched ≡ option_map (λ create. opening.name) opening.create
+under_touched : (s : MasterState) (client number : ℕ) (opening : Open) (o : Option Fault) → (admission_under s client number opening o).answer ≡ None → (admission_under s client number opening o).touched ≡ option_map (λ create. WithParent opening.name) opening.create
 under_touched s client number opening (Some fault) h = cc
 under_touched s client number opening None h = open_touched s client number opening opening.create h
 
-named_touched : (name : Option (List ℕ)) (b : Bool) (x : Admission) (other : CallResult) → (cond b x (answering other)).answer ≡ None → (x.answer ≡ None → x.touched ≡ name) → (cond b x (answering other)).touched ≡ name
+named_touched : (name : Option Touched) (b : Bool) (x : Admission) (other : CallResult) → (cond b x (answering other)).answer ≡ None → (x.answer ≡ None → x.touched ≡ name) → (cond b x (answering other)).touched ≡ name
 named_touched name true x other h k = k h
 named_touched name false x other h k = cc
 
@@ -67,10 +69,10 @@ check_waits_never s bytes None h = cc
 check_waits_never s bytes (Some fault) h = cc
 
 -- a call that waits touches the name that it may change
-pub touched_is_changed : (s : MasterState) (client number : ℕ) (call : Call) (sequencer : Option (List ℕ)) → (admission_of s client number call sequencer).answer ≡ None → (admission_of s client number call sequencer).touched ≡ name_changed s.secret call
+pub touched_is_changed : (s : MasterState) (client number : ℕ) (call : Call) (sequencer : Option (List ℕ)) → (admission_of s client number call sequencer).answer ≡ None → (admission_of s client number call sequencer).touched ≡ call_touched s.secret call
 touched_is_changed s client number (calls.Open opening) sequencer h =
     let under : Admission = admission_under s client number opening (sequencer_fault (name_space s) sequencer) in
-    named_touched (option_map (λ create. opening.name) opening.create) (is_of_cell (name_space s) opening.name) under (results.Refused faults.OtherCell) h (under_touched s client number opening (sequencer_fault (name_space s) sequencer))
+    named_touched (option_map (λ create. WithParent opening.name) opening.create) (is_of_cell (name_space s) opening.name) under (results.Refused faults.OtherCell) h (under_touched s client number opening (sequencer_fault (name_space s) sequencer))
 touched_is_changed s client number (calls.CheckSequencer bytes) sequencer h = absurd (check_waits_never s bytes (sequencer_fault (name_space s) sequencer) h)
 touched_is_changed s client number (calls.Close bytes) sequencer h = read_touched s client (calls.Close bytes) sequencer bytes (shown_handle s client bytes) refl h
 touched_is_changed s client number (calls.Read bytes) sequencer h = read_touched s client (calls.Read bytes) sequencer bytes (shown_handle s client bytes) refl h
@@ -92,7 +94,7 @@ call_touches s message h = ap names_of (touched_is_changed s message.client mess
 -- ---- what an answer tells of a name
 
 -- by the node of a handle, where its instance is there
-at_node : (f : View → Option CallResult) (x : Option CallResult) (o : Option View) (instance : ℕ) (P : Option CallResult → Type 0) → ((view : View) → o ≡ Some view → P (f view)) → P x → P (option_map_or f (option_map_or (λ view. cond (view.instance == instance) (Some view) None) o None) x)
+at_node : (f : Node → Option CallResult) (x : Option CallResult) (o : Option Node) (instance : ℕ) (P : Option CallResult → Type 0) → ((view : Node) → o ≡ Some view → P (f view)) → P x → P (option_map_or f (option_map_or (λ view. cond (view.instance == instance) (Some view) None) o None) x)
 at_node f x None instance P h k = k
 at_node f x (Some view) instance P h k = elim (view.instance == instance) as (λ b. P (option_map_or f (cond b (Some view) None) x)) [ true ↦ h view refl | false ↦ k ]
 
@@ -102,32 +104,46 @@ either_result false P x y h k = k
 
 -- an answer on a handle of this name tells what the name shows, or nothing
 abbrev Tells : MasterState → List ℕ → List ℕ → CallResult → Option CallResult → Type 0
-Tells s own name answer given = option_and_then (viewed_name own) given ≡ Some name → given ≡ Some answer → (own ≡ name) × (shown_by answer ≡ get_node s.nodes name)
+Tells s own name answer given = option_and_then (viewed_name own) given ≡ Some name → given ≡ Some answer → (own ≡ name) × (shown_by answer ≡ view_at s.nodes name)
 
-view_tells : (s : MasterState) (own name : List ℕ) (answer : CallResult) (view : View) → get_node s.nodes own ≡ Some view → Tells s own name answer (Some (results.Viewed view))
-view_tells s own name answer view here told is =
+shown_tells : (s : MasterState) (own name : List ℕ) (answer given : CallResult) (node : Node) → get_node s.nodes own ≡ Some node → viewed_name own given ≡ Some own → shown_by given ≡ Some (view_of s.nodes own node) → Tells s own name answer (Some given)
+shown_tells s own name answer given node here tells shows told is =
     let same : own ≡ name = cc in
-    let shown : results.Viewed view ≡ answer = cc in
-    (same, sym (ap shown_by shown) ∙ sym here ∙ ap (get_node s.nodes) same)
+    let one : given ≡ answer = cc in
+    let seen : view_at s.nodes own ≡ Some (view_of s.nodes own node) = ap (option_map (view_of s.nodes own)) here in
+    (same, sym (ap shown_by one) ∙ shows ∙ sym seen ∙ ap (view_at s.nodes) same)
 
-under_tells : (s : MasterState) (handle : Handle) (bytes name : List ℕ) (answer : CallResult) (view : View) → get_node s.nodes handle.name ≡ Some view → (o : Option Fault) → Tells s handle.name name answer (answer_under (name_space s) handle (calls.Read bytes) view o)
-under_tells s handle bytes name answer view here (Some fault) = λ told is. cc
-under_tells s handle bytes name answer view here None =
-    either_result (has_right handle.mode rights.Read) (λ given. Tells s handle.name name answer given) (Some (results.Viewed view)) (Some (results.Refused (faults.Denied rights.Read))) (view_tells s handle.name name answer view here) (λ told is. cc)
+list_tells : (s : MasterState) (own name : List ℕ) (answer : CallResult) (node : Node) → get_node s.nodes own ≡ Some node → (kind : Kind) → Tells s own name answer (Some (list_answer (view_of s.nodes own node) kind))
+list_tells s own name answer node here kinds.Directory = shown_tells s own name answer (results.Listed (view_of s.nodes own node)) node here refl refl
+list_tells s own name answer node here kinds.File = λ told is. cc
+
+-- a read, or a ReadDir, by what it gives where its handle may read
+under_tells : (s : MasterState) (handle : Handle) (call : Call) (given : CallResult) (name : List ℕ) (answer : CallResult) (node : Node) → answer_on_node (name_space s) handle call node ≡ needing handle rights.Read (Some given) → Tells s handle.name name answer (Some given) → (o : Option Fault)
+    → Tells s handle.name name answer (answer_under (name_space s) handle call node o)
+under_tells s handle call given name answer node is tells (Some fault) = λ told same. cc
+under_tells s handle call given name answer node is tells None =
+    rw is (either_result (has_right handle.mode rights.Read) (λ o. Tells s handle.name name answer o) (Some given) (Some (results.Refused (faults.Denied rights.Read))) tells (λ told same. cc))
+
+on_tells : (s : MasterState) (handle : Handle) (call : Call) (name : List ℕ) (answer : CallResult) (sequencer : Option (List ℕ)) → ((node : Node) → get_node s.nodes handle.name ≡ Some node → (o : Option Fault) → Tells s handle.name name answer (answer_under (name_space s) handle call node o))
+    → Tells s handle.name name answer (option_map_or (λ node. answer_under (name_space s) handle call node (sequencer_fault (name_space s) sequencer)) (node_of_handle (name_space s) handle) (Some (results.Refused faults.StaleInstance)))
+on_tells s handle call name answer sequencer tells =
+    at_node (λ node. answer_under (name_space s) handle call node (sequencer_fault (name_space s) sequencer)) (Some (results.Refused faults.StaleInstance)) (get_node s.nodes handle.name) handle.instance (λ given. Tells s handle.name name answer given)
+    (λ node here. tells node here (sequencer_fault (name_space s) sequencer))
+    (λ told is. cc)
 
 read_tells : (s : MasterState) (handle : Handle) (bytes name : List ℕ) (answer : CallResult) (sequencer : Option (List ℕ)) → Tells s handle.name name answer (answer_on (name_space s) handle (calls.Read bytes) sequencer)
 read_tells s handle bytes name answer sequencer =
-    at_node (λ view. answer_under (name_space s) handle (calls.Read bytes) view (sequencer_fault (name_space s) sequencer)) (Some (results.Refused faults.StaleInstance)) (get_node s.nodes handle.name) handle.instance (λ given. Tells s handle.name name answer given)
-    (λ view here. under_tells s handle bytes name answer view here (sequencer_fault (name_space s) sequencer))
-    (λ told is. cc)
+    on_tells s handle (calls.Read bytes) name answer sequencer
+    (λ node here. under_tells s handle (calls.Read bytes) (results.Viewed (view_of s.nodes handle.name node)) name answer node refl (shown_tells s handle.name name answer (results.Viewed (view_of s.nodes handle.name node)) node here refl refl))
+
+names_tell : (s : MasterState) (handle : Handle) (bytes name : List ℕ) (answer : CallResult) (sequencer : Option (List ℕ)) → Tells s handle.name name answer (answer_on (name_space s) handle (calls.List bytes) sequencer)
+names_tell s handle bytes name answer sequencer =
+    on_tells s handle (calls.List bytes) name answer sequencer
+    (λ node here. under_tells s handle (calls.List bytes) (list_answer (view_of s.nodes handle.name node) node.kind) name answer node refl (list_tells s handle.name name answer node here node.kind))
 
 -- an answer that tells nothing of a handle's name
 abbrev IsSilent : List ℕ → Option CallResult → Type 0
 IsSilent own given = option_and_then (viewed_name own) given ≡ None
-
-silent_list : (s : MasterState) (own : List ℕ) (kind : Kind) → IsSilent own (Some (list_answer (name_space s) own kind))
-silent_list s own kinds.Directory = refl
-silent_list s own kinds.File = refl
 
 silent_write : (own content : List ℕ) (kind : Kind) → IsSilent own (write_fault kind content)
 silent_write own content kinds.Directory = refl
@@ -137,7 +153,7 @@ silent_write own content kinds.File = either_result (nat_lt content_limit (lengt
 silent_without : (own : List ℕ) (handle : Handle) (right : Right) (given : Option CallResult) → IsSilent own given → IsSilent own (needing handle right given)
 silent_without own handle right given h = either_result (has_right handle.mode right) (λ o. IsSilent own o) given (Some (results.Refused (faults.Denied right))) h refl
 
-silent_under : (s : MasterState) (handle : Handle) (call : Call) (view : View) (o : Option Fault) → IsSilent handle.name (answer_on_node (name_space s) handle call view) → IsSilent handle.name (answer_under (name_space s) handle call view o)
+silent_under : (s : MasterState) (handle : Handle) (call : Call) (view : Node) (o : Option Fault) → IsSilent handle.name (answer_on_node (name_space s) handle call view) → IsSilent handle.name (answer_under (name_space s) handle call view o)
 silent_under s handle call view None h = h
 silent_under s handle call view (Some fault) h = refl
 
@@ -148,14 +164,14 @@ silent_result : (own : List ℕ) (given : Result Sequencer Fault) → IsSilent o
 silent_result own (Ok sequencer) = refl
 silent_result own (Err fault) = refl
 
-silent_on : (s : MasterState) (handle : Handle) (call : Call) (sequencer : Option (List ℕ)) → ((view : View) → IsSilent handle.name (answer_on_node (name_space s) handle call view)) → IsSilent handle.name (option_map_or (λ view. answer_under (name_space s) handle call view (sequencer_fault (name_space s) sequencer)) (node_of_handle (name_space s) handle) (Some (results.Refused faults.StaleInstance)))
+silent_on : (s : MasterState) (handle : Handle) (call : Call) (sequencer : Option (List ℕ)) → ((view : Node) → IsSilent handle.name (answer_on_node (name_space s) handle call view)) → IsSilent handle.name (option_map_or (λ view. answer_under (name_space s) handle call view (sequencer_fault (name_space s) sequencer)) (node_of_handle (name_space s) handle) (Some (results.Refused faults.StaleInstance)))
 silent_on s handle call sequencer h =
     at_node (λ view. answer_under (name_space s) handle call view (sequencer_fault (name_space s) sequencer)) (Some (results.Refused faults.StaleInstance)) (get_node s.nodes handle.name) handle.instance (λ given. IsSilent handle.name given)
     (λ view here. silent_under s handle call view (sequencer_fault (name_space s) sequencer) (h view)) refl
 
 -- the goal, by what a call asks
 abbrev IsShown : MasterState → Call → List ℕ → CallResult → Type 0
-IsShown s call name answer = (name_asked s.secret call ≡ Some name) × (shown_by answer ≡ get_node s.nodes name)
+IsShown s call name answer = (name_asked s.secret call ≡ Some name) × (shown_by answer ≡ view_at s.nodes name)
 
 silent_shown : (s : MasterState) (call : Call) (sequencer : Option (List ℕ)) (name : List ℕ) (answer : CallResult) (o : Option Handle) → ((handle : Handle) → IsSilent handle.name (answer_on (name_space s) handle call sequencer)) → (handle_admission s call sequencer o).told ≡ Some name → IsShown s call name answer
 silent_shown s call sequencer name answer None h told = cc
@@ -167,11 +183,17 @@ read_shown s client sequencer bytes name answer (Some handle) is told answers =
     let tells = read_tells s handle bytes name answer sequencer told answers in
     (ap (option_map (λ h. h.name)) (shown_read s client (read_handle s.secret bytes) handle is) ∙ ap Some tells.0, tells.1)
 
+names_shown : (s : MasterState) (client : ℕ) (sequencer : Option (List ℕ)) (bytes name : List ℕ) (answer : CallResult) (o : Option Handle) → shown_handle s client bytes ≡ o → (handle_admission s (calls.List bytes) sequencer o).told ≡ Some name → (handle_admission s (calls.List bytes) sequencer o).answer ≡ Some answer → IsShown s (calls.List bytes) name answer
+names_shown s client sequencer bytes name answer None is told answers = cc
+names_shown s client sequencer bytes name answer (Some handle) is told answers =
+    let tells = names_tell s handle bytes name answer sequencer told answers in
+    (ap (option_map (λ h. h.name)) (shown_read s client (read_handle s.secret bytes) handle is) ∙ ap Some tells.0, tells.1)
+
 -- ---- an Open that makes nothing
 
 -- only of a node that is absent does it tell
 abbrev TellsAbsence : MasterState → Open → List ℕ → CallResult → Result Handle Fault → Type 0
-TellsAbsence s opening name answer opened = told_by_open opening.name opened ≡ Some name → opened_answer (name_space s) opened ≡ answer → (opening.name ≡ name) × (shown_by answer ≡ get_node s.nodes name)
+TellsAbsence s opening name answer opened = told_by_open opening.name opened ≡ Some name → opened_answer (name_space s) opened ≡ answer → (opening.name ≡ name) × (shown_by answer ≡ view_at s.nodes name)
 
 present_tells : (s : MasterState) (opening : Open) (name : List ℕ) (answer : CallResult) (missing : Option Right) (long numbered : Bool) (handle : Handle) → TellsAbsence s opening name answer (option_map_or (λ right. Err (faults.Denied right)) missing (cond long (Err faults.DelayTooLong) (cond numbered (Ok handle) (Err faults.Exhausted))))
 present_tells s opening name answer (Some right) long numbered handle told is = cc
@@ -182,10 +204,10 @@ present_tells s opening name answer None false false handle told is = cc
 inner : {A : Type 0} (x y : A) → Some x ≡ Some y → x ≡ y
 inner x y h = cc
 
-open_tells : (s : MasterState) (client number : ℕ) (opening : Open) (name : List ℕ) (answer : CallResult) (o : Option View) → get_node s.nodes opening.name ≡ o → TellsAbsence s opening name answer (option_map_or (λ view. open_present (name_space s) (caller s client) number opening view) o (Err faults.NotFound))
+open_tells : (s : MasterState) (client number : ℕ) (opening : Open) (name : List ℕ) (answer : CallResult) (o : Option Node) → get_node s.nodes opening.name ≡ o → TellsAbsence s opening name answer (option_map_or (λ view. open_present (name_space s) (caller s client) number opening view) o (Err faults.NotFound))
 open_tells s client number opening name answer None here told is =
     let same : opening.name ≡ name = cc in
-    (same, ap shown_by (sym is) ∙ sym here ∙ ap (get_node s.nodes) same)
+    (same, ap shown_by (sym is) ∙ sym (ap (option_map (view_of s.nodes opening.name)) here) ∙ ap (view_at s.nodes) same)
 open_tells s client number opening name answer (Some view) here told is =
     present_tells s opening name answer (missing_right (name_space s) (caller s client) opening.mode view) (is_too_long opening.delay) (is_ordinal s.epoch && is_ordinal view.instance) _ told is
 
@@ -210,7 +232,7 @@ check_tells_nothing s bytes name (Some fault) told = cc
 -- ---- the lemma
 
 -- an answer that tells of a name answers a call that asks for it, and tells what it shows
-pub told_is_shown : (s : MasterState) (client number : ℕ) (call : Call) (sequencer : Option (List ℕ)) (name : List ℕ) (answer : CallResult) → (admission_of s client number call sequencer).told ≡ Some name → (admission_of s client number call sequencer).answer ≡ Some answer → (name_asked s.secret call ≡ Some name) × (shown_by answer ≡ get_node s.nodes name)
+pub told_is_shown : (s : MasterState) (client number : ℕ) (call : Call) (sequencer : Option (List ℕ)) (name : List ℕ) (answer : CallResult) → (admission_of s client number call sequencer).told ≡ Some name → (admission_of s client number call sequencer).answer ≡ Some answer → (name_asked s.secret call ≡ Some name) × (shown_by answer ≡ view_at s.nodes name)
 told_is_shown s client number (calls.Open opening) sequencer name answer told answers =
     let under : Admission = admission_under s client number opening (sequencer_fault (name_space s) sequencer) in
     open_shown (IsShown s (calls.Open opening) name answer) (is_of_cell (name_space s) opening.name) under name answer (results.Refused faults.OtherCell) (under_shown s client number opening name answer (sequencer_fault (name_space s) sequencer)) told answers
@@ -220,8 +242,7 @@ told_is_shown s client number (calls.Close bytes) sequencer name answer told ans
     silent_shown s (calls.Close bytes) sequencer name answer (shown_handle s client bytes) (λ handle. refl) told
 told_is_shown s client number (calls.Stat bytes) sequencer name answer told answers =
     silent_shown s (calls.Stat bytes) sequencer name answer (shown_handle s client bytes) (λ handle. silent_on s handle (calls.Stat bytes) sequencer (λ view. refl)) told
-told_is_shown s client number (calls.List bytes) sequencer name answer told answers =
-    silent_shown s (calls.List bytes) sequencer name answer (shown_handle s client bytes) (λ handle. silent_on s handle (calls.List bytes) sequencer (λ view. silent_without handle.name handle rights.Read (Some (list_answer (name_space s) handle.name view.kind)) (silent_list s handle.name view.kind))) told
+told_is_shown s client number (calls.List bytes) sequencer name answer told answers = names_shown s client sequencer bytes name answer (shown_handle s client bytes) refl told answers
 told_is_shown s client number (calls.Set bytes content generation) sequencer name answer told answers =
     silent_shown s (calls.Set bytes content generation) sequencer name answer (shown_handle s client bytes) (λ handle. silent_on s handle (calls.Set bytes content generation) sequencer (λ view. silent_without handle.name handle rights.Write (write_fault view.kind content) (silent_write handle.name content view.kind))) told
 told_is_shown s client number (calls.SetAcl bytes acls generation) sequencer name answer told answers =

@@ -13,6 +13,7 @@ use Rattle.session_core.specs.declared.records.Kept.{Kept}
 use Rattle.session_core.specs.Session.{beat_fault}
 use Rattle.cell_state.specs.State.{MasterState}
 use Rattle.cell_state.specs.Lookups.{session_of, kept_of, is_live, is_full, may_start, nothing, turned_away, refusal, repeated}
+use Rattle.cell_core.specs.declared.asking.Touched.{Touched}
 use Rattle.cell_core.specs.Step.{queued, parked, acked, replied, is_cachable, granting, waits, admission_for}
 use Rattle.cell_update.specs.Updates.{with_note}
 use Rattle.node_core.specs.declared.refusals.Fault.TheVariants as faults
@@ -57,8 +58,8 @@ pub record IsGranted (s : MasterState) (message : CallMessage) (note : Option No
   pub is_told : (admission_for s message).told ≡ Some name
   pub cachable : is_cachable (with_note s note) message.client name ≡ true
 
--- it passes its tests, and there is room; what name it touches
-pub record IsAdmitted (s : MasterState) (message : CallMessage) (note : Option Note) (touched : Option (List ℕ)) : Type 0 where
+-- it passes its tests, and there is room; what it touches
+pub record IsAdmitted (s : MasterState) (message : CallMessage) (note : Option Note) (touched : Option Touched) : Type 0 where
   pub is_touched : touched ≡ (admission_for s message).touched
   pub is_noted : note ≡ (admission_for s message).note
   pub passes : (admission_for s message).answer ≡ None
@@ -83,7 +84,7 @@ pub data TakeCase (s : MasterState) (request : Request) : Type 0 where
   Recovering : (message : CallMessage) → IsNew s request message → s.recovering ≡ true → TakeCase s request
   Answered : (message : CallMessage) (note : Option Note) (answer : CallResult) → IsNew s request message → s.recovering ≡ false → IsAnswered s message note answer → TakeCase s request
   Granted : (message : CallMessage) (note : Option Note) (answer : CallResult) (name : List ℕ) → IsNew s request message → s.recovering ≡ false → IsGranted s message note answer name → TakeCase s request
-  Waits : (message : CallMessage) (note : Option Note) (touched : Option (List ℕ)) → IsNew s request message → s.recovering ≡ false → IsAdmitted s message note touched → TakeCase s request
+  Waits : (message : CallMessage) (note : Option Note) (touched : Option Touched) → IsNew s request message → s.recovering ≡ false → IsAdmitted s message note touched → TakeCase s request
 
 -- what the master is then, prints and sends
 abbrev pub taken_by : (s : MasterState) (request : Request) → TakeCase s request → MasterState × Taken

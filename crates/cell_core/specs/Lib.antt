@@ -18,5 +18,6 @@ pub use Rattle.cell_state.specs.Notices
 pub use Rattle.cell_update.specs.Updates
 pub mod Step
 pub mod Names
+pub mod Asking
 pub mod Cases
 pub mod Ephemerals

@@ -2,6 +2,7 @@
 use Rattle.std.specs.Prelude.{ℕ, Bool, ◌||◌, ◌==◌, nat_le, List, [], ◌∷◌, map, Option, Some, None, Result, Ok, Err, if◌then◌else◌, is_none}
 use Rattle.std.specs.Option.{option_and_then}
 use Rattle.node_core.specs.declared.refusals.Fault.{Fault}
+use Rattle.node_core.specs.Nodes.{with_parent}
 use Rattle.lease_core.specs.Lease.{moment_limit}
 use Rattle.rights_core.specs.Rights.{grant_answer, granted, clients_to_ask, asked_back, numbers_ending, ended}
 use Rattle.gate_core.specs.Gate.{with_change}
@@ -23,6 +24,8 @@ use Rattle.cell_parts.specs.declared.pending.Asked.{Asked}
 use Rattle.cell_parts.specs.declared.pending.Task.{Task}
 use Rattle.cell_parts.specs.declared.handles.Note.{Note}
 use Rattle.cell_core.specs.declared.admissions.Admission.{Admission}
+use Rattle.cell_core.specs.declared.asking.Touched.{Touched}
+use Rattle.cell_core.specs.declared.asking.Touched.TheVariants.{Alone, WithParent}
 use Rattle.cell_parts.specs.Keys.{key_of}
 use Rattle.cell_state.specs.NameSpace.{name_space, caller}
 use Rattle.cell_state.specs.State.{MasterState}
@@ -80,9 +83,10 @@ telling s client number result (Some name) = if is_cachable s client name then g
 abbrev pub asking : MasterState → List ℕ → MasterState
 asking s name = record s { rights = asked_back name s.rights; sessions = issued_by (clients_to_ask name s.rights) s.sessions }
 
-abbrev pub asking_for : MasterState → Option (List ℕ) → MasterState
-asking_for s None = s
-asking_for s (Some name) = asking s name
+-- for one name after the other
+abbrev pub asking_for : MasterState → List (List ℕ) → MasterState
+asking_for s [] = s
+asking_for s (name ∷ names) = asking_for (asking s name) names
 
 -- ---- Starts
 
@@ -118,9 +122,10 @@ beat_step s beat =
 
 -- ---- the tests of a new call
 
--- a read tells what its node's name shows
+-- a read, and a ReadDir, tell what their node's name shows
 abbrev pub viewed_name : List ℕ → CallResult → Option (List ℕ)
 viewed_name name (results.Viewed view) = Some name
+viewed_name name (results.Listed view) = Some name
 viewed_name name _ = None
 
 -- an Open that finds nothing tells that
@@ -134,7 +139,7 @@ told_by_open name (Err fault) = absent_name name fault
 
 abbrev pub admission_of_open : MasterState → ℕ → ℕ → Open → Option Create → Admission
 admission_of_open s client number opening (Some create) =
-    record { note = None; touched = Some opening.name; told = None; answer = create_fault opening create.node }
+    record { note = None; touched = Some (WithParent opening.name); told = None; answer = create_fault opening create.node }
 admission_of_open s client number opening None = record {
   note = opened_note (name_space s) (plain_open (name_space s) (caller s client) number opening);
   touched = None;
@@ -160,11 +165,11 @@ abbrev pub check_admission : MasterState → List ℕ → Option Fault → Admis
 check_admission s bytes (Some fault) = answering (results.Refused fault)
 check_admission s bytes None = answering (check_answer (name_space s) bytes)
 
--- the name that a call on a node touches: whose view it may change
-abbrev pub touched_by : Handle → Call → Option (List ℕ)
-touched_by handle (calls.Set bytes content generation) = Some handle.name
-touched_by handle (calls.SetAcl bytes acls generation) = Some handle.name
-touched_by handle (calls.Delete bytes) = Some handle.name
+-- what a call on a node touches: the names whose view it may change
+abbrev pub touched_by : Handle → Call → Option Touched
+touched_by handle (calls.Set bytes content generation) = Some (Alone handle.name)
+touched_by handle (calls.SetAcl bytes acls generation) = Some (Alone handle.name)
+touched_by handle (calls.Delete bytes) = Some (WithParent handle.name)
 touched_by handle (calls.Open opening) = None
 touched_by handle (calls.Close bytes) = None
 touched_by handle (calls.Read bytes) = None
@@ -202,23 +207,24 @@ admission_for s message = admission_of s message.client message.number message.c
 
 -- ---- calls
 
-abbrev pub names_of : Option (List ℕ) → List (List ℕ)
+abbrev pub names_of : Option Touched → List (List ℕ)
 names_of None = []
-names_of (Some name) = name ∷ []
+names_of (Some (Alone name)) = name ∷ []
+names_of (Some (WithParent name)) = with_parent name
 
 -- what waits of a call: its sequencer is tested again when its turn comes
 abbrev pub task_of : CallMessage → Asked
 task_of message = record { client = message.client; number = message.number; work = works.Calls message.call message.sequencer }
 
-abbrev pub with_call : MasterState → CallMessage → Option (List ℕ) → MasterState
+abbrev pub with_call : MasterState → CallMessage → Option Touched → MasterState
 with_call s message touched = queued (recorded s message.client (record { number = message.number; reply = None })) (names_of touched) (tasks.Asked (task_of message))
 
--- who holds the name that it touches is asked for it
-abbrev pub waits : MasterState → CallMessage → Option (List ℕ) → MasterState × Taken
-waits s message touched = (asking_for (with_call s message touched) touched, nothing)
+-- who holds a name that it touches is asked for it
+abbrev pub waits : MasterState → CallMessage → Option Touched → MasterState × Taken
+waits s message touched = (asking_for (with_call s message touched) (names_of touched), nothing)
 
 -- a call that is answered at once, or waits where there is room
-abbrev pub admit_step : MasterState → CallMessage → Option (List ℕ) → Option (List ℕ) → Option CallResult → MasterState × Taken
+abbrev pub admit_step : MasterState → CallMessage → Option Touched → Option (List ℕ) → Option CallResult → MasterState × Taken
 admit_step s message touched told (Some result) = telling s message.client message.number result told
 admit_step s message touched told None =
     if is_full s then replied s message.client message.number (results.Refused faults.Busy) else waits s message touched

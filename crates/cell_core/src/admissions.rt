@@ -7,6 +7,7 @@ ghost use Rattle.cell_state.specs.NameSpace.{name_space};
 ghost use Rattle.cell_state.specs.Lookups.{sequencer_fault, is_of_cell};
 ghost use Rattle.cell_parts.specs.Calls.{bytes_of};
 
+use crate::asking::Touched;
 use cell_parts::{HandleKey, Note, OpenHandle, bytes_of, create_fault};
 use cell_state::Master;
 use messages_cell::{Call, CallMessage, CallResult, Open};
@@ -21,8 +22,8 @@ use tags_cell::{ClientNumber, Handle, MessageNumber};
 pub(crate) struct Admission {
     /// What is noted of a handle first.
     pub note: Option<Note>,
-    /// The name whose view the call may change, where it waits.
-    pub touched: Option<Name>,
+    /// The names whose view the call may change, where it waits.
+    pub touched: Option<Touched>,
     /// The name of which the answer tells what it shows: the view of its node, or that there is none.
     pub told: Option<Name>,
     /// What is answered at once; None where the call waits for its turn.
@@ -140,7 +141,7 @@ fn admission_of_open(
         None => plain_admission(master, client, number, opening),
         Some(create) => Ok(Admission {
             note: None,
-            touched: Some(opening.name.clone()?),
+            touched: Some(Touched::WithParent(opening.name.clone()?)),
             told: None,
             answer: create_fault(opening, &create.node),
         }),
@@ -166,24 +167,25 @@ fn plain_admission(
     })
 }
 
-// The name that a call on a handle's node touches.
-fn touched_by(handle: &Handle, call: &Call) -> Result<Option<Name>, AllocError>
+// What a call on a handle's node touches.
+fn touched_by(handle: &Handle, call: &Call) -> Result<Option<Touched>, AllocError>
     ensures { IfOk result (λ touched. touched ≡ touched_by handle.now call.now) }
 {
     match call {
-        Call::Set { .. } | Call::SetAcl { .. } | Call::Delete(_) => Ok(Some(handle.name.clone()?)),
+        Call::Set { .. } | Call::SetAcl { .. } => Ok(Some(Touched::Alone(handle.name.clone()?))),
+        Call::Delete(_) => Ok(Some(Touched::WithParent(handle.name.clone()?))),
         Call::Open(_) | Call::Close(_) | Call::Read(_) | Call::Stat(_) | Call::List(_) => Ok(None),
         Call::Acquire { .. } | Call::TryAcquire { .. } | Call::Release(_) => Ok(None),
         Call::GetSequencer(_) | Call::SetSequencer(_) | Call::CheckSequencer(_) => Ok(None),
     }
 }
 
-// A read tells what its node's name shows.
+// A read, and a ReadDir, tell what their node's name shows.
 fn viewed_name(name: &Name, answer: &Option<CallResult>) -> Result<Option<Name>, AllocError>
     ensures { IfOk result (λ told. told ≡ option_and_then (viewed_name name.now) answer.now) }
 {
     match answer {
-        Some(CallResult::Viewed(_)) => Ok(Some(name.clone()?)),
+        Some(CallResult::Viewed(_) | CallResult::Listed(_)) => Ok(Some(name.clone()?)),
         _ => Ok(None),
     }
 }

@@ -1,17 +1,18 @@
 //! The ephemeral nodes that go by themselves.
-ghost use Rattle.std.specs.Prelude.{◌≡◌, ◌&&◌, ◌==◌, true, [], ◌∷◌, find, IfOk, OnOk, OnErr};
+ghost use Rattle.std.specs.Prelude.{◌≡◌, ◌&&◌, ◌==◌, true, Some, find, IfOk, OnOk, OnErr};
 ghost use Rattle.std.specs.Option.{option_map};
 ghost use Rattle.gate_core.specs.Gate.{push_answer};
-ghost use Rattle.cell_core.specs.Step.{queued};
+ghost use Rattle.cell_core.specs.Step.{queued, names_of};
 ghost use Rattle.cell_core.specs.Ephemerals.{is_idle_node, tidies, is_going, is_to_go, idle_of, is_ok, may_tidy, next_idle, tidied, is_still_idle, idle_at, first_idle};
 
+use crate::asking::{Touched, ask};
 use crate::cells::Cell;
 use crate::takes::queue;
 use cell_parts::{Idle, Task, is_ephemeral};
 use cell_state::Master;
 use names_cell::Name;
-use node_core::View;
-use plain::{Items, Table};
+use node_core::Node;
+use plain::Table;
 use std::alloc::AllocError;
 
 /// How long ephemeral nodes stay at least once a recovery has ended, in milliseconds: by then who holds one open has
@@ -38,40 +39,45 @@ impl Cell {
         ensures { IfOk result (λ still. still ≡ is_still_idle self.now idle.now) }
     {
         let master = &self.master;
-        let Some(view) = master.map().get(&idle.name) else {
+        let Some(node) = master.map().get(&idle.name) else {
             return Ok(false);
         };
-        if view.instance != idle.instance {
+        if node.instance != idle.instance {
             return Ok(false);
         }
-        is_idle_node(master, &idle.name, view)
+        is_idle_node(master, &idle.name, node)
     }
 
-    /// The deletion of an ephemeral node waits behind all other changes, and who may keep its name in a cache is asked
-    /// for it.
+    /// The deletion of an ephemeral node waits behind all other changes, and who may keep its name in a cache, or the
+    /// one above, is asked for it.
     pub fn tidy(&mut self, idle: Idle) -> Result<(), AllocError>
         requires { is_ok (push_answer self.old.gate) ≡ true }
         ensures ok { OnOk result (self.new ≡ tidied self.old idle) }
         ensures err { OnErr result (self.new ≡ self.old) }
     {
         let master = &mut self.master;
-        let asked = master.rights.to_ask(&idle.name)?;
-        let name = idle.name.clone()?;
-        queue_idle(master, idle)?;
-        master.rights.mark(&name, &asked);
-        master.sessions.issue_all(&asked);
-        Ok(())
+        let touched = Touched::WithParent(idle.name.clone()?);
+        let asks = touched.to_ask(master)?;
+        match queue_idle(master, &touched, idle) {
+            Ok(()) => {
+                ask(master, asks);
+                Ok(())
+            }
+            Err(error) => {
+                drop(asks);
+                Err(error)
+            }
+        }
     }
 }
 
-fn queue_idle(master: &mut Master, idle: Idle) -> Result<(), AllocError>
+fn queue_idle(master: &mut Master, touched: &Touched, idle: Idle) -> Result<(), AllocError>
     requires { is_ok (push_answer master.old.gate) ≡ true }
-    ensures ok { OnOk result (master.new ≡ queued master.old (idle.name ∷ []) (Task.Tidies idle)) }
+    ensures ok { OnOk result (master.new ≡ queued master.old (names_of (Some touched.now)) (Task.Tidies idle)) }
     ensures err { OnErr result (master.new ≡ master.old) }
 {
-    let mut touched = Items::new(master.alloc);
-    touched.push(idle.name.clone()?)?;
-    queue(master, touched, Task::Tidies(idle))
+    let names = touched.names(master.alloc)?;
+    queue(master, names, Task::Tidies(idle))
 }
 
 // No recovery goes on, the last one is long enough ago, and there is room for one more change.
@@ -115,9 +121,9 @@ fn first_among(master: &Master, names: &Table<Name, ()>) -> Result<Option<Idle>,
 fn first_of_all(master: &Master) -> Result<Option<Idle>, AllocError>
     ensures { IfOk result (λ idle. idle ≡ option_map idle_of (find (is_to_go master.now) master.now.nodes)) }
 {
-    for (name, view) in master.map().as_map() {
-        if is_to_go(master, name, view)? {
-            return Ok(Some(idle_of(name, view)?));
+    for (name, node) in master.map().as_map() {
+        if is_to_go(master, name, node)? {
+            return Ok(Some(idle_of(name, node)?));
         }
     }
     Ok(None)
@@ -127,34 +133,34 @@ fn first_of_all(master: &Master) -> Result<Option<Idle>, AllocError>
 fn idle_at(master: &Master, name: &Name) -> Result<Option<Idle>, AllocError>
     ensures { IfOk result (λ idle. idle ≡ idle_at master.now name.now) }
 {
-    let Some(view) = master.map().get(name) else {
+    let Some(node) = master.map().get(name) else {
         return Ok(None);
     };
-    if is_to_go(master, name, view)? {
-        Ok(Some(idle_of(name, view)?))
+    if is_to_go(master, name, node)? {
+        Ok(Some(idle_of(name, node)?))
     } else {
         Ok(None)
     }
 }
 
-fn is_to_go(master: &Master, name: &Name, view: &View) -> Result<bool, AllocError>
-    ensures { IfOk result (λ goes. goes ≡ is_to_go master.now (name.now, view.now)) }
+fn is_to_go(master: &Master, name: &Name, node: &Node) -> Result<bool, AllocError>
+    ensures { IfOk result (λ goes. goes ≡ is_to_go master.now (name.now, node.now)) }
 {
-    if is_idle_node(master, name, view)? {
-        Ok(!is_going(master, view.instance))
+    if is_idle_node(master, name, node)? {
+        Ok(!is_going(master, node.instance))
     } else {
         Ok(false)
     }
 }
 
 // Whether it is an ephemeral node that nobody holds open.
-fn is_idle_node(master: &Master, name: &Name, view: &View) -> Result<bool, AllocError>
-    ensures { IfOk result (λ idle. idle ≡ is_idle_node master.now name.now view.now) }
+fn is_idle_node(master: &Master, name: &Name, node: &Node) -> Result<bool, AllocError>
+    ensures { IfOk result (λ idle. idle ≡ is_idle_node master.now name.now node.now) }
 {
-    if !is_ephemeral(view.life) {
+    if !is_ephemeral(node.life) {
         return Ok(false);
     }
-    if master.has_open(view.instance) {
+    if master.has_open(node.instance) {
         return Ok(false);
     }
     Ok(!master.has_to_stay(name)?)
@@ -181,11 +187,11 @@ fn tidies(instance: u64, task: &Task) -> bool
     }
 }
 
-fn idle_of(name: &Name, view: &View) -> Result<Idle, AllocError>
-    ensures { IfOk result (λ idle. idle ≡ idle_of (name.now, view.now)) }
+fn idle_of(name: &Name, node: &Node) -> Result<Idle, AllocError>
+    ensures { IfOk result (λ idle. idle ≡ idle_of (name.now, node.now)) }
 {
     Ok(Idle {
         name: name.clone()?,
-        instance: view.instance,
+        instance: node.instance,
     })
 }

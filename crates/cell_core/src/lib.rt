@@ -3,6 +3,7 @@
 
 mod admissions;
 mod answers;
+mod asking;
 mod cells;
 mod ephemerals;
 mod laws;
@@ -10,6 +11,7 @@ mod stored;
 mod takes;
 
 pub use answers::{Answers, Thrice};
+pub use asking::Touched;
 pub use cell_parts::Taken;
 pub use cells::Cell;
 pub use ephemerals::SPARED_FOR;

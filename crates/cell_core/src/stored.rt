@@ -29,7 +29,7 @@ fn generations_of(alloc: Global, rows: &Rows) -> Result<Locks, AllocError>
     let mut locks = Locks::new(alloc);
     for (_, node) in rows.nodes.as_map() {
         if node.lock_generation <= NUMBER_LIMIT {
-            locks.put_generation(node.view.instance, node.lock_generation)?;
+            locks.put_generation(node.node.instance, node.lock_generation)?;
         }
     }
     Ok(locks)

@@ -1,6 +1,6 @@
 //! What a master does with a message.
 ghost use Rattle.std.specs.Prelude.{◌≡◌, ◌≢◌, true, false, Some, None, Ok, Err, IfOk, IfErr, OnOk, OnErr};
-ghost use Rattle.cell_core.specs.Step.{take_step, take_at, start_step, beat_step, call_step, kept_step, new_call, admit_step, telling, granting, is_cachable, waits, recorded, queued, replied, task_of};
+ghost use Rattle.cell_core.specs.Step.{take_step, take_at, start_step, beat_step, call_step, kept_step, new_call, admit_step, telling, granting, is_cachable, with_right, waits, with_call, recorded, queued, replied, task_of};
 ghost use Rattle.cell_update.specs.Updates.{with_note};
 ghost use Rattle.cell_state.specs.Lookups.{kept_of, is_full, is_spent, nothing};
 ghost use Rattle.session_core.specs.Session.{kept_answer};
@@ -9,6 +9,7 @@ ghost use Rattle.cell_core.specs.Ephemerals.{is_ok};
 
 use crate::admissions::{Admission, admission_for};
 use crate::answers::{Answers, Thrice};
+use crate::asking::{Touched, ask};
 use crate::cells::Cell;
 use cell_parts::{Asked, Note, Taken, Task, Work, answered_by};
 use cell_state::Master;
@@ -190,7 +191,7 @@ fn admit_noted<A: Answers>(
     master: &mut Master,
     note: Note,
     message: &CallMessage,
-    touched: Option<Name>,
+    touched: Option<Touched>,
     told: Option<Name>,
     answer: Option<CallResult>,
 ) -> Result<A, AllocError>
@@ -216,7 +217,7 @@ fn admit_noted<A: Answers>(
 fn admit<A: Answers>(
     master: &mut Master,
     message: &CallMessage,
-    touched: Option<Name>,
+    touched: Option<Touched>,
     told: Option<Name>,
     answer: Option<CallResult>,
 ) -> Result<A, AllocError>
@@ -276,18 +277,37 @@ fn grant<A: Answers>(
     let Taken { lines: _, outs } = master.sends(&reply)?;
     let lines = master.granted_lines(client, name)?;
     let answers = A::of(Taken { lines, outs })?;
-    if master.rights.grant(client.get(), name).is_err() {
-        return Err(AllocError);
+    match hold(master, client, name) {
+        Ok(()) => {
+            master.sessions.keep(client, answered_by(reply));
+            Ok(answers)
+        }
+        Err(error) => {
+            drop(answers);
+            drop(reply);
+            Err(error)
+        }
     }
-    master.sessions.keep(client, answered_by(reply));
-    Ok(answers)
 }
 
-// Queues a call, and keeps that it waits; who holds the name that it touches is asked for it.
+// From here on the client holds the name.
+fn hold(master: &mut Master, client: ClientNumber, name: &Name) -> Result<(), AllocError>
+    requires cachable { is_cachable master.old client name.now ≡ true }
+    requires more { is_spent master.old ≡ false }
+    ensures ok { OnOk result (master.new ≡ with_right master.old client name.now) }
+    ensures err { OnErr result (master.new ≡ master.old) }
+{
+    match master.rights.grant(client.get(), name) {
+        Ok(_) => Ok(()),
+        Err(_) => Err(AllocError),
+    }
+}
+
+// Queues a call, and keeps that it waits; who holds a name that it touches is asked for it.
 fn wait<A: Answers>(
     master: &mut Master,
     message: &CallMessage,
-    touched: Option<Name>,
+    touched: Option<Touched>,
 ) -> Result<A, AllocError>
     requires room { is_full master.old ≡ false }
     requires more { is_spent master.old ≡ false }
@@ -308,23 +328,41 @@ fn wait<A: Answers>(
 fn wait_quietly(
     master: &mut Master,
     message: &CallMessage,
-    touched: Option<Name>,
+    touched: Option<Touched>,
 ) -> Result<(), AllocError>
     requires room { is_full master.old ≡ false }
     requires more { is_spent master.old ≡ false }
     ensures ok { OnOk result (waits master.old message.now touched ≡ (master.new, nothing)) }
     ensures err { OnErr result (master.new ≡ master.old) }
 {
-    let mut names = Items::new(master.alloc);
-    let Some(name) = touched else {
-        return queue_call(master, message, names);
+    let Some(touched) = touched else {
+        return queue_call(master, message, Items::new(master.alloc));
     };
-    let asked = master.rights.to_ask(&name)?;
-    names.push(name.clone()?)?;
-    queue_call(master, message, names)?;
-    master.rights.mark(&name, &asked);
-    master.sessions.issue_all(&asked);
-    Ok(())
+    let asks = touched.to_ask(master)?;
+    match queue_touching(master, message, &touched) {
+        Ok(()) => {
+            ask(master, asks);
+            Ok(())
+        }
+        Err(error) => {
+            drop(asks);
+            Err(error)
+        }
+    }
+}
+
+fn queue_touching(
+    master: &mut Master,
+    message: &CallMessage,
+    touched: &Touched,
+) -> Result<(), AllocError>
+    requires room { is_full master.old ≡ false }
+    requires more { is_spent master.old ≡ false }
+    ensures ok { OnOk result (master.new ≡ with_call master.old message.now (Some touched.now)) }
+    ensures err { OnErr result (master.new ≡ master.old) }
+{
+    let names = touched.names(master.alloc)?;
+    queue_call(master, message, names)
 }
 
 // A call stands behind all others, and is the last one of its client.

@@ -11,15 +11,15 @@ use Rattle.std.proofs.lemmas.Map.Lookups.{exact_bytes}
 use Rattle.plain.specs.Tables.{with_former}
 use Rattle.plain.proofs.Entries.{eq_at, lookup_put}
 use Rattle.rows_cell.proofs.SortedLookups.{lookup_gone}
-use Rattle.node_core.specs.declared.views.View.{View}
+use Rattle.node_core.specs.declared.nodes.Node.{Node}
 use Rattle.node_core.specs.Nodes.{Nodes, get_node}
 use Rattle.cell_parts.specs.EphemeralNames.{is_ephemeral, NameTable, is_named, AreNamed, IsNamed, with_name, with_former_name}
 
 abbrev At : List ℕ → List ℕ → Bool
 At q = is_at (slice_cmp nat_cmp q)
 
-abbrev IsEphemeral : View → Type 0
-IsEphemeral view = is_ephemeral view.life ≡ true
+abbrev IsEphemeral : Node → Type 0
+IsEphemeral node = is_ephemeral node.life ≡ true
 
 same_name : (q k : List ℕ) → At q k ≡ true → q ≡ k
 same_name q k h = exact_bytes q k (eq_at (slice_cmp nat_cmp q k) h)
@@ -32,37 +32,37 @@ put_name names name q = ap is_some (lookup_put (slice_cmp nat_cmp) exact_bytes (
 name_put : (names : NameTable) (name : List ℕ) → is_named (insert_entry (slice_cmp nat_cmp) names name tt) name ≡ true
 name_put names name = put_name names name name ∙ rw (tied_itself nat_list_cmp_total name) refl
 
-pub named_more : (names : NameTable) (name : List ℕ) (view : View) (q : List ℕ) → is_named names q ≡ true → is_named (with_name names name view) q ≡ true
-named_more names name view q h =
-    elim (is_ephemeral view.life) as (λ b. is_named (cond b (insert_entry (slice_cmp nat_cmp) names name tt) names) q ≡ true) [
+pub named_more : (names : NameTable) (name : List ℕ) (node : Node) (q : List ℕ) → is_named names q ≡ true → is_named (with_name names name node) q ≡ true
+named_more names name node q h =
+    elim (is_ephemeral node.life) as (λ b. is_named (cond b (insert_entry (slice_cmp nat_cmp) names name tt) names) q ≡ true) [
       | true ↦ put_name names name q ∙ elim (At q name) as (λ b. is_some (cond b (Some tt) (lookup (At q) names)) ≡ true) [ true ↦ refl | false ↦ h ]
       | false ↦ h
     ]
 
-pub named_own : (names : NameTable) (name : List ℕ) (view : View) → IsEphemeral view → is_named (with_name names name view) name ≡ true
-named_own names name view h = rw h (name_put names name)
+pub named_own : (names : NameTable) (name : List ℕ) (node : Node) → IsEphemeral node → is_named (with_name names name node) name ≡ true
+named_own names name node h = rw h (name_put names name)
 
 -- ---- a node is set
 
-named_put : (nodes : Nodes) (names : NameTable) (name : List ℕ) (view : View) → AreNamed nodes names → AreNamed (insert_entry (slice_cmp nat_cmp) nodes name view) (with_name names name view)
-named_put nodes names name view named = λ q w h is.
-    (elim (At q name) as (λ b. At q name ≡ b → cond b (Some view) (lookup (At q) nodes) ≡ Some w → is_named (with_name names name view) q ≡ true) [
+named_put : (nodes : Nodes) (names : NameTable) (name : List ℕ) (node : Node) → AreNamed nodes names → AreNamed (insert_entry (slice_cmp nat_cmp) nodes name node) (with_name names name node)
+named_put nodes names name node named = λ q w h is.
+    (elim (At q name) as (λ b. At q name ≡ b → cond b (Some node) (lookup (At q) nodes) ≡ Some w → is_named (with_name names name node) q ≡ true) [
       | true ↦ (λ c k.
-          let value : view ≡ w = cc in
-          let P : List ℕ → Type 0 = λ x. is_named (with_name names name view) x ≡ true in
-          subst P (sym (same_name q name c)) (named_own names name view (ap (λ v. is_ephemeral v.life) value ∙ is)))
-      | false ↦ (λ c k. named_more names name view q (named q w k is))
-    ]) refl (sym (lookup_put (slice_cmp nat_cmp) exact_bytes (tied_itself nat_list_cmp_total) nodes name view q) ∙ h)
+          let value : node ≡ w = cc in
+          let P : List ℕ → Type 0 = λ x. is_named (with_name names name node) x ≡ true in
+          subst P (sym (same_name q name c)) (named_own names name node (ap (λ v. is_ephemeral v.life) value ∙ is)))
+      | false ↦ (λ c k. named_more names name node q (named q w k is))
+    ]) refl (sym (lookup_put (slice_cmp nat_cmp) exact_bytes (tied_itself nat_list_cmp_total) nodes name node q) ∙ h)
 
-pub named_after : {X E : Type 0} (result : Result X E) (nodes after : Nodes) (names more : NameTable) (name : List ℕ) (view : View) → more ≡ with_name names name view → OnOk result (after ≡ insert_entry (slice_cmp nat_cmp) nodes name view) → OnErr result (after ≡ nodes) → AreNamed nodes names → AreNamed after more
-named_after (Ok x) nodes after names more name view m ok err named =
+pub named_after : {X E : Type 0} (result : Result X E) (nodes after : Nodes) (names more : NameTable) (name : List ℕ) (node : Node) → more ≡ with_name names name node → OnOk result (after ≡ insert_entry (slice_cmp nat_cmp) nodes name node) → OnErr result (after ≡ nodes) → AreNamed nodes names → AreNamed after more
+named_after (Ok x) nodes after names more name node m ok err named =
     let P : Nodes → Type 0 = λ l. AreNamed l more in
-    let Q : NameTable → Type 0 = λ l. AreNamed (insert_entry (slice_cmp nat_cmp) nodes name view) l in
-    subst P (sym ok) (subst Q (sym m) (named_put nodes names name view named))
-named_after (Err e) nodes after names more name view m ok err named =
+    let Q : NameTable → Type 0 = λ l. AreNamed (insert_entry (slice_cmp nat_cmp) nodes name node) l in
+    subst P (sym ok) (subst Q (sym m) (named_put nodes names name node named))
+named_after (Err e) nodes after names more name node m ok err named =
     let P : Nodes → Type 0 = λ l. AreNamed l more in
     let Q : NameTable → Type 0 = λ l. AreNamed nodes l in
-    let more_names : AreNamed nodes (with_name names name view) = λ q w h is. named_more names name view q (named q w h is) in
+    let more_names : AreNamed nodes (with_name names name node) = λ q w h is. named_more names name node q (named q w h is) in
     subst P (sym err) (subst Q (sym m) more_names)
 
 -- ---- a node goes
@@ -84,56 +84,56 @@ named_without nodes after names left name a b sorted in_order named =
 -- ---- a node is set again
 
 -- what is found once the value of a key was set
-found_set : (nodes : Nodes) (name : List ℕ) (view w : View) (q : List ℕ) → lookup (At q) (set_value (At name) nodes view) ≡ Some w → (lookup (At q) nodes ≡ Some w) ⊎ ((q ≡ name) × (view ≡ w))
-found_set [] name view w q h = inl h
-found_set (e ∷ es) name view w q h =
-    (elim (At name e.0) as (λ b. At name e.0 ≡ b → lookup (At q) (cond b ((e.0, view) ∷ es) (e ∷ set_value (At name) es view)) ≡ Some w → (lookup (At q) (e ∷ es) ≡ Some w) ⊎ ((q ≡ name) × (view ≡ w))) [
+found_set : (nodes : Nodes) (name : List ℕ) (node w : Node) (q : List ℕ) → lookup (At q) (set_value (At name) nodes node) ≡ Some w → (lookup (At q) nodes ≡ Some w) ⊎ ((q ≡ name) × (node ≡ w))
+found_set [] name node w q h = inl h
+found_set (e ∷ es) name node w q h =
+    (elim (At name e.0) as (λ b. At name e.0 ≡ b → lookup (At q) (cond b ((e.0, node) ∷ es) (e ∷ set_value (At name) es node)) ≡ Some w → (lookup (At q) (e ∷ es) ≡ Some w) ⊎ ((q ≡ name) × (node ≡ w))) [
       | true ↦ (λ c k.
-          (elim (At q e.0) as (λ b. At q e.0 ≡ b → cond b (Some view) (lookup (At q) es) ≡ Some w → (cond b (Some e.1) (lookup (At q) es) ≡ Some w) ⊎ ((q ≡ name) × (view ≡ w))) [
-            | true ↦ (λ d l. let is : view ≡ w = cc in inr (same_name q e.0 d ∙ sym (same_name name e.0 c), is))
+          (elim (At q e.0) as (λ b. At q e.0 ≡ b → cond b (Some node) (lookup (At q) es) ≡ Some w → (cond b (Some e.1) (lookup (At q) es) ≡ Some w) ⊎ ((q ≡ name) × (node ≡ w))) [
+            | true ↦ (λ d l. let is : node ≡ w = cc in inr (same_name q e.0 d ∙ sym (same_name name e.0 c), is))
             | false ↦ (λ d l. inl l)
           ]) refl k)
       | false ↦ (λ c k.
-          (elim (At q e.0) as (λ b. At q e.0 ≡ b → cond b (Some e.1) (lookup (At q) (set_value (At name) es view)) ≡ Some w → (cond b (Some e.1) (lookup (At q) es) ≡ Some w) ⊎ ((q ≡ name) × (view ≡ w))) [
+          (elim (At q e.0) as (λ b. At q e.0 ≡ b → cond b (Some e.1) (lookup (At q) (set_value (At name) es node)) ≡ Some w → (cond b (Some e.1) (lookup (At q) es) ≡ Some w) ⊎ ((q ≡ name) × (node ≡ w))) [
             | true ↦ (λ d l. inl l)
-            | false ↦ (λ d l. found_set es name view w q l)
+            | false ↦ (λ d l. found_set es name node w q l)
           ]) refl k)
     ]) refl h
 
 -- and at that key its value is the one that was set
-set_there : (nodes : Nodes) (name : List ℕ) (view w : View) (q : List ℕ) → At q name ≡ true → lookup (At q) (set_value (At name) nodes view) ≡ Some w → view ≡ w
-set_there [] name view w q same h = absurd (cc)
-set_there (e ∷ es) name view w q same h =
+set_there : (nodes : Nodes) (name : List ℕ) (node w : Node) (q : List ℕ) → At q name ≡ true → lookup (At q) (set_value (At name) nodes node) ≡ Some w → node ≡ w
+set_there [] name node w q same h = absurd (cc)
+set_there (e ∷ es) name node w q same h =
     let is : q ≡ name = same_name q name same in
-    (elim (At name e.0) as (λ b. At name e.0 ≡ b → lookup (At q) (cond b ((e.0, view) ∷ es) (e ∷ set_value (At name) es view)) ≡ Some w → view ≡ w) [
+    (elim (At name e.0) as (λ b. At name e.0 ≡ b → lookup (At q) (cond b ((e.0, node) ∷ es) (e ∷ set_value (At name) es node)) ≡ Some w → node ≡ w) [
       | true ↦ (λ c k.
           let P : List ℕ → Type 0 = λ x. At x e.0 ≡ true in
           let here : At q e.0 ≡ true = subst P (sym is) c in
-          let t : lookup (At q) ((e.0, view) ∷ es) ≡ Some view = rw here refl in
+          let t : lookup (At q) ((e.0, node) ∷ es) ≡ Some node = rw here refl in
           cc)
       | false ↦ (λ c k.
           let P : List ℕ → Type 0 = λ x. At x e.0 ≡ false in
           let apart : At q e.0 ≡ false = subst P (sym is) c in
-          let t : lookup (At q) (e ∷ set_value (At name) es view) ≡ lookup (At q) (set_value (At name) es view) = rw apart refl in
-          set_there es name view w q same (sym t ∙ k))
+          let t : lookup (At q) (e ∷ set_value (At name) es node) ≡ lookup (At q) (set_value (At name) es node) = rw apart refl in
+          set_there es name node w q same (sym t ∙ k))
     ]) refl h
 
 -- a node that was ephemeral stands again
-named_set : (nodes : Nodes) (names : NameTable) (name : List ℕ) (view : View) → IsNamed names name (Some view) → AreNamed nodes names → AreNamed (set_value (At name) nodes view) names
-named_set nodes names name view own named = λ q w h is.
+named_set : (nodes : Nodes) (names : NameTable) (name : List ℕ) (node : Node) → IsNamed names name (Some node) → AreNamed nodes names → AreNamed (set_value (At name) nodes node) names
+named_set nodes names name node own named = λ q w h is.
     ⊎_elim (λ l. named q w l is)
     (λ r.
     let P : List ℕ → Type 0 = λ x. is_named names x ≡ true in
     subst P (sym r.0) (own w (ap (λ x. Some x) r.1) is))
-    (found_set nodes name view w q h)
+    (found_set nodes name node w q h)
 
 -- a permanent one
-named_unneeded : (nodes : Nodes) (names : NameTable) (name : List ℕ) (view : View) → IsStrictlySortedBy (slice_cmp nat_cmp) (keys_of names) → is_ephemeral view.life ≡ false → AreNamed nodes names → AreNamed (set_value (At name) nodes view) (remove_entry (At name) names)
-named_unneeded nodes names name view in_order permanent named = λ q w h is.
+named_unneeded : (nodes : Nodes) (names : NameTable) (name : List ℕ) (node : Node) → IsStrictlySortedBy (slice_cmp nat_cmp) (keys_of names) → is_ephemeral node.life ≡ false → AreNamed nodes names → AreNamed (set_value (At name) nodes node) (remove_entry (At name) names)
+named_unneeded nodes names name node in_order permanent named = λ q w h is.
     ap is_some (lookup_gone (slice_cmp nat_cmp) nat_list_cmp_total exact_bytes names name q in_order) ∙
     ((elim (At q name) as (λ b. At q name ≡ b → is_some (cond b None (lookup (At q) names)) ≡ true) [
       | true ↦ (λ c.
-          let e : is_ephemeral view.life ≡ is_ephemeral w.life = ap (λ v. is_ephemeral v.life) (set_there nodes name view w q c h) in
+          let e : is_ephemeral node.life ≡ is_ephemeral w.life = ap (λ v. is_ephemeral v.life) (set_there nodes name node w q c h) in
           absurd (cc))
       | false ↦ (λ c.
           ⊎_elim (λ l. named q w l is)
@@ -142,18 +142,18 @@ named_unneeded nodes names name view in_order permanent named = λ q w h is.
           let t : At name name ≡ false = subst P r.0 c in
           let u : At name name ≡ true = ap is_eq (tied_itself nat_list_cmp_total name) in
           absurd (cc))
-          (found_set nodes name view w q h))
+          (found_set nodes name node w q h))
     ]) refl)
 
-named_restored : (nodes : Nodes) (names : NameTable) (name : List ℕ) (former : Option View) → IsStrictlySortedBy (slice_cmp nat_cmp) (keys_of nodes) → IsStrictlySortedBy (slice_cmp nat_cmp) (keys_of names) → IsNamed (with_former_name names name former) name former → AreNamed nodes names → AreNamed (with_former (slice_cmp nat_cmp) nodes name former) (with_former_name names name former)
+named_restored : (nodes : Nodes) (names : NameTable) (name : List ℕ) (former : Option Node) → IsStrictlySortedBy (slice_cmp nat_cmp) (keys_of nodes) → IsStrictlySortedBy (slice_cmp nat_cmp) (keys_of names) → IsNamed (with_former_name names name former) name former → AreNamed nodes names → AreNamed (with_former (slice_cmp nat_cmp) nodes name former) (with_former_name names name former)
 named_restored nodes names name None sorted in_order own named = named_gone nodes names name sorted in_order named
-named_restored nodes names name (Some view) sorted in_order own named =
-    (elim (is_ephemeral view.life) as (λ b. is_ephemeral view.life ≡ b → IsNamed (cond b names (remove_entry (At name) names)) name (Some view) → AreNamed (set_value (At name) nodes view) (cond b names (remove_entry (At name) names))) [
-      | true ↦ (λ c k. named_set nodes names name view k named)
-      | false ↦ (λ c k. named_unneeded nodes names name view in_order c named)
+named_restored nodes names name (Some node) sorted in_order own named =
+    (elim (is_ephemeral node.life) as (λ b. is_ephemeral node.life ≡ b → IsNamed (cond b names (remove_entry (At name) names)) name (Some node) → AreNamed (set_value (At name) nodes node) (cond b names (remove_entry (At name) names))) [
+      | true ↦ (λ c k. named_set nodes names name node k named)
+      | false ↦ (λ c k. named_unneeded nodes names name node in_order c named)
     ]) refl own
 
-pub named_again : (nodes same after : Nodes) (names left there : NameTable) (name : List ℕ) (former : Option View) → same ≡ nodes → left ≡ with_former_name names name former → there ≡ left → after ≡ with_former (slice_cmp nat_cmp) same name former → IsStrictlySortedBy (slice_cmp nat_cmp) (keys_of nodes) → IsStrictlySortedBy (slice_cmp nat_cmp) (keys_of names) → IsNamed left name former → AreNamed nodes names → AreNamed after there
+pub named_again : (nodes same after : Nodes) (names left there : NameTable) (name : List ℕ) (former : Option Node) → same ≡ nodes → left ≡ with_former_name names name former → there ≡ left → after ≡ with_former (slice_cmp nat_cmp) same name former → IsStrictlySortedBy (slice_cmp nat_cmp) (keys_of nodes) → IsStrictlySortedBy (slice_cmp nat_cmp) (keys_of names) → IsNamed left name former → AreNamed nodes names → AreNamed after there
 named_again nodes same after names left there name former e l f g sorted in_order own named =
     let P : Nodes → Type 0 = λ ns. AreNamed ns there in
     let Q : NameTable → Type 0 = λ ns. AreNamed (with_former (slice_cmp nat_cmp) nodes name former) ns in
@@ -164,20 +164,20 @@ named_again nodes same after names left there name former e l f g sorted in_orde
 
 -- `left` of `all` are still to be looked at
 abbrev pub AreCollected : Nodes → Nodes → NameTable → Type 0
-AreCollected all left names = (name : List ℕ) (view : View) → get_node all name ≡ Some view → IsEphemeral view → (is_named names name ≡ true) ⊎ (get_node left name ≡ Some view)
+AreCollected all left names = (name : List ℕ) (node : Node) → get_node all name ≡ Some node → IsEphemeral node → (is_named names name ≡ true) ⊎ (get_node left name ≡ Some node)
 
 pub collect_first : (all left : Nodes) (names : NameTable) → left ≡ all → AreCollected all left names
 collect_first all left names e = λ q w h is. inr (ap (lookup (At q)) e ∙ h)
 
-pub collect_more : (all left rest : Nodes) (name : List ℕ) (view : View) (names more : NameTable) → left ≡ (name, view) ∷ rest → more ≡ with_name names name view → AreCollected all left names → AreCollected all rest more
-collect_more all left rest name view names more step put c = λ q w h is.
-    ⊎_elim (λ l. inl (ap (λ ns. is_named ns q) put ∙ named_more names name view q l))
+pub collect_more : (all left rest : Nodes) (name : List ℕ) (node : Node) (names more : NameTable) → left ≡ (name, node) ∷ rest → more ≡ with_name names name node → AreCollected all left names → AreCollected all rest more
+collect_more all left rest name node names more step put c = λ q w h is.
+    ⊎_elim (λ l. inl (ap (λ ns. is_named ns q) put ∙ named_more names name node q l))
     (λ r.
-    (elim (At q name) as (λ b. At q name ≡ b → cond b (Some view) (lookup (At q) rest) ≡ Some w → (is_named more q ≡ true) ⊎ (lookup (At q) rest ≡ Some w)) [
+    (elim (At q name) as (λ b. At q name ≡ b → cond b (Some node) (lookup (At q) rest) ≡ Some w → (is_named more q ≡ true) ⊎ (lookup (At q) rest ≡ Some w)) [
       | true ↦ (λ d k.
-          let value : view ≡ w = cc in
-          let P : List ℕ → Type 0 = λ x. is_named (with_name names name view) x ≡ true in
-          inl (ap (λ ns. is_named ns q) put ∙ subst P (sym (same_name q name d)) (named_own names name view (ap (λ v. is_ephemeral v.life) value ∙ is))))
+          let value : node ≡ w = cc in
+          let P : List ℕ → Type 0 = λ x. is_named (with_name names name node) x ≡ true in
+          inl (ap (λ ns. is_named ns q) put ∙ subst P (sym (same_name q name d)) (named_own names name node (ap (λ v. is_ephemeral v.life) value ∙ is))))
       | false ↦ (λ d k. inr k)
     ]) refl (ap (lookup (At q)) (sym step) ∙ r))
     (c q w h is)

@@ -2,7 +2,7 @@
 use Rattle.std.specs.Prelude.{ℕ, nat_le, List, [], ◌∷◌, ◌++◌, Option, Some, None, if◌then◌else◌, map, fold}
 use Rattle.node_core.specs.Limits.{number_limit}
 use Rattle.node_core.specs.declared.kinds.LockMode.{LockMode}
-use Rattle.rows_cell.specs.declared.tables.Node.{Node}
+use Rattle.rows_cell.specs.declared.tables.StoredNode.{StoredNode}
 use Rattle.rows_cell.specs.declared.tables.LockRow.{LockRow}
 use Rattle.rows_cell.specs.declared.tables.LockState.TheVariants.{Lapsed, Exclusive, Shared}
 use Rattle.rows_cell.specs.declared.keys.LockKey.{LockKey}
@@ -48,9 +48,9 @@ lock_rows instance lock = closing_rows instance lock.closed ++ holder_rows insta
 -- ---- the locks of a master that comes up
 
 -- with the generation of one more node's lock; of sound rows each is below 2^63
-abbrev pub with_generation : LockTable → List ℕ × Node → LockTable
+abbrev pub with_generation : LockTable → List ℕ × StoredNode → LockTable
 with_generation locks entry =
-    if nat_le entry.1.lock_generation number_limit then with_lock locks entry.1.view.instance (lock_of entry.1.lock_generation) else locks
+    if nat_le entry.1.lock_generation number_limit then with_lock locks entry.1.node.instance (lock_of entry.1.lock_generation) else locks
 
 abbrev pub holder_of : LockKey → LockMode → ℕ → Claim
 holder_of key mode delay = record { owner = record { client = key.client; handle = key.handle }; hold = record { mode = mode; delay = delay } }

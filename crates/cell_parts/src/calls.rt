@@ -1,12 +1,11 @@
 //! What a call shows, and why it is refused by itself.
-ghost use Rattle.std.specs.Prelude.{◌≡◌, false, Some, None, IfOk};
+ghost use Rattle.std.specs.Prelude.{◌≡◌, false, Some, None};
 ghost use Rattle.std.specs.Option.{SomeIff};
 ghost use Rattle.cell_parts.specs.Calls.{bytes_of, needing, write_fault, node_fault, create_fault, delay_fault, content_fault, is_too_long};
 
 use messages_cell::{Call, CallResult, NewNode, Open};
-use node_core::{CONTENT_LIMIT, Fault, Kind, Right, View};
+use node_core::{CONTENT_LIMIT, Fault, Kind, Right};
 use plain::Bytes;
-use std::alloc::AllocError;
 use tags_cell::{Handle, LockDelay};
 
 /// The bytes of the handle that a call on a node shows; none for an Open and a CheckSequencer.
@@ -47,16 +46,6 @@ pub fn denied_without(handle: &Handle, right: Right) -> Option<CallResult>
     } else {
         Some(denied(right))
     }
-}
-
-/// What a Read is answered.
-pub fn read_answer(handle: &Handle, view: &View) -> Result<CallResult, AllocError>
-    ensures { IfOk result (λ answer. Some answer ≡ needing handle.now Right.Read (Some (CallResult.Viewed view.now))) }
-{
-    if !handle.mode.has(Right::Read) {
-        return Ok(denied(Right::Read));
-    }
-    Ok(CallResult::Viewed(view.clone()?))
 }
 
 /// Why a write is refused at once.

@@ -10,9 +10,7 @@ mod open_handles;
 mod pending;
 mod rows;
 
-pub use calls::{
-    bytes_of, create_fault, delay_of, denied, denied_without, node_fault, read_answer, set_answer,
-};
+pub use calls::{bytes_of, create_fault, delay_of, denied, denied_without, node_fault, set_answer};
 pub use handles::{HandleKey, HandleState, Note, OpenHandle, claim_of, owner_of};
 pub use nodes::{Nodes, is_ephemeral};
 pub use notices::{Notice, Telling, event_of, instance_of};

@@ -10,7 +10,7 @@ ghost use Rattle.node_core.specs.Nodes.{HasNamesInOrder, get_node};
 ghost use Rattle.cell_parts.specs.EphemeralNames.{is_ephemeral, NameTable, AreNamed, IsNamed, with_name, was_ephemeral, with_former_name};
 
 use names_cell::Name;
-use node_core::{Life, Map, View};
+use node_core::{Life, Map, Node};
 use plain::Table;
 use std::alloc::{AllocError, Global};
 use std::marker::Model;
@@ -28,10 +28,10 @@ pub struct Nodes {
 
 impl Model for Nodes {
     ghost use Rattle.std.specs.Prelude.{◌≡◌, List, ℕ, true};
-    ghost use Rattle.node_core.specs.declared.views.View.{View};
+    ghost use Rattle.node_core.specs.declared.nodes.Node.{Node};
     ghost use Rattle.cell_parts.specs.EphemeralNames.{AreNamed};
 
-    ghost Value = { List (List ℕ × View) };
+    ghost Value = { List (List ℕ × Node) };
 
     ghost view = { λ n. n.map };
 
@@ -69,18 +69,18 @@ impl Nodes {
     }
 
     /// Sets a node. What stood at the name is given back.
-    pub fn set(&mut self, name: Name, view: View) -> Result<Option<View>, AllocError>
-        ensures ok { OnOk result (self.new ≡ insert_entry (slice_cmp nat_cmp) self.old name view) }
+    pub fn set(&mut self, name: Name, node: Node) -> Result<Option<Node>, AllocError>
+        ensures ok { OnOk result (self.new ≡ insert_entry (slice_cmp nat_cmp) self.old name node) }
         ensures former { IfOk result (λ former. former ≡ get_node self.old name) }
         ensures undone { IfOk result (λ former. with_former (slice_cmp nat_cmp) self.new name former ≡ self.old) }
         ensures err { OnErr result (self.new ≡ self.old) }
     {
-        add_name(&mut self.ephemerals, &name, &view)?;
-        self.map.set(name, view)
+        add_name(&mut self.ephemerals, &name, &node)?;
+        self.map.set(name, node)
     }
 
     /// Gives a name the node that it had before a `set`, or none where it had none. Takes no memory.
-    pub fn restore(&mut self, name: &Name, former: Option<View>)
+    pub fn restore(&mut self, name: &Name, former: Option<Node>)
         ensures { self.new ≡ with_former (slice_cmp nat_cmp) self.old name.now former }
     {
         let _nodes = self.map.as_map();
@@ -92,7 +92,7 @@ impl Nodes {
     }
 
     /// Takes a node away. What stood at the name is given back. Takes no memory.
-    pub fn unset(&mut self, name: &Name) -> Option<View>
+    pub fn unset(&mut self, name: &Name) -> Option<Node>
         ensures after { self.new ≡ remove_entry (is_at (slice_cmp nat_cmp name.now)) self.old }
         ensures former { result ≡ get_node self.old name.now }
     {
@@ -117,25 +117,25 @@ fn names_of(alloc: Global, map: &Map) -> Result<Table<Name, ()>, AllocError>
     ensures { IfOk result (λ names. AreNamed map.now names) }
 {
     let mut names = Table::new(alloc);
-    for (name, view) in map.as_map() {
-        add_name(&mut names, name, view)?;
+    for (name, node) in map.as_map() {
+        add_name(&mut names, name, node)?;
     }
     Ok(names)
 }
 
 // The name of an ephemeral node is put among the others.
-fn add_name(names: &mut Table<Name, ()>, name: &Name, view: &View) -> Result<(), AllocError>
-    ensures ok { OnOk result (names.new ≡ with_name names.old name.now view.now) }
+fn add_name(names: &mut Table<Name, ()>, name: &Name, node: &Node) -> Result<(), AllocError>
+    ensures ok { OnOk result (names.new ≡ with_name names.old name.now node.now) }
     ensures err { OnErr result (names.new ≡ names.old) }
 {
-    if is_ephemeral(view.life) {
+    if is_ephemeral(node.life) {
         names.put(name.clone()?, ())?;
     }
     Ok(())
 }
 
 // The name stays where its node is an ephemeral one again. False where the name of such a node isn't there.
-fn restore_name(names: &mut Table<Name, ()>, name: &Name, former: &Option<View>) -> bool
+fn restore_name(names: &mut Table<Name, ()>, name: &Name, former: &Option<Node>) -> bool
     ensures after { names.new ≡ with_former_name names.old name.now former.now }
     ensures named { result ≡ true → IsNamed names.new name.now former.now }
 {
@@ -146,11 +146,11 @@ fn restore_name(names: &mut Table<Name, ()>, name: &Name, former: &Option<View>)
     true
 }
 
-fn was_ephemeral(former: &Option<View>) -> bool
+fn was_ephemeral(former: &Option<Node>) -> bool
     ensures { result ≡ was_ephemeral former.now }
 {
     match former {
-        Some(view) => is_ephemeral(view.life),
+        Some(node) => is_ephemeral(node.life),
         None => false,
     }
 }

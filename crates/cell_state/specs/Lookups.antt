@@ -8,12 +8,13 @@ use Rattle.std.specs.Str.{bytes_eq}
 use Rattle.names_cell.specs.Text.{cell_of, parent_of}
 use Rattle.node_core.specs.declared.refusals.Fault.{Fault}
 use Rattle.node_core.specs.declared.lines.Line.{Line}
+use Rattle.node_core.specs.declared.nodes.Node.{Node}
 use Rattle.node_core.specs.declared.views.View.{View}
 use Rattle.node_core.specs.declared.kinds.Kind.{Kind}
 use Rattle.node_core.specs.declared.kinds.Right.{Right}
 use Rattle.node_core.specs.declared.stats.Stat.{Stat}
 use Rattle.node_core.specs.Limits.{number_limit}
-use Rattle.node_core.specs.Nodes.{get_node, children, has_children}
+use Rattle.node_core.specs.Nodes.{get_node, view_of, has_children}
 use Rattle.node_core.specs.Access.{permitted}
 use Rattle.rights_core.specs.declared.endings.Ending.{Ending}
 use Rattle.rights_core.specs.declared.grants.Grant.{Grant}
@@ -129,19 +130,19 @@ acknowledgement beat = endings.Acknowledgement beat.invalidations
 
 -- ---- access
 
--- the caller's principal is permitted the right to a node with this view; without a session it isn't
-abbrev pub may : NameSpace → Caller → View → Right → Bool
-may space caller view right = option_map_or (λ principal. permitted space.nodes principal view right) caller.principal false
+-- the caller's principal is permitted the right to this node; without a session it isn't
+abbrev pub may : NameSpace → Caller → Node → Right → Bool
+may space caller node right = option_map_or (λ principal. permitted space.nodes principal node right) caller.principal false
 
-abbrev pub lacks : NameSpace → Caller → Rights → View → Right → Bool
-lacks space caller mode view right = has_right mode right && not (may space caller view right)
+abbrev pub lacks : NameSpace → Caller → Rights → Node → Right → Bool
+lacks space caller mode node right = has_right mode right && not (may space caller node right)
 
 -- the first right of the mode that isn't permitted
-abbrev pub missing_right : NameSpace → Caller → Rights → View → Option Right
-missing_right space caller mode view =
-    if lacks space caller mode view rights.Read then Some rights.Read
-    else if lacks space caller mode view rights.Write then Some rights.Write
-    else if lacks space caller mode view rights.Change then Some rights.Change
+abbrev pub missing_right : NameSpace → Caller → Rights → Node → Option Right
+missing_right space caller mode node =
+    if lacks space caller mode node rights.Read then Some rights.Read
+    else if lacks space caller mode node rights.Write then Some rights.Write
+    else if lacks space caller mode node rights.Change then Some rights.Change
     else None
 
 -- ---- handles
@@ -164,9 +165,9 @@ abbrev pub shown_handle : MasterState → ℕ → List ℕ → Option Handle
 shown_handle s client bytes = option_map_or (λ handle. own_handle s client handle) (read_handle s.secret bytes) None
 
 -- the node of a handle, where its instance is there
-abbrev pub node_of_handle : NameSpace → Handle → Option View
+abbrev pub node_of_handle : NameSpace → Handle → Option Node
 node_of_handle space handle =
-    option_map_or (λ view. if view.instance == handle.instance then Some view else None) (get_node space.nodes handle.name) None
+    option_map_or (λ node. if node.instance == handle.instance then Some node else None) (get_node space.nodes handle.name) None
 
 -- ---- Opens
 
@@ -174,16 +175,16 @@ abbrev pub is_of_cell : NameSpace → List ℕ → Bool
 is_of_cell space name = bytes_eq (cell_of name) space.name
 
 -- a handle of a node; its numbers have to be ones that a handle can carry
-abbrev pub numbered_handle : NameSpace → Caller → ℕ → Open → View → Result Handle Fault
-numbered_handle space caller number opening view =
-    if is_ordinal space.epoch && is_ordinal view.instance
+abbrev pub numbered_handle : NameSpace → Caller → ℕ → Open → Node → Result Handle Fault
+numbered_handle space caller number opening node =
+    if is_ordinal space.epoch && is_ordinal node.instance
     then Ok (record {
       epoch = space.epoch;
       client = caller.client;
       number = number;
-      instance = view.instance;
+      instance = node.instance;
       mode = opening.mode;
-      life = view.life;
+      life = node.life;
       events = opening.events;
       delay = opening.delay;
       name = opening.name;
@@ -191,17 +192,17 @@ numbered_handle space caller number opening view =
     else Err faults.Exhausted
 
 -- and so has its lock-delay
-abbrev pub new_handle : NameSpace → Caller → ℕ → Open → View → Result Handle Fault
-new_handle space caller number opening view = if is_too_long opening.delay then Err faults.DelayTooLong else numbered_handle space caller number opening view
+abbrev pub new_handle : NameSpace → Caller → ℕ → Open → Node → Result Handle Fault
+new_handle space caller number opening node = if is_too_long opening.delay then Err faults.DelayTooLong else numbered_handle space caller number opening node
 
 -- an Open of a present node: the rights of the mode are looked up on the node itself
-abbrev pub open_present : NameSpace → Caller → ℕ → Open → View → Result Handle Fault
-open_present space caller number opening view =
-    option_map_or (λ right. Err (faults.Denied right)) (missing_right space caller opening.mode view) (new_handle space caller number opening view)
+abbrev pub open_present : NameSpace → Caller → ℕ → Open → Node → Result Handle Fault
+open_present space caller number opening node =
+    option_map_or (λ right. Err (faults.Denied right)) (missing_right space caller opening.mode node) (new_handle space caller number opening node)
 
 -- an Open that makes nothing
 abbrev pub plain_open : NameSpace → Caller → ℕ → Open → Result Handle Fault
-plain_open space caller number opening = option_map_or (λ view. open_present space caller number opening view) (get_node space.nodes opening.name) (Err faults.NotFound)
+plain_open space caller number opening = option_map_or (λ node. open_present space caller number opening node) (get_node space.nodes opening.name) (Err faults.NotFound)
 
 abbrev pub opened_answer : NameSpace → Result Handle Fault → CallResult
 opened_answer space (Ok handle) = results.Opened (record { bytes = handle_bytes space.secret handle; instance = handle.instance; life = handle.life })
@@ -215,29 +216,29 @@ opened_note space (Err fault) = None
 -- ---- what is answered at once
 
 -- only a directory is listed
-abbrev pub list_answer : NameSpace → List ℕ → Kind → CallResult
-list_answer space name kinds.Directory = results.Names (children space.nodes name)
-list_answer space name kinds.File = results.Refused (faults.WrongKind kinds.File)
+abbrev pub list_answer : View → Kind → CallResult
+list_answer view kinds.Directory = results.Listed view
+list_answer view kinds.File = results.Refused (faults.WrongKind kinds.File)
 
-abbrev pub stat_of : NameSpace → View → Stat
-stat_of space view = record {
-  kind = view.kind;
-  instance = view.instance;
-  content_generation = view.content_generation;
-  acl_generation = view.acl_generation;
-  lock_generation = (lock_at space.locks view.instance).generation;
-  read = view.read;
-  write = view.write;
-  change = view.change;
-  life = view.life;
-  length = length view.content;
+abbrev pub stat_of : NameSpace → Node → Stat
+stat_of space node = record {
+  kind = node.kind;
+  instance = node.instance;
+  content_generation = node.content_generation;
+  acl_generation = node.acl_generation;
+  lock_generation = (lock_at space.locks node.instance).generation;
+  read = node.read;
+  write = node.write;
+  change = node.change;
+  life = node.life;
+  length = length node.content;
 }
 
 -- ---- sequencers
 
 -- the instance that stands at a name now
 abbrev pub instance_at : NameSpace → List ℕ → Option ℕ
-instance_at space name = option_map (λ view. view.instance) (get_node space.nodes name)
+instance_at space name = option_map (λ node. node.instance) (get_node space.nodes name)
 
 abbrev pub fault_of : Result (Unit {0}) Fault → Option Fault
 fault_of (Ok done) = None
@@ -281,30 +282,30 @@ sequencer_answer space handle = sequencer_result (sequencer_of (lock_under space
 -- ---- calls on a node
 
 -- what a call on a present node is answered at once; none where it waits for its turn
-abbrev pub answer_on_node : NameSpace → Handle → Call → View → Option CallResult
-answer_on_node space handle (calls.Read bytes) view = needing handle rights.Read (Some (results.Viewed view))
-answer_on_node space handle (calls.Stat bytes) view = Some (results.Stated (stat_of space view))
-answer_on_node space handle (calls.List bytes) view = needing handle rights.Read (Some (list_answer space handle.name view.kind))
-answer_on_node space handle (calls.Set bytes content generation) view = needing handle rights.Write (write_fault view.kind content)
-answer_on_node space handle (calls.SetAcl bytes acls generation) view = needing handle rights.Change None
-answer_on_node space handle (calls.Delete bytes) view = needing handle rights.Write None
-answer_on_node space handle (calls.Acquire bytes mode) view = needing handle rights.Write None
-answer_on_node space handle (calls.TryAcquire bytes mode) view = needing handle rights.Write None
-answer_on_node space handle (calls.Release bytes) view = needing handle rights.Write (release_fault space handle)
-answer_on_node space handle (calls.GetSequencer bytes) view = Some (sequencer_answer space handle)
-answer_on_node space handle (calls.SetSequencer bytes) view = Some results.Done
-answer_on_node space handle _ view = None
+abbrev pub answer_on_node : NameSpace → Handle → Call → Node → Option CallResult
+answer_on_node space handle (calls.Read bytes) node = needing handle rights.Read (Some (results.Viewed (view_of space.nodes handle.name node)))
+answer_on_node space handle (calls.Stat bytes) node = Some (results.Stated (stat_of space node))
+answer_on_node space handle (calls.List bytes) node = needing handle rights.Read (Some (list_answer (view_of space.nodes handle.name node) node.kind))
+answer_on_node space handle (calls.Set bytes content generation) node = needing handle rights.Write (write_fault node.kind content)
+answer_on_node space handle (calls.SetAcl bytes acls generation) node = needing handle rights.Change None
+answer_on_node space handle (calls.Delete bytes) node = needing handle rights.Write None
+answer_on_node space handle (calls.Acquire bytes mode) node = needing handle rights.Write None
+answer_on_node space handle (calls.TryAcquire bytes mode) node = needing handle rights.Write None
+answer_on_node space handle (calls.Release bytes) node = needing handle rights.Write (release_fault space handle)
+answer_on_node space handle (calls.GetSequencer bytes) node = Some (sequencer_answer space handle)
+answer_on_node space handle (calls.SetSequencer bytes) node = Some results.Done
+answer_on_node space handle _ node = None
 
 -- its sequencer is tested first
-abbrev pub answer_under : NameSpace → Handle → Call → View → Option Fault → Option CallResult
-answer_under space handle call view (Some fault) = Some (results.Refused fault)
-answer_under space handle call view None = answer_on_node space handle call view
+abbrev pub answer_under : NameSpace → Handle → Call → Node → Option Fault → Option CallResult
+answer_under space handle call node (Some fault) = Some (results.Refused fault)
+answer_under space handle call node None = answer_on_node space handle call node
 
 -- a Close waits for its turn also where the node is gone, and whatever sequencer it carries
 abbrev pub answer_on : NameSpace → Handle → Call → Option (List ℕ) → Option CallResult
 answer_on space handle (calls.Close bytes) sequencer = None
 answer_on space handle call sequencer =
-    option_map_or (λ view. answer_under space handle call view (sequencer_fault space sequencer)) (node_of_handle space handle) (Some (results.Refused faults.StaleInstance))
+    option_map_or (λ node. answer_under space handle call node (sequencer_fault space sequencer)) (node_of_handle space handle) (Some (results.Refused faults.StaleInstance))
 
 -- ---- who holds a node open
 

@@ -2,12 +2,13 @@
 ghost use Rattle.std.specs.Prelude.{◌≡◌, Some, None, IfOk};
 ghost use Rattle.cell_state.specs.NameSpace.{name_space};
 ghost use Rattle.cell_state.specs.Lookups.{answer_on, answer_under, answer_on_node, sequencer_fault, list_answer, stat_of};
+ghost use Rattle.node_core.specs.Nodes.{view_of};
 ghost use Rattle.cell_parts.specs.Calls.{needing};
 
 use crate::masters::Master;
-use cell_parts::{denied, denied_without, read_answer, set_answer};
+use cell_parts::{denied, denied_without, set_answer};
 use messages_cell::{Call, CallResult};
-use node_core::{Fault, Kind, Right, Stat, View};
+use node_core::{Fault, Kind, Node, Right, Stat};
 use plain::Bytes;
 use std::alloc::AllocError;
 use tags_cell::Handle;
@@ -26,7 +27,7 @@ impl Master {
             Call::Close(_) => Ok(None),
             _ => match self.node_of(handle) {
                 None => Ok(Some(CallResult::Refused(Fault::StaleInstance))),
-                Some(view) => self.answer_under(handle, call, view, sequencer),
+                Some(node) => self.answer_under(handle, call, node, sequencer),
             },
         }
     }
@@ -36,14 +37,14 @@ impl Master {
         &self,
         handle: &Handle,
         call: &Call,
-        view: &View,
+        node: &Node,
         sequencer: &Option<Bytes>,
     ) -> Result<Option<CallResult>, AllocError>
-        ensures { IfOk result (λ answer. answer ≡ answer_under (name_space self.now) handle.now call.now view.now (sequencer_fault (name_space self.now) sequencer.now)) }
+        ensures { IfOk result (λ answer. answer ≡ answer_under (name_space self.now) handle.now call.now node.now (sequencer_fault (name_space self.now) sequencer.now)) }
     {
         match self.sequencer_fault(sequencer)? {
             Some(fault) => Ok(Some(CallResult::Refused(fault))),
-            None => self.answer_on_node(handle, call, view),
+            None => self.answer_on_node(handle, call, node),
         }
     }
 
@@ -51,15 +52,15 @@ impl Master {
         &self,
         handle: &Handle,
         call: &Call,
-        view: &View,
+        node: &Node,
     ) -> Result<Option<CallResult>, AllocError>
-        ensures { IfOk result (λ answer. answer ≡ answer_on_node (name_space self.now) handle.now call.now view.now) }
+        ensures { IfOk result (λ answer. answer ≡ answer_on_node (name_space self.now) handle.now call.now node.now) }
     {
         match call {
-            Call::Read(_) => Ok(Some(read_answer(handle, view)?)),
-            Call::Stat(_) => Ok(Some(CallResult::Stated(self.stat_of(view)?))),
-            Call::List(_) => Ok(Some(self.names_answer(handle, view)?)),
-            Call::Set { content, .. } => Ok(set_answer(handle, view.kind, content)),
+            Call::Read(_) => Ok(Some(self.read_answer(handle, node)?)),
+            Call::Stat(_) => Ok(Some(CallResult::Stated(self.stat_of(node)?))),
+            Call::List(_) => Ok(Some(self.list_answer(handle, node)?)),
+            Call::Set { content, .. } => Ok(set_answer(handle, node.kind, content)),
             Call::SetAcl { .. } => Ok(denied_without(handle, Right::Change)),
             Call::Delete(_) | Call::Acquire { .. } | Call::TryAcquire { .. } => {
                 Ok(denied_without(handle, Right::Write))
@@ -71,33 +72,42 @@ impl Master {
         }
     }
 
-    // Only a directory is listed.
-    fn names_answer(&self, handle: &Handle, view: &View) -> Result<CallResult, AllocError>
-        ensures { IfOk result (λ answer. Some answer ≡ needing handle.now Right.Read (Some (list_answer (name_space self.now) handle.now.name view.now.kind))) }
+    fn read_answer(&self, handle: &Handle, node: &Node) -> Result<CallResult, AllocError>
+        ensures { IfOk result (λ answer. Some answer ≡ needing handle.now Right.Read (Some (CallResult.Viewed (view_of self.now.nodes handle.now.name node.now)))) }
     {
         if !handle.mode.has(Right::Read) {
             return Ok(denied(Right::Read));
         }
-        match view.kind {
-            Kind::Directory => Ok(CallResult::Names(self.map().children(&handle.name)?)),
+        Ok(CallResult::Viewed(self.map().view_of(&handle.name, node)?))
+    }
+
+    // Only a directory is listed.
+    fn list_answer(&self, handle: &Handle, node: &Node) -> Result<CallResult, AllocError>
+        ensures { IfOk result (λ answer. Some answer ≡ needing handle.now Right.Read (Some (list_answer (view_of self.now.nodes handle.now.name node.now) node.now.kind))) }
+    {
+        if !handle.mode.has(Right::Read) {
+            return Ok(denied(Right::Read));
+        }
+        match node.kind {
+            Kind::Directory => Ok(CallResult::Listed(self.map().view_of(&handle.name, node)?)),
             Kind::File => Ok(CallResult::Refused(Fault::WrongKind(Kind::File))),
         }
     }
 
-    fn stat_of(&self, view: &View) -> Result<Stat, AllocError>
-        ensures { IfOk result (λ stat. stat ≡ stat_of (name_space self.now) view.now) }
+    fn stat_of(&self, node: &Node) -> Result<Stat, AllocError>
+        ensures { IfOk result (λ stat. stat ≡ stat_of (name_space self.now) node.now) }
     {
         Ok(Stat {
-            kind: view.kind,
-            instance: view.instance,
-            content_generation: view.content_generation,
-            acl_generation: view.acl_generation,
-            lock_generation: self.locks.generation(view.instance),
-            read: view.read.clone()?,
-            write: view.write.clone()?,
-            change: view.change.clone()?,
-            life: view.life,
-            length: view.content.len() as u64,
+            kind: node.kind,
+            instance: node.instance,
+            content_generation: node.content_generation,
+            acl_generation: node.acl_generation,
+            lock_generation: self.locks.generation(node.instance),
+            read: node.read.clone()?,
+            write: node.write.clone()?,
+            change: node.change.clone()?,
+            life: node.life,
+            length: node.content.len() as u64,
         })
     }
 }

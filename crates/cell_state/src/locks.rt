@@ -51,8 +51,8 @@ impl Master {
     fn instance_at(&self, name: &Name) -> Option<u64>
         ensures { result ≡ instance_at (name_space self.now) name.now }
     {
-        let view = self.map().get(name)?;
-        Some(view.instance)
+        let node = self.map().get(name)?;
+        Some(node.instance)
     }
 
     pub fn check_answer(&self, bytes: &Bytes) -> Result<CallResult, AllocError>

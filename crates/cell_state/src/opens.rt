@@ -7,7 +7,7 @@ use crate::masters::Master;
 use cell_parts::{Note, OpenHandle, delay_of};
 use messages_cell::{CallResult, NewHandle, Open};
 use names_cell::Name;
-use node_core::{Fault, View};
+use node_core::{Fault, Node};
 use std::alloc::AllocError;
 use tags_cell::{ClientNumber, Handle, MessageNumber, Ordinal};
 
@@ -25,14 +25,14 @@ impl Master {
         client: ClientNumber,
         number: MessageNumber,
         opening: &Open,
-        view: &View,
+        node: &Node,
     ) -> Result<Result<Handle, Fault>, AllocError>
-        ensures { IfOk result (λ opened. opened ≡ new_handle (name_space self.now) (caller self.now client) number opening.now view.now) }
+        ensures { IfOk result (λ opened. opened ≡ new_handle (name_space self.now) (caller self.now client) number opening.now node.now) }
     {
         let Some(delay) = delay_of(opening.delay) else {
             return Ok(Err(Fault::DelayTooLong));
         };
-        let (Some(epoch), Some(instance)) = (Ordinal::new(self.epoch), Ordinal::new(view.instance))
+        let (Some(epoch), Some(instance)) = (Ordinal::new(self.epoch), Ordinal::new(node.instance))
         else {
             return Ok(Err(Fault::Exhausted));
         };
@@ -42,7 +42,7 @@ impl Master {
             number: Ordinal::from(number),
             instance,
             mode: opening.mode,
-            life: view.life,
+            life: node.life,
             events: opening.events,
             delay,
             name: opening.name.clone()?,
@@ -55,13 +55,13 @@ impl Master {
         client: ClientNumber,
         number: MessageNumber,
         opening: &Open,
-        view: &View,
+        node: &Node,
     ) -> Result<Result<Handle, Fault>, AllocError>
-        ensures { IfOk result (λ opened. opened ≡ open_present (name_space self.now) (caller self.now client) number opening.now view.now) }
+        ensures { IfOk result (λ opened. opened ≡ open_present (name_space self.now) (caller self.now client) number opening.now node.now) }
     {
-        match self.missing_right(client, opening.mode, view)? {
+        match self.missing_right(client, opening.mode, node)? {
             Some(right) => Ok(Err(Fault::Denied(right))),
-            None => self.new_handle(client, number, opening, view),
+            None => self.new_handle(client, number, opening, node),
         }
     }
 
@@ -76,7 +76,7 @@ impl Master {
     {
         match self.map().get(&opening.name) {
             None => Ok(Err(Fault::NotFound)),
-            Some(view) => self.open_present(client, number, opening, view),
+            Some(node) => self.open_present(client, number, opening, node),
         }
     }
 

@@ -10,7 +10,7 @@ ghost use Rattle.cell_parts.specs.Keys.{key_of};
 use crate::masters::Master;
 use cell_parts::{HandleKey, HandleState};
 use names_cell::Name;
-use node_core::View;
+use node_core::Node;
 use std::alloc::AllocError;
 use tags_cell::{ClientNumber, Handle, HandleFault, Ordinal};
 
@@ -121,12 +121,12 @@ impl Master {
     }
 
     /// The node of a handle, where its instance is there.
-    pub fn node_of(&self, handle: &Handle) -> Option<&View>
+    pub fn node_of(&self, handle: &Handle) -> Option<&Node>
         ensures { option_copied result ≡ node_of_handle (name_space self.now) handle.now }
     {
-        let view = self.map().get(&handle.name)?;
-        if view.instance == handle.instance.get() {
-            Some(view)
+        let node = self.map().get(&handle.name)?;
+        if node.instance == handle.instance.get() {
+            Some(node)
         } else {
             None
         }

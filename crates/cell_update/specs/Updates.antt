@@ -5,7 +5,7 @@ use Rattle.std.specs.BTreeMap.{is_at, insert_entry}
 use Rattle.std.specs.Ordering.{nat_cmp}
 use Rattle.std.specs.Cmp.Lexicographic.{slice_cmp}
 use Rattle.plain.specs.Tables.{with_former}
-use Rattle.node_core.specs.declared.views.View.{View}
+use Rattle.node_core.specs.declared.nodes.Node.{Node}
 use Rattle.node_core.specs.declared.views.Mod.{Mod}
 use Rattle.node_core.specs.declared.views.Mod.TheVariants.{Put, Gone}
 use Rattle.rows_cell.specs.declared.tables.Edit.{Edit}
@@ -55,7 +55,7 @@ with_begun s _ = s
 
 -- a node that is put
 abbrev pub with_put : MasterState → Mod → MasterState
-with_put s (Put name view) = record s { nodes = insert_entry (slice_cmp nat_cmp) s.nodes name view }
+with_put s (Put name node) = record s { nodes = insert_entry (slice_cmp nat_cmp) s.nodes name node }
 with_put s (Gone name) = s
 
 abbrev pub with_node : MasterState → Option Change → MasterState
@@ -82,7 +82,7 @@ abbrev pub without_note : MasterState → Option (HandleKey × Option HandleStat
 without_note s None = s
 without_note s (Some former) = record s { handles = with_former handle_order s.handles former.0 former.1 }
 
-abbrev pub without_node : MasterState → Option (List ℕ × Option View) → MasterState
+abbrev pub without_node : MasterState → Option (List ℕ × Option Node) → MasterState
 without_node s None = s
 without_node s (Some former) = record s { nodes = with_former (slice_cmp nat_cmp) s.nodes former.0 former.1 }
 
@@ -105,7 +105,7 @@ session_rest (Some (Begins client principal)) = None
 session_rest update = update
 
 abbrev pub gone_of : Mod → Option (List ℕ)
-gone_of (Put name view) = None
+gone_of (Put name node) = None
 gone_of (Gone name) = Some name
 
 -- the node that goes, and the next instance
@@ -187,7 +187,7 @@ session_edits (Some (Ends client principal)) = PutSession client (record { princ
 session_edits _ = []
 
 abbrev pub edit_of : Mod → Edit
-edit_of (Put name view) = PutNode name view
+edit_of (Put name node) = PutNode name node
 edit_of (Gone name) = RemoveNode name
 
 abbrev pub change_edits : Option Change → List Edit

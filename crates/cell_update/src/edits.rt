@@ -10,7 +10,7 @@ use crate::updates::{Change, LockPut, SessionUpdate, Update};
 use cell_parts::{lock_rows, row_edits};
 use cell_state::Master;
 use names_cell::{Name, Principal};
-use node_core::{Mod, View};
+use node_core::{Mod, Node};
 use plain::Items;
 use rows_cell::{Edit, LockKey, LockRow, Session};
 use std::alloc::{AllocError, Global};
@@ -66,16 +66,16 @@ fn edit_of(change: &Mod) -> Result<Edit, AllocError>
     ensures { IfOk result (λ edit. edit ≡ edit_of change.now) }
 {
     match change {
-        Mod::Put(name, view) => put_edit(name, view),
+        Mod::Put(name, node) => put_edit(name, node),
         Mod::Gone(name) => Ok(Edit::RemoveNode(name.clone()?)),
     }
 }
 
-fn put_edit(name: &Name, view: &View) -> Result<Edit, AllocError>
-    ensures { IfOk result (λ edit. edit ≡ PutNode name.now view.now) }
+fn put_edit(name: &Name, node: &Node) -> Result<Edit, AllocError>
+    ensures { IfOk result (λ edit. edit ≡ PutNode name.now node.now) }
 {
     let name = name.clone()?;
-    Ok(Edit::PutNode(name, view.clone()?))
+    Ok(Edit::PutNode(name, node.clone()?))
 }
 
 // ---- locks

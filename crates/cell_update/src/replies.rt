@@ -154,8 +154,8 @@ pub fn puts_of(master: &Master, instance: u64, lock: Lock) -> Result<Items<LockP
 fn name_of(master: &Master, instance: u64) -> Result<Option<Name>, AllocError>
     ensures { IfOk result (λ name. name ≡ name_of master.now.nodes instance) }
 {
-    for (name, view) in master.map().as_map() {
-        if view.instance == instance {
+    for (name, node) in master.map().as_map() {
+        if node.instance == instance {
             return Ok(Some(name.clone()?));
         }
     }

@@ -12,7 +12,7 @@ use cell_state::Master;
 use lock_core::Lock;
 use messages_cell::Reply;
 use names_cell::{Name, Principal};
-use node_core::{Mod, View};
+use node_core::{Mod, Node};
 use plain::Items;
 use rights_core::Ending;
 use session_core::Kept;
@@ -81,7 +81,7 @@ pub struct Update {
 pub struct Former {
     pub session: Option<ClientNumber>,
     pub note: Option<(HandleKey, Option<HandleState>)>,
-    pub node: Option<(Name, Option<View>)>,
+    pub node: Option<(Name, Option<Node>)>,
     /// In the order in which they were put.
     pub locks: Items<(u64, Option<Lock>)>,
 }
@@ -116,7 +116,7 @@ pub struct Grown {
 // A note and a node that were put: what stood there before, and what is left of the change of the map.
 struct GrownMap {
     note: Option<(HandleKey, Option<HandleState>)>,
-    node: Option<(Name, Option<View>)>,
+    node: Option<(Name, Option<Node>)>,
     rest: Option<MapRest>,
 }
 
@@ -443,7 +443,7 @@ fn put_note(
 fn put_node(
     master: &mut Master,
     change: Option<Change>,
-) -> Result<(Option<(Name, Option<View>)>, Option<MapRest>), AllocError>
+) -> Result<(Option<(Name, Option<Node>)>, Option<MapRest>), AllocError>
     ensures ok { OnOk result (master.new ≡ with_node master.old change) }
     ensures back { IfOk result (λ put. without_node master.new put.0 ≡ master.old) }
     ensures rest { IfOk result (λ put. put.1 ≡ map_rest change) }
@@ -466,8 +466,8 @@ fn put_node(
                 next_instance,
             }),
         )),
-        Mod::Put(name, view) => {
-            let former = put_view(master, name, view)?;
+        Mod::Put(name, node) => {
+            let former = set_node(master, name, node)?;
             Ok((
                 Some(former),
                 Some(MapRest {
@@ -479,13 +479,13 @@ fn put_node(
     }
 }
 
-fn put_view(master: &mut Master, name: Name, view: View) -> Result<(Name, Option<View>), AllocError>
-    ensures ok { OnOk result (master.new ≡ with_put master.old (Mod.Put name view)) }
+fn set_node(master: &mut Master, name: Name, node: Node) -> Result<(Name, Option<Node>), AllocError>
+    ensures ok { OnOk result (master.new ≡ with_put master.old (Mod.Put name node)) }
     ensures back { IfOk result (λ former. without_node master.new (Some former) ≡ master.old) }
     ensures err { OnErr result (master.new ≡ master.old) }
 {
     let key = name.clone()?;
-    let former = master.nodes.set(name, view)?;
+    let former = master.nodes.set(name, node)?;
     Ok((key, former))
 }
 
@@ -497,11 +497,11 @@ fn restore_note(master: &mut Master, former: Option<(HandleKey, Option<HandleSta
     }
 }
 
-fn restore_node(master: &mut Master, former: Option<(Name, Option<View>)>)
+fn restore_node(master: &mut Master, former: Option<(Name, Option<Node>)>)
     ensures { master.new ≡ without_node master.old former }
 {
-    if let Some((name, view)) = former {
-        master.nodes.restore(&name, view);
+    if let Some((name, node)) = former {
+        master.nodes.restore(&name, node);
     }
 }
 

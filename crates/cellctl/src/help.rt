@@ -1,7 +1,7 @@
 //! What help says of scripts, of stores and of frames.
 
 /// The version of the program.
-pub(crate) const VERSION: &str = "0.1.0";
+pub(crate) const VERSION: &str = "0.2.0";
 
 /// The steps of a script, its limits, and how the program ends.
 pub(crate) const SCRIPTS: &str = "\
@@ -35,7 +35,7 @@ Calls; H is the client's own handle number, 1, 2, .. in the order in which its O
   poison H          every later call on the handle but close is refused
   read H            the content and the numbers of the node
   stat H            its numbers
-  list H            the names of a directory's children
+  list H            the names of a directory's children; in version 2 the cache may answer it, like a read
   set H CONTENT [G] a new content; with G only at this content generation
   acl H R W C [G]   new ACL names; with G only at this ACL generation
   delete H          deletes the node

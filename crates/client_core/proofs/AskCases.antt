@@ -10,6 +10,7 @@ use Rattle.cache_core.specs.declared.standings.Standing.TheVariants as standings
 use Rattle.node_core.specs.Limits.{number_end}
 use Rattle.node_core.specs.declared.refusals.Fault.{Fault}
 use Rattle.node_core.specs.declared.refusals.Fault.TheVariants as faults
+use Rattle.node_core.specs.declared.answers.Answer.{Answer}
 use Rattle.node_core.specs.declared.answers.Answer.TheVariants as answers
 use Rattle.node_core.specs.declared.lines.Line.TheVariants as lines
 use Rattle.node_core.specs.declared.views.View.{View}
@@ -20,7 +21,6 @@ use Rattle.messages_cell.specs.declared.outs.NewHandle.{NewHandle}
 use Rattle.client_parts.specs.declared.asks.Ask.{Ask}
 use Rattle.client_parts.specs.declared.asks.Ask.TheVariants as asks
 use Rattle.client_parts.specs.declared.asks.NodeCall.{NodeCall}
-use Rattle.client_parts.specs.declared.asks.NodeCall.TheVariants as node_calls
 use Rattle.client_parts.specs.declared.asks.Asked.{Asked}
 use Rattle.client_parts.specs.declared.asks.Outcome.TheVariants as outcomes
 use Rattle.client_parts.specs.declared.handles.ClientHandle.{ClientHandle}
@@ -34,8 +34,8 @@ use Rattle.client_parts.specs.declared.targets.Target.TheVariants as targets
 use Rattle.client_parts.specs.declared.targets.Outstanding.{Outstanding}
 use Rattle.client_core.specs.State.{ClientState, standing_then, session_behind, session_in, session_then, note_in, note_lines_in, note_lines}
 use Rattle.client_parts.specs.Handles.{handle_of, usable_handle}
-use Rattle.client_core.specs.Serves.{serve_read, share, entry_served}
-use Rattle.client_parts.specs.Opens.{is_plain, only_reads, kept_handle}
+use Rattle.client_core.specs.Serves.{serve_answer, cached_served, share, entry_served}
+use Rattle.client_parts.specs.Opens.{cached_answer, is_plain, only_reads, kept_handle}
 use Rattle.client_core.specs.Asks.{fault_then, send_plan, served_or, close_plan, poison_plan, node_plan, sequencer_plan, plan_of, asked_for, message_of, with_call, with_shared, ask_by, ask_in, ask_at, ask_step}
 use Rattle.client_parts.specs.Calls.{call_on}
 use Rattle.client_core.specs.Beats.{start_message, beat_message, with_beat, beaten, sends, beat_by, beat_at, beat_step}
@@ -81,12 +81,12 @@ share_case s now opening view handle safe shared =
 abbrev sent_open : ClientState → Open → Result Plan Fault
 sent_open s opening = send_plan s (calls.Open opening) None targets.NewHandle
 
-kept_case : (s : ClientState) (now : ℕ) (opening : Open) (view : View) (k : Option NewHandle) → IsSafe s now → is_plain opening ≡ true → answer s.cache (noted_moment s now) opening.name ≡ Some (Some view) → only_reads opening ≡ true → serving s.kept opening.name view.instance ≡ k → IsDone s now (asks.Open opening) (served_or (option_map (share s opening view) k) (sent_open s opening))
+kept_case : (s : ClientState) (now : ℕ) (opening : Open) (view : View) (k : Option NewHandle) → IsSafe s now → is_plain opening ≡ true → answer s.cache (noted_moment s now) opening.name ≡ Some (Some view) → only_reads opening ≡ true → serving s.kept opening.name view.node.instance ≡ k → IsDone s now (asks.Open opening) (served_or (option_map (share s opening view) k) (sent_open s opening))
 kept_case s now opening view None safe plain cached reads kept is = sends_case s now (asks.Open opening) (calls.Open opening) None targets.NewHandle safe is
 kept_case s now opening view (Some handle) safe plain cached reads kept is = share_case s now opening view handle safe (record { plain = plain; reads = reads; cached = cached; kept = kept })
 
-view_case : (s : ClientState) (now : ℕ) (opening : Open) (view : View) (b : Bool) → IsSafe s now → is_plain opening ≡ true → answer s.cache (noted_moment s now) opening.name ≡ Some (Some view) → only_reads opening ≡ b → IsDone s now (asks.Open opening) (served_or (cond b (option_map (share s opening view) (serving s.kept opening.name view.instance)) None) (sent_open s opening))
-view_case s now opening view true safe plain cached reads is = kept_case s now opening view (serving s.kept opening.name view.instance) safe plain cached reads refl is
+view_case : (s : ClientState) (now : ℕ) (opening : Open) (view : View) (b : Bool) → IsSafe s now → is_plain opening ≡ true → answer s.cache (noted_moment s now) opening.name ≡ Some (Some view) → only_reads opening ≡ b → IsDone s now (asks.Open opening) (served_or (cond b (option_map (share s opening view) (serving s.kept opening.name view.node.instance)) None) (sent_open s opening))
+view_case s now opening view true safe plain cached reads is = kept_case s now opening view (serving s.kept opening.name view.node.instance) safe plain cached reads refl is
 view_case s now opening view false safe plain cached reads is = sends_case s now (asks.Open opening) (calls.Open opening) None targets.NewHandle safe is
 
 entry_case : (s : ClientState) (now : ℕ) (opening : Open) (o : Option (Option View)) → IsSafe s now → is_plain opening ≡ true → answer s.cache (noted_moment s now) opening.name ≡ o → IsDone s now (asks.Open opening) (served_or (entry_served s opening o) (sent_open s opening))
@@ -116,21 +116,31 @@ poison_case : (s : ClientState) (now number : ℕ) (h : Option ClientHandle) →
 poison_case s now number None safe found is = (Refused faults.BadHandle safe is, refl)
 poison_case s now number (Some handle) safe found is = poisoned_case s now number handle handle.poisoned safe found refl is
 
-cached_case : (s : ClientState) (now number : ℕ) (handle : ClientHandle) (o : Option (Option View)) → IsSafe s now → IsUsable s number handle → handle.mode.read ≡ true → handle.sequencer ≡ None → answer s.cache (noted_moment s now) handle.name ≡ o → IsDone s now (asks.Node number node_calls.Read) (served_or (option_map (serve_read s handle) o) (send_plan s (calls.Read handle.bytes) handle.sequencer (targets.Handle number)))
-cached_case s now number handle None safe usable reads unsequenced cached is = sends_case s now (asks.Node number node_calls.Read) (calls.Read handle.bytes) handle.sequencer (targets.Handle number) safe is
-cached_case s now number handle (Some entry) safe usable reads unsequenced cached is = (ReadServed number handle entry safe refl (record { of_handle = usable; reads = reads; unsequenced = unsequenced; cached = cached }), refl)
+-- what is sent where the cache doesn't answer
+abbrev sent_call : ClientState → ℕ → ClientHandle → NodeCall → Result Plan Fault
+sent_call s number handle call = send_plan s (call_on handle.bytes call) handle.sequencer (targets.Handle number)
 
-unsequenced_case : (s : ClientState) (now number : ℕ) (handle : ClientHandle) (o : Option (List ℕ)) → IsSafe s now → IsUsable s number handle → handle.mode.read ≡ true → handle.sequencer ≡ o → IsDone s now (asks.Node number node_calls.Read) (served_or (cond (is_none o) (option_map (serve_read s handle) (answer s.cache (noted_moment s now) handle.name)) None) (send_plan s (calls.Read handle.bytes) handle.sequencer (targets.Handle number)))
-unsequenced_case s now number handle None safe usable reads at is = cached_case s now number handle (answer s.cache (noted_moment s now) handle.name) safe usable reads at refl is
-unsequenced_case s now number handle (Some sequencer) safe usable reads at is = sends_case s now (asks.Node number node_calls.Read) (calls.Read handle.bytes) handle.sequencer (targets.Handle number) safe is
+sent_case : (s : ClientState) (now number : ℕ) (handle : ClientHandle) (call : NodeCall) → IsSafe s now → IsDone s now (asks.Node number call) (sent_call s number handle call)
+sent_case s now number handle call safe is = sends_case s now (asks.Node number call) (call_on handle.bytes call) handle.sequencer (targets.Handle number) safe is
 
-reads_case : (s : ClientState) (now number : ℕ) (handle : ClientHandle) (b : Bool) → IsSafe s now → IsUsable s number handle → handle.mode.read ≡ b → IsDone s now (asks.Node number node_calls.Read) (served_or (cond (b && is_none handle.sequencer) (option_map (serve_read s handle) (answer s.cache (noted_moment s now) handle.name)) None) (send_plan s (calls.Read handle.bytes) handle.sequencer (targets.Handle number)))
-reads_case s now number handle true safe usable reads is = unsequenced_case s now number handle handle.sequencer safe usable reads refl is
-reads_case s now number handle false safe usable reads is = sends_case s now (asks.Node number node_calls.Read) (calls.Read handle.bytes) handle.sequencer (targets.Handle number) safe is
+answer_case : (s : ClientState) (now number : ℕ) (handle : ClientHandle) (call : NodeCall) (entry : Option View) (o : Option Answer) → IsSafe s now → IsUsable s number handle → handle.mode.read ≡ true → handle.sequencer ≡ None → answer s.cache (noted_moment s now) handle.name ≡ Some entry → cached_answer handle call entry ≡ o → IsDone s now (asks.Node number call) (served_or (option_map (serve_answer s handle entry) o) (sent_call s number handle call))
+answer_case s now number handle call entry None safe usable reads unsequenced cached answered is = sent_case s now number handle call safe is
+answer_case s now number handle call entry (Some given) safe usable reads unsequenced cached answered is = (ReadServed number handle call entry given safe refl (record { of_handle = usable; reads = reads; unsequenced = unsequenced; cached = cached; answers = answered }), refl)
+
+cached_case : (s : ClientState) (now number : ℕ) (handle : ClientHandle) (call : NodeCall) (o : Option (Option View)) → IsSafe s now → IsUsable s number handle → handle.mode.read ≡ true → handle.sequencer ≡ None → answer s.cache (noted_moment s now) handle.name ≡ o → IsDone s now (asks.Node number call) (served_or (cached_served s handle call o) (sent_call s number handle call))
+cached_case s now number handle call None safe usable reads unsequenced cached is = sent_case s now number handle call safe is
+cached_case s now number handle call (Some entry) safe usable reads unsequenced cached is = answer_case s now number handle call entry (cached_answer handle call entry) safe usable reads unsequenced cached refl is
+
+unsequenced_case : (s : ClientState) (now number : ℕ) (handle : ClientHandle) (call : NodeCall) (o : Option (List ℕ)) → IsSafe s now → IsUsable s number handle → handle.mode.read ≡ true → handle.sequencer ≡ o → IsDone s now (asks.Node number call) (served_or (cond (is_none o) (cached_served s handle call (answer s.cache (noted_moment s now) handle.name)) None) (sent_call s number handle call))
+unsequenced_case s now number handle call None safe usable reads at is = cached_case s now number handle call (answer s.cache (noted_moment s now) handle.name) safe usable reads at refl is
+unsequenced_case s now number handle call (Some sequencer) safe usable reads at is = sent_case s now number handle call safe is
+
+reads_case : (s : ClientState) (now number : ℕ) (handle : ClientHandle) (call : NodeCall) (b : Bool) → IsSafe s now → IsUsable s number handle → handle.mode.read ≡ b → IsDone s now (asks.Node number call) (served_or (cond (b && is_none handle.sequencer) (cached_served s handle call (answer s.cache (noted_moment s now) handle.name)) None) (sent_call s number handle call))
+reads_case s now number handle call true safe usable reads is = unsequenced_case s now number handle call handle.sequencer safe usable reads refl is
+reads_case s now number handle call false safe usable reads is = sent_case s now number handle call safe is
 
 call_case : (s : ClientState) (now number : ℕ) (handle : ClientHandle) (call : NodeCall) → IsSafe s now → IsUsable s number handle → IsDone s now (asks.Node number call) (node_plan s (noted_moment s now) number call (Ok handle))
-call_case s now number handle node_calls.Read safe usable is = reads_case s now number handle handle.mode.read safe usable refl is
-call_case s now number handle call safe usable is = sends_case s now (asks.Node number call) (call_on handle.bytes call) handle.sequencer (targets.Handle number) safe is
+call_case s now number handle call safe usable is = reads_case s now number handle call handle.mode.read safe usable refl is
 
 usable_case : (s : ClientState) (now number : ℕ) (handle : ClientHandle) (call : NodeCall) (b : Bool) → IsSafe s now → handle_of s.handles number ≡ Some handle → handle.poisoned ≡ b → IsDone s now (asks.Node number call) (node_plan s (noted_moment s now) number call (cond b (Err faults.Poisoned) (Ok handle)))
 usable_case s now number handle call true safe found at is = (Refused faults.Poisoned safe is, refl)

@@ -110,7 +110,7 @@ plainly n target (results.Opened handle) = refl
 plainly n target results.Closed = refl
 plainly n target (results.Viewed view) = refl
 plainly n target (results.Stated stat) = refl
-plainly n target (results.Names names) = refl
+plainly n target (results.Listed view) = refl
 plainly n target (results.Sequencer bytes) = refl
 plainly n target results.Done = refl
 plainly n target (results.Refused fault) = refl
@@ -141,7 +141,7 @@ asked_leads : (s : ClientState) (now : ℕ) (ask : Ask) (ops : List CacheOp) (c 
 asked_leads s now ask ops (AskedTooLate late) h = tt
 asked_leads s now ask ops (Unsafe fault early is) h = h early
 asked_leads s now ask ops (Refused fault safe is) h = safely_leads s now ops h safe
-asked_leads s now ask ops (ReadServed number handle entry safe is readable) h = safely_leads s now ops h safe
+asked_leads s now ask ops (ReadServed number handle call entry given safe is readable) h = safely_leads s now ops h safe
 asked_leads s now ask ops (AbsenceServed opening safe is plain cached) h = safely_leads s now ops h safe
 asked_leads s now ask ops (Shared opening view handle safe is shared room) h = safely_leads s now ops h safe
 asked_leads s now ask ops (OutOfHandles opening view handle safe is shared last) h = tt

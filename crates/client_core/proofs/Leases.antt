@@ -57,7 +57,7 @@ asked_noted : (s : ClientState) (now : ℕ) (ask : Ask) (c : AskCase s now ask) 
 asked_noted s now ask (AskedTooLate late) = inl refl
 asked_noted s now ask (Unsafe fault early is) = is_noted s now
 asked_noted s now ask (Refused fault safe is) = inr refl
-asked_noted s now ask (ReadServed number mine entry safe is readable) = inr refl
+asked_noted s now ask (ReadServed number mine call entry given safe is readable) = inr refl
 asked_noted s now ask (AbsenceServed opening safe is plain cached) = inr refl
 asked_noted s now ask (Shared opening view mine safe is shared room) = inr refl
 asked_noted s now ask (OutOfHandles opening view mine safe is shared last) = inl refl
@@ -160,7 +160,7 @@ pub asked_keeps : (s : ClientState) (now : ℕ) (ask : Ask) (c : AskCase s now a
 asked_keeps s now ask (AskedTooLate late) = keeps s
 asked_keeps s now ask (Unsafe fault early is) = note_keeps s (noted_moment s now)
 asked_keeps s now ask (Refused fault safe is) = record { of_beats = record { beats = refl; sent = refl }; of_session = record { session = inl refl; epoch = refl; processed = refl; lease = refl } }
-asked_keeps s now ask (ReadServed number mine entry safe is readable) = record { of_beats = record { beats = refl; sent = refl }; of_session = record { session = inl refl; epoch = refl; processed = refl; lease = refl } }
+asked_keeps s now ask (ReadServed number mine call entry given safe is readable) = record { of_beats = record { beats = refl; sent = refl }; of_session = record { session = inl refl; epoch = refl; processed = refl; lease = refl } }
 asked_keeps s now ask (AbsenceServed opening safe is plain cached) = record { of_beats = record { beats = refl; sent = refl }; of_session = record { session = inl refl; epoch = refl; processed = refl; lease = refl } }
 asked_keeps s now ask (Shared opening view mine safe is shared room) = record { of_beats = record { beats = refl; sent = refl }; of_session = record { session = inl refl; epoch = refl; processed = refl; lease = refl } }
 asked_keeps s now ask (OutOfHandles opening view mine safe is shared last) = keeps s

@@ -1,6 +1,7 @@
 pub mod Noting
 pub mod Printed
 pub mod AskCases
+pub mod Cached
 pub mod GiveCases
 pub mod Numbered
 pub mod Leases

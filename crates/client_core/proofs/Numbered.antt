@@ -9,6 +9,7 @@ use Rattle.cache_core.specs.declared.standings.Standing.{Standing}
 use Rattle.cache_core.specs.declared.standings.Standing.TheVariants as standings
 use Rattle.node_core.specs.declared.refusals.Fault.{Fault}
 use Rattle.node_core.specs.declared.refusals.Fault.TheVariants as faults
+use Rattle.node_core.specs.declared.answers.Answer.{Answer}
 use Rattle.node_core.specs.declared.answers.Answer.TheVariants as answers
 use Rattle.node_core.specs.declared.lines.Line.{Line}
 use Rattle.node_core.specs.declared.lines.Line.TheVariants as lines
@@ -22,6 +23,7 @@ use Rattle.messages_cell.specs.declared.outs.CallResult.TheVariants as results
 use Rattle.messages_cell.specs.Messages.{request_number, out_client}
 use Rattle.client_parts.specs.declared.asks.Ask.{Ask}
 use Rattle.client_parts.specs.declared.asks.Asked.{Asked}
+use Rattle.client_parts.specs.declared.asks.NodeCall.{NodeCall}
 use Rattle.client_parts.specs.declared.asks.Outcome.{Outcome}
 use Rattle.client_parts.specs.declared.asks.Outcome.TheVariants as outcomes
 use Rattle.client_parts.specs.declared.handles.ClientHandle.{ClientHandle}
@@ -31,7 +33,7 @@ use Rattle.client_parts.specs.declared.steps.Given.{Given}
 use Rattle.client_parts.specs.declared.targets.Target.{Target}
 use Rattle.client_parts.specs.declared.targets.Outstanding.{Outstanding}
 use Rattle.client_core.specs.State.{ClientState, standing_then, session_then, note, note_live, note_lines_in, note_lines}
-use Rattle.client_parts.specs.Opens.{read_answer, Lesson}
+use Rattle.client_parts.specs.Opens.{cached_answer, Lesson}
 use Rattle.client_parts.specs.Events.{event_lines}
 use Rattle.client_core.specs.Lessons.{may_install, taught}
 use Rattle.client_parts.specs.Targets.{unknown_lines}
@@ -44,6 +46,7 @@ use Rattle.client_core.specs.Cases.GiveCase.{GivenTooLate, OfAnother, Started, S
 use Rattle.client_core.proofs.Noting.{Relies, relied_note, relied_lines, live_before, note_number, note_clock, note_epoch, note_outstanding, note_opened, note_session}
 use Rattle.client_core.proofs.Printed.{events_hold, unknown_holds}
 use Rattle.client_core.proofs.AskCases.{ask_case, beat_case}
+use Rattle.client_core.proofs.Cached.{cached_is}
 use Rattle.client_core.proofs.GiveCases.{taught_if, give_case}
 
 -- a state and an answer, each by itself
@@ -137,7 +140,7 @@ reply_rises s t new target (results.Opened kept) client number call handle same 
 reply_rises s t new target results.Closed client number call handle same h told = cc
 reply_rises s t new target (results.Viewed view) client number call handle same h told = cc
 reply_rises s t new target (results.Stated stat) client number call handle same h told = cc
-reply_rises s t new target (results.Names names) client number call handle same h told = cc
+reply_rises s t new target (results.Listed view) client number call handle same h told = cc
 reply_rises s t new target (results.Sequencer bytes) client number call handle same h told = cc
 reply_rises s t new target results.Done client number call handle same h told = cc
 reply_rises s t new target (results.Refused fault) client number call handle same h told = cc
@@ -148,7 +151,7 @@ gives_none s target (results.Opened kept) t client number call handle X h told =
 gives_none s target results.Closed t client number call handle X h told = cc
 gives_none s target (results.Viewed view) t client number call handle X h told = cc
 gives_none s target (results.Stated stat) t client number call handle X h told = cc
-gives_none s target (results.Names names) t client number call handle X h told = cc
+gives_none s target (results.Listed view) t client number call handle X h told = cc
 gives_none s target (results.Sequencer bytes) t client number call handle X h told = cc
 gives_none s target results.Done t client number call handle X h told = cc
 gives_none s target (results.Refused fault) t client number call handle X h told = cc
@@ -192,20 +195,29 @@ outcome_of (Err fault) = None
 abbrev Comes : Result Asked Fault → Outcome → Type 0
 Comes asked outcome = outcome_of asked ≡ Some outcome
 
-not_opened_by : (b : Bool) (view : View) (handle : ℕ) (X : Type 0) → Some (outcomes.Served (cond b (answers.Viewed view) (answers.Refused faults.StaleInstance))) ≡ Some (outcomes.Served (answers.Opened handle)) → X
-not_opened_by true view handle X h = cc
-not_opened_by false view handle X h = cc
+-- no handle is given
+abbrev GivesNone : ℕ → Type 0 → Answer → Type 0
+GivesNone handle X given = Some (outcomes.Served given) ≡ Some (outcomes.Served (answers.Opened handle)) → X
 
--- a read gives no handle
-not_opened : (mine : ClientHandle) (entry : Option View) (handle : ℕ) (X : Type 0) → Some (outcomes.Served (read_answer mine entry)) ≡ Some (outcomes.Served (answers.Opened handle)) → X
-not_opened mine None handle X h = cc
-not_opened mine (Some view) handle X h = not_opened_by (view.instance == mine.instance) view handle X h
+view_gives_none : (handle : ℕ) (X : Type 0) (view : View) → GivesNone handle X (answers.Viewed view)
+view_gives_none handle X view h = cc
+
+names_give_none : (handle : ℕ) (X : Type 0) (names : List (List ℕ)) → GivesNone handle X (answers.Names names)
+names_give_none handle X names h = cc
+
+stale_gives_none : (handle : ℕ) (X : Type 0) → GivesNone handle X (answers.Refused faults.StaleInstance)
+stale_gives_none handle X h = cc
+
+-- a call that the cache answers gives no handle
+not_opened : (mine : ClientHandle) (call : NodeCall) (entry : Option View) (given : Answer) (handle : ℕ) (X : Type 0) → cached_answer mine call entry ≡ Some given → GivesNone handle X given
+not_opened mine call entry given handle X e =
+    cached_is (GivesNone handle X) (view_gives_none handle X) (names_give_none handle X) (stale_gives_none handle X) mine call entry given e
 
 shares_in : (s new : ClientState) (now handle : ℕ) (ask : Ask) (c : AskCase s now ask) → (asked_in s now ask c).0 ≡ new → Comes (asked_in s now ask c).1 (outcomes.Served (answers.Opened handle)) → (s.opened < handle) × (new.opened ≡ handle)
 shares_in s new now handle ask (AskedTooLate late) h told = cc
 shares_in s new now handle ask (Unsafe fault early is) h told = cc
 shares_in s new now handle ask (Refused fault safe is) h told = cc
-shares_in s new now handle ask (ReadServed number mine entry safe is readable) h told = not_opened mine entry handle _ told
+shares_in s new now handle ask (ReadServed number mine call entry given safe is readable) h told = not_opened mine call entry given handle _ readable.answers told
 shares_in s new now handle ask (AbsenceServed opening safe is plain cached) h told = cc
 shares_in s new now handle ask (Shared opening view mine safe is shared room) h told =
     let n : s.opened + 1 ≡ handle = cc in
@@ -227,7 +239,7 @@ ask_stays : (s : ClientState) (now : ℕ) (ask : Ask) (c : AskCase s now ask) �
 ask_stays s now ask (AskedTooLate late) = omega arith
 ask_stays s now ask (Unsafe fault early is) = let e = note_opened s s.session (noted_moment s now) in omega (arith, e)
 ask_stays s now ask (Refused fault safe is) = omega arith
-ask_stays s now ask (ReadServed number mine entry safe is readable) = omega arith
+ask_stays s now ask (ReadServed number mine call entry given safe is readable) = omega arith
 ask_stays s now ask (AbsenceServed opening safe is plain cached) = omega arith
 ask_stays s now ask (Shared opening view mine safe is shared room) = omega arith
 ask_stays s now ask (OutOfHandles opening view mine safe is shared last) = omega arith
@@ -248,7 +260,7 @@ ended_stays s target (results.Opened kept) = omega arith
 ended_stays s target results.Closed = omega arith
 ended_stays s target (results.Viewed view) = omega arith
 ended_stays s target (results.Stated stat) = omega arith
-ended_stays s target (results.Names names) = omega arith
+ended_stays s target (results.Listed view) = omega arith
 ended_stays s target (results.Sequencer bytes) = omega arith
 ended_stays s target results.Done = omega arith
 ended_stays s target (results.Refused fault) = omega arith
@@ -290,7 +302,7 @@ ended_none s target (results.Opened kept) = refl
 ended_none s target results.Closed = refl
 ended_none s target (results.Viewed view) = refl
 ended_none s target (results.Stated stat) = refl
-ended_none s target (results.Names names) = refl
+ended_none s target (results.Listed view) = refl
 ended_none s target (results.Sequencer bytes) = refl
 ended_none s target results.Done = refl
 ended_none s target (results.Refused fault) = refl
@@ -421,7 +433,7 @@ refused_in s new now ask printed fault (Refused why safe is) h told comes =
     let r = relies s now safe in
     let c : noted_moment s now ≡ new.clock = ap (λ (x : ClientState). x.clock) h in
     (sym h ∙ (sym (relied_note s (noted_moment s now) r) ∙ ap (note s) c), sym told ∙ (sym (relied_lines s (noted_moment s now) r) ∙ ap (note_lines s) c))
-refused_in s new now ask printed fault (ReadServed number mine entry safe is readable) h told comes = cc
+refused_in s new now ask printed fault (ReadServed number mine call entry given safe is readable) h told comes = cc
 refused_in s new now ask printed fault (AbsenceServed opening safe is plain cached) h told comes = cc
 refused_in s new now ask printed fault (Shared opening view mine safe is shared room) h told comes = cc
 refused_in s new now ask printed fault (OutOfHandles opening view mine safe is shared last) h told comes = cc

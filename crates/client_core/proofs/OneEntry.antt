@@ -152,7 +152,7 @@ pub asked_stays : (s : ClientState) (now : ℕ) (ask : Ask) (name : List ℕ) (c
 asked_stays s now ask name (AskedTooLate late) h = same_cache s.cache.entries s.cache.entries name h refl
 asked_stays s now ask name (Unsafe fault early is) h = note_stays s (noted_moment s now) name h
 asked_stays s now ask name (Refused fault safe is) h = same_cache s.cache.entries s.cache.entries name h refl
-asked_stays s now ask name (ReadServed number mine entry safe is readable) h = same_cache s.cache.entries s.cache.entries name h refl
+asked_stays s now ask name (ReadServed number mine call entry given safe is readable) h = same_cache s.cache.entries s.cache.entries name h refl
 asked_stays s now ask name (AbsenceServed opening safe is plain cached) h = same_cache s.cache.entries s.cache.entries name h refl
 asked_stays s now ask name (Shared opening view mine safe is shared room) h = same_cache s.cache.entries s.cache.entries name h refl
 asked_stays s now ask name (OutOfHandles opening view mine safe is shared last) h = same_cache s.cache.entries s.cache.entries name h refl

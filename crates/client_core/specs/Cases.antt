@@ -7,6 +7,7 @@ use Rattle.cache_core.specs.declared.standings.Standing.TheVariants as standings
 use Rattle.node_core.specs.Limits.{number_end}
 use Rattle.node_core.specs.declared.refusals.Fault.{Fault}
 use Rattle.node_core.specs.declared.refusals.Fault.TheVariants as faults
+use Rattle.node_core.specs.declared.answers.Answer.{Answer}
 use Rattle.node_core.specs.declared.answers.Answer.TheVariants as answers
 use Rattle.node_core.specs.declared.lines.Line.TheVariants as lines
 use Rattle.node_core.specs.declared.views.View.{View}
@@ -22,7 +23,7 @@ use Rattle.messages_cell.specs.declared.outs.NewHandle.{NewHandle}
 use Rattle.messages_cell.specs.Messages.{request_number, out_client}
 use Rattle.client_parts.specs.declared.asks.Ask.{Ask}
 use Rattle.client_parts.specs.declared.asks.Ask.TheVariants as asks
-use Rattle.client_parts.specs.declared.asks.NodeCall.TheVariants as node_calls
+use Rattle.client_parts.specs.declared.asks.NodeCall.{NodeCall}
 use Rattle.client_parts.specs.declared.asks.Asked.{Asked}
 use Rattle.client_parts.specs.declared.asks.Outcome.TheVariants as outcomes
 use Rattle.client_parts.specs.declared.handles.ClientHandle.{ClientHandle}
@@ -35,7 +36,7 @@ use Rattle.client_parts.specs.declared.targets.Target.TheVariants as targets
 use Rattle.client_parts.specs.declared.targets.Outstanding.{Outstanding}
 use Rattle.client_core.specs.State.{ClientState, at_moment, session_then, note, note_live, note_lines}
 use Rattle.client_parts.specs.Handles.{handle_of, has_number}
-use Rattle.client_parts.specs.Opens.{read_answer, is_plain, only_reads, kept_handle, Lesson}
+use Rattle.client_parts.specs.Opens.{cached_answer, is_plain, only_reads, kept_handle, Lesson}
 use Rattle.client_core.specs.Asks.{fault_then, plan_of, asked_for, message_of, with_call, with_shared, without_handle}
 use Rattle.client_core.specs.Poisons.{with_poisoned, poison_lines}
 use Rattle.client_core.specs.Beats.{start_message, beat_message, with_beat, beaten}
@@ -74,19 +75,20 @@ pub record IsUsable (s : ClientState) (number : ℕ) (handle : ClientHandle) : T
   pub found : handle_of s.handles number ≡ Some handle
   pub usable : handle.poisoned ≡ false
 
--- a handle to read without a sequencer, and what is cached under its name
-pub record IsReadable (s : ClientState) (now : ℕ) (number : ℕ) (handle : ClientHandle) (entry : Option View) : Type 0 where
+-- a handle to read without a sequencer, and what is cached under its name, by which this is answered to the call
+pub record IsReadable (s : ClientState) (now : ℕ) (number : ℕ) (handle : ClientHandle) (call : NodeCall) (entry : Option View) (given : Answer) : Type 0 where
   pub of_handle : IsUsable s number handle
   pub reads : handle.mode.read ≡ true
   pub unsequenced : handle.sequencer ≡ None
   pub cached : answer s.cache (noted_moment s now) handle.name ≡ Some entry
+  pub answers : cached_answer handle call entry ≡ Some given
 
 -- an Open to read alone without a lock-delay, the view that is cached under its name, and the handle that is kept on that instance
 pub record IsShared (s : ClientState) (now : ℕ) (opening : Open) (view : View) (handle : NewHandle) : Type 0 where
   pub plain : is_plain opening ≡ true
   pub reads : only_reads opening ≡ true
   pub cached : answer s.cache (noted_moment s now) opening.name ≡ Some (Some view)
-  pub kept : serving s.kept opening.name view.instance ≡ Some handle
+  pub kept : serving s.kept opening.name view.node.instance ≡ Some handle
 
 pub data AskCase (s : ClientState) (now : ℕ) (ask : Ask) : Type 0 where
   -- THE MOMENT IS PAST THE END
@@ -96,7 +98,7 @@ pub data AskCase (s : ClientState) (now : ℕ) (ask : Ask) : Type 0 where
   -- THE CLIENT REFUSES IT BY ITSELF
   Refused : (fault : Fault) → IsSafe s now → plan_of s (noted_moment s now) ask ≡ Err fault → AskCase s now ask
   -- THE CACHE ANSWERS
-  ReadServed : (number : ℕ) (handle : ClientHandle) (entry : Option View) → IsSafe s now → ask ≡ asks.Node number node_calls.Read → IsReadable s now number handle entry → AskCase s now ask
+  ReadServed : (number : ℕ) (handle : ClientHandle) (call : NodeCall) (entry : Option View) (given : Answer) → IsSafe s now → ask ≡ asks.Node number call → IsReadable s now number handle call entry given → AskCase s now ask
   AbsenceServed : (opening : Open) → IsSafe s now → ask ≡ asks.Open opening → is_plain opening ≡ true → answer s.cache (noted_moment s now) opening.name ≡ Some None → AskCase s now ask
   Shared : (opening : Open) (view : View) (handle : NewHandle) → IsSafe s now → ask ≡ asks.Open opening → IsShared s now opening view handle → s.opened + 1 < number_end → AskCase s now ask
   OutOfHandles : (opening : Open) (view : View) (handle : NewHandle) → IsSafe s now → ask ≡ asks.Open opening → IsShared s now opening view handle → number_end ≤ s.opened + 1 → AskCase s now ask
@@ -113,8 +115,8 @@ abbrev pub asked_in : (s : ClientState) (now : ℕ) (ask : Ask) → AskCase s no
 asked_in s now ask (AskedTooLate late) = (s, Err faults.Exhausted)
 asked_in s now ask (Unsafe fault early is) = (noted s now, Ok (asked_for (note_lines s (noted_moment s now)) (outcomes.Refused fault)))
 asked_in s now ask (Refused fault safe is) = (at_moment s (noted_moment s now), Ok (asked_for [] (outcomes.Refused fault)))
-asked_in s now ask (ReadServed number handle entry safe is readable) =
-    (at_moment s (noted_moment s now), Ok (asked_for (lines.Served s.number handle.name entry ∷ []) (outcomes.Served (read_answer handle entry))))
+asked_in s now ask (ReadServed number handle call entry given safe is readable) =
+    (at_moment s (noted_moment s now), Ok (asked_for (lines.Served s.number handle.name entry ∷ []) (outcomes.Served given)))
 asked_in s now ask (AbsenceServed opening safe is plain cached) =
     (at_moment s (noted_moment s now), Ok (asked_for (lines.Served s.number opening.name None ∷ []) (outcomes.Served (answers.Refused faults.NotFound))))
 asked_in s now ask (Shared opening view handle safe is shared room) =

@@ -39,7 +39,7 @@ abbrev pub viewed : Option ClientHandle → View → Option Lesson
 viewed None view = None
 viewed (Some handle) view = Some (handle.name, Some view)
 
--- a read on a handle found this
+-- a read or a ReadDir on a handle found this
 abbrev pub view_taught : ClientState → View → Target → Option Lesson
 view_taught s view (targets.Handle number) = viewed (handle_of s.handles number) view
 view_taught s view _ = None
@@ -51,9 +51,10 @@ absence_taught s _ = None
 
 abbrev pub taught : ClientState → Target → CallResult → Option Lesson
 taught s target (results.Viewed view) = view_taught s view target
+taught s target (results.Listed view) = view_taught s view target
 taught s target (results.Refused fault) = absence_taught s fault
 taught s target _ = None
 
--- the answer of a read or of a plain Open, where the cache takes it
+-- the answer of a read, of a ReadDir or of a plain Open, where the cache takes it
 abbrev pub lesson : ClientState → ℕ → Reply → Target → Option Lesson
 lesson s moment message target = if may_install s moment message.stamp then taught s target message.result else None

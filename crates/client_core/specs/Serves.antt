@@ -4,28 +4,33 @@ use Rattle.std.specs.Option.{option_map}
 use Rattle.cache_core.specs.Caches.{answer}
 use Rattle.cache_core.specs.Kept.{serving}
 use Rattle.node_core.specs.declared.refusals.Fault.TheVariants as faults
+use Rattle.node_core.specs.declared.answers.Answer.{Answer}
 use Rattle.node_core.specs.declared.answers.Answer.TheVariants as answers
 use Rattle.node_core.specs.declared.lines.Line.TheVariants as lines
 use Rattle.node_core.specs.declared.views.View.{View}
 use Rattle.messages_cell.specs.declared.calls.Open.{Open}
 use Rattle.messages_cell.specs.declared.outs.NewHandle.{NewHandle}
 use Rattle.client_parts.specs.declared.asks.NodeCall.{NodeCall}
-use Rattle.client_parts.specs.declared.asks.NodeCall.TheVariants as node_calls
 use Rattle.client_parts.specs.declared.handles.ClientHandle.{ClientHandle}
-use Rattle.client_parts.specs.Opens.{is_plain, only_reads, kept_handle, read_answer}
+use Rattle.client_parts.specs.Opens.{is_plain, only_reads, kept_handle, cached_answer}
 use Rattle.client_core.specs.declared.plans.Plan.{Plan}
 use Rattle.client_core.specs.declared.plans.Plan.TheVariants as plans
 use Rattle.client_core.specs.State.{ClientState}
 
--- ---- a read
+-- ---- a read, and a ReadDir
 
-abbrev pub serve_read : ClientState → ClientHandle → Option View → Plan
-serve_read s handle entry = plans.Serve (lines.Served s.number handle.name entry) (read_answer handle entry)
+abbrev pub serve_answer : ClientState → ClientHandle → Option View → Answer → Plan
+serve_answer s handle entry given = plans.Serve (lines.Served s.number handle.name entry) given
 
--- exactly where something is cached under the handle's name, and the handle may read and has no sequencer
+-- by what is cached under the handle's name
+abbrev pub cached_served : ClientState → ClientHandle → NodeCall → Option (Option View) → Option Plan
+cached_served s handle call None = None
+cached_served s handle call (Some entry) = option_map (serve_answer s handle entry) (cached_answer handle call entry)
+
+-- exactly where something is cached under the handle's name that answers the call, and the handle may read and has no sequencer
 abbrev pub read_served : ClientState → ℕ → ClientHandle → NodeCall → Option Plan
-read_served s moment handle node_calls.Read = if handle.mode.read && is_none handle.sequencer then option_map (serve_read s handle) (answer s.cache moment handle.name) else None
-read_served s moment handle _ = None
+read_served s moment handle call =
+    if handle.mode.read && is_none handle.sequencer then cached_served s handle call (answer s.cache moment handle.name) else None
 
 -- ---- an Open
 
@@ -37,7 +42,7 @@ share s opening view handle = plans.Share (lines.Served s.number opening.name (S
 
 -- where it is to read alone, without a lock-delay, and a handle on the cached instance is kept
 abbrev pub handle_shared : ClientState → Open → View → Option Plan
-handle_shared s opening view = if only_reads opening then option_map (share s opening view) (serving s.kept opening.name view.instance) else None
+handle_shared s opening view = if only_reads opening then option_map (share s opening view) (serving s.kept opening.name view.node.instance) else None
 
 abbrev pub entry_served : ClientState → Open → Option (Option View) → Option Plan
 entry_served s opening None = None

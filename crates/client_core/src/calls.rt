@@ -26,7 +26,8 @@ impl Client {
     /// change nothing but what the noting of the time does. A CheckSequencer is on no handle.
     ///
     /// The client answers by itself, also beside an outstanding call: a read on a handle to read without a sequencer under
-    /// whose name its cache holds something, as StaleInstance where that is no view of the handle's instance; a plain Open
+    /// whose name its cache holds something, as StaleInstance where that is no view of the handle's instance; a ReadDir
+    /// on such a handle likewise, but for a file of the handle's instance, of which the master is asked; a plain Open
     /// of a name under which its cache holds absence, as NotFound; a plain Open to read alone, without a lock-delay, where
     /// its cache holds a view on whose instance a handle is kept (Burrows 2006, section 2.7), which then has the next
     /// number beside; and the Close of a handle that is kept so, which stays open at the master.

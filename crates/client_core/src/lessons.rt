@@ -4,7 +4,7 @@ ghost use Rattle.client_parts.specs.Handles.{handle_of};
 ghost use Rattle.client_core.specs.Lessons.{is_fresh, may_install, viewed, view_taught, absence_taught, taught, lesson};
 
 use crate::client::Client;
-use cache_core::Standing;
+use cache_core::{Shared, Standing};
 use client_parts::{Target, absence_taught, standing_by};
 use messages_cell::{CallResult, Reply};
 use names_cell::Name;
@@ -12,13 +12,13 @@ use node_core::{Fault, View};
 use std::alloc::AllocError;
 
 impl Client {
-    // The answer of a read or of a plain Open, where the cache takes it.
+    // The answer of a read, of a ReadDir or of a plain Open, where the cache takes it.
     pub(crate) fn lesson(
         &self,
         moment: u64,
         reply: &Reply,
         target: Target,
-    ) -> Result<Option<(Name, Option<View>)>, AllocError>
+    ) -> Result<Option<(Name, Option<Shared<View>>)>, AllocError>
         ensures { IfOk result (λ taught. taught ≡ lesson self.now moment reply.now target) }
     {
         if !self.may_install(moment, reply.stamp) {
@@ -26,6 +26,7 @@ impl Client {
         }
         match &reply.result {
             CallResult::Viewed(view) => self.view_taught(view, target),
+            CallResult::Listed(view) => self.view_taught(view, target),
             CallResult::Refused(Fault::NotFound) => absence_taught(&self.outstanding),
             _ => Ok(None),
         }
@@ -47,12 +48,12 @@ impl Client {
         }
     }
 
-    // What a read on a handle found.
+    // What a read or a ReadDir on a handle found.
     fn view_taught(
         &self,
         view: &View,
         target: Target,
-    ) -> Result<Option<(Name, Option<View>)>, AllocError>
+    ) -> Result<Option<(Name, Option<Shared<View>>)>, AllocError>
         ensures { IfOk result (λ taught. taught ≡ view_taught self.now view.now target) }
     {
         let Target::Handle(number) = target else {
@@ -62,6 +63,13 @@ impl Client {
             return Ok(None);
         };
         let name = handle.name.clone()?;
-        Ok(Some((name, Some(view.clone()?))))
+        Ok(Some((name, Some(self.shared(view)?))))
+    }
+
+    // A copy of it, for caches to share.
+    fn shared(&self, view: &View) -> Result<Shared<View>, AllocError>
+        ensures { IfOk result (λ shared. shared ≡ view.now) }
+    {
+        Ok(Shared::new(self.alloc, view.clone()?)?)
     }
 }

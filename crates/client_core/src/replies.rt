@@ -102,7 +102,7 @@ impl Client {
             CallResult::Closed => Answer::Closed,
             CallResult::Viewed(view) => Answer::Viewed(view.clone()?),
             CallResult::Stated(stat) => Answer::Stated(stat.clone()?),
-            CallResult::Names(names) => Answer::Names(names.clone()?),
+            CallResult::Listed(view) => Answer::Names(view.children.clone()?),
             CallResult::Sequencer(bytes) => Answer::Sequencer(bytes.clone()?),
             CallResult::Done => Answer::Okay,
             CallResult::Refused(fault) => Answer::Refused(*fault),

@@ -2,10 +2,11 @@
 ghost use Rattle.std.specs.Prelude.{◌≡◌, IfOk, Some, None};
 ghost use Rattle.client_core.specs.declared.plans.Plan.TheVariants as plans;
 ghost use Rattle.node_core.specs.declared.lines.Line.TheVariants as lines;
-ghost use Rattle.client_core.specs.Serves.{read_served, open_served, entry_served, handle_shared, serve_read};
+ghost use Rattle.client_core.specs.Serves.{read_served, cached_served, open_served, entry_served, handle_shared};
 
 use crate::client::Client;
 use crate::plans::Plan;
+use cache_core::Shared;
 use client_parts::{ClientHandle, NodeCall, is_plain, only_reads, served_line};
 use messages_cell::Open;
 use names_cell::Name;
@@ -13,7 +14,8 @@ use node_core::{Answer, Fault, Line, Right, View};
 use std::alloc::AllocError;
 
 impl Client {
-    // A read of this handle, where something is cached under its name. None where the handle has a sequencer.
+    // A read or a ReadDir of this handle, where what is cached under its name answers it. None where the handle has a
+    // sequencer.
     pub(crate) fn read_served(
         &self,
         moment: u64,
@@ -22,27 +24,36 @@ impl Client {
     ) -> Result<Option<Plan>, AllocError>
         ensures { IfOk result (λ plan. plan ≡ read_served self.now moment handle.now call.now) }
     {
-        let NodeCall::Read = call else {
-            return Ok(None);
-        };
         if !handle.mode.has(Right::Read) || handle.sequencer.is_some() {
             return Ok(None);
         }
         match self.cache.look(&handle.name, moment) {
-            Some(entry) => Ok(Some(self.serve_read(handle, entry)?)),
+            Some(entry) => self.cached_served(handle, call, entry),
             None => Ok(None),
         }
     }
 
-    fn serve_read(&self, handle: &ClientHandle, entry: &Option<View>) -> Result<Plan, AllocError>
-        ensures { IfOk result (λ plan. plan ≡ serve_read self.now handle.now entry.now) }
+    fn cached_served(
+        &self,
+        handle: &ClientHandle,
+        call: &NodeCall,
+        entry: &Option<Shared<View>>,
+    ) -> Result<Option<Plan>, AllocError>
+        ensures { IfOk result (λ plan. plan ≡ cached_served self.now handle.now call.now (Some entry.now)) }
     {
-        let answer = handle.read_answer(entry)?;
-        self.serving(&handle.name, entry, answer)
+        match handle.cached_answer(call, entry)? {
+            Some(answer) => Ok(Some(self.serving(&handle.name, entry, answer)?)),
+            None => Ok(None),
+        }
     }
 
     // This answer, with the line of what is cached.
-    fn serving(&self, name: &Name, entry: &Option<View>, answer: Answer) -> Result<Plan, AllocError>
+    fn serving(
+        &self,
+        name: &Name,
+        entry: &Option<Shared<View>>,
+        answer: Answer,
+    ) -> Result<Plan, AllocError>
         ensures { IfOk result (λ plan. plan ≡ plans.Serve (lines.Served self.now.number name.now entry.now) answer) }
     {
         match served_line(self.number.get(), name, entry) {
@@ -71,12 +82,16 @@ impl Client {
         }
     }
 
-    fn entry_served(&self, opening: &Open, entry: &Option<View>) -> Result<Option<Plan>, AllocError>
+    fn entry_served(
+        &self,
+        opening: &Open,
+        entry: &Option<Shared<View>>,
+    ) -> Result<Option<Plan>, AllocError>
         ensures { IfOk result (λ plan. plan ≡ entry_served self.now opening.now (Some entry.now)) }
     {
         match entry {
             None => Ok(Some(self.serving(&opening.name, entry, Answer::Refused(Fault::NotFound))?)),
-            Some(view) => self.handle_shared(opening, view, entry),
+            Some(view) => self.handle_shared(opening, view.get(), entry),
         }
     }
 
@@ -85,7 +100,7 @@ impl Client {
         &self,
         opening: &Open,
         view: &View,
-        entry: &Option<View>,
+        entry: &Option<Shared<View>>,
     ) -> Result<Option<Plan>, AllocError>
         requires { entry.now ≡ Some view.now }
         ensures { IfOk result (λ plan. plan ≡ handle_shared self.now opening.now view.now) }
@@ -93,7 +108,7 @@ impl Client {
         if !only_reads(opening) {
             return Ok(None);
         }
-        match self.kept.kept_for(&opening.name, view.instance) {
+        match self.kept.kept_for(&opening.name, view.node.instance) {
             Some(handle) => {
                 let shared = ClientHandle::of(handle, opening, true)?;
                 Ok(Some(self.sharing(&opening.name, entry, shared)?))
@@ -106,7 +121,7 @@ impl Client {
     fn sharing(
         &self,
         name: &Name,
-        entry: &Option<View>,
+        entry: &Option<Shared<View>>,
         shared: ClientHandle,
     ) -> Result<Plan, AllocError>
         ensures { IfOk result (λ plan. plan ≡ plans.Share (lines.Served self.now.number name.now entry.now) shared) }

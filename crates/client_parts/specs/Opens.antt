@@ -1,5 +1,7 @@
 -- Opens, and what a client keeps of the handles that they give.
 use Rattle.std.specs.Prelude.{ℕ, ◌==◌, ◌&&◌, Bool, true, false, not, is_none, List, Option, Some, None, if◌then◌else◌}
+use Rattle.node_core.specs.declared.kinds.Kind.{Kind}
+use Rattle.node_core.specs.declared.kinds.Kind.TheVariants as kinds
 use Rattle.node_core.specs.declared.kinds.Life.{Life}
 use Rattle.node_core.specs.declared.kinds.Life.TheVariants as lives
 use Rattle.node_core.specs.declared.refusals.Fault.TheVariants as faults
@@ -10,6 +12,8 @@ use Rattle.tags_cell.specs.Masks.{is_no_events}
 use Rattle.tags_cell.specs.Modes.{Rights}
 use Rattle.messages_cell.specs.declared.calls.Open.{Open}
 use Rattle.messages_cell.specs.declared.outs.NewHandle.{NewHandle}
+use Rattle.client_parts.specs.declared.asks.NodeCall.{NodeCall}
+use Rattle.client_parts.specs.declared.asks.NodeCall.TheVariants as node_calls
 use Rattle.client_parts.specs.declared.handles.ClientHandle.{ClientHandle}
 
 -- it makes nothing
@@ -45,10 +49,29 @@ kept_handle handle opening shared = record {
   sequencer = None;
 }
 
+-- ---- what is answered by what is cached under a handle's name
+
 -- the node that the handle is on, if it is the one that is cached
 abbrev pub read_answer : ClientHandle → Option View → Answer
 read_answer handle None = answers.Refused faults.StaleInstance
-read_answer handle (Some view) = if view.instance == handle.instance then answers.Viewed view else answers.Refused faults.StaleInstance
+read_answer handle (Some view) = if view.node.instance == handle.instance then answers.Viewed view else answers.Refused faults.StaleInstance
+
+-- the children of a directory; of a file the master is asked
+abbrev pub names_in : Kind → List (List ℕ) → Option Answer
+names_in kinds.Directory children = Some (answers.Names children)
+names_in kinds.File children = None
+
+-- the children of the node that the handle is on, if it is the one that is cached
+abbrev pub list_answer : ClientHandle → Option View → Option Answer
+list_answer handle None = Some (answers.Refused faults.StaleInstance)
+list_answer handle (Some view) =
+    if view.node.instance == handle.instance then names_in view.node.kind view.children else Some (answers.Refused faults.StaleInstance)
+
+-- a read and a ReadDir are answered, all other calls are for the master
+abbrev pub cached_answer : ClientHandle → NodeCall → Option View → Option Answer
+cached_answer handle node_calls.Read entry = Some (read_answer handle entry)
+cached_answer handle node_calls.List entry = list_answer handle entry
+cached_answer handle _ entry = None
 
 -- ---- what a reply teaches of a name
 

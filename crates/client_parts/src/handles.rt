@@ -1,11 +1,12 @@
 //! What a client keeps of a handle.
 ghost use Rattle.std.specs.Prelude.{◌≡◌, IfOk};
-ghost use Rattle.client_parts.specs.Opens.{is_plain, is_read_only, only_reads, is_shareable, kept_handle, read_answer};
+ghost use Rattle.client_parts.specs.Opens.{is_plain, is_read_only, only_reads, is_shareable, kept_handle, read_answer, names_in, list_answer, cached_answer};
 
-use cache_core::Kept;
+use crate::asks::NodeCall;
+use cache_core::{Kept, Shared};
 use messages_cell::{NewHandle, Open};
 use names_cell::Name;
-use node_core::{Answer, Fault, Life, Right, View};
+use node_core::{Answer, Fault, Kind, Life, Right, View};
 use plain::Bytes;
 use std::alloc::AllocError;
 use tags_cell::{HandleBytes, Mode, Ordinal};
@@ -69,13 +70,50 @@ impl ClientHandle {
     }
 
     /// How a read of it ends where this is cached under its name: only a view of its own instance is of use.
-    pub fn read_answer(&self, entry: &Option<View>) -> Result<Answer, AllocError>
+    pub fn read_answer(&self, entry: &Option<Shared<View>>) -> Result<Answer, AllocError>
         ensures { IfOk result (λ answer. answer ≡ read_answer self.now entry.now) }
     {
         match entry {
-            Some(view) if view.instance == self.instance.get() => Ok(Answer::Viewed(view.clone()?)),
+            Some(view) if view.get().node.instance == self.instance.get() => {
+                Ok(Answer::Viewed(view.get().clone()?))
+            }
             Some(_) | None => Ok(Answer::Refused(Fault::StaleInstance)),
         }
+    }
+
+    /// How a ReadDir of it ends where this is cached under its name; None where that is a file of its own instance.
+    pub fn list_answer(&self, entry: &Option<Shared<View>>) -> Result<Option<Answer>, AllocError>
+        ensures { IfOk result (λ answer. answer ≡ list_answer self.now entry.now) }
+    {
+        match entry {
+            Some(view) if self.instance.get() == view.get().node.instance => names_in(view.get()),
+            Some(_) | None => Ok(Some(Answer::Refused(Fault::StaleInstance))),
+        }
+    }
+
+    /// How a call on it ends where this is cached under its name; None where the master has to answer it.
+    pub fn cached_answer(
+        &self,
+        call: &NodeCall,
+        entry: &Option<Shared<View>>,
+    ) -> Result<Option<Answer>, AllocError>
+        ensures { IfOk result (λ answer. answer ≡ cached_answer self.now call.now entry.now) }
+    {
+        match call {
+            NodeCall::Read => Ok(Some(self.read_answer(entry)?)),
+            NodeCall::List => self.list_answer(entry),
+            _ => Ok(None),
+        }
+    }
+}
+
+// The children of a directory.
+fn names_in(view: &View) -> Result<Option<Answer>, AllocError>
+    ensures { IfOk result (λ answer. answer ≡ names_in view.now.node.kind view.now.children) }
+{
+    match view.node.kind {
+        Kind::Directory => Ok(Some(Answer::Names(view.children.clone()?))),
+        Kind::File => Ok(None),
     }
 }
 

@@ -3,7 +3,7 @@ ghost use Rattle.std.specs.Prelude.{◌≡◌, ◌++◌, ◌∷◌, [], IfOk};
 ghost use Rattle.std.specs.Option.{option_to_list};
 ghost use Rattle.cache_core.specs.Standings.{turn_line};
 
-use cache_core::Standing;
+use cache_core::{Shared, Standing};
 use names_cell::Name;
 use node_core::{Answer, Line, View};
 use plain::Items;
@@ -56,12 +56,16 @@ pub fn opened_lines(
 }
 
 /// The line that tells what is cached under a name.
-pub fn served_line(client: u64, name: &Name, entry: &Option<View>) -> Result<Line, AllocError>
+pub fn served_line(
+    client: u64,
+    name: &Name,
+    entry: &Option<Shared<View>>,
+) -> Result<Line, AllocError>
     ensures { IfOk result (λ line. line ≡ Line.Served client name.now entry.now) }
 {
     let name = name.clone()?;
     let entry = match entry {
-        Some(view) => Some(view.clone()?),
+        Some(view) => Some(view.get().clone()?),
         None => None,
     };
     Ok(Line::Served(client, name, entry))

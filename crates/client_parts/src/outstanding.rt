@@ -6,6 +6,7 @@ ghost use Rattle.client_parts.specs.Targets.{opening_of, sequencer_of, dropped, 
 use crate::handles::is_plain;
 use crate::lines::pushed;
 use crate::targets::{Outstanding, Target};
+use cache_core::Shared;
 use names_cell::Name;
 use node_core::{Answer, Fault, Line, View};
 use plain::{Bytes, Items};
@@ -38,7 +39,7 @@ pub fn drop_reply(outstanding: &mut Option<Outstanding>, number: u64)
 /// That a plain Open found no node.
 pub fn absence_taught(
     outstanding: &Option<Outstanding>,
-) -> Result<Option<(Name, Option<View>)>, AllocError>
+) -> Result<Option<(Name, Option<Shared<View>>)>, AllocError>
     ensures { IfOk result (λ taught. taught ≡ absent (opening_of outstanding.now)) }
 {
     let Some(call) = outstanding else {

@@ -1,23 +1,24 @@
 -- Frames that are written.
 use Rattle.std.proofs.Common.{◌≡◌, ℕ, ◌+◌, ◌^◌, ◌<◌, ◌≤◌, Bool, true, false, cond, List, [], ◌∷◌, ◌++◌, length, Result, Ok, Err, refl, sym, ap, subst, ◌∙◌, append_assoc, arith}
-use Rattle.std.specs.Prelude.{nat_lt}
+use Rattle.std.specs.Prelude.{IfOk, nat_lt}
 use Rattle.std.proofs.lemmas.Bool.{le-ltb, lt-ltb, ltb-false}
 use Rattle.std.proofs.lemmas.List.{length-append, append-nil}
 use Rattle.plain.specs.Results.{Gives}
 use Rattle.byteorder.specs.Endian.{big_bytes}
 use Rattle.messages_cell.specs.declared.requests.Request.{Request}
 use Rattle.messages_cell.specs.declared.outs.Out.{Out}
+use Rattle.messages_cell.specs.Messages.{out_client}
 use Rattle.wire_core.specs.declared.faults.WireFault.{WireFault}
-use Rattle.wire_core.specs.declared.faults.WireFault.TheVariants.{NoMemory, TooLong}
+use Rattle.wire_core.specs.declared.faults.WireFault.TheVariants.{NoMemory, TooLong, BadNumber}
 use Rattle.wire_core.specs.Forms.{◌>>=◌, counted, version, length_end, short_of, written}
 use Rattle.wire_core.specs.Fields.{word, client}
 use Rattle.wire_core.specs.Requests.{request}
-use Rattle.wire_core.specs.Outs.{out_message}
+use Rattle.wire_core.specs.Outs.{out_message, has_bytes, out_written}
 use Rattle.frame_core.specs.declared.frames.Frame.TheVariants as frames
 use Rattle.frame_core.specs.declared.tellings.Told.TheVariants as tells
 use Rattle.frame_core.specs.Blocks.{framed, framed_by}
 use Rattle.frame_core.specs.Frames.{frame}
-use Rattle.frame_core.specs.Told.{told}
+use Rattle.frame_core.specs.Told.{told, out_framed}
 
 of_test : (b : Bool) (x y : List ℕ) → cond b (Ok x) (Err TooLong) ≡ Ok y → x ≡ y
 of_test true x y e = cc
@@ -68,10 +69,10 @@ message_too_long now message fault e =
     longer (version ∷ request.write message) (1 ∷ (big_bytes 8 now ++ (version ∷ request.write message))) fault
     (omega (arith, length-append (big_bytes 8 now) (version ∷ request.write message))) e
 
-pub out_framed : (number : ℕ) (message : Out) (bytes : List ℕ) → written out_message message ≡ Ok bytes
+pub told_framed : (number : ℕ) (message : Out) (bytes : List ℕ) → written out_message message ≡ Ok bytes
     → framed told (tells.Message number message) ≡ framed_by (1 ∷ (big_bytes 8 number ++ bytes))
 unfolding told client word
-out_framed number message bytes e = ap (λ (u : List ℕ). framed_by (1 ∷ (big_bytes 8 number ++ u))) (short_ok (version ∷ out_message.write message) bytes e)
+told_framed number message bytes e = ap (λ (u : List ℕ). framed_by (1 ∷ (big_bytes 8 number ++ u))) (short_ok (version ∷ out_message.write message) bytes e)
 
 pub out_too_long : (number : ℕ) (message : Out) (fault : WireFault) → written out_message message ≡ Err fault → framed told (tells.Message number message) ≡ Err fault
 unfolding told client word
@@ -98,4 +99,37 @@ pub gives_out : (number : ℕ) (message : Out) (front bytes : List ℕ) (r : Res
     → Gives NoMemory r (framed_by (1 ∷ (front ++ bytes))) → Gives NoMemory r (framed told (tells.Message number message))
 gives_out number message front bytes r e was given =
     let P : Result (List ℕ) WireFault → Type 0 = λ w. Gives NoMemory r w in
-    subst P (ap (λ (u : List ℕ). framed_by (1 ∷ (u ++ bytes))) e ∙ sym (out_framed number message bytes was)) given
+    subst P (ap (λ (u : List ℕ). framed_by (1 ∷ (u ++ bytes))) e ∙ sym (told_framed number message bytes was)) given
+
+-- ---- where a message may have no bytes
+
+if_has : (b : Bool) (given block r : Result (List ℕ) WireFault) (bytes : List ℕ) → cond b given (Err BadNumber) ≡ Ok bytes → (given ≡ Ok bytes → Gives NoMemory r block)
+    → Gives NoMemory r (cond b block (Err BadNumber))
+if_has true given block r bytes e gives = gives e
+if_has false given block r bytes e gives = absurd cc
+
+if_lacks : (b : Bool) (given block : Result (List ℕ) WireFault) (fault : WireFault) → cond b given (Err BadNumber) ≡ Err fault → (given ≡ Err fault → block ≡ Err fault)
+    → cond b block (Err BadNumber) ≡ Err fault
+if_lacks true given block fault e fails = fails e
+if_lacks false given block fault e fails = e
+
+if_framed : (b : Bool) (block : Result (List ℕ) WireFault) (bytes : List ℕ) → cond b block (Err BadNumber) ≡ Ok bytes → block ≡ Ok bytes
+if_framed true block bytes e = e
+if_framed false block bytes e = absurd cc
+
+pub gives_framed : (message : Out) (front bytes : List ℕ) (r : Result (List ℕ) WireFault) → front ≡ big_bytes 8 (out_client message) → out_written message ≡ Ok bytes
+    → Gives NoMemory r (framed_by (1 ∷ (front ++ bytes))) → Gives NoMemory r (out_framed message)
+gives_framed message front bytes r e was given =
+    if_has (has_bytes message) (written out_message message) (framed told (tells.Message (out_client message) message)) r bytes was
+    (λ w. gives_out (out_client message) message front bytes r e w given)
+
+pub not_framed : (message : Out) (fault : WireFault) → out_written message ≡ Err fault → out_framed message ≡ Err fault
+not_framed message fault e =
+    if_lacks (has_bytes message) (written out_message message) (framed told (tells.Message (out_client message) message)) fault e
+    (λ w. out_too_long (out_client message) message fault w)
+
+-- what was given is the frame of the message
+pub framed_if : (message : Out) (r : Result (List ℕ) WireFault) → Gives NoMemory r (out_framed message)
+    → IfOk r (λ bytes. framed told (tells.Message (out_client message) message) ≡ Ok bytes)
+framed_if message (Ok bytes) e = if_framed (has_bytes message) (framed told (tells.Message (out_client message) message)) bytes e
+framed_if message (Err fault) given = tt

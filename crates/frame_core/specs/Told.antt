@@ -1,16 +1,17 @@
 -- The forms of the frames that a master sends.
-use Rattle.std.specs.Prelude.{ℕ, List, [], ◌∷◌, Result}
+use Rattle.std.specs.Prelude.{ℕ, List, [], ◌∷◌, Result, Err, if◌then◌else◌}
 use Rattle.messages_cell.specs.declared.outs.Out.{Out}
+use Rattle.messages_cell.specs.Messages.{out_client}
 use Rattle.wire_core.specs.declared.faults.WireFault.{WireFault}
 use Rattle.wire_core.specs.declared.faults.WireFault.TheVariants as wire
 use Rattle.wire_core.specs.Forms.{Form, ◌⊗◌, choice, of_kind, behind}
 use Rattle.wire_core.specs.Fields.{client, block, optional_word}
-use Rattle.wire_core.specs.Outs.{out_message}
+use Rattle.wire_core.specs.Outs.{out_message, has_bytes}
 use Rattle.frame_core.specs.declared.tellings.Told.{Told}
 use Rattle.frame_core.specs.declared.tellings.Told.TheVariants as tells
 use Rattle.frame_core.specs.declared.kinds.ToldKind.{ToldKind}
 use Rattle.frame_core.specs.declared.kinds.ToldKind.TheVariants as of
-use Rattle.frame_core.specs.Blocks.{versioned}
+use Rattle.frame_core.specs.Blocks.{versioned, framed}
 
 -- the client that it goes to, and all bytes of the message
 abbrev pub out_fields : Form (ℕ × Out)
@@ -72,3 +73,7 @@ told_behind of.End rest = behind tells.End optional_word rest
 -- the kind of what is told, and its fields
 unfoldable pub told : Form Told
 told = of_kind (choice all_told told_place) told_kind told_is told_bytes told_behind
+
+-- a message to its client as a block; none where a file has children
+abbrev pub out_framed : Out → Result (List ℕ) WireFault
+out_framed message = if has_bytes message then framed told (tells.Message (out_client message) message) else Err wire.BadNumber

@@ -1,10 +1,10 @@
 //! What a master tells the program that started it.
-ghost use Rattle.std.specs.Prelude.{◌≡◌, ◌∷◌, ◌++◌};
+ghost use Rattle.std.specs.Prelude.{◌≡◌, ◌∷◌, ◌++◌, IfOk, Ok};
 ghost use Rattle.plain.specs.Results.{Gives};
 ghost use Rattle.messages_cell.specs.Messages.{out_client};
 ghost use Rattle.wire_core.specs.Forms.{Form};
 ghost use Rattle.frame_core.specs.Blocks.{framed};
-ghost use Rattle.frame_core.specs.Told.{told};
+ghost use Rattle.frame_core.specs.Told.{told, out_framed};
 
 use crate::blocks::{bytes_of, write_framed};
 use crate::kinds::place_of;
@@ -39,9 +39,11 @@ pub fn write_line(alloc: Global, text: &[u8]) -> Result<Bytes, WireFault>
     write_framed(alloc, 0, &count[4..], text)
 }
 
-/// The bytes of a message to its client, with their number in front. Refused is a frame of 2^32 bytes or more.
+/// The bytes of a message to its client, with their number in front. Refused are a view of a file with children, and a frame
+/// of 2^32 bytes or more.
 pub fn write_message(alloc: Global, message: &Out) -> Result<Bytes, WireFault>
-    ensures { Gives WireFault.NoMemory result (framed told (Told.Message (out_client message.now) message.now)) }
+    ensures bytes { Gives WireFault.NoMemory result (out_framed message.now) }
+    ensures frame { IfOk result (λ bytes. framed told (Told.Message (out_client message.now) message.now) ≡ Ok bytes) }
 {
     let client = bytes_of(message.client().get());
     match write_out(alloc, message) {

@@ -1,5 +1,5 @@
 -- Which refusals a client's step ends with.
-use Rattle.std.proofs.Common.{◌≡◌, ℕ, ◌==◌, Bool, true, false, cond, List, Option, Some, None, Result, Ok, Err, sym, ◌∙◌, subst}
+use Rattle.std.proofs.Common.{◌≡◌, ℕ, Bool, true, false, cond, List, Option, Some, None, Result, Ok, Err, sym, ◌∙◌, subst}
 use Rattle.std.specs.Prelude.{is_some}
 use Rattle.cache_core.specs.declared.standings.Standing.{Standing}
 use Rattle.cache_core.specs.declared.standings.Standing.TheVariants as standings
@@ -7,7 +7,6 @@ use Rattle.node_core.specs.declared.refusals.Fault.{Fault}
 use Rattle.node_core.specs.declared.refusals.Fault.TheVariants as faults
 use Rattle.node_core.specs.declared.answers.Answer.{Answer}
 use Rattle.node_core.specs.declared.answers.Answer.TheVariants as answers
-use Rattle.node_core.specs.declared.views.View.{View}
 use Rattle.messages_cell.specs.declared.calls.Call.{Call}
 use Rattle.messages_cell.specs.declared.calls.Call.TheVariants as calls
 use Rattle.messages_cell.specs.declared.outs.Out.{Out}
@@ -25,7 +24,6 @@ use Rattle.client_parts.specs.declared.targets.Target.{Target}
 use Rattle.client_parts.specs.declared.targets.Target.TheVariants as targets
 use Rattle.client_parts.specs.Calls.{call_on}
 use Rattle.client_parts.specs.Handles.{handle_of, usable_handle}
-use Rattle.client_parts.specs.Opens.{read_answer}
 use Rattle.client_parts.specs.Sessions.{session_fault}
 use Rattle.client_core.specs.declared.plans.Plan.{Plan}
 use Rattle.client_core.specs.declared.plans.Plan.TheVariants as plans
@@ -37,6 +35,7 @@ use Rattle.client_core.specs.Cases.{noted_moment, AskCase, asked_in, GiveCase, g
 use Rattle.client_core.specs.Cases.AskCase.{AskedTooLate, Unsafe, Refused, ReadServed, AbsenceServed, Shared, OutOfHandles, Released, OutOfCalls, Sent, Poisoned}
 use Rattle.client_core.specs.Cases.GiveCase.{GivenTooLate, OfAnother, Started, StartedUnfit, StartedDropped, LeaseTaken, LeaseStays, AliveUnfit, AliveDropped, OutOfNumbers, Replied, Installed, ReplyDropped, NotAwaited, Learns, Lost, TurnedAway, RefusalDropped}
 use Rattle.client_core.proofs.AskCases.{ask_case}
+use Rattle.client_core.proofs.Cached.{cached_is}
 use Rattle.client_core.proofs.GiveCases.{give_case}
 use Rattle.held_cell.specs.Steps.{IsOwn}
 
@@ -139,14 +138,6 @@ session_own sessions.Live standing = standing_own standing
 session_own sessions.Lost standing = record { no_want = λ e. cc; no_end = λ e. cc }
 session_own sessions.TurnedAway standing = record { no_want = λ e. cc; no_end = λ e. cc }
 
-view_own : (b : Bool) (view : View) → OwnAnswer (cond b (answers.Viewed view) (answers.Refused faults.StaleInstance))
-view_own true view = tt
-view_own false view = stale_own
-
-read_own : (handle : ClientHandle) (entry : Option View) → OwnAnswer (read_answer handle entry)
-read_own handle None = stale_own
-read_own handle (Some view) = view_own (view.instance == handle.instance) view
-
 -- the refusal by which an answered ask ends
 abbrev OwnAsked : ClientState × Result Asked Fault → Type 0
 OwnAsked (new, Ok asked) = OwnOutcome asked.outcome
@@ -156,7 +147,7 @@ asked_own : (s : ClientState) (now : ℕ) (ask : Ask) (c : AskCase s now ask) �
 asked_own s now ask (AskedTooLate late) = tt
 asked_own s now ask (Unsafe fault early is) = subst OwnSome is (session_own s.session (standing_then s (noted_moment s now)))
 asked_own s now ask (Refused fault safe is) = subst OwnErr is (plan_own s (noted_moment s now) ask)
-asked_own s now ask (ReadServed number handle entry safe is readable) = read_own handle entry
+asked_own s now ask (ReadServed number handle call entry given safe is readable) = cached_is OwnAnswer (λ view. tt) (λ names. tt) stale_own handle call entry given readable.answers
 asked_own s now ask (AbsenceServed opening safe is plain cached) = record { no_want = λ e. cc; no_end = λ e. cc }
 asked_own s now ask (Shared opening view handle safe is shared room) = tt
 asked_own s now ask (OutOfHandles opening view handle safe is shared last) = tt

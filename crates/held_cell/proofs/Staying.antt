@@ -24,7 +24,7 @@ asked_stays : (s : ClientState) (now : ℕ) (ask : Ask) (c : AskCase s now ask) 
 asked_stays s now ask (AskedTooLate late) = refl
 asked_stays s now ask (Unsafe fault early is) = tt
 asked_stays s now ask (Refused fault safe is) = tt
-asked_stays s now ask (ReadServed number handle entry safe is readable) = tt
+asked_stays s now ask (ReadServed number handle call entry given safe is readable) = tt
 asked_stays s now ask (AbsenceServed opening safe is plain cached) = tt
 asked_stays s now ask (Shared opening view handle safe is shared room) = tt
 asked_stays s now ask (OutOfHandles opening view handle safe is shared last) = refl

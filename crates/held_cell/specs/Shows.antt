@@ -24,12 +24,12 @@ lines_bytes (line ∷ rest) = line_text line ++ (10 ∷ lines_bytes rest)
 -- ---- the content that is shown
 
 abbrev pub answer_content : Answer → List ℕ
-answer_content (answers.Viewed view) = view.content
+answer_content (answers.Viewed view) = view.node.content
 answer_content answer = []
 
 abbrev pub seen_content : Option View → List ℕ
 seen_content None = []
-seen_content (Some view) = view.content
+seen_content (Some view) = view.node.content
 
 abbrev pub line_content : Line → List ℕ
 line_content (lines.Served client name seen) = seen_content seen

@@ -86,7 +86,7 @@ fn seen_content(seen: &Option<View>) -> &[u8]
     ensures { result.now ≡ seen_content seen.now }
 {
     match seen {
-        Some(view) => view.content.as_slice(),
+        Some(view) => view.node.content.as_slice(),
         None => &[],
     }
 }
@@ -95,7 +95,7 @@ fn answer_content(answer: &Answer) -> &[u8]
     ensures { result.now ≡ answer_content answer.now }
 {
     match answer {
-        Answer::Viewed(view) => view.content.as_slice(),
+        Answer::Viewed(view) => view.node.content.as_slice(),
         _ => &[],
     }
 }

@@ -48,9 +48,10 @@ fn show_cache(sheet: &mut Sheet, cache: &Cache, clock: u64, names: &[Name]) {
     for name in names {
         if let Some(entry) = cache.look(name, clock) {
             sheet.block(name.as_str().as_bytes());
-            if let Some(view) = entry {
+            if let Some(shared) = entry {
+                let view = shared.get();
                 sheet.shown(view);
-                sheet.block(view.content.as_slice());
+                sheet.block(view.node.content.as_slice());
             }
             count = count.saturating_add(1);
         }

@@ -313,8 +313,7 @@ const REPLY: Shape = (
         // Closed, done.
         &[Field::One(&[&[1], &[6]])],
         VIEWED,
-        // No names.
-        &[Field::Bytes(&[4, 0, 0, 0, 0])],
+        LISTED,
         &[Field::Bytes(&[5]), Field::Sequencer],
         // Refused as NotFound.
         &[Field::Bytes(&[7, 5])],
@@ -335,6 +334,16 @@ const VIEWED: Fields = &[
     Field::Number(Near::Around, ONE),
     Field::Bytes(b"\0\0\0\0\0\0\0\x01\0\0\0\x04base\0\0\0\x04base\0\0\0\x04base\0"),
     Field::Content,
+    Field::Bytes(&[0, 0, 0, 0]),
+];
+
+// A directory by a ReadDir, with two children and with none; and a file.
+const LISTED: Fields = &[
+    Field::One(&[&[4, 1], &[4, 1], &[4, 1], &[4, 0]]),
+    INSTANCE,
+    Field::Number(Near::Around, ONE),
+    Field::Bytes(b"\0\0\0\0\0\0\0\x01\0\0\0\x04base\0\0\0\x04base\0\0\0\x04base\0\0\0\0\0"),
+    Field::One(&[b"\0\0\0\0", b"\0\0\0\x02\0\0\0\x03acl\0\0\0\x01f"]),
 ];
 
 const INSTANCE: Field = Field::Word(&[3, 4, 5]);

@@ -7,6 +7,7 @@ use gate_core::Waiting;
 use lock_core::Lock;
 use messages_cell::{CallMessage, Out, Reply, Request, Start};
 use names_cell::Name;
+use node_core::{Listing, Node, View};
 use plain::Bytes;
 use rights_core::Rights;
 use session_core::{Kept, Session};
@@ -91,15 +92,28 @@ fn show_lock(sheet: &mut Sheet, lock: &Lock) {
     sheet.told(&lock.closed());
 }
 
+// All of a node; its children are nodes of their own.
+fn show_node(sheet: &mut Sheet, node: &Node) {
+    match node.clone() {
+        Ok(node) => {
+            let children = Listing::new();
+            let view = View { node, children };
+            sheet.shown(&view);
+            drop(view);
+        }
+        Err(_) => sheet.is_short = true,
+    }
+    sheet.block(node.content.as_slice());
+}
+
 // Each node with its lock.
 fn show_nodes(sheet: &mut Sheet, master: &Master) {
     sheet.begin("nodes", 0);
-    for (name, view) in master.nodes.map().as_map() {
+    for (name, node) in master.nodes.map().as_map() {
         sheet.block(name.as_str().as_bytes());
-        sheet.shown(view);
-        sheet.block(view.content.as_slice());
-        sheet.word(master.locks.generation(view.instance));
-        if let Some(lock) = master.locks.get(view.instance) {
+        show_node(sheet, node);
+        sheet.word(master.locks.generation(node.instance));
+        if let Some(lock) = master.locks.get(node.instance) {
             show_lock(sheet, lock);
         }
     }

@@ -1,9 +1,9 @@
 //! A cache, the handles that Opens share, and the grace period, step by step.
 use crate::rights::name;
-use cache_core::{Cache, CacheOp, Kept, KeptHandles, Standing};
+use cache_core::{Cache, CacheOp, Kept, KeptHandles, Shared, Standing};
 use lease_core::Lease;
 use names_cell::{Component, Name};
-use node_core::{Kind, Life, View};
+use node_core::{Kind, Life, Listing, Node, View};
 use plain::Bytes;
 use std::alloc::Global;
 use std::process::Abort;
@@ -30,8 +30,8 @@ enum Step {
     Len(usize),
 }
 
-fn view(alloc: Global, instance: u64) -> Result<View, Fail> {
-    Ok(View {
+fn node(alloc: Global, instance: u64) -> Result<Node, Fail> {
+    Ok(Node {
         kind: Kind::File,
         instance,
         content_generation: 1,
@@ -41,6 +41,13 @@ fn view(alloc: Global, instance: u64) -> Result<View, Fail> {
         change: Component::parse(alloc, "base")?,
         life: Life::Permanent,
         content: Bytes::copy_of(alloc, b"a")?,
+    })
+}
+
+fn view(alloc: Global, instance: u64) -> Result<View, Fail> {
+    Ok(View {
+        node: node(alloc, instance)?,
+        children: Listing::new(),
     })
 }
 
@@ -66,7 +73,7 @@ fn noted(rt: &impl Abort, cache: &mut Cache, now: u64, answer: bool) {
 
 fn install_view(cache: &mut Cache, alloc: Global, name: Name, instance: u64) -> Result<(), Fail> {
     let entry = view(alloc, instance)?;
-    cache.install(name, Some(entry))?;
+    cache.install(name, Some(Shared::new(alloc, entry)?))?;
     Ok(())
 }
 
@@ -88,7 +95,7 @@ fn fill(cache: &mut Cache, alloc: Global) -> Result<(), Fail> {
 // The instance of the view that is served, 0 for an absence; None for a miss.
 fn served(cache: &Cache, name: &Name, now: u64) -> Option<u64> {
     match cache.look(name, now) {
-        Some(Some(view)) => Some(view.instance),
+        Some(Some(view)) => Some(view.get().node.instance),
         Some(None) => Some(0),
         None => None,
     }

@@ -15,6 +15,9 @@ enum Step {
     Grant(u64, u64, Grant),
     /// So many clients are asked for a name.
     AskBack(u64, usize),
+    /// A client is asked for one name and then for another, by tables that were made before: the numbers of the two
+    /// invalidations.
+    AskBoth(u64, u64, u64, (Option<u64>, Option<u64>)),
     /// A client has so many invalidations still to acknowledge.
     Unacked(u64, usize),
     /// A client acknowledges up to this number, and so many rights end.
@@ -48,6 +51,23 @@ fn asked_back(rt: &impl Abort, rights: &mut Rights, name: &Name, count: usize) -
     let asked = rights.ask_back(name)?;
     assert_eq!(rt; asked.as_map().len(), count);
     Ok(())
+}
+
+// The numbers of the invalidations by which a client is asked for one name and then for another.
+fn asked_both(
+    rights: &mut Rights,
+    client: u64,
+    first: &Name,
+    second: &Name,
+) -> Result<(Option<u64>, Option<u64>), Fail> {
+    let asked = rights.to_ask(first)?;
+    let mut asked_next = rights.to_ask(second)?;
+    rights.mark(first, &asked);
+    rights.renumber(&mut asked_next);
+    Ok((
+        asked.get(&client).copied(),
+        asked_next.get(&client).copied(),
+    ))
 }
 
 fn unacked(rt: &impl Abort, rights: &Rights, client: u64, count: usize) -> Result<(), Fail> {
@@ -88,6 +108,11 @@ fn does(rt: &impl Abort, rights: &mut Rights, alloc: Global, step: Step) -> Resu
             granted(rt, rights, client, &name(alloc, number)?, answer)
         }
         Step::AskBack(number, count) => asked_back(rt, rights, &name(alloc, number)?, count),
+        Step::AskBoth(client, first, second, numbers) => {
+            let given = asked_both(rights, client, &name(alloc, first)?, &name(alloc, second)?)?;
+            assert_eq!(rt; given, numbers);
+            Ok(())
+        }
         Step::Unacked(client, count) => unacked(rt, rights, client, count),
         Step::Acknowledge(client, upto, count) => acknowledged(rt, rights, client, upto, count),
         Step::Expire(client, count) => expired(rt, rights, client, count),
@@ -131,6 +156,10 @@ fn do_all(rt: &impl Abort, rights: &mut Rights, alloc: Global) -> Result<(), Fai
             acknowledged: 2,
             expired: 1,
         }),
+        Step::Grant(3, 3, Grant::Granted(5)),
+        Step::Grant(3, 4, Grant::Granted(6)),
+        Step::AskBoth(3, 3, 4, (Some(1), Some(2))),
+        Step::Unacked(3, 1),
     ];
     for step in steps {
         does(rt, rights, alloc, step)?;

@@ -15,7 +15,8 @@ use Rattle.cell_parts.specs.declared.pending.Work.TheVariants as works
 use Rattle.cell_state.specs.State.{MasterState}
 use Rattle.cell_state.specs.Lookups.{noted}
 use Rattle.cell_update.specs.Updates.{with_note}
-use Rattle.cell_core.specs.Step.{admission_for, asking_for, with_call, names_of, task_of}
+use Rattle.cell_core.specs.declared.asking.Touched.{Touched}
+use Rattle.cell_core.specs.Step.{admission_for, asking, asking_for, with_call, names_of, task_of}
 use Rattle.cell_core.specs.Cases.{IsNew, TakeCase, taken_by}
 use Rattle.cell_core.specs.Cases.TakeCase.{StartRefused, StartRecovering, StartFull, StartQueued, OldBeat, BeatRefused, BeatParked, OldEpoch, NoSession, Repeated, OlderCall, Outstanding, Recovering, Answered, Granted, Waits}
 use Rattle.cell_core.proofs.TakeCases.{taken_case}
@@ -37,9 +38,9 @@ module _ (s : MasterState) (request : Request) (key : HandleKey) (other : asks_t
         stays_closed s message.client message.number message.call key note closed (not_opened message new.heard.is_call)
         (subst (AreFair s message.client message.number message.call) (sym is) (taken_fair s message))
 
-    asked_closed : (t : MasterState) (touched : Option (List ℕ)) → IsClosed t key → IsClosed (asking_for t touched) key
-    asked_closed t None h = h
-    asked_closed t (Some name) h = h
+    asked_closed : (t : MasterState) (names : List (List ℕ)) → IsClosed t key → IsClosed (asking_for t names) key
+    asked_closed t [] h = h
+    asked_closed t (name ∷ names) h = asked_closed (asking t name) names h
 
     closed_by : (c : TakeCase s request) → IsClosed (taken_by s request c).0 key
     closed_by (StartRefused start is may) = closed
@@ -57,14 +58,14 @@ module _ (s : MasterState) (request : Request) (key : HandleKey) (other : asks_t
     closed_by (Recovering message new recovering) = closed
     closed_by (Answered message note answer new going answered) = by_note message note new answered.is_noted
     closed_by (Granted message note answer name new going granted) = by_note message note new granted.is_noted
-    closed_by (Waits message note touched new going admitted) = asked_closed (with_call (with_note s note) message touched) touched (by_note message note new admitted.is_noted)
+    closed_by (Waits message note touched new going admitted) = asked_closed (with_call (with_note s note) message touched) (names_of touched) (by_note message note new admitted.is_noted)
 
   module _ (unasked : waits_to_open key s ≡ false) where
-    asked_unasked : (t : MasterState) (touched : Option (List ℕ)) → waits_to_open key t ≡ false → waits_to_open key (asking_for t touched) ≡ false
-    asked_unasked t None h = h
-    asked_unasked t (Some name) h = h
+    asked_unasked : (t : MasterState) (names : List (List ℕ)) → waits_to_open key t ≡ false → waits_to_open key (asking_for t names) ≡ false
+    asked_unasked t [] h = h
+    asked_unasked t (name ∷ names) h = asked_unasked (asking t name) names h
 
-    called_unasked : (message : CallMessage) (note : Option Note) (touched : Option (List ℕ)) → IsNew s request message → waits_to_open key (with_call (with_note s note) message touched) ≡ false
+    called_unasked : (message : CallMessage) (note : Option Note) (touched : Option Touched) → IsNew s request message → waits_to_open key (with_call (with_note s note) message touched) ≡ false
     called_unasked message None touched new = unasked_behind key s.gate.waiting (record { number = s.gate.pushed + 1; change = record { touched = names_of touched; body = tasks.Asked (task_of message) } }) (not_opened message new.heard.is_call) unasked
     called_unasked message (Some note) touched new = unasked_behind key s.gate.waiting (record { number = s.gate.pushed + 1; change = record { touched = names_of touched; body = tasks.Asked (task_of message) } }) (not_opened message new.heard.is_call) unasked
 
@@ -88,7 +89,7 @@ module _ (s : MasterState) (request : Request) (key : HandleKey) (other : asks_t
     unasked_by (Recovering message new recovering) = unasked
     unasked_by (Answered message note answer new going answered) = noted_unasked note
     unasked_by (Granted message note answer name new going granted) = noted_unasked note
-    unasked_by (Waits message note touched new going admitted) = asked_unasked (with_call (with_note s note) message touched) touched (called_unasked message note touched new)
+    unasked_by (Waits message note touched new going admitted) = asked_unasked (with_call (with_note s note) message touched) (names_of touched) (called_unasked message note touched new)
 
 pub closed_handle_stays_closed : ClosedHandleStaysClosed
 closed_handle_stays_closed s new now request key taken h other closed =

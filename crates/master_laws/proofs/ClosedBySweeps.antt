@@ -11,6 +11,7 @@ use Rattle.session_core.specs.declared.records.Offer.{Offer}
 use Rattle.session_core.specs.declared.records.Session.{Session}
 use Rattle.session_core.specs.Sessions.{offer_of}
 use Rattle.messages_cell.specs.declared.outs.Reply.{Reply}
+use Rattle.node_core.specs.Nodes.{with_parent}
 use Rattle.node_core.specs.declared.lines.Line.TheVariants as lines
 use Rattle.node_core.specs.declared.refusals.Fault.TheVariants as faults
 use Rattle.std.specs.Map.{lookup}
@@ -24,6 +25,8 @@ use Rattle.cell_update.specs.Updates.{left, done}
 use Rattle.cell_parts.specs.Keys.{handle_order}
 use Rattle.cell_update.specs.declared.updates.SessionUpdate.TheVariants.{Begins, Prolongs, Answers}
 use Rattle.cell_core.specs.Ephemerals.{is_still_idle}
+use Rattle.cell_core.specs.Step.{queued}
+use Rattle.cell_core.proofs.AskedFor.{asks_only}
 use Rattle.cell_state.specs.NameSpace.{name_space, caller}
 use Rattle.cell_state.specs.State.{MasterState, task_at}
 use Rattle.cell_state.specs.Lookups.{session_of, is_live, may_start, turned_away, noted}
@@ -127,7 +130,13 @@ module _ (s : MasterState) (key : HandleKey) (closed : IsClosed s key) where
     by_action (actions.Expire client) = by_plan (plan_of s (actions.Expire client)) (by_expiry client)
     by_action (actions.Apply number) = by_plan (plan_of s (actions.Apply number)) (by_number number)
     by_action (actions.Reopen instance) = by_plan (plan_of s (actions.Reopen instance)) closed
-    by_action (actions.Tidy idle) = record { closed = closed; unasked = list_any-append (Opens key) s.gate.waiting _ ∙ rw unasked refl }
+    by_action (actions.Tidy idle) =
+        let names = with_parent idle.name in
+        let asked = asks_only names (queued s names (tasks.Tidies idle)) in
+        record {
+          closed = ap (λ (m : MasterState). lookup (is_at (handle_order key)) m.handles) asked ∙ closed;
+          unasked = ap (λ (m : MasterState). list_any (Opens key) m.gate.waiting) asked ∙ list_any-append (Opens key) s.gate.waiting _ ∙ rw unasked refl;
+        }
     by_action (actions.Answer client) = by_plan (plan_of s (actions.Answer client)) (by_beat client)
     by_action actions.Quiet = by_plan (plan_of s actions.Quiet) closed
 

@@ -11,7 +11,7 @@ use Rattle.node_core.specs.declared.kinds.Kind.TheVariants.{File, Directory}
 use Rattle.node_core.specs.declared.kinds.Right.TheVariants as rights
 use Rattle.node_core.specs.declared.refusals.Fault.{Fault}
 use Rattle.node_core.specs.declared.refusals.Fault.TheVariants as faults
-use Rattle.node_core.specs.declared.views.View.{View}
+use Rattle.node_core.specs.declared.nodes.Node.{Node}
 use Rattle.tags_cell.specs.Handles.{is_ordinal, handle_bytes}
 use Rattle.messages_cell.specs.declared.calls.Create.{Create}
 use Rattle.messages_cell.specs.declared.calls.Disposition.{Disposition}
@@ -28,7 +28,7 @@ use Rattle.cell_state.specs.State.{MasterState}
 use Rattle.cell_state.specs.Lookups.{may, missing_right, is_of_cell, sequencer_fault, new_handle, open_present, plain_open}
 use Rattle.cell_parts.specs.Calls.{is_too_long, create_fault}
 use Rattle.cell_apply.specs.declared.effects.Effect.{Effect}
-use Rattle.cell_apply.specs.Effect.{answered, refused, content_of, is_last, opened_effect, new_view, acls_of, create_made, create_numbered, create_permitted, create_in, create_under, create_new, create_over, create_effect, create_tested, create_under_sequencer, create_here, open_effect, effect}
+use Rattle.cell_apply.specs.Effect.{answered, refused, content_of, is_last, opened_effect, new_node, acls_of, create_made, create_numbered, create_permitted, create_in, create_under, create_new, create_over, create_effect, create_tested, create_under_sequencer, create_here, open_effect, effect}
 use Rattle.master_laws.specs.Opens.{AreCarried}
 use Rattle.master_laws.specs.Makes.{IsWithinLimits, MayMake, MayFind, MayMakeOrFind, MakesOnlyWherePermitted, MakesWherePermitted}
 use Rattle.master_laws.proofs.PlainOpens.{within, not_beyond, permitted_by, none_missing, opened_where, opened}
@@ -92,10 +92,10 @@ module _ (s : MasterState) (client number : ℕ) (opening : Open) (create : Crea
 
   -- ---- none of the name is there
 
-  module _ (absent : get_node s.nodes opening.name ≡ None) (parent : List ℕ) (is_parent : parent_of opening.name ≡ Some parent) (above : View) (there : get_node s.nodes parent ≡ Some above) where
-    by_rights : above.kind ≡ Directory → may (name_space s) (caller s client) above rights.Write ≡ true → Gives Q (create_permitted (name_space s) (caller s client) number opening (new_view s.next_instance create.node create.life (acls_of above create.acls)))
+  module _ (absent : get_node s.nodes opening.name ≡ None) (parent : List ℕ) (is_parent : parent_of opening.name ≡ Some parent) (above : Node) (there : get_node s.nodes parent ≡ Some above) where
+    by_rights : above.kind ≡ Directory → may (name_space s) (caller s client) above rights.Write ≡ true → Gives Q (create_permitted (name_space s) (caller s client) number opening (new_node s.next_instance create.node create.life (acls_of above create.acls)))
     by_rights directory write =
-        let view : View = new_view s.next_instance create.node create.life (acls_of above create.acls) in
+        let view : Node = new_node s.next_instance create.node create.life (acls_of above create.acls) in
         by_option Q (missing_right (name_space s) (caller s client) opening.mode view) (λ right. refused (faults.Denied right)) (create_numbered (name_space s) (caller s client) number opening view) (λ right is. of_fault Q (faults.Denied right))
         (λ none.
         either Q (is_last s.next_instance) (refused faults.Exhausted) (create_made (name_space s) opening view (new_handle (name_space s) (caller s client) number opening view)) (λ last. of_fault Q faults.Exhausted)
@@ -115,10 +115,10 @@ module _ (s : MasterState) (client number : ℕ) (opening : Open) (create : Crea
     by_kind : (kind : Kind) → above.kind ≡ kind → Gives Q (create_in (name_space s) (caller s client) number opening create above kind)
     by_kind File is = of_fault Q (faults.WrongKind File)
     by_kind Directory is =
-        let view : View = new_view s.next_instance create.node create.life (acls_of above create.acls) in
+        let view : Node = new_node s.next_instance create.node create.life (acls_of above create.acls) in
         either Q (may (name_space s) (caller s client) above rights.Write) (create_permitted (name_space s) (caller s client) number opening view) (refused (faults.Denied rights.Write)) (by_rights is) (λ denied. of_fault Q (faults.Denied rights.Write))
 
-  by_above : get_node s.nodes opening.name ≡ None → (parent : List ℕ) → parent_of opening.name ≡ Some parent → (o : Option View) → get_node s.nodes parent ≡ o → Gives Q (create_under (name_space s) (caller s client) number opening create o)
+  by_above : get_node s.nodes opening.name ≡ None → (parent : List ℕ) → parent_of opening.name ≡ Some parent → (o : Option Node) → get_node s.nodes parent ≡ o → Gives Q (create_under (name_space s) (caller s client) number opening create o)
   by_above absent parent is_parent None is = of_fault Q faults.NotFound
   by_above absent parent is_parent (Some above) is = by_kind absent parent is_parent above is above.kind refl
 
@@ -129,13 +129,13 @@ module _ (s : MasterState) (client number : ℕ) (opening : Open) (create : Crea
 
   -- ---- one is there
 
-  by_found : (view : View) → get_node s.nodes opening.name ≡ Some view → create.disposition ≡ May → Gives Q (opened_effect (name_space s) (open_present (name_space s) (caller s client) number opening view))
+  by_found : (view : Node) → get_node s.nodes opening.name ≡ Some view → create.disposition ≡ May → Gives Q (opened_effect (name_space s) (open_present (name_space s) (caller s client) number opening view))
   by_found view is disposition handle h =
       let same : plain_open (name_space s) (caller s client) number opening ≡ open_present (name_space s) (caller s client) number opening view = ap (λ o. option_map_or (λ v. open_present (name_space s) (caller s client) number opening v) o (Err faults.NotFound)) is in
       let t = opened s (open_present (name_space s) (caller s client) number opening view) handle (let e = sym h in cc) in
       inr (record { disposition = disposition; may_open = opened_where s client number opening t.0 (cc) })
 
-  by_disposition : (view : View) → get_node s.nodes opening.name ≡ Some view → (disposition : Disposition) → create.disposition ≡ disposition → Gives Q (create_over (name_space s) (caller s client) number opening disposition view)
+  by_disposition : (view : Node) → get_node s.nodes opening.name ≡ Some view → (disposition : Disposition) → create.disposition ≡ disposition → Gives Q (create_over (name_space s) (caller s client) number opening disposition view)
   by_disposition view there Must is = of_fault Q faults.Exists
   by_disposition view there May is = by_found view there is
 
@@ -178,22 +178,22 @@ module _ (s : MasterState) (client number : ℕ) (opening : Open) (create : Crea
   abbrev IsGiven : Effect → Type 0
   IsGiven effected = (handle : NewHandle) × (effected.answer ≡ Some (results.Opened handle))
 
-  abbrev handle_of : View → Handle
+  abbrev handle_of : Node → Handle
   handle_of view = record { epoch = s.epoch; client = client; number = number; instance = view.instance; mode = opening.mode; life = view.life; events = opening.events; delay = opening.delay; name = opening.name }
 
-  abbrev given_of : View → NewHandle
+  abbrev given_of : Node → NewHandle
   given_of view = record { bytes = handle_bytes s.secret (handle_of view); instance = view.instance; life = view.life }
 
   makes : MayMake s client opening create → IsGiven (create_tested (name_space s) (caller s client) number opening create)
   makes m =
-      let view : View = new_view s.next_instance create.node create.life (acls_of m.above create.acls) in
+      let view : Node = new_node s.next_instance create.node create.life (acls_of m.above create.acls) in
       let none : missing_right (name_space s) (caller s client) opening.mode view ≡ None = none_missing s client opening.mode view m.permitted in
       let left : is_last s.next_instance ≡ false = below_last number_limit s.next_instance m.left in
       (given_of view, rw (fits, m.absent, m.is_parent, m.there, m.directory, m.write, none, left, short, carried.epoch, ordinal) refl)
 
   finds : MayFind s client opening create → IsGiven (create_tested (name_space s) (caller s client) number opening create)
   finds m =
-      let view : View = m.may_open.view in
+      let view : Node = m.may_open.view in
       let none : missing_right (name_space s) (caller s client) opening.mode view ≡ None = none_missing s client opening.mode view m.may_open.permitted in
       (given_of view, rw (fits, m.may_open.there, m.disposition, none, short, carried.epoch, carried.instance view m.may_open.there) refl)
 

@@ -7,7 +7,7 @@ use Rattle.std.specs.BTreeMap.{is_at}
 use Rattle.node_core.specs.Nodes.{get_node}
 use Rattle.node_core.specs.declared.refusals.Fault.{Fault}
 use Rattle.node_core.specs.declared.refusals.Fault.TheVariants as faults
-use Rattle.node_core.specs.declared.views.View.{View}
+use Rattle.node_core.specs.declared.nodes.Node.{Node}
 use Rattle.tags_cell.specs.Handles.{is_ordinal, handle_bytes}
 use Rattle.messages_cell.specs.declared.calls.Open.{Open}
 use Rattle.tags_cell.specs.declared.handles.Handle.{Handle}
@@ -37,7 +37,7 @@ use Rattle.master_laws.proofs.PlainOpens.{unless_missing, opened, tested}
 -- ---- which handle it is
 
 pub record IsOn (s : MasterState) (message : CallMessage) (opening : Open) (handle : Handle) : Type 0 where
-  pub view : View
+  pub view : Node
   pub there : get_node s.nodes opening.name ≡ Some view
   pub same : handle_for s message opening view ≡ handle
 

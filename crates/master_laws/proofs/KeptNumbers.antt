@@ -12,11 +12,11 @@ use Rattle.std.proofs.lemmas.Bool.Decides.{nat_tests}
 use Rattle.names_cell.specs.Text.{cell_of, root_of}
 use Rattle.node_core.specs.Limits.{number_limit, number_end}
 use Rattle.node_core.specs.Nodes.{get_node}
-use Rattle.node_core.specs.declared.views.View.{View}
+use Rattle.node_core.specs.declared.nodes.Node.{Node}
 use Rattle.rows_cell.specs.Rows.{StoredNodes, stored_node}
 use Rattle.rows_cell.specs.Sound.{is_number, is_directory, numbers_fit, content_fits, parent_fits, node_fits}
-use Rattle.rows_cell.specs.declared.tables.Node.{Node}
-use Rattle.rows_cell.proofs.RowViews.{views_get}
+use Rattle.rows_cell.specs.declared.tables.StoredNode.{StoredNode}
+use Rattle.rows_cell.proofs.RowNodes.{nodes_get}
 use Rattle.rows_cell.proofs.SoundParts.{five_parts, SoundParts, parts_of}
 use Rattle.tags_cell.specs.Handles.{is_ordinal}
 use Rattle.master_laws.specs.Makes.{KeptNumbersAreCarried}
@@ -51,30 +51,30 @@ above_one n next h k = omega (arith, h, k)
 
 -- ---- instances
 
-given_out : (cell : List ℕ) (next : ℕ) (all : StoredNodes) (entry : List ℕ × Node) → node_fits cell next all entry ≡ true → (1 ≤ entry.1.view.instance) × (entry.1.view.instance < next)
+given_out : (cell : List ℕ) (next : ℕ) (all : StoredNodes) (entry : List ℕ × StoredNode) → node_fits cell next all entry ≡ true → (1 ≤ entry.1.node.instance) × (entry.1.node.instance < next)
 given_out cell next all entry h =
-    let front = and_parts (bytes_eq (cell_of entry.0) cell && parent_fits all entry.0 && numbers_fit next entry.1) (content_fits entry.1.view.kind entry.1.view) h in
+    let front = and_parts (bytes_eq (cell_of entry.0) cell && parent_fits all entry.0 && numbers_fit next entry.1) (content_fits entry.1.node.kind entry.1.node) h in
     let fits = and_parts (bytes_eq (cell_of entry.0) cell && parent_fits all entry.0) (numbers_fit next entry.1) front.0 in
-    let n = five_parts (nat_le 1 entry.1.view.instance) (nat_lt entry.1.view.instance next) (is_number entry.1.view.content_generation) (is_number entry.1.view.acl_generation) (is_number entry.1.lock_generation) fits.1 in
-    (at_least 1 entry.1.view.instance n.0, is_below next entry.1.view.instance n.1)
+    let n = five_parts (nat_le 1 entry.1.node.instance) (nat_lt entry.1.node.instance next) (is_number entry.1.node.content_generation) (is_number entry.1.node.acl_generation) (is_number entry.1.lock_generation) fits.1 in
+    (at_least 1 entry.1.node.instance n.0, is_below next entry.1.node.instance n.1)
 
-found_given_out : (cell : List ℕ) (next : ℕ) (all nodes : StoredNodes) (name : List ℕ) (node : Node) → list_all (node_fits cell next all) nodes ≡ true → stored_node nodes name ≡ Some node → (1 ≤ node.view.instance) × (node.view.instance < next)
+found_given_out : (cell : List ℕ) (next : ℕ) (all nodes : StoredNodes) (name : List ℕ) (node : StoredNode) → list_all (node_fits cell next all) nodes ≡ true → stored_node nodes name ≡ Some node → (1 ≤ node.node.instance) × (node.node.instance < next)
 found_given_out cell next all [] name node h = λ is. absurd cc
 found_given_out cell next all (e ∷ es) name node h =
     let t = and_parts (node_fits cell next all e) (list_all (node_fits cell next all) es) h in
-    elim (is_at (slice_cmp nat_cmp name) e.0) as (λ b. cond b (Some e.1) (stored_node es name) ≡ Some node → (1 ≤ node.view.instance) × (node.view.instance < next)) [
+    elim (is_at (slice_cmp nat_cmp name) e.0) as (λ b. cond b (Some e.1) (stored_node es name) ≡ Some node → (1 ≤ node.node.instance) × (node.node.instance < next)) [
       | true ↦ (λ is.
           let same : e.1 ≡ node = cc in
-          let P : Node → Type 0 = λ n. (1 ≤ n.view.instance) × (n.view.instance < next) in
+          let P : StoredNode → Type 0 = λ n. (1 ≤ n.node.instance) × (n.node.instance < next) in
           subst P same (given_out cell next all e t.0))
       | false ↦ (λ is. found_given_out cell next all es name node t.1 is)
     ]
 
-stored : (o : Option Node) (view : View) → option_map (λ (node : Node). node.view) o ≡ Some view → (node : Node) × (o ≡ Some node) × (node.view ≡ view)
+stored : (o : Option StoredNode) (view : Node) → option_map (λ (node : StoredNode). node.node) o ≡ Some view → (node : StoredNode) × (o ≡ Some node) × (node.node ≡ view)
 stored None view h = absurd cc
 stored (Some node) view h = (node, refl, cc)
 
-directory : (o : Option Node) → option_map_or (λ (node : Node). is_directory node.view.kind) o false ≡ true → (node : Node) × (o ≡ Some node)
+directory : (o : Option StoredNode) → option_map_or (λ (node : StoredNode). is_directory node.node.kind) o false ≡ true → (node : StoredNode) × (o ≡ Some node)
 directory None h = absurd cc
 directory (Some node) h = (node, refl)
 
@@ -87,13 +87,13 @@ kept_numbers_are_carried cell name rows s kept first =
     let next : rows.next_instance ≤ number_limit = at_most number_limit rows.next_instance parts.next in
     let root = directory (stored_node rows.nodes (root_of cell)) parts.root in
     let root_fits = found_given_out cell rows.next_instance rows.nodes rows.nodes (root_of cell) root.0 parts.nodes root.1 in
-    let next_carried : is_ordinal rows.next_instance ≡ true = is_carried rows.next_instance (above_one root.0.view.instance rows.next_instance root_fits.0 root_fits.1) next in (
+    let next_carried : is_ordinal rows.next_instance ≡ true = is_carried rows.next_instance (above_one root.0.node.instance rows.next_instance root_fits.0 root_fits.1) next in (
       record {
         epoch = is_carried s.epoch first epoch;
         instance = λ view there.
-            let n = stored (stored_node rows.nodes name) view (sym (views_get rows.nodes name) ∙ sym (ap (λ nodes. get_node nodes name) kept.nodes) ∙ there) in
+            let n = stored (stored_node rows.nodes name) view (sym (nodes_get rows.nodes name) ∙ sym (ap (λ nodes. get_node nodes name) kept.nodes) ∙ there) in
             let fits = found_given_out cell rows.next_instance rows.nodes rows.nodes name n.0 parts.nodes n.1 in
-            subst (λ v. is_ordinal v.instance ≡ true) n.2 (is_carried n.0.view.instance fits.0 (under n.0.view.instance rows.next_instance fits.1 next));
+            subst (λ v. is_ordinal v.instance ≡ true) n.2 (is_carried n.0.node.instance fits.0 (under n.0.node.instance rows.next_instance fits.1 next));
       },
       subst (λ n. is_ordinal n ≡ true) (sym kept.next_instance) next_carried,
     )

@@ -11,6 +11,7 @@ use Rattle.cell_parts.specs.declared.handles.Note.{Note}
 use Rattle.cell_parts.specs.declared.pending.Taken.{Taken}
 use Rattle.cell_state.specs.State.{MasterState}
 use Rattle.cell_state.specs.Lookups.{kept_of, is_live, noted}
+use Rattle.cell_core.specs.declared.asking.Touched.{Touched}
 use Rattle.cell_core.specs.Step.{take_step, replied, granting, waits}
 use Rattle.cell_update.specs.Updates.{with_note}
 use Rattle.cell_core.specs.Cases.{IsBehind, IsNew, IsAnswered, IsGranted, IsAdmitted, TakeCase, taken_by}
@@ -22,7 +23,7 @@ pub data NewCase (s : MasterState) (message : CallMessage) : Type 0 where
   Recovers : s.recovering ≡ true → NewCase s message
   Answers : (note : Option Note) (answer : CallResult) → s.recovering ≡ false → IsAnswered s message note answer → NewCase s message
   Grants : (note : Option Note) (answer : CallResult) (name : List ℕ) → s.recovering ≡ false → IsGranted s message note answer name → NewCase s message
-  Queues : (note : Option Note) (touched : Option (List ℕ)) → s.recovering ≡ false → IsAdmitted s message note touched → NewCase s message
+  Queues : (note : Option Note) (touched : Option Touched) → s.recovering ≡ false → IsAdmitted s message note touched → NewCase s message
 
 abbrev pub new_by : (s : MasterState) (message : CallMessage) → NewCase s message → MasterState × Taken
 new_by s message (Recovers recovering) = replied s message.client message.number (results.Refused faults.Recovering)

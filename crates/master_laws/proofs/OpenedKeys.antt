@@ -6,7 +6,7 @@ use Rattle.std.proofs.lemmas.Bool.Decides.{nat_tests}
 use Rattle.node_core.specs.Nodes.{get_node}
 use Rattle.node_core.specs.declared.refusals.Fault.{Fault}
 use Rattle.node_core.specs.declared.refusals.Fault.TheVariants as faults
-use Rattle.node_core.specs.declared.views.View.{View}
+use Rattle.node_core.specs.declared.nodes.Node.{Node}
 use Rattle.tags_cell.specs.Handles.{is_ordinal}
 use Rattle.messages_cell.specs.declared.calls.Open.{Open}
 use Rattle.tags_cell.specs.declared.handles.Handle.{Handle}
@@ -34,16 +34,16 @@ unless_long true r handle h = absurd cc
 unless_long false r handle h = h
 
 module _ (s : MasterState) (client number : ℕ) (opening : Open) (handle : Handle) where
-  pub numbered_key : (view : View) → numbered_handle (name_space s) (caller s client) number opening view ≡ Ok handle → IsOfCall client number handle
+  pub numbered_key : (view : Node) → numbered_handle (name_space s) (caller s client) number opening view ≡ Ok handle → IsOfCall client number handle
   numbered_key view h =
       let given : Handle = record { epoch = s.epoch; client = client; number = number; instance = view.instance; mode = opening.mode; life = view.life; events = opening.events; delay = opening.delay; name = opening.name } in
       let same : given ≡ handle = if_so (is_ordinal s.epoch && is_ordinal view.instance) given handle h in
       subst (IsOfCall client number) same (rw (itself client, itself number) refl)
 
-  pub new_key : (view : View) → new_handle (name_space s) (caller s client) number opening view ≡ Ok handle → IsOfCall client number handle
+  pub new_key : (view : Node) → new_handle (name_space s) (caller s client) number opening view ≡ Ok handle → IsOfCall client number handle
   new_key view h = numbered_key view (unless_long (is_too_long opening.delay) (numbered_handle (name_space s) (caller s client) number opening view) handle h)
 
-  pub present_key : (view : View) → open_present (name_space s) (caller s client) number opening view ≡ Ok handle → IsOfCall client number handle
+  pub present_key : (view : Node) → open_present (name_space s) (caller s client) number opening view ≡ Ok handle → IsOfCall client number handle
   present_key view h =
       let t = unless_missing (missing_right (name_space s) (caller s client) opening.mode view) (is_too_long opening.delay) (numbered_handle (name_space s) (caller s client) number opening view) handle h in
       numbered_key view t.2

@@ -9,7 +9,7 @@ use Rattle.node_core.specs.declared.kinds.Right.{Right}
 use Rattle.node_core.specs.declared.kinds.Right.TheVariants.{Read, Write, Change}
 use Rattle.node_core.specs.declared.refusals.Fault.{Fault}
 use Rattle.node_core.specs.declared.refusals.Fault.TheVariants as faults
-use Rattle.node_core.specs.declared.views.View.{View}
+use Rattle.node_core.specs.declared.nodes.Node.{Node}
 use Rattle.tags_cell.specs.Handles.{handle_bytes}
 use Rattle.tags_cell.specs.Modes.{Rights, has_right}
 use Rattle.messages_cell.specs.declared.calls.Open.{Open}
@@ -47,7 +47,7 @@ lacks_nothing : (wanted permitted : Bool) → (wanted ≡ true → permitted ≡
 lacks_nothing false permitted h = refl
 lacks_nothing true permitted h = rw (h refl) refl
 
-pub permitted_by : (s : MasterState) (client : ℕ) (mode : Rights) (view : View) → missing_right (name_space s) (caller s client) mode view ≡ None → ArePermitted s client mode view
+pub permitted_by : (s : MasterState) (client : ℕ) (mode : Rights) (view : Node) → missing_right (name_space s) (caller s client) mode view ≡ None → ArePermitted s client mode view
 permitted_by s client mode view h right =
     let t = none_first (has_right mode Read && not (may (name_space s) (caller s client) view Read)) (has_right mode Write && not (may (name_space s) (caller s client) view Write)) (has_right mode Change && not (may (name_space s) (caller s client) view Change)) h in
     elim right as (λ r. has_right mode r ≡ true → may (name_space s) (caller s client) view r ≡ true) [
@@ -56,7 +56,7 @@ permitted_by s client mode view h right =
       | Change ↦ permits (has_right mode Change) (may (name_space s) (caller s client) view Change) t.2
     ]
 
-pub none_missing : (s : MasterState) (client : ℕ) (mode : Rights) (view : View) → ArePermitted s client mode view → missing_right (name_space s) (caller s client) mode view ≡ None
+pub none_missing : (s : MasterState) (client : ℕ) (mode : Rights) (view : Node) → ArePermitted s client mode view → missing_right (name_space s) (caller s client) mode view ≡ None
 none_missing s client mode view h =
     rw (lacks_nothing (has_right mode Read) (may (name_space s) (caller s client) view Read) (h Read), lacks_nothing (has_right mode Write) (may (name_space s) (caller s client) view Write) (h Write), lacks_nothing (has_right mode Change) (may (name_space s) (caller s client) view Change) (h Change)) refl
 

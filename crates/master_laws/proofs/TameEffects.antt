@@ -5,7 +5,7 @@ use Rattle.std.specs.Option.{option_map_or}
 use Rattle.names_cell.specs.Text.{parent_of}
 use Rattle.node_core.specs.declared.refusals.Fault.{Fault}
 use Rattle.node_core.specs.declared.refusals.Fault.TheVariants as faults
-use Rattle.node_core.specs.declared.views.View.{View}
+use Rattle.node_core.specs.declared.nodes.Node.{Node}
 use Rattle.node_core.specs.declared.views.Mod.{Mod}
 use Rattle.node_core.specs.declared.views.Mod.TheVariants.{Put}
 use Rattle.node_core.specs.declared.kinds.Kind.{Kind}
@@ -38,7 +38,7 @@ use Rattle.cell_parts.specs.Keys.{key_of}
 use Rattle.cell_parts.specs.Notes.{open_note}
 use Rattle.cell_apply.specs.declared.effects.Effect.{Effect}
 use Rattle.cell_apply.specs.declared.effects.Locking.{Locking}
-use Rattle.cell_apply.specs.Effect.{answered, refused, changes_to, is_last, opened_effect, new_view, acls_of, create_made, create_numbered, create_permitted, create_in, create_under, create_new, create_over, create_effect, create_tested, create_under_sequencer, open_effect, acquire_by, try_by, release_by, close_under, generation_fits, with_content, with_acls, put_at, deleted, delete_at, change_at, change_on, effect_on, handle_effect, effect}
+use Rattle.cell_apply.specs.Effect.{answered, refused, changes_to, is_last, opened_effect, new_node, acls_of, create_made, create_numbered, create_permitted, create_in, create_under, create_new, create_over, create_effect, create_tested, create_under_sequencer, open_effect, acquire_by, try_by, release_by, close_under, generation_fits, with_content, with_acls, put_at, deleted, delete_at, change_at, change_on, effect_on, handle_effect, effect}
 use Rattle.master_laws.proofs.OpenedKeys.{IsOfCall, new_key, present_key, plain_key}
 use Rattle.master_laws.proofs.ClosedNotes.{AreFair, closes, is_by_open, none_fair, one_fair}
 
@@ -94,7 +94,7 @@ module _ (s : MasterState) (client number : ℕ) (call : Call) where
 
   -- ---- a change of a node that stands
 
-  of_put : (handle : Handle) (present : ℕ) (wanted : Option ℕ) (view : View) → Tame (put_at (name_space s) handle present wanted view)
+  of_put : (handle : Handle) (present : ℕ) (wanted : Option ℕ) (view : Node) → Tame (put_at (name_space s) handle present wanted view)
   of_put handle present wanted view =
       let written : Effect = changes_to (Put handle.name view) s.next_instance results.Done in
       either (generation_fits wanted present) (cond (is_last present) (refused faults.Exhausted) written) (refused (faults.WrongGeneration present))
@@ -108,7 +108,7 @@ module _ (s : MasterState) (client number : ℕ) (call : Call) where
   of_delete handle =
       either (has_children s.nodes handle.name || is_none (parent_of handle.name)) (refused faults.NotEmpty) (deleted (name_space s) handle) (of_fault faults.NotEmpty) (of_deleted handle)
 
-  of_node : (handle : Handle) (on : Call) (view : View) → Tame (change_at (name_space s) s.clock handle on view)
+  of_node : (handle : Handle) (on : Call) (view : Node) → Tame (change_at (name_space s) s.clock handle on view)
   of_node handle (calls.Set bytes content generation) view = of_put handle view.content_generation generation (with_content view content)
   of_node handle (calls.SetAcl bytes acls generation) view = of_put handle view.acl_generation generation (with_acls view acls)
   of_node handle (calls.Delete bytes) view = of_delete handle
@@ -149,29 +149,29 @@ module _ (s : MasterState) (client number : ℕ) (opening : Open) where
   of_opened (Ok handle) own = record { refuses = λ fault h. absurd cc; notes = fair_handle handle (own handle refl) }
   of_opened (Err fault) own = fault_of fault
 
-  of_made : (view : View) (opened : Result Handle Fault) → ((handle : Handle) → opened ≡ Ok handle → IsOfCall client number handle) → Tamed (create_made (name_space s) opening view opened)
+  of_made : (view : Node) (opened : Result Handle Fault) → ((handle : Handle) → opened ≡ Ok handle → IsOfCall client number handle) → Tamed (create_made (name_space s) opening view opened)
   of_made view (Ok handle) own = record { refuses = λ fault h. absurd cc; notes = fair_handle handle (own handle refl) }
   of_made view (Err fault) own = fault_of fault
 
-  of_numbered : (view : View) → Tamed (create_numbered (name_space s) (caller s client) number opening view)
+  of_numbered : (view : Node) → Tamed (create_numbered (name_space s) (caller s client) number opening view)
   of_numbered view =
       let opened = new_handle (name_space s) (caller s client) number opening view in
       either s client number (calls.Open opening) (is_last s.next_instance) (refused faults.Exhausted) (create_made (name_space s) opening view opened) (fault_of faults.Exhausted)
       (of_made view opened (λ handle h. new_key s client number opening handle view h))
 
-  of_permitted : (view : View) → Tamed (create_permitted (name_space s) (caller s client) number opening view)
+  of_permitted : (view : Node) → Tamed (create_permitted (name_space s) (caller s client) number opening view)
   of_permitted view =
       by_option s client number (calls.Open opening) (missing_right (name_space s) (caller s client) opening.mode view) (λ right. refused (faults.Denied right)) (create_numbered (name_space s) (caller s client) number opening view) (λ right. fault_of (faults.Denied right))
       (of_numbered view)
 
-  of_kind : (create : Create) (above : View) (kind : Kind) → Tamed (create_in (name_space s) (caller s client) number opening create above kind)
+  of_kind : (create : Create) (above : Node) (kind : Kind) → Tamed (create_in (name_space s) (caller s client) number opening create above kind)
   of_kind create above File = fault_of (faults.WrongKind File)
   of_kind create above Directory =
-      let view : View = new_view s.next_instance create.node create.life (acls_of above create.acls) in
+      let view : Node = new_node s.next_instance create.node create.life (acls_of above create.acls) in
       either s client number (calls.Open opening) (may (name_space s) (caller s client) above rights.Write) (create_permitted (name_space s) (caller s client) number opening view) (refused (faults.Denied rights.Write)) (of_permitted view)
       (fault_of (faults.Denied rights.Write))
 
-  of_above : (create : Create) (o : Option View) → Tamed (create_under (name_space s) (caller s client) number opening create o)
+  of_above : (create : Create) (o : Option Node) → Tamed (create_under (name_space s) (caller s client) number opening create o)
   of_above create None = fault_of faults.NotFound
   of_above create (Some above) = of_kind create above above.kind
 
@@ -180,7 +180,7 @@ module _ (s : MasterState) (client number : ℕ) (opening : Open) where
       by_option s client number (calls.Open opening) (parent_of opening.name) (λ parent. create_under (name_space s) (caller s client) number opening create (get_node s.nodes parent)) (refused faults.NotFound)
       (λ parent. of_above create (get_node s.nodes parent)) (fault_of faults.NotFound)
 
-  of_present : (disposition : Disposition) (view : View) → Tamed (create_over (name_space s) (caller s client) number opening disposition view)
+  of_present : (disposition : Disposition) (view : Node) → Tamed (create_over (name_space s) (caller s client) number opening disposition view)
   of_present Must view = fault_of faults.Exists
   of_present May view = of_opened (open_present (name_space s) (caller s client) number opening view) (λ handle h. present_key s client number opening handle view h)
 

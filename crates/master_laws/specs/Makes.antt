@@ -5,7 +5,7 @@ use Rattle.node_core.specs.Limits.{content_limit, lock_delay_limit, number_limit
 use Rattle.node_core.specs.Nodes.{get_node}
 use Rattle.node_core.specs.declared.kinds.Kind.TheVariants as kinds
 use Rattle.node_core.specs.declared.kinds.Right.TheVariants as rights
-use Rattle.node_core.specs.declared.views.View.{View}
+use Rattle.node_core.specs.declared.nodes.Node.{Node}
 use Rattle.rows_cell.specs.declared.tables.Rows.{Rows}
 use Rattle.tags_cell.specs.Handles.{is_ordinal}
 use Rattle.messages_cell.specs.declared.calls.Call.TheVariants as calls
@@ -17,7 +17,7 @@ use Rattle.messages_cell.specs.declared.outs.NewHandle.{NewHandle}
 use Rattle.cell_state.specs.NameSpace.{name_space, caller}
 use Rattle.cell_state.specs.State.{MasterState}
 use Rattle.cell_state.specs.Lookups.{may, is_of_cell}
-use Rattle.cell_apply.specs.Effect.{new_view, acls_of, content_of, effect}
+use Rattle.cell_apply.specs.Effect.{new_node, acls_of, content_of, effect}
 use Rattle.sweep_laws.specs.Kept.{IsKept}
 use Rattle.master_laws.specs.Opens.{ArePermitted, MayOpen, AreCarried}
 
@@ -32,11 +32,11 @@ pub record MayMake (s : MasterState) (client : ℕ) (opening : Open) (create : C
   pub absent : get_node s.nodes opening.name ≡ None
   pub parent : List ℕ
   pub is_parent : parent_of opening.name ≡ Some parent
-  pub above : View
+  pub above : Node
   pub there : get_node s.nodes parent ≡ Some above
   pub directory : above.kind ≡ kinds.Directory
   pub write : may (name_space s) (caller s client) above rights.Write ≡ true
-  pub permitted : ArePermitted s client opening.mode (new_view s.next_instance create.node create.life (acls_of above create.acls))
+  pub permitted : ArePermitted s client opening.mode (new_node s.next_instance create.node create.life (acls_of above create.acls))
   pub left : s.next_instance < number_limit
 
 -- a node of the name is there and may be, and the client may open it so

@@ -3,7 +3,7 @@ use Rattle.std.specs.Prelude.{◌≡◌, ◌↔◌, ◌≤◌, ℕ, true, List, 
 use Rattle.node_core.specs.Limits.{lock_delay_limit}
 use Rattle.node_core.specs.Nodes.{get_node}
 use Rattle.node_core.specs.declared.kinds.Right.{Right}
-use Rattle.node_core.specs.declared.views.View.{View}
+use Rattle.node_core.specs.declared.nodes.Node.{Node}
 use Rattle.tags_cell.specs.Handles.{is_ordinal, handle_bytes}
 use Rattle.tags_cell.specs.Modes.{Rights, has_right}
 use Rattle.messages_cell.specs.declared.calls.Call.TheVariants as calls
@@ -23,12 +23,12 @@ use Rattle.master_laws.specs.Steps.{TakesCall, IsAnsweredBy}
 -- ---- who may open
 
 -- each right of the mode is permitted to the client's principal, by the ACL files that this view names
-abbrev pub ArePermitted : MasterState → ℕ → Rights → View → Type 0
+abbrev pub ArePermitted : MasterState → ℕ → Rights → Node → Type 0
 ArePermitted s client mode view = (right : Right) → has_right mode right ≡ true → may (name_space s) (caller s client) view right ≡ true
 
 -- the node is there, each right of the mode is permitted on it, and the lock-delay is within the limit
 pub record MayOpen (s : MasterState) (client : ℕ) (opening : Open) : Type 0 where
-  pub view : View
+  pub view : Node
   pub there : get_node s.nodes opening.name ≡ Some view
   pub permitted : ArePermitted s client opening.mode view
   pub delay : opening.delay ≤ lock_delay_limit
@@ -45,7 +45,7 @@ pub record IsPlainOpen (s : MasterState) (message : CallMessage) (opening : Open
 -- a handle can carry the master's epoch, and the instance of the node of this name, where it is there
 pub record AreCarried (s : MasterState) (name : List ℕ) : Type 0 where
   pub epoch : is_ordinal s.epoch ≡ true
-  pub instance : (view : View) → get_node s.nodes name ≡ Some view → is_ordinal view.instance ≡ true
+  pub instance : (view : Node) → get_node s.nodes name ≡ Some view → is_ordinal view.instance ≡ true
 
 -- a call is answered with a handle
 abbrev pub IsGivenHandle : Taken → CallMessage → Type 0
@@ -60,7 +60,7 @@ OpensWherePermitted =
 -- ---- the handle that is given
 
 -- of the call's client and number, on the node of its name with this view, in the mode that it asks for
-abbrev pub handle_for : MasterState → CallMessage → Open → View → Handle
+abbrev pub handle_for : MasterState → CallMessage → Open → Node → Handle
 handle_for s message opening view = record {
   epoch = s.epoch;
   client = message.client;
@@ -75,7 +75,7 @@ handle_for s message opening view = record {
 
 -- the handle that a call was given is that one, and the master knows from then on that it is open
 pub record IsOpened (s : MasterState) (message : CallMessage) (opening : Open) (new : MasterState) (given : NewHandle) : Type 0 where
-  pub view : View
+  pub view : Node
   pub there : get_node s.nodes opening.name ≡ Some view
   pub bytes : given.bytes ≡ handle_bytes s.secret (handle_for s message opening view)
   pub instance : given.instance ≡ view.instance

@@ -13,7 +13,7 @@ use Rattle.plain.proofs.Entries.{lookup_put, eq_at}
 use Rattle.node_core.specs.Nodes.{Nodes, HasNamesInOrder, get_node, after, changed, misfit}
 use Rattle.node_core.specs.Laws.{PutNodeIsThere, GoneNodeIsAbsent, OtherNamesStay, NoPutWithoutParent, NamesStayInOrder}
 use Rattle.node_core.proofs.Orders.{put_in_order, gone_in_order}
-use Rattle.node_core.specs.declared.views.View.{View}
+use Rattle.node_core.specs.declared.nodes.Node.{Node}
 use Rattle.node_core.specs.declared.views.Mod.{Mod}
 use Rattle.node_core.specs.declared.views.Mod.TheVariants.{Put, Gone}
 use Rattle.node_core.specs.declared.faults.NodeFault.{NodeFault}
@@ -26,20 +26,20 @@ made (Some e) m new h = absurd (cc)
 pub after_is : (nodes new : Nodes) (change : Mod) → after nodes change ≡ Some new → new ≡ changed nodes change
 after_is nodes new change h = made (misfit nodes change) (changed nodes change) new h
 
-itself : (name : List ℕ) → slice_cmp nat_cmp name name ≡ Equal
+pub itself : (name : List ℕ) → slice_cmp nat_cmp name name ≡ Equal
 itself name = tied_itself nat_list_cmp_total name
 
 -- what stands at a name after one was put
-put_view : (nodes : Nodes) (name other : List ℕ) (view : View) → get_node (changed nodes (Put name view)) other ≡ cond (is_at (slice_cmp nat_cmp other) name) (Some view) (get_node nodes other)
+pub put_view : (nodes : Nodes) (name other : List ℕ) (view : Node) → get_node (changed nodes (Put name view)) other ≡ cond (is_at (slice_cmp nat_cmp other) name) (Some view) (get_node nodes other)
 put_view nodes name other view = lookup_put (slice_cmp nat_cmp) exact_bytes itself nodes name view other
 
-gone_view : (nodes : Nodes) (name other : List ℕ) → HasNamesInOrder nodes → get_node (changed nodes (Gone name)) other ≡ cond (is_at (slice_cmp nat_cmp name) other) None (get_node nodes other)
+pub gone_view : (nodes : Nodes) (name other : List ℕ) → HasNamesInOrder nodes → get_node (changed nodes (Gone name)) other ≡ cond (is_at (slice_cmp nat_cmp name) other) None (get_node nodes other)
 gone_view nodes name other h =
     lookup-remove_entry (eq_by_cmp_equiv nat_list_cmp_total) (is_at (slice_cmp nat_cmp name))
     (λ x y e. ap is_eq (nat_list_cmp_total.congr name x y (eq_at (slice_cmp nat_cmp name x) e)))
     other nodes (IsDistinct-from_sorted (slice_cmp nat_cmp) (keys_of nodes) h.in_order)
 
-apart : (x y : List ℕ) → x ≢ y → is_at (slice_cmp nat_cmp x) y ≡ false
+pub apart : (x y : List ℕ) → x ≢ y → is_at (slice_cmp nat_cmp x) y ≡ false
 apart x y h =
     (elim (is_at (slice_cmp nat_cmp x) y) as (λ b. is_at (slice_cmp nat_cmp x) y ≡ b → is_at (slice_cmp nat_cmp x) y ≡ false) [
       | true ↦ (λ e. absurd (h (exact_bytes x y (eq_at (slice_cmp nat_cmp x y) e))))

@@ -18,7 +18,7 @@ use Rattle.names_cell.specs.Text.{is_name, is_component, is_component_byte, is_s
 use Rattle.names_cell.proofs.ComponentLemmas.{both, parts_of_component}
 use Rattle.names_cell.proofs.Parts.{splits, last_is_component, after_front}
 use Rattle.node_core.specs.Nodes.{Nodes, HasNamesInOrder, children, last_sibling_of}
-use Rattle.node_core.specs.declared.views.View.{View}
+use Rattle.node_core.specs.declared.nodes.Node.{Node}
 use Rattle.node_core.proofs.Walks.{IsBelow, Walked, childish, child_form, name_length, begins, nothing_first, same_front, squeeze, lt_is, le_less, split_off, range_keys, all_filter}
 
 -- ---- what stands before the last slash of a text with a slash in it
@@ -177,11 +177,11 @@ before_not_behind key last x h less =
       | false ↦ (λ e. refl)
     ]) refl
 
-middle : (P : List ℕ → Type 0) (front rest : Nodes) (e : List ℕ × View) → AllByRecursion P (keys_of (front ++ e ∷ rest)) → P e.0
+middle : (P : List ℕ → Type 0) (front rest : Nodes) (e : List ℕ × Node) → AllByRecursion P (keys_of (front ++ e ∷ rest)) → P e.0
 middle P [] rest e h = h.0
 middle P (f ∷ front) rest e h = middle P front rest e h.1
 
-only_rest : (p : List ℕ → Bool) (front rest : Nodes) (e : List ℕ × View) → ((x : List ℕ) → slice_cmp nat_cmp x e.0 ≡ Less → p x ≡ false) → p e.0 ≡ false → IsStrictlySortedBy (slice_cmp nat_cmp) (keys_of (front ++ e ∷ rest)) → filter (λ e. p e.0) (front ++ e ∷ rest) ≡ filter (λ e. p e.0) rest
+only_rest : (p : List ℕ → Bool) (front rest : Nodes) (e : List ℕ × Node) → ((x : List ℕ) → slice_cmp nat_cmp x e.0 ≡ Less → p x ≡ false) → p e.0 ≡ false → IsStrictlySortedBy (slice_cmp nat_cmp) (keys_of (front ++ e ∷ rest)) → filter (λ e. p e.0) (front ++ e ∷ rest) ≡ filter (λ e. p e.0) rest
 unfolding IsStrictlySortedBy
 only_rest p [] rest e below at s = rw at refl
 only_rest p (f ∷ front) rest e below at s =
@@ -204,7 +204,7 @@ record IsJump (nodes : Nodes) (name : List ℕ) (names : List (List ℕ)) (rest 
   pub walked : Walked nodes name names jumped
   pub part : (p : List ℕ → Bool) × (jumped ≡ filter (λ e. p e.0) rest)
 
-jump_by : (nodes : Nodes) (name : List ℕ) (names : List (List ℕ)) (e : List ℕ × View) (rest : Nodes) (last : List ℕ) → Walked nodes name names (e ∷ rest) → is_child e.0 name ≡ false → IsDeep e.0 name last → IsJump nodes name names rest (filter (λ e. behind last e.0) nodes)
+jump_by : (nodes : Nodes) (name : List ℕ) (names : List (List ℕ)) (e : List ℕ × Node) (rest : Nodes) (last : List ℕ) → Walked nodes name names (e ∷ rest) → is_child e.0 name ≡ false → IsDeep e.0 name last → IsJump nodes name names rest (filter (λ e. behind last e.0) nodes)
 unfolding IsStrictlySortedBy
 jump_by nodes name names e rest last v child d =
     let le = key_up_to e.0 name last d in
@@ -229,19 +229,19 @@ jump_by nodes name names e rest last v child d =
       part = (behind last, is);
     }
 
-jump_at : (nodes : Nodes) (name : List ℕ) (names : List (List ℕ)) (e : List ℕ × View) (rest all got : Nodes) (last : List ℕ) → all ≡ e ∷ rest → Walked nodes name names all → is_under e.0 name ≡ true → is_child e.0 name ≡ false → Some last ≡ last_sibling_of e.0 → got ≡ entries_between (slice_cmp nat_cmp) (Excluded last) Unbounded nodes → IsJump nodes name names rest got
+jump_at : (nodes : Nodes) (name : List ℕ) (names : List (List ℕ)) (e : List ℕ × Node) (rest all got : Nodes) (last : List ℕ) → all ≡ e ∷ rest → Walked nodes name names all → is_under e.0 name ≡ true → is_child e.0 name ≡ false → Some last ≡ last_sibling_of e.0 → got ≡ entries_between (slice_cmp nat_cmp) (Excluded last) Unbounded nodes → IsJump nodes name names rest got
 jump_at nodes name names e rest all got last q w under child h g =
     let v : Walked nodes name names (e ∷ rest) = rw q at w in
     rw g (jump_by nodes name names e rest last v child (deep_form e.0 name last v.below.names.0 under child h))
 
-pub walk_jump : (nodes : Nodes) (name : List ℕ) (names : List (List ℕ)) (e : List ℕ × View) (rest all got : Nodes) (last : List ℕ) → all ≡ e ∷ rest → Walked nodes name names all → is_under e.0 name ≡ true → is_child e.0 name ≡ false → Some last ≡ last_sibling_of e.0 → got ≡ entries_between (slice_cmp nat_cmp) (Excluded last) Unbounded nodes → Walked nodes name names got
+pub walk_jump : (nodes : Nodes) (name : List ℕ) (names : List (List ℕ)) (e : List ℕ × Node) (rest all got : Nodes) (last : List ℕ) → all ≡ e ∷ rest → Walked nodes name names all → is_under e.0 name ≡ true → is_child e.0 name ≡ false → Some last ≡ last_sibling_of e.0 → got ≡ entries_between (slice_cmp nat_cmp) (Excluded last) Unbounded nodes → Walked nodes name names got
 walk_jump nodes name names e rest all got last q w under child h g = (jump_at nodes name names e rest all got last q w under child h g).walked
 
 fewer : (p : List ℕ → Bool) (es : Nodes) → length (filter (λ e. p e.0) es) ≤ length es
 fewer p [] = omega arith
 fewer p (e ∷ es) = elim (p e.0) as (λ v. length (cond v (e ∷ filter (λ e. p e.0) es) (filter (λ e. p e.0) es)) ≤ suc (length es)) [ true ↦ omega (arith, fewer p es) | false ↦ omega (arith, fewer p es) ]
 
-pub jump_ends : (nodes : Nodes) (name : List ℕ) (names : List (List ℕ)) (e : List ℕ × View) (rest all got : Nodes) (last : List ℕ) → all ≡ e ∷ rest → Walked nodes name names all → is_under e.0 name ≡ true → is_child e.0 name ≡ false → Some last ≡ last_sibling_of e.0 → got ≡ entries_between (slice_cmp nat_cmp) (Excluded last) Unbounded nodes → length got < length all
+pub jump_ends : (nodes : Nodes) (name : List ℕ) (names : List (List ℕ)) (e : List ℕ × Node) (rest all got : Nodes) (last : List ℕ) → all ≡ e ∷ rest → Walked nodes name names all → is_under e.0 name ≡ true → is_child e.0 name ≡ false → Some last ≡ last_sibling_of e.0 → got ≡ entries_between (slice_cmp nat_cmp) (Excluded last) Unbounded nodes → length got < length all
 jump_ends nodes name names e rest all got last q w under child h g =
     let j = (jump_at nodes name names e rest all got last q w under child h g).part in
     omega (arith, ap length q, ap length j.1, fewer j.0 rest)

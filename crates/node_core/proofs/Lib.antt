@@ -2,3 +2,4 @@ pub mod Orders
 pub mod Changes
 pub mod Jumps
 pub mod Walks
+pub mod Seen

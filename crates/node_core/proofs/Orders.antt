@@ -12,9 +12,9 @@ use Rattle.plain.specs.Tables.{with_former}
 use Rattle.std.specs.BTreeMap.{is_at, insert_entry}
 use Rattle.names_cell.specs.Text.{is_name}
 use Rattle.node_core.specs.Nodes.{Nodes, HasNamesInOrder}
-use Rattle.node_core.specs.declared.views.View.{View}
+use Rattle.node_core.specs.declared.nodes.Node.{Node}
 
-above : {K : Type 0} {cmp : K → K → Ordering} (total : IsTotalOrder cmp) (x y : K) (ks : List K) → cmp x y ≡ Less → AllByRecursion (λ z. cmp y z ≡ Less) ks → AllByRecursion (λ z. cmp x z ≡ Less) ks
+pub above : {K : Type 0} {cmp : K → K → Ordering} (total : IsTotalOrder cmp) (x y : K) (ks : List K) → cmp x y ≡ Less → AllByRecursion (λ z. cmp y z ≡ Less) ks → AllByRecursion (λ z. cmp x z ≡ Less) ks
 above total x y [] h all = tt
 above total x y (k ∷ ks) h all = (total.trans x y k h all.0, above total x y ks h all.1)
 
@@ -60,7 +60,7 @@ pub empty_in_order : HasNamesInOrder []
 unfolding IsStrictlySortedBy
 empty_in_order = record { in_order = tt; names = tt }
 
-pub put_in_order : (nodes : Nodes) (name : List ℕ) (view : View) → HasNamesInOrder nodes → is_name name ≡ true → HasNamesInOrder (insert_entry (slice_cmp nat_cmp) nodes name view)
+pub put_in_order : (nodes : Nodes) (name : List ℕ) (view : Node) → HasNamesInOrder nodes → is_name name ≡ true → HasNamesInOrder (insert_entry (slice_cmp nat_cmp) nodes name view)
 put_in_order nodes name view h named = record {
   in_order = sorted_insert nat_list_cmp_total nodes name view h.in_order;
   names = all_insert nat_list_cmp_total (λ key. is_name key ≡ true) nodes name view named h.names;
@@ -73,12 +73,12 @@ gone_in_order nodes name h = record {
 }
 
 -- a put that may have been refused
-pub set_in_order : {E : Type 0} (old new : Nodes) (name : List ℕ) (view : View) (r : Result (Option View) E) → OnOk r (new ≡ insert_entry (slice_cmp nat_cmp) old name view) → OnErr r (new ≡ old) → HasNamesInOrder old → is_name name ≡ true → HasNamesInOrder new
+pub set_in_order : {E : Type 0} (old new : Nodes) (name : List ℕ) (view : Node) (r : Result (Option Node) E) → OnOk r (new ≡ insert_entry (slice_cmp nat_cmp) old name view) → OnErr r (new ≡ old) → HasNamesInOrder old → is_name name ≡ true → HasNamesInOrder new
 set_in_order old new name view (Ok x) ok err h named = rw ok (put_in_order old name view h named)
 set_in_order old new name view (Err e) ok err h named = rw err h
 
 -- a put that is taken back
-pub former_in_order : (nodes : Nodes) (name : List ℕ) (former : Option View) → HasNamesInOrder nodes → HasNamesInOrder (with_former (slice_cmp nat_cmp) nodes name former)
+pub former_in_order : (nodes : Nodes) (name : List ℕ) (former : Option Node) → HasNamesInOrder nodes → HasNamesInOrder (with_former (slice_cmp nat_cmp) nodes name former)
 former_in_order nodes name None h = gone_in_order nodes name h
 former_in_order nodes name (Some view) h =
     let e = keys-set_value (is_at (slice_cmp nat_cmp name)) nodes view in

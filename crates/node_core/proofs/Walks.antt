@@ -18,7 +18,7 @@ use Rattle.names_cell.specs.Text.{is_name, is_component, is_component_byte, is_s
 use Rattle.names_cell.proofs.ComponentLemmas.{both, parts_of_component}
 use Rattle.names_cell.proofs.Parts.{splits, after_front, last_is_component}
 use Rattle.node_core.specs.Nodes.{Nodes, HasNamesInOrder, children, has_children}
-use Rattle.node_core.specs.declared.views.View.{View}
+use Rattle.node_core.specs.declared.nodes.Node.{Node}
 
 same_byte : (b : ℕ) → nat_eq b b ≡ true
 same_byte b = grind (arith, nat_tests)
@@ -160,7 +160,7 @@ none_behind name x (y ∷ ks) h under less names =
     ]) refl
 
 -- a name that is not below ends the walk
-pub walk_ends : (name : List ℕ) (e : List ℕ × View) (es : Nodes) → IsBelow name (e ∷ es) → is_under e.0 name ≡ false → filter (childish name) (keys_of (e ∷ es)) ≡ []
+pub walk_ends : (name : List ℕ) (e : List ℕ × Node) (es : Nodes) → IsBelow name (e ∷ es) → is_under e.0 name ≡ false → filter (childish name) (keys_of (e ∷ es)) ≡ []
 unfolding IsStrictlySortedBy
 walk_ends name e es b under =
     (elim (is_child e.0 name) as (λ v. is_child e.0 name ≡ v → cond v (e.0 ∷ filter (childish name) (keys_of es)) (filter (childish name) (keys_of es)) ≡ []) [
@@ -168,7 +168,7 @@ walk_ends name e es b under =
       | false ↦ (λ h. none_behind name e.0 (keys_of es) b.behind.0 under b.in_order.0 b.names.1)
     ]) refl
 
-pub walk_goes_on : (name : List ℕ) (e : List ℕ × View) (es : Nodes) → IsBelow name (e ∷ es) → IsBelow name es
+pub walk_goes_on : (name : List ℕ) (e : List ℕ × Node) (es : Nodes) → IsBelow name (e ∷ es) → IsBelow name es
 unfolding IsStrictlySortedBy
 walk_goes_on name e es b = record { in_order = b.in_order.1; names = b.names.1; behind = b.behind.1 }
 
@@ -273,7 +273,7 @@ pub record Walked (nodes : Nodes) (name : List ℕ) (names : List (List ℕ)) (r
   pub whole : nodes ≡ front ++ rest
 
 -- one more was passed
-one_passed : (nodes front rest : Nodes) (e : List ℕ × View) → nodes ≡ front ++ e ∷ rest → nodes ≡ (front ++ e ∷ []) ++ rest
+one_passed : (nodes front rest : Nodes) (e : List ℕ × Node) → nodes ≡ front ++ e ∷ rest → nodes ≡ (front ++ e ∷ []) ++ rest
 one_passed nodes front rest e h = h ∙ sym (append_assoc front (e ∷ []) rest)
 
 pub walk_start : (nodes : Nodes) (name : List ℕ) (names : List (List ℕ)) (rest : Nodes) → HasNamesInOrder nodes → names ≡ [] → rest ≡ from_first name nodes → Walked nodes name names rest
@@ -285,12 +285,12 @@ walk_start nodes name names rest h e r = record {
   whole = rw r (split_off (in_range name) (in_range_up name) nodes h.in_order).1;
 }
 
-pub walk_stop : (nodes : Nodes) (name : List ℕ) (names : List (List ℕ)) (e : List ℕ × View) (rest all : Nodes) → all ≡ e ∷ rest → Walked nodes name names all → is_under e.0 name ≡ false → names ≡ children nodes name
+pub walk_stop : (nodes : Nodes) (name : List ℕ) (names : List (List ℕ)) (e : List ℕ × Node) (rest all : Nodes) → all ≡ e ∷ rest → Walked nodes name names all → is_under e.0 name ≡ false → names ≡ children nodes name
 walk_stop nodes name names e rest all q w under =
     let v : Walked nodes name names (e ∷ rest) = rw q at w in
     sym (append-nil names) ∙ ap (λ l. names ++ map last_of l) (sym (walk_ends name e rest v.below under)) ∙ v.so_far
 
-pub walk_push : (nodes : Nodes) (name : List ℕ) (names more : List (List ℕ)) (e : List ℕ × View) (rest all : Nodes) → all ≡ e ∷ rest → Walked nodes name names all → is_child e.0 name ≡ true → more ≡ names ++ last_of e.0 ∷ [] → Walked nodes name more rest
+pub walk_push : (nodes : Nodes) (name : List ℕ) (names more : List (List ℕ)) (e : List ℕ × Node) (rest all : Nodes) → all ≡ e ∷ rest → Walked nodes name names all → is_child e.0 name ≡ true → more ≡ names ++ last_of e.0 ∷ [] → Walked nodes name more rest
 walk_push nodes name names more e rest all q w child m =
     let v : Walked nodes name names (e ∷ rest) = rw q at w in
     record {
@@ -301,7 +301,7 @@ walk_push nodes name names more e rest all q w child m =
       whole = one_passed nodes v.front rest e v.whole;
     }
 
-pub walk_skip : (nodes : Nodes) (name : List ℕ) (names : List (List ℕ)) (e : List ℕ × View) (rest all : Nodes) → all ≡ e ∷ rest → Walked nodes name names all → is_child e.0 name ≡ false → Walked nodes name names rest
+pub walk_skip : (nodes : Nodes) (name : List ℕ) (names : List (List ℕ)) (e : List ℕ × Node) (rest all : Nodes) → all ≡ e ∷ rest → Walked nodes name names all → is_child e.0 name ≡ false → Walked nodes name names rest
 walk_skip nodes name names e rest all q w child =
     let v : Walked nodes name names (e ∷ rest) = rw q at w in
     record { so_far = rw child at v.so_far; below = walk_goes_on name e rest v.below; ordered = v.ordered; front = v.front ++ e ∷ []; whole = one_passed nodes v.front rest e v.whole }
@@ -349,7 +349,7 @@ pub no_child : (nodes : Nodes) (name : List ℕ) → [] ≡ children nodes name 
 unfolding nonempty
 no_child nodes name h = ap nonempty h ∙ sym (any_is_nonempty (childish name) last_of (keys_of nodes))
 
-pub a_child : (nodes : Nodes) (name : List ℕ) (e : List ℕ × View) (rest all : Nodes) → all ≡ e ∷ rest → Walked nodes name [] all → is_child e.0 name ≡ true → true ≡ has_children nodes name
+pub a_child : (nodes : Nodes) (name : List ℕ) (e : List ℕ × Node) (rest all : Nodes) → all ≡ e ∷ rest → Walked nodes name [] all → is_child e.0 name ≡ true → true ≡ has_children nodes name
 unfolding nonempty
 a_child nodes name e rest all q w child =
     let v : Walked nodes name [] (e ∷ rest) = rw q at w in

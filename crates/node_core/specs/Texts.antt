@@ -4,6 +4,7 @@ use Rattle.std.specs.List.{flat_map}
 use Rattle.std.specs.Fmt.{digit_glyph}
 use Rattle.node_core.specs.declared.kinds.Kind.{Kind}
 use Rattle.node_core.specs.declared.kinds.Kind.TheVariants.{File, Directory}
+use Rattle.node_core.specs.declared.nodes.Node.{Node}
 use Rattle.node_core.specs.declared.views.View.{View}
 use Rattle.node_core.specs.declared.stats.Stat.{Stat}
 use Rattle.node_core.specs.declared.views.Mod.{Mod}
@@ -26,11 +27,6 @@ abbrev pub hex_text : List ℕ → List ℕ
 hex_text [] = codes "-"
 hex_text (b ∷ bs) = flat_map hex_pair (take 16 (b ∷ bs))
 
--- of a file, the length of its content and the content's first bytes
-abbrev pub content_text : Kind → List ℕ → List ℕ
-content_text Directory content = []
-content_text File content = codes " " ++ (decimal (length content) ++ (codes " " ++ hex_text content))
-
 -- the kind, the instance, and the generations of the content and of the ACL names
 abbrev pub header_text : Kind → ℕ → ℕ → ℕ → List ℕ
 header_text kind instance content acl = kind_text kind ++ (codes " " ++ (decimal instance ++ (codes " " ++ (decimal content ++ (codes " " ++ decimal acl)))))
@@ -39,23 +35,32 @@ header_text kind instance content acl = kind_text kind ++ (codes " " ++ (decimal
 abbrev pub acls_text : List ℕ → List ℕ → List ℕ → List ℕ
 acls_text read write change = read ++ (codes " " ++ (write ++ (codes " " ++ change)))
 
+-- the names, a space before each
+abbrev pub names_text : List (List ℕ) → List ℕ
+names_text names = flat_map (λ name. codes " " ++ name) names
+
+-- of a file its content, of a directory the names that are listed of it
+abbrev pub rest_text : Kind → List ℕ → List (List ℕ) → List ℕ
+rest_text Directory content names = codes " " ++ (decimal (length names) ++ names_text names)
+rest_text File content names = codes " " ++ (decimal (length content) ++ (codes " " ++ hex_text content))
+
+abbrev pub node_text : Node → List (List ℕ) → List ℕ
+node_text node names =
+    (header_text node.kind node.instance node.content_generation node.acl_generation ++ (codes " " ++ (acls_text node.read node.write node.change ++ (codes " " ++ life_text node.life))))
+    ++ rest_text node.kind node.content names
+
 abbrev pub view_text : View → List ℕ
-view_text view =
-    (header_text view.kind view.instance view.content_generation view.acl_generation ++ (codes " " ++ (acls_text view.read view.write view.change ++ (codes " " ++ life_text view.life))))
-    ++ content_text view.kind view.content
+view_text view = node_text view.node view.children
 
 abbrev pub stat_text : Stat → List ℕ
 stat_text stat =
     header_text stat.kind stat.instance stat.content_generation stat.acl_generation
     ++ (codes " " ++ (decimal stat.lock_generation ++ (codes " " ++ (acls_text stat.read stat.write stat.change ++ (codes " " ++ (life_text stat.life ++ (codes " " ++ decimal stat.length)))))))
 
-abbrev pub mod_text : Mod → List ℕ
-mod_text (Put name view) = codes "put " ++ (name ++ (codes " " ++ view_text view))
-mod_text (Gone name) = codes "gone " ++ name
-
--- the names, a space before each
-abbrev pub names_text : List (List ℕ) → List ℕ
-names_text names = flat_map (λ name. codes " " ++ name) names
+-- a change, with the names that are listed of what is put
+abbrev pub mod_text : Mod → List (List ℕ) → List ℕ
+mod_text (Put name node) names = codes "put " ++ (name ++ (codes " " ++ node_text node names))
+mod_text (Gone name) names = codes "gone " ++ name
 
 abbrev pub event_text : Event → List ℕ
 event_text events.FailOver = codes "failover"
@@ -90,7 +95,7 @@ line_text lines.Down = codes "down"
 line_text lines.Recovered = codes "recovered"
 line_text (lines.Started client) = codes "started " ++ decimal client
 line_text (lines.Ended client) = codes "ended " ++ decimal client
-line_text (lines.Applied client call change) = codes "applied " ++ (decimal client ++ (codes " " ++ (decimal call ++ (codes " " ++ mod_text change))))
+line_text (lines.Applied client call change names) = codes "applied " ++ (decimal client ++ (codes " " ++ (decimal call ++ (codes " " ++ mod_text change names))))
 line_text (lines.Granted right client name) = codes "granted " ++ (decimal right ++ (codes " " ++ (decimal client ++ (codes " " ++ name))))
 line_text (lines.Acked right) = codes "acked " ++ decimal right
 line_text (lines.Expired right) = codes "expired " ++ decimal right

@@ -4,33 +4,33 @@ ghost use Rattle.node_core.specs.Access.{lists, permitted};
 
 use crate::kinds::{Kind, Right};
 use crate::maps::Map;
-use crate::views::View;
+use crate::nodes::Node;
 use names_cell::{AclList, Principal};
 use std::alloc::AllocError;
 
-/// Whether the principal has the right to a node with this view: the ACL that the view names for the right is a file
+/// Whether the principal has the right to this node: the ACL that it names for the right is a file
 /// of the map's cell, `/ls/`, the cell, `/acl/` and the ACL's name. A missing file, a directory and a file that is not
 /// well formed permit nobody (Burrows 2006, section 2.3).
 pub fn permitted(
     map: &Map,
     principal: &Principal,
-    view: &View,
+    node: &Node,
     right: Right,
 ) -> Result<bool, AllocError>
-    ensures { IfOk result (λ allowed. allowed ≡ permitted map.now principal.now view.now right) }
+    ensures { IfOk result (λ allowed. allowed ≡ permitted map.now principal.now node.now right) }
 {
     let Some(first) = map.first() else {
         return Ok(false);
     };
-    let file = first.acl_file(view.acl(right))?;
+    let file = first.acl_file(node.acl(right))?;
     Ok(match map.get(&file) {
-        Some(node) => lists(node, principal),
+        Some(found) => lists(found, principal),
         None => false,
     })
 }
 
 // Whether the node is an ACL file that lists the principal.
-fn lists(node: &View, principal: &Principal) -> bool
+fn lists(node: &Node, principal: &Principal) -> bool
     ensures { result ≡ lists principal.now node.now }
 {
     if node.kind != Kind::File {

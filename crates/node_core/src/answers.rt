@@ -2,12 +2,12 @@
 ghost use Rattle.std.specs.Prelude.{◌≡◌, Some};
 ghost use Rattle.node_core.specs.Texts.{answer_text};
 
+use crate::listings::Listing;
 use crate::refusals::Fault;
 use crate::stats::Stat;
 use crate::texts::{HexBytes, Listed, write_number};
 use crate::views::View;
-use names_cell::Component;
-use plain::{Bytes, Items, Same};
+use plain::{Bytes, Same};
 use std::alloc::AllocError;
 use std::fmt;
 
@@ -23,7 +23,7 @@ pub enum Answer {
     /// What GetStat found.
     Stated(Stat),
     /// The last components of a directory's children, in order of bytes.
-    Names(Items<Component>),
+    Names(Listing),
     /// The bytes of a sequencer.
     Sequencer(Bytes),
     /// The end of every other call.

@@ -8,7 +8,9 @@ mod faults;
 mod kinds;
 mod laws;
 mod lines;
+mod listings;
 mod maps;
+mod nodes;
 mod refusals;
 mod stats;
 mod texts;
@@ -21,10 +23,12 @@ pub use faults::NodeFault;
 pub use kinds::{Kind, Life, LockMode, Right};
 pub use laws::{
     after_changes_one_name, after_keeps_names_in_order, gone_node_is_absent,
-    no_put_without_a_parent, put_node_is_there,
+    no_put_without_a_parent, put_node_is_there, put_shows_its_view, untouched_views_stay,
 };
 pub use lines::Line;
+pub use listings::Listing;
 pub use maps::{CONTENT_LIMIT, Map, NUMBER_LIMIT, Outcome};
+pub use nodes::Node;
 pub use refusals::Fault;
 pub use stats::Stat;
 pub use views::{Mod, View};

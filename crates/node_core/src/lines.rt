@@ -7,9 +7,10 @@ ghost use Rattle.node_core.specs.declared.lines.Line.TheVariants as lines;
 use crate::answers::Answer;
 use crate::events::Event;
 use crate::kinds::LockMode;
+use crate::listings::Listing;
 use crate::refusals::Fault;
 use crate::texts::{write_number, write_numbers};
-use crate::views::{Mod, View};
+use crate::views::{Mod, Shown, View};
 use names_cell::Name;
 use plain::Same;
 use std::alloc::AllocError;
@@ -26,9 +27,9 @@ pub enum Line {
     Started(u64),
     /// The client's session was committed as ended.
     Ended(u64),
-    /// A change of the map was committed: client, number of its call, change. `0 0` is the cell's own deletion of an
-    /// ephemeral node.
-    Applied(u64, u64, Mod),
+    /// A change of the map was committed: client, number of its call, change, and the children of a directory that is
+    /// put. `0 0` is the cell's own deletion of an ephemeral node.
+    Applied(u64, u64, Mod, Listing),
     /// A new right to cache: its number, the client, the name.
     Granted(u64, u64, Name),
     /// The right of this number ended by an acknowledgement.
@@ -69,7 +70,9 @@ impl Clone for Line {
             Line::Recovered => Line::Recovered,
             Line::Started(client) => Line::Started(*client),
             Line::Ended(client) => Line::Ended(*client),
-            Line::Applied(client, call, change) => Line::Applied(*client, *call, change.clone()?),
+            Line::Applied(client, call, change, children) => applied_clone(
+                *client, *call, change, children,
+            )?,
             Line::Granted(right, client, name) => Line::Granted(*right, *client, name.clone()?),
             Line::Acked(right) => Line::Acked(*right),
             Line::Expired(right) => Line::Expired(*right),
@@ -94,6 +97,18 @@ impl Clone for Line {
     }
 }
 
+fn applied_clone(
+    client: u64,
+    call: u64,
+    change: &Mod,
+    children: &Listing,
+) -> Result<Line, AllocError>
+    ensures { IfOk result (λ line. line ≡ lines.Applied client call change.now children.now) }
+{
+    let children = children.clone()?;
+    Ok(Line::Applied(client, call, change.clone()?, children))
+}
+
 fn served_clone(client: u64, name: &Name, view: &View) -> Result<Line, AllocError>
     ensures { IfOk result (λ line. line ≡ lines.Served client name.now (Some view.now)) }
 {
@@ -114,7 +129,9 @@ impl fmt::Display for Line {
             Line::Recovered => f.write_str("recovered"),
             Line::Started(client) => write_number(f, "started ", *client),
             Line::Ended(client) => write_number(f, "ended ", *client),
-            Line::Applied(client, call, change) => write_applied(f, *client, *call, change),
+            Line::Applied(client, call, change, children) => write_applied(
+                f, *client, *call, change, children,
+            ),
             Line::Granted(right, client, name) => write_granted(f, *right, *client, name),
             Line::Acked(right) => write_number(f, "acked ", *right),
             Line::Expired(right) => write_number(f, "expired ", *right),
@@ -145,10 +162,17 @@ fn write_applied<W: fmt::Write>(
     client: u64,
     call: u64,
     change: &Mod,
+    children: &Listing,
 ) -> fmt::Result
-    ensures { DisplaysOnOk W.write_str_gives f.old result (Some (line_text (lines.Applied client call change.now))) f.new }
+    ensures { DisplaysOnOk W.write_str_gives f.old result (Some (line_text (lines.Applied client call change.now children.now))) f.new }
 {
-    write!(f, "applied {client} {call} {change}")
+    match change {
+        Mod::Put(name, node) => {
+            let shown = Shown::of(node, children);
+            write!(f, "applied {client} {call} put {name} {shown}")
+        }
+        Mod::Gone(name) => write!(f, "applied {client} {call} gone {name}"),
+    }
 }
 
 fn write_granted<W: fmt::Write>(

@@ -5,12 +5,14 @@ ghost use Rattle.std.specs.BTreeMap.{is_at, insert_entry};
 ghost use Rattle.std.specs.Map.{remove_entry};
 ghost use Rattle.std.specs.Cmp.Lexicographic.{slice_cmp};
 ghost use Rattle.std.specs.Ordering.{nat_cmp};
-ghost use Rattle.node_core.specs.Nodes.{HasNamesInOrder, get_node, children, has_children, misfit, put_misfit, parent_misfit, limit_misfit, present_misfit, gone_misfit, after, name_of, last_sibling_of};
+ghost use Rattle.node_core.specs.Nodes.{HasNamesInOrder, get_node, children, listing, view_of, has_children, misfit, put_misfit, parent_misfit, limit_misfit, present_misfit, gone_misfit, after, name_of, last_sibling_of};
 ghost use Rattle.node_core.specs.Access.{first_name};
 ghost use Rattle.plain.specs.Tables.{with_former};
 
 use crate::faults::NodeFault;
 use crate::kinds::Kind;
+use crate::listings::Listing;
+use crate::nodes::Node;
 use crate::views::{Mod, View};
 use names_cell::{Component, Name};
 use plain::{Items, Same, Table};
@@ -29,7 +31,7 @@ pub const NUMBER_LIMIT: u64 = 0x7fff_ffff_ffff_ffff;
 #[derive(Drop)]
 pub struct Outcome {
     /// The node that stood at the name before, if any.
-    pub former: Option<View>,
+    pub former: Option<Node>,
 }
 
 /// The nodes of a cell, by their names (Burrows 2006, section 2.3). To a contract, the entries in the order of the
@@ -37,15 +39,15 @@ pub struct Outcome {
 #[derive(Drop)]
 pub struct Map {
     alloc: Global,
-    nodes: Table<Name, View>,
+    nodes: Table<Name, Node>,
 }
 
 impl Model for Map {
     ghost use Rattle.std.specs.Prelude.{List, ℕ};
-    ghost use Rattle.node_core.specs.declared.views.View.{View};
+    ghost use Rattle.node_core.specs.declared.nodes.Node.{Node};
     ghost use Rattle.node_core.specs.Nodes.{HasNamesInOrder};
 
-    ghost Value = { List (List ℕ × View) };
+    ghost Value = { List (List ℕ × Node) };
 
     ghost view = { λ m. m.nodes };
 
@@ -79,14 +81,14 @@ impl Map {
     }
 
     /// The node of a name: one look-up in a tree. Takes no memory.
-    pub fn get(&self, name: &Name) -> Option<&View>
+    pub fn get(&self, name: &Name) -> Option<&Node>
         ensures { option_copied result ≡ get_node self.now name.now }
     {
         self.nodes.get(name)
     }
 
     /// The entries, for loops and chains.
-    pub fn as_map(&self) -> &BTreeMap<Name, View>
+    pub fn as_map(&self) -> &BTreeMap<Name, Node>
         ensures entries { result.now.entries ≡ self.now }
         ensures ordered { HasNamesInOrder self.now }
     {
@@ -125,6 +127,27 @@ impl Map {
         Ok(names)
     }
 
+    /// What is listed of a node of this kind at a name: of a directory its children, as `children` finds them.
+    pub fn listing(&self, name: &Name, kind: Kind) -> Result<Listing, AllocError>
+        ensures { IfOk result (λ names. names ≡ listing self.now name.now kind) }
+    {
+        match kind {
+            Kind::Directory => Listing::of(self.children(name)?),
+            Kind::File => Ok(Listing::new()),
+        }
+    }
+
+    /// What a client sees of a node at a name. Its children cost what `children` does.
+    pub fn view_of(&self, name: &Name, node: &Node) -> Result<View, AllocError>
+        ensures { IfOk result (λ view. view ≡ view_of self.now name.now node.now) }
+    {
+        let children = self.listing(name, node.kind)?;
+        Ok(View {
+            node: node.clone()?,
+            children,
+        })
+    }
+
     /// Whether any name has this one as its parent. It walks over the names below this one up to the first child.
     pub fn has_children(&self, name: &Name) -> Result<bool, AllocError>
         ensures { IfOk result (λ any. any ≡ has_children self.now name.now) }
@@ -145,25 +168,25 @@ impl Map {
     }
 
     /// Sets a node, whether it fits or not. What stood at the name is given back.
-    pub fn set(&mut self, name: Name, view: View) -> Result<Option<View>, AllocError>
-        ensures ok { OnOk result (self.new ≡ insert_entry (slice_cmp nat_cmp) self.old name view) }
+    pub fn set(&mut self, name: Name, node: Node) -> Result<Option<Node>, AllocError>
+        ensures ok { OnOk result (self.new ≡ insert_entry (slice_cmp nat_cmp) self.old name node) }
         ensures former { IfOk result (λ former. former ≡ get_node self.old name) }
         ensures undone { IfOk result (λ former. with_former (slice_cmp nat_cmp) self.new name former ≡ self.old) }
         ensures err { OnErr result (self.new ≡ self.old) }
     {
         let _text = name.as_str();
-        self.nodes.put(name, view)
+        self.nodes.put(name, node)
     }
 
     /// Gives a name the node that it had before a `set`, or none where it had none. Takes no memory.
-    pub fn restore(&mut self, name: &Name, former: Option<View>)
+    pub fn restore(&mut self, name: &Name, former: Option<Node>)
         ensures { self.new ≡ with_former (slice_cmp nat_cmp) self.old name.now former }
     {
         self.nodes.restore(name, former);
     }
 
     /// Takes a node away, whether it fits or not. What stood at the name is given back. Takes no memory.
-    pub fn unset(&mut self, name: &Name) -> Option<View>
+    pub fn unset(&mut self, name: &Name) -> Option<Node>
         ensures after { self.new ≡ remove_entry (is_at (slice_cmp nat_cmp name.now)) self.old }
         ensures former { result ≡ get_node self.old name.now }
     {
@@ -179,24 +202,24 @@ impl Map {
         ensures err { OnErr result (self.new ≡ self.old) }
     {
         match change {
-            Mod::Put(name, view) => self.put(name, view),
+            Mod::Put(name, node) => self.put(name, node),
             Mod::Gone(name) => self.remove(name),
         }
     }
 
-    fn put(&mut self, name: &Name, view: &View) -> Result<Outcome, NodeFault>
-        ensures fits { OnOk result (put_misfit self.old name.now view.now ≡ None) }
-        ensures changed { OnOk result (self.new ≡ insert_entry (slice_cmp nat_cmp) self.old name.now view.now) }
+    fn put(&mut self, name: &Name, node: &Node) -> Result<Outcome, NodeFault>
+        ensures fits { OnOk result (put_misfit self.old name.now node.now ≡ None) }
+        ensures changed { OnOk result (self.new ≡ insert_entry (slice_cmp nat_cmp) self.old name.now node.now) }
         ensures former { IfOk result (λ outcome. outcome.former ≡ get_node self.old name.now) }
-        ensures fault { IfErr result (λ e. e ≢ NodeFault.NoMemory → put_misfit self.old name.now view.now ≡ Some e) }
+        ensures fault { IfErr result (λ e. e ≢ NodeFault.NoMemory → put_misfit self.old name.now node.now ≡ Some e) }
         ensures err { OnErr result (self.new ≡ self.old) }
     {
-        if let Some(fault) = self.put_misfit(name, view)? {
+        if let Some(fault) = self.put_misfit(name, node)? {
             return Err(fault);
         }
         let name = name.clone()?;
-        let view = view.clone()?;
-        let former = self.set(name, view)?;
+        let node = node.clone()?;
+        let former = self.set(name, node)?;
         Ok(Outcome { former })
     }
 
@@ -215,16 +238,16 @@ impl Map {
     }
 
     // The first fault of a Put.
-    fn put_misfit(&self, name: &Name, view: &View) -> Result<Option<NodeFault>, AllocError>
-        ensures { IfOk result (λ fault. fault ≡ put_misfit self.now name.now view.now) }
+    fn put_misfit(&self, name: &Name, node: &Node) -> Result<Option<NodeFault>, AllocError>
+        ensures { IfOk result (λ fault. fault ≡ put_misfit self.now name.now node.now) }
     {
         if let Some(fault) = self.parent_misfit(name)? {
             return Ok(Some(fault));
         }
-        if let Some(fault) = limit_misfit(view) {
+        if let Some(fault) = limit_misfit(node) {
             return Ok(Some(fault));
         }
-        Ok(self.present_misfit(name, view))
+        Ok(self.present_misfit(name, node))
     }
 
     // What is wrong with the parent.
@@ -236,7 +259,7 @@ impl Map {
         };
         Ok(match self.get(&parent) {
             None => Some(NodeFault::NotFound),
-            Some(view) => match view.kind {
+            Some(node) => match node.kind {
                 Kind::Directory => None,
                 Kind::File => Some(NodeFault::WrongKind(Kind::File)),
             },
@@ -244,14 +267,14 @@ impl Map {
     }
 
     // What is wrong with the node that stands there.
-    fn present_misfit(&self, name: &Name, view: &View) -> Option<NodeFault>
-        ensures { result ≡ present_misfit (get_node self.now name.now) view.now }
+    fn present_misfit(&self, name: &Name, node: &Node) -> Option<NodeFault>
+        ensures { result ≡ present_misfit (get_node self.now name.now) node.now }
     {
         let present = self.get(name)?;
-        if present.instance != view.instance {
+        if present.instance != node.instance {
             return Some(NodeFault::StaleInstance);
         }
-        if present.kind != view.kind {
+        if present.kind != node.kind {
             return Some(NodeFault::WrongKind(present.kind));
         }
         None
@@ -281,16 +304,16 @@ fn last_sibling(name: &Name) -> Result<Option<Name>, AllocError>
     parent.last_child()
 }
 
-// What is wrong with the view itself.
-fn limit_misfit(view: &View) -> Option<NodeFault>
-    ensures { result ≡ limit_misfit view.now }
+// What is wrong with the node itself.
+fn limit_misfit(node: &Node) -> Option<NodeFault>
+    ensures { result ≡ limit_misfit node.now }
 {
-    if view.content.len() > CONTENT_LIMIT {
+    if node.content.len() > CONTENT_LIMIT {
         return Some(NodeFault::TooLarge);
     }
-    if view.instance > NUMBER_LIMIT
-        || view.content_generation > NUMBER_LIMIT
-        || view.acl_generation > NUMBER_LIMIT
+    if node.instance > NUMBER_LIMIT
+        || node.content_generation > NUMBER_LIMIT
+        || node.acl_generation > NUMBER_LIMIT
     {
         return Some(NodeFault::Exhausted);
     }

@@ -5,8 +5,8 @@ ghost use Rattle.std.specs.List.{flat_map};
 ghost use Rattle.node_core.specs.Texts.{hex_text, hex_pair, header_text, acls_text, names_text};
 
 use crate::kinds::Kind;
+use crate::nodes::Node;
 use crate::stats::Stat;
-use crate::views::View;
 use names_cell::Component;
 use std::fmt;
 
@@ -20,17 +20,17 @@ pub(crate) struct Header {
 }
 
 impl Header {
-    pub(crate) fn of_view(view: &View) -> Header
-        ensures kind { result.kind ≡ view.now.kind }
-        ensures instance { result.instance ≡ view.now.instance }
-        ensures content { result.content_generation ≡ view.now.content_generation }
-        ensures acl { result.acl_generation ≡ view.now.acl_generation }
+    pub(crate) fn of_node(node: &Node) -> Header
+        ensures kind { result.kind ≡ node.now.kind }
+        ensures instance { result.instance ≡ node.now.instance }
+        ensures content { result.content_generation ≡ node.now.content_generation }
+        ensures acl { result.acl_generation ≡ node.now.acl_generation }
     {
         Header {
-            kind: view.kind,
-            instance: view.instance,
-            content_generation: view.content_generation,
-            acl_generation: view.acl_generation,
+            kind: node.kind,
+            instance: node.instance,
+            content_generation: node.content_generation,
+            acl_generation: node.acl_generation,
         }
     }
 
@@ -70,15 +70,15 @@ pub(crate) struct AclNames<'a> {
 }
 
 impl<'a> AclNames<'a> {
-    pub(crate) fn of_view(view: &'a View) -> AclNames<'a>
-        ensures read { result.read.now ≡ view.now.read }
-        ensures write { result.write.now ≡ view.now.write }
-        ensures change { result.change.now ≡ view.now.change }
+    pub(crate) fn of_node(node: &'a Node) -> AclNames<'a>
+        ensures read { result.read.now ≡ node.now.read }
+        ensures write { result.write.now ≡ node.now.write }
+        ensures change { result.change.now ≡ node.now.change }
     {
         AclNames {
-            read: &view.read,
-            write: &view.write,
-            change: &view.change,
+            read: &node.read,
+            write: &node.write,
+            change: &node.change,
         }
     }
 

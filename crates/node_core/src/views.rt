@@ -1,49 +1,23 @@
-//! What is seen of a node, and the changes of the map.
-ghost use Rattle.std.specs.Prelude.{◌≡◌, ◌∷◌, [], Some};
-ghost use Rattle.node_core.specs.Texts.{view_text, mod_text};
-ghost use Rattle.node_core.specs.Nodes.{touched};
-ghost use Rattle.node_core.specs.Access.{acl_for};
+//! What is seen of a name, and the changes of the map.
+ghost use Rattle.std.specs.Prelude.{◌≡◌, Some};
+ghost use Rattle.node_core.specs.Texts.{view_text, node_text};
+ghost use Rattle.node_core.specs.Nodes.{name_of};
 
-use crate::kinds::{Kind, Life, Right};
-use crate::texts::{AclNames, Header, Hex};
-use names_cell::{Component, Name};
-use plain::{Bytes, Same};
+use crate::kinds::Kind;
+use crate::listings::Listing;
+use crate::nodes::Node;
+use crate::texts::{AclNames, Header, Hex, Listed};
+use names_cell::Name;
+use plain::Same;
 use std::alloc::AllocError;
 use std::fmt;
 
-/// What a client sees of a node, and may keep in its cache (Burrows 2006, sections 2.3 and 2.7). The lock's
-/// generation isn't among it.
+/// What a client sees of a name, and may keep in its cache (Burrows 2006, sections 2.3 and 2.7).
 #[derive(Drop)]
 pub struct View {
-    pub kind: Kind,
-    /// Greater than that of any earlier node of the same name.
-    pub instance: u64,
-    /// 1 for a new file, one more at each write; 0 for a directory.
-    pub content_generation: u64,
-    /// 1 for a new node, one more at each change of its ACL names.
-    pub acl_generation: u64,
-    /// The ACL whose members may read.
-    pub read: Component,
-    /// The ACL whose members may write.
-    pub write: Component,
-    /// The ACL whose members may change the three names.
-    pub change: Component,
-    pub life: Life,
-    /// What a file holds; empty for a directory.
-    pub content: Bytes,
-}
-
-impl View {
-    /// The ACL that the view names for a right.
-    pub fn acl(&self, right: Right) -> &Component
-        ensures { result.now ≡ acl_for self.now right }
-    {
-        match right {
-            Right::Read => &self.read,
-            Right::Write => &self.write,
-            Right::Change => &self.change,
-        }
-    }
+    pub node: Node,
+    /// Of a directory its children; of a file none.
+    pub children: Listing,
 }
 
 impl Clone for View {
@@ -51,15 +25,8 @@ impl Clone for View {
 
     fn clone(&self) -> Result<View, AllocError> {
         Ok(View {
-            kind: self.kind,
-            instance: self.instance,
-            content_generation: self.content_generation,
-            acl_generation: self.acl_generation,
-            read: self.read.clone()?,
-            write: self.write.clone()?,
-            change: self.change.clone()?,
-            life: self.life,
-            content: self.content.clone()?,
+            node: self.node.clone()?,
+            children: self.children.clone()?,
         })
     }
 }
@@ -68,36 +35,65 @@ impl Same for View {
     ghost exact = { λ x y h. h };
 }
 
-impl fmt::Display for View {
-    ghost output = { λ x. Some (view_text x) };
+/// A node and the names that are listed of it, as they are printed.
+#[derive(Clone, Copy)]
+pub(crate) struct Shown<'a> {
+    node: &'a Node,
+    children: &'a Listing,
+}
+
+impl<'a> Shown<'a> {
+    pub(crate) fn of(node: &'a Node, children: &'a Listing) -> Shown<'a>
+        ensures node { result.node.now ≡ node.now }
+        ensures children { result.children.now ≡ children.now }
+    {
+        Shown { node, children }
+    }
+}
+
+impl fmt::Display for Shown<'_> {
+    ghost output = { λ x. Some (node_text x.node.now x.children.now) };
 
     fn fmt<W: fmt::Write>(&self, f: &mut fmt::Formatter<W>) -> fmt::Result {
-        let header = Header::of_view(self);
-        let acls = AclNames::of_view(self);
-        let life = self.life;
+        let header = Header::of_node(self.node);
+        let acls = AclNames::of_node(self.node);
+        let life = self.node.life;
         write!(f, "{header} {acls} {life}")?;
-        match self.kind {
-            Kind::Directory => Ok(()),
+        match self.node.kind {
+            Kind::Directory => {
+                let count = self.children.as_slice().len();
+                let listed = Listed(self.children.as_slice());
+                write!(f, " {count}{listed}")
+            }
             Kind::File => {
-                let length = self.content.len();
-                let hex = Hex(self.content.as_slice());
+                let length = self.node.content.len();
+                let hex = Hex(self.node.content.as_slice());
                 write!(f, " {length} {hex}")
             }
         }
     }
 }
 
-/// A change of the map: a node is set, or it is gone. It touches the one name.
+impl fmt::Display for View {
+    ghost output = { λ x. Some (view_text x) };
+
+    fn fmt<W: fmt::Write>(&self, f: &mut fmt::Formatter<W>) -> fmt::Result {
+        let shown = Shown::of(&self.node, &self.children);
+        write!(f, "{shown}")
+    }
+}
+
+/// A change of the map: a node is set, or it is gone.
 #[derive(Drop)]
 pub enum Mod {
-    Put(Name, View),
+    Put(Name, Node),
     Gone(Name),
 }
 
 impl Mod {
-    /// The name that the change touches; the view of every other name stays.
+    /// The name whose node changes.
     pub fn name(&self) -> &Name
-        ensures { touched self.now ≡ result.now ∷ [] }
+        ensures { result.now ≡ name_of self.now }
     {
         match self {
             Mod::Put(name, _) => name,
@@ -111,7 +107,7 @@ impl Clone for Mod {
 
     fn clone(&self) -> Result<Mod, AllocError> {
         Ok(match self {
-            Mod::Put(name, view) => Mod::Put(name.clone()?, view.clone()?),
+            Mod::Put(name, node) => Mod::Put(name.clone()?, node.clone()?),
             Mod::Gone(name) => Mod::Gone(name.clone()?),
         })
     }
@@ -119,15 +115,4 @@ impl Clone for Mod {
 
 impl Same for Mod {
     ghost exact = { λ x y h. h };
-}
-
-impl fmt::Display for Mod {
-    ghost output = { λ x. Some (mod_text x) };
-
-    fn fmt<W: fmt::Write>(&self, f: &mut fmt::Formatter<W>) -> fmt::Result {
-        match self {
-            Mod::Put(name, view) => write!(f, "put {name} {view}"),
-            Mod::Gone(name) => write!(f, "gone {name}"),
-        }
-    }
 }

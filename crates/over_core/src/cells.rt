@@ -100,7 +100,7 @@ impl<R: Records> Cell<R> {
     /// nothing to do, and is quiet. A live session ends from its timeout on, lowest client first, and its end is
     /// committed, and with it its rights to cache end; an answer to a Start or a Beat lets it live for a lease from the
     /// moment of the answer, and offers its client just that, counted from the receipt (Gray and Cheriton 1989, section
-    /// 2). A change waits while a client holds a right on the name that it touches, and the answer to a Beat tells the
+    /// 2). A change waits while a client holds a right on a name that it touches, and the answer to a Beat tells the
     /// client what it is to let go of (Burrows 2006, section 2.7). Behind all that, events wait in the sessions of those
     /// who opened handles on what changed (section 2.5). Moments are as in `take`. A refusal leaves the master and the
     /// rows as they were, and comes only for a moment of 2^53 or more, or where a session's count of events is at

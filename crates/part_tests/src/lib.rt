@@ -4,6 +4,8 @@
 #[cfg(test)]
 mod events;
 #[cfg(test)]
+mod listings;
+#[cfg(test)]
 mod masters;
 #[cfg(test)]
 mod moments;

@@ -110,7 +110,7 @@ pub(crate) fn client(alloc: Global) -> Result<Client, Fail> {
     Ok(Client::new(alloc, number, principal))
 }
 
-fn started(span: u64) -> Result<Out, Fail> {
+pub(crate) fn started(span: u64) -> Result<Out, Fail> {
     Ok(Out::Started(Started {
         client: ClientNumber::new(1).ok_or("client")?,
         epoch: 1,
@@ -265,7 +265,7 @@ fn ask(client: &mut Client, ask: &Ask) -> &'static str {
     }
 }
 
-fn open_of(alloc: Global) -> Result<Ask, Fail> {
+pub(crate) fn open_of(alloc: Global) -> Result<Ask, Fail> {
     let mode = Mode::new(true, false, false).ok_or("mode")?;
     let name = Name::parse(alloc, "/ls/c/f")?;
     Ok(Ask::Open(Open {

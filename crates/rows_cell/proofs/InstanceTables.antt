@@ -10,7 +10,7 @@ use Rattle.std.proofs.lemmas.Bool.{and_parts, not-true}
 use Rattle.std.proofs.lemmas.Bool.Decides.{nat_tests}
 use Rattle.std.proofs.lemmas.Map.Lookups.{exact_unsigned}
 use Rattle.plain.proofs.Entries.{lookup_put}
-use Rattle.rows_cell.specs.declared.tables.Node.{Node}
+use Rattle.rows_cell.specs.declared.tables.StoredNode.{StoredNode}
 use Rattle.rows_cell.specs.declared.tables.LockRow.{LockRow}
 use Rattle.rows_cell.specs.declared.soundness.Group.{Group}
 use Rattle.rows_cell.specs.declared.keys.LockKey.{LockKey}
@@ -39,13 +39,13 @@ put_at table i x n = lookup_put nat_cmp exact_unsigned itself table i x n ∙ ap
 -- the instances are neither in the table nor twice in the list
 pub fresh : List (ℕ × ℕ) → StoredNodes → Bool
 fresh table [] = true
-fresh table (e ∷ es) = is_none (at table e.1.view.instance) && fresh (insert_entry nat_cmp table e.1.view.instance e.1.lock_generation) es
+fresh table (e ∷ es) = is_none (at table e.1.node.instance) && fresh (insert_entry nat_cmp table e.1.node.instance e.1.lock_generation) es
 
 abbrev none_in : List (ℕ × ℕ) → StoredNodes → Bool
-none_in table nodes = list_all (λ e. is_none (at table e.1.view.instance)) nodes
+none_in table nodes = list_all (λ e. is_none (at table e.1.node.instance)) nodes
 
 abbrev any_at : ℕ → StoredNodes → Bool
-any_at n nodes = list_any (λ m. m == n) (map (λ e. e.1.view.instance) nodes)
+any_at n nodes = list_any (λ m. m == n) (map (λ e. e.1.node.instance) nodes)
 
 four : (a b c d : Bool) → (cond a false b && (c && not d)) ≡ (b && c && not (a || d))
 four true true true true = refl
@@ -66,7 +66,7 @@ turned a b = grind (arith, nat_tests)
 none_put : (table : List (ℕ × ℕ)) (i x : ℕ) (nodes : StoredNodes) → none_in (insert_entry nat_cmp table i x) nodes ≡ (none_in table nodes && not (any_at i nodes))
 none_put table i x [] = refl
 none_put table i x (e ∷ es) =
-    let n : ℕ = e.1.view.instance in
+    let n : ℕ = e.1.node.instance in
     let here : is_none (at (insert_entry nat_cmp table i x) n) ≡ cond (n == i) false (is_none (at table n)) =
     ap (λ o. is_none o) (put_at table i x n) ∙ none_of_cond (i == n) x (at table n) ∙ ap (λ b. cond b false (is_none (at table n))) (turned i n) in
     ap (λ b. b && none_in (insert_entry nat_cmp table i x) es) here
@@ -83,7 +83,7 @@ fresh_is : (table : List (ℕ × ℕ)) (nodes : StoredNodes) → fresh table nod
 unfolding fresh
 fresh_is table [] = refl
 fresh_is table (e ∷ es) =
-    let n : ℕ = e.1.view.instance in
+    let n : ℕ = e.1.node.instance in
     let next : List (ℕ × ℕ) = insert_entry nat_cmp table n e.1.lock_generation in
     let none : Bool = is_none (at table n) in
     ap (λ b. none && b) (fresh_is next es)
@@ -131,10 +131,10 @@ some_was : (o former : Option ℕ) → former ≡ o → is_some former ≡ true 
 some_was o None e h = cc
 some_was o (Some x) e h = ap (λ p. is_none p) (sym e)
 
-pub gather_more : (nodes left next : StoredNodes) (name : List ℕ) (node : Node) (table new : List (ℕ × ℕ)) (former : Option ℕ) → IsGathered nodes left table → left ≡ (name, node) ∷ next → former ≡ at table node.view.instance → is_some former ≡ false → new ≡ insert_entry nat_cmp table node.view.instance node.lock_generation → IsGathered nodes next new
+pub gather_more : (nodes left next : StoredNodes) (name : List ℕ) (node : StoredNode) (table new : List (ℕ × ℕ)) (former : Option ℕ) → IsGathered nodes left table → left ≡ (name, node) ∷ next → former ≡ at table node.node.instance → is_some former ≡ false → new ≡ insert_entry nat_cmp table node.node.instance node.lock_generation → IsGathered nodes next new
 unfolding fresh
 gather_more nodes left next name node table new former h l was free e =
-    let i : ℕ = node.view.instance in
+    let i : ℕ = node.node.instance in
     let none : at table i ≡ None = none_was (at table i) former was free in
     let put : List (ℕ × ℕ) = insert_entry nat_cmp table i node.lock_generation in
     let before : fresh table ((name, node) ∷ next) ≡ fresh [] nodes = ap (λ xs. fresh table xs) (sym l) ∙ h.new in
@@ -148,10 +148,10 @@ gather_more nodes left next name node table new former h l was free e =
           ∙ found_more table n i node.lock_generation (lock_generation_in next n) (lock_generation_in nodes n) none old;
     }
 
-pub gather_stop : (nodes left next : StoredNodes) (name : List ℕ) (node : Node) (table : List (ℕ × ℕ)) (former : Option ℕ) → IsGathered nodes left table → left ≡ (name, node) ∷ next → former ≡ at table node.view.instance → is_some former ≡ true → are_apart nodes ≡ false
+pub gather_stop : (nodes left next : StoredNodes) (name : List ℕ) (node : StoredNode) (table : List (ℕ × ℕ)) (former : Option ℕ) → IsGathered nodes left table → left ≡ (name, node) ∷ next → former ≡ at table node.node.instance → is_some former ≡ true → are_apart nodes ≡ false
 unfolding fresh
 gather_stop nodes left next name node table former h l was taken =
-    let i : ℕ = node.view.instance in
+    let i : ℕ = node.node.instance in
     let put : List (ℕ × ℕ) = insert_entry nat_cmp table i node.lock_generation in
     let before : fresh table ((name, node) ∷ next) ≡ fresh [] nodes = ap (λ xs. fresh table xs) (sym l) ∙ h.new in
     let twice : false ≡ fresh [] nodes = ap (λ b. b && fresh put next) (sym (some_was (at table i) former was taken)) ∙ before in
@@ -169,21 +169,21 @@ gather_done nodes left table h l =
 
 -- ---- what they say of a node's lock
 
-pub there_is : (nodes : StoredNodes) (n : ℕ) → is_some (lock_generation_in nodes n) ≡ list_any (λ e. e.1.view.instance == n) nodes
+pub there_is : (nodes : StoredNodes) (n : ℕ) → is_some (lock_generation_in nodes n) ≡ list_any (λ e. e.1.node.instance == n) nodes
 there_is [] n = refl
 there_is (e ∷ es) n =
-    elim (e.1.view.instance == n) as (λ b. is_some (cond b (Some e.1.lock_generation) (lock_generation_in es n)) ≡ (b || list_any (λ x. x.1.view.instance == n) es)) [
+    elim (e.1.node.instance == n) as (λ b. is_some (cond b (Some e.1.lock_generation) (lock_generation_in es n)) ≡ (b || list_any (λ x. x.1.node.instance == n) es)) [
       | true ↦ refl
       | false ↦ there_is es n
     ]
 
 abbrev held_at : ℕ → StoredNodes → Bool
-held_at n nodes = list_any (λ e. e.1.view.instance == n && nat_le 1 e.1.lock_generation) nodes
+held_at n nodes = list_any (λ e. e.1.node.instance == n && nat_le 1 e.1.lock_generation) nodes
 
 no_other : (n : ℕ) (nodes : StoredNodes) → any_at n nodes ≡ false → held_at n nodes ≡ false
 no_other n [] h = refl
 no_other n (e ∷ es) h =
-    (elim (e.1.view.instance == n) as (λ b. (b || any_at n es) ≡ false → (b && nat_le 1 e.1.lock_generation || held_at n es) ≡ false) [
+    (elim (e.1.node.instance == n) as (λ b. (b || any_at n es) ≡ false → (b && nat_le 1 e.1.lock_generation || held_at n es) ≡ false) [
       | true ↦ (λ k. cc)
       | false ↦ (λ k. no_other n es k)
     ]) h
@@ -195,11 +195,11 @@ or_none false b h = sym h
 pub held_is : (nodes : StoredNodes) (n : ℕ) → are_apart nodes ≡ true → option_map_or (λ generation. nat_le 1 generation) (lock_generation_in nodes n) false ≡ held_at n nodes
 held_is [] n h = refl
 held_is (e ∷ es) n h =
-    let t = and_parts (not (any_at e.1.view.instance es)) (are_apart es) h in
-    (elim (e.1.view.instance == n) as (λ b. (e.1.view.instance == n) ≡ b → option_map_or (λ generation. nat_le 1 generation) (cond b (Some e.1.lock_generation) (lock_generation_in es n)) false ≡ (b && nat_le 1 e.1.lock_generation || held_at n es)) [
+    let t = and_parts (not (any_at e.1.node.instance es)) (are_apart es) h in
+    (elim (e.1.node.instance == n) as (λ b. (e.1.node.instance == n) ≡ b → option_map_or (λ generation. nat_le 1 generation) (cond b (Some e.1.lock_generation) (lock_generation_in es n)) false ≡ (b && nat_le 1 e.1.lock_generation || held_at n es)) [
       | true ↦ (λ k.
           let P : ℕ → Type 0 = λ m. any_at m es ≡ false in
-          let none : any_at n es ≡ false = subst P (same_number e.1.view.instance n k) (not-true (any_at e.1.view.instance es) t.0) in
+          let none : any_at n es ≡ false = subst P (same_number e.1.node.instance n k) (not-true (any_at e.1.node.instance es) t.0) in
           or_none (nat_le 1 e.1.lock_generation) (held_at n es) (no_other n es none))
       | false ↦ (λ k. held_is es n t.1)
     ]) refl

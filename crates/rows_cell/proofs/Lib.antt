@@ -1,7 +1,7 @@
 pub mod OpeningRows
 pub mod MapOfRows
 pub mod PutEntries
-pub mod RowViews
+pub mod RowNodes
 pub mod SoundParts
 pub mod SoundChanges
 pub mod SoundRemovals

@@ -10,14 +10,14 @@ use Rattle.std.specs.BTreeMap.{insert_entry}
 use Rattle.std.proofs.lemmas.Bool.{and_parts, or_left, or_parts, eqb-true, not-true}
 use Rattle.std.proofs.lemmas.Bool.Decides.{nat_tests}
 use Rattle.node_core.specs.Limits.{number_limit}
-use Rattle.rows_cell.specs.declared.tables.Node.{Node}
+use Rattle.rows_cell.specs.declared.tables.StoredNode.{StoredNode}
 use Rattle.rows_cell.specs.declared.tables.Session.{Session}
 use Rattle.rows_cell.specs.declared.tables.LockRow.{LockRow}
 use Rattle.rows_cell.specs.declared.keys.LockKey.{LockKey}
 use Rattle.rows_cell.specs.declared.tables.Rows.{Rows}
 use Rattle.rows_cell.specs.declared.tables.Edit.TheVariants.{PutSession}
 use Rattle.rows_cell.specs.Keys.{lock_order}
-use Rattle.rows_cell.specs.Rows.{StoredNodes, StoredLocks, stored_node, views_of, map_of, edited, changed_rows}
+use Rattle.rows_cell.specs.Rows.{StoredNodes, StoredLocks, stored_node, nodes_of, map_of, edited, changed_rows}
 use Rattle.rows_cell.specs.Sound.{sound, is_number, are_distinct}
 use Rattle.rows_cell.specs.Indexes.{locks_at, lock_generation_in}
 use Rattle.rows_cell.specs.LockRows.{locks_off, is_holding, has_holder, are_legal_rows, has_generation, row_edits, LockChange, generation_edits, lock_edits, locks_edits}
@@ -40,9 +40,9 @@ turned a b h = grind (arith, nat_tests)
 
 -- what a change of one lock needs: its node, the rows that were there, new ones that may stand together, and a generation of at least 1 where somebody holds it, before or after
 pub record ChangeFits (rows : Rows) (change : LockChange) : Type 0 where
-  pub node : Node
+  pub node : StoredNode
   pub found : stored_node rows.nodes change.name ≡ Some node
-  pub instance : node.view.instance ≡ change.instance
+  pub instance : node.node.instance ≡ change.instance
   pub old : locks_at rows.locks change.instance ≡ change.old
   pub in_order : IsStrictlySortedBy lock_order (keys_of change.new)
   pub legal : are_legal_rows rows change.instance change.new ≡ true
@@ -78,7 +78,7 @@ module _ (rows : Rows) (change : LockChange) (fits : ChangeFits rows change) whe
   generation_step cell None number before h = h
   generation_step cell (Some generation) number before h =
       let P : StoredLocks → Type 0 = λ locks. has_holder locks ≡ true → nat_le 1 generation ≡ true in
-      let held : P (locks_at rows.locks fits.node.view.instance) = subst P (sym (ap (λ n. locks_at rows.locks n) fits.instance ∙ fits.old)) before in
+      let held : P (locks_at rows.locks fits.node.node.instance) = subst P (sym (ap (λ n. locks_at rows.locks n) fits.instance ∙ fits.old)) before in
       generation_sound cell rows change.name fits.node generation (record { found = fits.found; number = number; held = held }) h
 
   -- the node's lock has the new generation, where there is one, and all others have theirs
@@ -92,7 +92,7 @@ module _ (rows : Rows) (change : LockChange) (fits : ChangeFits rows change) whe
   pub change_sound : (cell : List ℕ) → sound cell rows ≡ true → IsStrictlySortedBy lock_order (keys_of rows.locks) → sound cell (changed_rows rows (lock_edits change)) ≡ true
   change_sound cell h sorted =
       let first : Rows = record rows { nodes = with_generation rows.nodes change.name change.generation } in
-      let new_node : Node = record (fits.node) { lock_generation = unwrap_or change.generation fits.node.lock_generation } in
+      let new_node : StoredNode = record (fits.node) { lock_generation = unwrap_or change.generation fits.node.lock_generation } in
       let found : stored_node first.nodes change.name ≡ Some new_node = generation_here rows.nodes change.name fits.node change.generation fits.found in
       let new_fits : RowsFit first change.instance change.new = record {
         there = found_there first.nodes change.name new_node change.instance found fits.instance;
@@ -112,7 +112,7 @@ module _ (rows : Rows) (change : LockChange) (fits : ChangeFits rows change) whe
       let there : stored_node rows.nodes change.name ≡ Some k.node = subst P same k.found in
       let first = fits.found in
       let one : fits.node ≡ k.node = cc in
-      let is : change.instance ≡ other.instance = sym fits.instance ∙ ap (λ (n : Node). n.view.instance) one ∙ k.instance in
+      let is : change.instance ≡ other.instance = sym fits.instance ∙ ap (λ (n : StoredNode). n.node.instance) one ∙ k.instance in
       absurd (not_equal change.instance other.instance apart is)
 
   -- what fits another lock still fits it
@@ -140,15 +140,15 @@ one_more : (n : ℕ) → nat_le 1 (n + 1) ≡ true
 one_more n = grind (arith, nat_tests)
 
 -- the rows of the lock of the node at a name, before and after
-pub record NewRows (rows : Rows) (name : List ℕ) (node : Node) (old new : StoredLocks) : Type 0 where
+pub record NewRows (rows : Rows) (name : List ℕ) (node : StoredNode) (old new : StoredLocks) : Type 0 where
   pub found : stored_node rows.nodes name ≡ Some node
-  pub was : locks_at rows.locks node.view.instance ≡ old
+  pub was : locks_at rows.locks node.node.instance ≡ old
   pub in_order : IsStrictlySortedBy lock_order (keys_of new)
-  pub legal : are_legal_rows rows node.view.instance new ≡ true
+  pub legal : are_legal_rows rows node.node.instance new ≡ true
 
 -- from free to held: the generation rises by 1
-pub risen_fits : (rows : Rows) (name : List ℕ) (node : Node) (old new : StoredLocks) → NewRows rows name node old new → nat_lt node.lock_generation number_limit ≡ true
-    → ChangeFits rows (record { name = name; instance = node.view.instance; generation = Some (node.lock_generation + 1); old = old; new = new })
+pub risen_fits : (rows : Rows) (name : List ℕ) (node : StoredNode) (old new : StoredLocks) → NewRows rows name node old new → nat_lt node.lock_generation number_limit ≡ true
+    → ChangeFits rows (record { name = name; instance = node.node.instance; generation = Some (node.lock_generation + 1); old = old; new = new })
 risen_fits rows name node old new h below = record {
   node = node;
   found = h.found;
@@ -162,14 +162,14 @@ risen_fits rows name node old new h below = record {
 }
 
 -- else the generation stays
-pub kept_fits : (cell : List ℕ) (rows : Rows) (name : List ℕ) (node : Node) (old new : StoredLocks) → sound cell rows ≡ true → NewRows rows name node old new → (has_holder new ≡ true → has_holder old ≡ true)
-    → ChangeFits rows (record { name = name; instance = node.view.instance; generation = None; old = old; new = new })
+pub kept_fits : (cell : List ℕ) (rows : Rows) (name : List ℕ) (node : StoredNode) (old new : StoredLocks) → sound cell rows ≡ true → NewRows rows name node old new → (has_holder new ≡ true → has_holder old ≡ true)
+    → ChangeFits rows (record { name = name; instance = node.node.instance; generation = None; old = old; new = new })
 kept_fits cell rows name node old new sound_rows h still =
     let distinct = (parts_of cell rows sound_rows).distinct in
-    let P : StoredLocks → Type 0 = λ es. has_holder es ≡ true → has_generation rows.nodes node.view.instance ≡ true in
-    let first : P old = subst P h.was (sound_generation cell rows node.view.instance sound_rows) in
-    let own : nat_le 1 node.lock_generation ≡ has_generation rows.nodes node.view.instance =
-    ap (λ o. option_map_or (λ generation. nat_le 1 generation) o false) (sym (found_by_instance rows.nodes name node h.found distinct)) ∙ held_is rows.nodes node.view.instance distinct in
+    let P : StoredLocks → Type 0 = λ es. has_holder es ≡ true → has_generation rows.nodes node.node.instance ≡ true in
+    let first : P old = subst P h.was (sound_generation cell rows node.node.instance sound_rows) in
+    let own : nat_le 1 node.lock_generation ≡ has_generation rows.nodes node.node.instance =
+    ap (λ o. option_map_or (λ generation. nat_le 1 generation) o false) (sym (found_by_instance rows.nodes name node h.found distinct)) ∙ held_is rows.nodes node.node.instance distinct in
     record {
       node = node;
       found = h.found;
@@ -234,7 +234,7 @@ changes_in_order rows (change ∷ changes) sorted fits =
     changes_in_order (relocked_by rows change) changes (change_locks rows change fits.each.0 sorted).in_order (others_fit rows change changes fits sorted)
 
 -- the map stays
-pub changes_map : (nodes : StoredNodes) (changes : List LockChange) → views_of (nodes_behind nodes changes) ≡ views_of nodes
+pub changes_map : (nodes : StoredNodes) (changes : List LockChange) → nodes_of (nodes_behind nodes changes) ≡ nodes_of nodes
 changes_map nodes [] = refl
 changes_map nodes (change ∷ changes) = changes_map (with_generation nodes change.name change.generation) changes ∙ same_map nodes change.name change.generation
 

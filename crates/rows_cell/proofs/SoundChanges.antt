@@ -15,14 +15,14 @@ use Rattle.std.proofs.lemmas.Bool.Decides.{nat_tests}
 use Rattle.std.proofs.lemmas.Map.Lookups.{exact_bytes, exact_unsigned}
 use Rattle.std.proofs.lemmas.Slice.Eq.{bytes_eq-Decides}
 use Rattle.names_cell.specs.Text.{parent_of, cell_of, root_of}
-use Rattle.node_core.specs.declared.views.View.{View}
+use Rattle.node_core.specs.declared.nodes.Node.{Node}
 use Rattle.plain.proofs.Entries.{lookup_put, eq_at}
-use Rattle.rows_cell.specs.declared.tables.Node.{Node}
+use Rattle.rows_cell.specs.declared.tables.StoredNode.{StoredNode}
 use Rattle.rows_cell.specs.declared.tables.Session.{Session}
 use Rattle.rows_cell.specs.declared.keys.LockKey.{LockKey}
 use Rattle.rows_cell.specs.declared.tables.Rows.{Rows}
 use Rattle.rows_cell.specs.declared.tables.Edit.TheVariants.{Epoch, NextInstance, PutNode, PutSession}
-use Rattle.rows_cell.specs.Rows.{StoredNodes, stored_node, put_view, changed_rows}
+use Rattle.rows_cell.specs.Rows.{StoredNodes, stored_node, put_stored, changed_rows}
 use Rattle.rows_cell.specs.Sound.{sound, is_number, is_directory, is_directory_at, content_fits, parent_fits, node_fits, are_distinct, is_live_in, holder_fits}
 use Rattle.rows_cell.proofs.OpeningRows.{bytes_same}
 use Rattle.rows_cell.proofs.PutEntries.{all_more, all_put, all_found, any_put, numbers_same, numbers_distinct}
@@ -32,7 +32,7 @@ pub sound_numbers : (cell : List ℕ) (rows : Rows) → sound cell rows ≡ true
 sound_numbers cell rows h = let p = parts_of cell rows h in (p.named, p.epoch, p.next)
 
 -- a node that stands at a name fits
-pub found_fits : (cell : List ℕ) (rows : Rows) (name : List ℕ) (node : Node) → sound cell rows ≡ true → stored_node rows.nodes name ≡ Some node → node_fits cell rows.next_instance rows.nodes (name, node) ≡ true
+pub found_fits : (cell : List ℕ) (rows : Rows) (name : List ℕ) (node : StoredNode) → sound cell rows ≡ true → stored_node rows.nodes name ≡ Some node → node_fits cell rows.next_instance rows.nodes (name, node) ≡ true
 found_fits cell rows name node h found =
     all_found (slice_cmp nat_cmp) exact_bytes (node_fits cell rows.next_instance rows.nodes) rows.nodes name node (parts_of cell rows h).nodes found
 
@@ -64,7 +64,7 @@ session_sound cell rows client principal h number =
     let p = parts_of cell rows h in
     let session : Session = record { principal = principal; live = true } in
     let new : Rows = record rows { sessions = insert_entry nat_cmp rows.sessions client session } in
-    let held : (key : LockKey) → Bool = λ key. list_any (λ e. e.1.view.instance == key.instance && nat_le 1 e.1.lock_generation) rows.nodes in
+    let held : (key : LockKey) → Bool = λ key. list_any (λ e. e.1.node.instance == key.instance && nat_le 1 e.1.lock_generation) rows.nodes in
     let holder : (key : LockKey) → holder_fits rows key ≡ true → holder_fits new key ≡ true = λ key k.
     let t = and_parts (held key) (is_live_in rows key.client) k in
     and_from (held key) (is_live_in new key.client) t.0 (live_stays rows client session key.client refl t.1) in
@@ -81,66 +81,66 @@ session_sound cell rows client principal h number =
 
 -- ---- a put
 
--- what a view needs that is put at a name, where the next instance rises. own: a node that is there keeps its instance, a new one has one that was not given out before
-pub record PutFits (rows : Rows) (name : List ℕ) (view : View) (next : ℕ) : Type 0 where
+-- what a node needs that is put at a name, where the next instance rises. own: a node that is there keeps its instance, a new one has one that was not given out before
+pub record PutFits (rows : Rows) (name : List ℕ) (node : Node) (next : ℕ) : Type 0 where
   pub least : rows.next_instance ≤ next
   pub most : is_number next ≡ true
   pub cell : bytes_eq (cell_of name) rows.cell ≡ true
   pub parent : parent_fits rows.nodes name ≡ true
-  pub first : nat_le 1 view.instance ≡ true
-  pub given : nat_lt view.instance next ≡ true
-  pub content_number : is_number view.content_generation ≡ true
-  pub acl_number : is_number view.acl_generation ≡ true
-  pub content : content_fits view.kind view ≡ true
-  pub kind : is_directory_at rows.nodes name ≡ true → is_directory view.kind ≡ true
-  pub own : option_map_or (λ (node : Node). node.view.instance == view.instance) (stored_node rows.nodes name) (nat_le rows.next_instance view.instance) ≡ true
+  pub first : nat_le 1 node.instance ≡ true
+  pub given : nat_lt node.instance next ≡ true
+  pub content_number : is_number node.content_generation ≡ true
+  pub acl_number : is_number node.acl_generation ≡ true
+  pub content : content_fits node.kind node ≡ true
+  pub kind : is_directory_at rows.nodes name ≡ true → is_directory node.kind ≡ true
+  pub own : option_map_or (λ (stored : StoredNode). stored.node.instance == node.instance) (stored_node rows.nodes name) (nat_le rows.next_instance node.instance) ≡ true
 
 -- the node that is put
-abbrev node_of : StoredNodes → List ℕ → View → Node
-node_of nodes name view = record { view = view; lock_generation = option_map_or (λ (node : Node). node.lock_generation) (stored_node nodes name) 0 }
+abbrev node_of : StoredNodes → List ℕ → Node → StoredNode
+node_of nodes name node = record { node = node; lock_generation = option_map_or (λ (stored : StoredNode). stored.lock_generation) (stored_node nodes name) 0 }
 
 -- where a directory was, one is
-directory_stays : (nodes : StoredNodes) (name : List ℕ) (view : View) → (is_directory_at nodes name ≡ true → is_directory view.kind ≡ true) → (q : List ℕ) → is_directory_at nodes q ≡ true → is_directory_at (put_view nodes name view) q ≡ true
-directory_stays nodes name view kind q h =
-    rw (lookup_put (slice_cmp nat_cmp) exact_bytes bytes_same nodes name (node_of nodes name view) q)
-    ((elim (is_at (slice_cmp nat_cmp q) name) as (λ b. is_at (slice_cmp nat_cmp q) name ≡ b → option_map_or (λ (node : Node). is_directory node.view.kind) (cond b (Some (node_of nodes name view)) (stored_node nodes q)) false ≡ true) [
+directory_stays : (nodes : StoredNodes) (name : List ℕ) (node : Node) → (is_directory_at nodes name ≡ true → is_directory node.kind ≡ true) → (q : List ℕ) → is_directory_at nodes q ≡ true → is_directory_at (put_stored nodes name node) q ≡ true
+directory_stays nodes name node kind q h =
+    rw (lookup_put (slice_cmp nat_cmp) exact_bytes bytes_same nodes name (node_of nodes name node) q)
+    ((elim (is_at (slice_cmp nat_cmp q) name) as (λ b. is_at (slice_cmp nat_cmp q) name ≡ b → option_map_or (λ (stored : StoredNode). is_directory stored.node.kind) (cond b (Some (node_of nodes name node)) (stored_node nodes q)) false ≡ true) [
       | true ↦ (λ c. let s : q ≡ name = exact_bytes q name (eq_at (slice_cmp nat_cmp q name) c) in kind (rw s at h))
       | false ↦ (λ c. h)
     ]) refl)
 
-parent_stays : (nodes : StoredNodes) (name : List ℕ) (view : View) → (is_directory_at nodes name ≡ true → is_directory view.kind ≡ true) → (q : List ℕ) → parent_fits nodes q ≡ true → parent_fits (put_view nodes name view) q ≡ true
-parent_stays nodes name view kind q h =
-    (elim (parent_of q) as (λ o. option_map_or (λ parent. is_directory_at nodes parent) o true ≡ true → option_map_or (λ parent. is_directory_at (put_view nodes name view) parent) o true ≡ true)
-    [ None ↦ (λ k. k) | Some parent ↦ (λ k. directory_stays nodes name view kind parent k) ]) h
+parent_stays : (nodes : StoredNodes) (name : List ℕ) (node : Node) → (is_directory_at nodes name ≡ true → is_directory node.kind ≡ true) → (q : List ℕ) → parent_fits nodes q ≡ true → parent_fits (put_stored nodes name node) q ≡ true
+parent_stays nodes name node kind q h =
+    (elim (parent_of q) as (λ o. option_map_or (λ parent. is_directory_at nodes parent) o true ≡ true → option_map_or (λ parent. is_directory_at (put_stored nodes name node) parent) o true ≡ true)
+    [ None ↦ (λ k. k) | Some parent ↦ (λ k. directory_stays nodes name node kind parent k) ]) h
 
-module _ (cell : List ℕ) (rows : Rows) (name : List ℕ) (view : View) (next : ℕ) (parts : SoundParts cell rows) (order : IsStrictlySortedBy (slice_cmp nat_cmp) (keys_of rows.nodes)) (fits : PutFits rows name view next) where
+module _ (cell : List ℕ) (rows : Rows) (name : List ℕ) (node : Node) (next : ℕ) (parts : SoundParts cell rows) (order : IsStrictlySortedBy (slice_cmp nat_cmp) (keys_of rows.nodes)) (fits : PutFits rows name node next) where
   abbrev put_nodes : StoredNodes
-  put_nodes = put_view rows.nodes name view
+  put_nodes = put_stored rows.nodes name node
 
-  abbrev put_node : Node
-  put_node = node_of rows.nodes name view
+  abbrev put_node : StoredNode
+  put_node = node_of rows.nodes name node
 
-  same_instance : (w : Node) → stored_node rows.nodes name ≡ Some w → view.instance ≡ w.view.instance
+  same_instance : (w : StoredNode) → stored_node rows.nodes name ≡ Some w → node.instance ≡ w.node.instance
   same_instance w found =
-      let e : (w.view.instance == view.instance) ≡ true = rw found at fits.own in
-      sym (eqb-true w.view.instance view.instance e)
+      let e : (w.node.instance == node.instance) ≡ true = rw found at fits.own in
+      sym (eqb-true w.node.instance node.instance e)
 
   there : (n : ℕ) → has_instance rows.nodes n ≡ true → has_instance put_nodes n ≡ true
   there n h =
-      any_put (slice_cmp nat_cmp) (λ (node : Node). node.view.instance == n) rows.nodes name put_node
+      any_put (slice_cmp nat_cmp) (λ (stored : StoredNode). stored.node.instance == n) rows.nodes name put_node
       (λ w found k. rw (same_instance w found) k) h
 
   held : (key : LockKey) → holder_fits rows key ≡ true → holder_fits (record rows { nodes = put_nodes; next_instance = next }) key ≡ true
   held key h =
-      let some : StoredNodes → Bool = list_any (λ e. e.1.view.instance == key.instance && nat_le 1 e.1.lock_generation) in
+      let some : StoredNodes → Bool = list_any (λ e. e.1.node.instance == key.instance && nat_le 1 e.1.lock_generation) in
       let t = and_parts (some rows.nodes) (is_live_in rows key.client) h in
-      let kept : some put_nodes ≡ true = any_put (slice_cmp nat_cmp) (λ (node : Node). node.view.instance == key.instance && nat_le 1 node.lock_generation) rows.nodes name put_node
+      let kept : some put_nodes ≡ true = any_put (slice_cmp nat_cmp) (λ (stored : StoredNode). stored.node.instance == key.instance && nat_le 1 stored.lock_generation) rows.nodes name put_node
       (λ w found k. rw (same_instance w found, found) k) t.0 in
       and_from (some put_nodes) (is_live_in rows key.client) kept t.1
 
   lock_number : is_number put_node.lock_generation ≡ true
   lock_number =
-      (elim (stored_node rows.nodes name) as (λ o. stored_node rows.nodes name ≡ o → is_number (option_map_or (λ (node : Node). node.lock_generation) o 0) ≡ true) [
+      (elim (stored_node rows.nodes name) as (λ o. stored_node rows.nodes name ≡ o → is_number (option_map_or (λ (stored : StoredNode). stored.lock_generation) o 0) ≡ true) [
         | None ↦ (λ e. refl)
         | Some w ↦ (λ e. (numbers_of cell rows.next_instance rows.nodes (name, w) (all_found (slice_cmp nat_cmp) exact_bytes (node_fits cell rows.next_instance rows.nodes) rows.nodes name w parts.nodes e)).1)
       ]) refl
@@ -149,38 +149,38 @@ module _ (cell : List ℕ) (rows : Rows) (name : List ℕ) (view : View) (next :
   new_fits =
       let same : rows.cell ≡ cell = (bytes_eq-Decides rows.cell cell).0 parts.named in
       let named : bytes_eq (cell_of name) cell ≡ true = rw same at fits.cell in
-      rw (named, parent_stays rows.nodes name view fits.kind name fits.parent, fits.first, fits.given, fits.content_number, fits.acl_number, lock_number) fits.content
+      rw (named, parent_stays rows.nodes name node fits.kind name fits.parent, fits.first, fits.given, fits.content_number, fits.acl_number, lock_number) fits.content
 
   nodes_stay : list_all (node_fits cell next put_nodes) put_nodes ≡ true
   nodes_stay =
       let old = all_more (node_fits cell rows.next_instance rows.nodes) (node_fits cell next put_nodes) rows.nodes
-      (λ e. node_stays cell rows.next_instance next rows.nodes put_nodes e fits.least (parent_stays rows.nodes name view fits.kind e.0)) parts.nodes in
+      (λ e. node_stays cell rows.next_instance next rows.nodes put_nodes e fits.least (parent_stays rows.nodes name node fits.kind e.0)) parts.nodes in
       all_put (slice_cmp nat_cmp) exact_bytes (node_fits cell next put_nodes) rows.nodes name put_node old new_fits
 
   instances_stay : are_distinct (instances put_nodes) ≡ true
   instances_stay =
-      let number : Node → ℕ = λ node. node.view.instance in
+      let number : StoredNode → ℕ = λ stored. stored.node.instance in
       (elim (stored_node rows.nodes name) as (λ o. stored_node rows.nodes name ≡ o → are_distinct (instances put_nodes) ≡ true) [
         | None ↦ (λ e.
-            let past : nat_le rows.next_instance view.instance ≡ true = rw e at fits.own in
+            let past : nat_le rows.next_instance node.instance ≡ true = rw e at fits.own in
             let below : list_all (λ x. nat_lt (number x.1) rows.next_instance) rows.nodes ≡ true =
             all_more (node_fits cell rows.next_instance rows.nodes) (λ x. nat_lt (number x.1) rows.next_instance) rows.nodes (λ x k. (numbers_of cell rows.next_instance rows.nodes x k).0) parts.nodes in
-            numbers_distinct (slice_cmp nat_cmp) number rows.next_instance rows.nodes name put_node below (leb-true rows.next_instance view.instance past) parts.distinct)
+            numbers_distinct (slice_cmp nat_cmp) number rows.next_instance rows.nodes name put_node below (leb-true rows.next_instance node.instance past) parts.distinct)
         | Some w ↦ (λ e. rw (numbers_same (slice_cmp nat_cmp) nat_list_cmp_total number rows.nodes name put_node w order e (same_instance w e)) parts.distinct)
       ]) refl
 
--- a view that fits keeps the rows sound. Out of order, a put could go before the node that stands at its name, and then two nodes would have one instance
-pub put_sound : (cell : List ℕ) (rows : Rows) (name : List ℕ) (view : View) (next : ℕ) → sound cell rows ≡ true → IsStrictlySortedBy (slice_cmp nat_cmp) (keys_of rows.nodes) → PutFits rows name view next → sound cell (changed_rows rows (PutNode name view ∷ NextInstance next ∷ [])) ≡ true
-put_sound cell rows name view next h order fits =
+-- a node that fits keeps the rows sound. Out of order, a put could go before the node that stands at its name, and then two nodes would have one instance
+pub put_sound : (cell : List ℕ) (rows : Rows) (name : List ℕ) (node : Node) (next : ℕ) → sound cell rows ≡ true → IsStrictlySortedBy (slice_cmp nat_cmp) (keys_of rows.nodes) → PutFits rows name node next → sound cell (changed_rows rows (PutNode name node ∷ NextInstance next ∷ [])) ≡ true
+put_sound cell rows name node next h order fits =
     let p = parts_of cell rows h in
-    let new : Rows = record rows { nodes = put_view rows.nodes name view; next_instance = next } in
+    let new : Rows = record rows { nodes = put_stored rows.nodes name node; next_instance = next } in
     sound_of cell new (record {
       named = p.named;
       epoch = p.epoch;
       next = fits.most;
-      root = directory_stays rows.nodes name view fits.kind (root_of cell) p.root;
-      nodes = nodes_stay cell rows name view next p order fits;
-      distinct = instances_stay cell rows name view next p order fits;
+      root = directory_stays rows.nodes name node fits.kind (root_of cell) p.root;
+      nodes = nodes_stay cell rows name node next p order fits;
+      distinct = instances_stay cell rows name node next p order fits;
       sessions = p.sessions;
-      locks = locks_stay rows new refl (there cell rows name view next p order fits) (held cell rows name view next p order fits) p.locks;
+      locks = locks_stay rows new refl (there cell rows name node next p order fits) (held cell rows name node next p order fits) p.locks;
     })

@@ -220,7 +220,7 @@ module _ (cell : List ℕ) (rows : Rows) (client : ℕ) (session : Session) (hel
 
   holder_stays : (key : LockKey) (state : LockState) → held state ≡ true → not (held state && key.client == client) ≡ true → holder_fits rows key ≡ true → holder_fits ended_rows key ≡ true
   holder_stays key state is free h =
-      let some : Bool = list_any (λ e. e.1.view.instance == key.instance && nat_le 1 e.1.lock_generation) rows.nodes in
+      let some : Bool = list_any (λ e. e.1.node.instance == key.instance && nat_le 1 e.1.lock_generation) rows.nodes in
       let t = and_parts some (is_live_in rows key.client) h in
       let other : (key.client == client) ≡ false = free_of (held state) (key.client == client) is free in
       and_from some (is_live_in ended_rows key.client) t.0 (live_elsewhere rows client session key.client other t.1)

@@ -6,7 +6,7 @@ use Rattle.std.specs.Str.{bytes_eq}
 use Rattle.std.proofs.lemmas.Bool.{and_parts, and_from}
 use Rattle.std.proofs.lemmas.Bool.Decides.{nat_tests}
 use Rattle.names_cell.specs.Text.{cell_of, root_of}
-use Rattle.rows_cell.specs.declared.tables.Node.{Node}
+use Rattle.rows_cell.specs.declared.tables.StoredNode.{StoredNode}
 use Rattle.rows_cell.specs.declared.tables.LockRow.{LockRow}
 use Rattle.rows_cell.specs.declared.tables.LockState.{LockState}
 use Rattle.rows_cell.specs.declared.tables.LockState.TheVariants.{Lapsed, Exclusive, Shared}
@@ -29,7 +29,7 @@ six_parts true true true true true true h = (refl, refl, refl, refl, refl, refl)
 six_parts _ _ _ _ _ _ h = cc
 
 abbrev pub instances : StoredNodes → List ℕ
-instances nodes = map (λ e. e.1.view.instance) nodes
+instances nodes = map (λ e. e.1.node.instance) nodes
 
 -- the parts of the whole test
 pub record SoundParts (cell : List ℕ) (rows : Rows) : Type 0 where
@@ -54,20 +54,20 @@ sound_of cell rows p = rw (p.named, p.epoch, p.next, p.root, p.nodes, p.distinct
 
 -- ---- nodes, where others change
 
-numbers_stay : (least next : ℕ) (node : Node) → least ≤ next → numbers_fit least node ≡ true → numbers_fit next node ≡ true
+numbers_stay : (least next : ℕ) (node : StoredNode) → least ≤ next → numbers_fit least node ≡ true → numbers_fit next node ≡ true
 numbers_stay least next node le h = grind (arith, nat_tests)
 
 -- a node that fits still fits, where parents stay directories and the next instance rises
-pub node_stays : (cell : List ℕ) (least next : ℕ) (nodes new : StoredNodes) (entry : List ℕ × Node) → least ≤ next → (parent_fits nodes entry.0 ≡ true → parent_fits new entry.0 ≡ true) → node_fits cell least nodes entry ≡ true → node_fits cell next new entry ≡ true
+pub node_stays : (cell : List ℕ) (least next : ℕ) (nodes new : StoredNodes) (entry : List ℕ × StoredNode) → least ≤ next → (parent_fits nodes entry.0 ≡ true → parent_fits new entry.0 ≡ true) → node_fits cell least nodes entry ≡ true → node_fits cell next new entry ≡ true
 node_stays cell least next nodes new entry le parent h =
-    let t = four_parts (bytes_eq (cell_of entry.0) cell) (parent_fits nodes entry.0) (numbers_fit least entry.1) (content_fits entry.1.view.kind entry.1.view) h in
+    let t = four_parts (bytes_eq (cell_of entry.0) cell) (parent_fits nodes entry.0) (numbers_fit least entry.1) (content_fits entry.1.node.kind entry.1.node) h in
     rw (t.0, parent t.1, numbers_stay least next entry.1 le t.2, t.3) refl
 
 -- the numbers of a node that fits
-pub numbers_of : (cell : List ℕ) (next : ℕ) (nodes : StoredNodes) (entry : List ℕ × Node) → node_fits cell next nodes entry ≡ true → (nat_lt entry.1.view.instance next ≡ true) × (is_number entry.1.lock_generation ≡ true)
+pub numbers_of : (cell : List ℕ) (next : ℕ) (nodes : StoredNodes) (entry : List ℕ × StoredNode) → node_fits cell next nodes entry ≡ true → (nat_lt entry.1.node.instance next ≡ true) × (is_number entry.1.lock_generation ≡ true)
 numbers_of cell next nodes entry h =
-    let t = four_parts (bytes_eq (cell_of entry.0) cell) (parent_fits nodes entry.0) (numbers_fit next entry.1) (content_fits entry.1.view.kind entry.1.view) h in
-    let n = five_parts (nat_le 1 entry.1.view.instance) (nat_lt entry.1.view.instance next) (is_number entry.1.view.content_generation) (is_number entry.1.view.acl_generation) (is_number entry.1.lock_generation) t.2 in
+    let t = four_parts (bytes_eq (cell_of entry.0) cell) (parent_fits nodes entry.0) (numbers_fit next entry.1) (content_fits entry.1.node.kind entry.1.node) h in
+    let n = five_parts (nat_le 1 entry.1.node.instance) (nat_lt entry.1.node.instance next) (is_number entry.1.node.content_generation) (is_number entry.1.node.acl_generation) (is_number entry.1.lock_generation) t.2 in
     (n.1, n.4)
 
 -- ---- locks, where nodes and sessions change
@@ -82,7 +82,7 @@ state_stays rows new key Shared same holder h =
 state_stays rows new key Lapsed same holder h = rw same h
 
 abbrev pub has_instance : StoredNodes → ℕ → Bool
-has_instance nodes n = list_any (λ e. e.1.view.instance == n) nodes
+has_instance nodes n = list_any (λ e. e.1.node.instance == n) nodes
 
 lock_stays : (rows new : Rows) (entry : LockKey × LockRow) → new.locks ≡ rows.locks → (has_instance rows.nodes entry.0.instance ≡ true → has_instance new.nodes entry.0.instance ≡ true) → (holder_fits rows entry.0 ≡ true → holder_fits new entry.0 ≡ true) → lock_fits rows entry ≡ true → lock_fits new entry ≡ true
 lock_stays rows new entry same there holder h =

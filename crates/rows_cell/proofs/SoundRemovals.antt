@@ -15,14 +15,14 @@ use Rattle.std.proofs.lemmas.Slice.Eq.{bytes_eq-Decides}
 use Rattle.names_cell.specs.Text.{is_slash, front_of, parent_of, cell_of, root_of, is_child}
 use Rattle.node_core.specs.Nodes.{has_children}
 use Rattle.plain.proofs.Entries.{eq_at}
-use Rattle.rows_cell.specs.declared.tables.Node.{Node}
+use Rattle.rows_cell.specs.declared.tables.StoredNode.{StoredNode}
 use Rattle.rows_cell.specs.declared.tables.LockRow.{LockRow}
 use Rattle.rows_cell.specs.declared.tables.LockState.{LockState}
 use Rattle.rows_cell.specs.declared.tables.LockState.TheVariants.{Lapsed, Exclusive, Shared}
 use Rattle.rows_cell.specs.declared.keys.LockKey.{LockKey}
 use Rattle.rows_cell.specs.declared.tables.Rows.{Rows}
 use Rattle.rows_cell.specs.declared.tables.Edit.TheVariants.{NextInstance, RemoveNode}
-use Rattle.rows_cell.specs.Rows.{StoredNodes, StoredLocks, stored_node, views_of, map_of, without_locks_of, changed_rows}
+use Rattle.rows_cell.specs.Rows.{StoredNodes, StoredLocks, stored_node, nodes_of, map_of, without_locks_of, changed_rows}
 use Rattle.rows_cell.specs.Sound.{sound, is_number, is_directory, is_directory_at, numbers_fit, content_fits, parent_fits, node_fits, are_distinct, is_live_in, holder_fits, is_shared, beside, state_fits, lock_fits}
 use Rattle.rows_cell.proofs.OpeningRows.{equal_bytes}
 use Rattle.rows_cell.proofs.PutEntries.{all_more, all_found}
@@ -130,10 +130,10 @@ no_front (b ∷ bs) h =
     ]) refl h
 
 -- no node is a child of this one
-no_child_of : (nodes : StoredNodes) (name : List ℕ) → has_children (views_of nodes) name ≡ false → list_all (λ e. not (is_child e.0 name)) nodes ≡ true
+no_child_of : (nodes : StoredNodes) (name : List ℕ) → has_children (nodes_of nodes) name ≡ false → list_all (λ e. not (is_child e.0 name)) nodes ≡ true
 no_child_of [] name h = refl
 no_child_of (e ∷ es) name h =
-    let t = or_parts (is_child e.0 name) (has_children (views_of es) name) h in
+    let t = or_parts (is_child e.0 name) (has_children (nodes_of es) name) h in
     and_from (not (is_child e.0 name)) (list_all (λ x. not (is_child x.0 name)) es) (not_from_false (is_child e.0 name) t.0) (no_child_of es name t.1)
 
 abbrev without : StoredNodes → List ℕ → StoredNodes
@@ -153,17 +153,17 @@ parent_left nodes name q no_child h =
       | Some parent ↦ (λ n k. directory_left nodes name parent (differ parent name n) k)
     ]) no_child h
 
-named_of : (cell : List ℕ) (next : ℕ) (nodes : StoredNodes) (entry : List ℕ × Node) → node_fits cell next nodes entry ≡ true → bytes_eq (cell_of entry.0) cell ≡ true
+named_of : (cell : List ℕ) (next : ℕ) (nodes : StoredNodes) (entry : List ℕ × StoredNode) → node_fits cell next nodes entry ≡ true → bytes_eq (cell_of entry.0) cell ≡ true
 named_of cell next nodes entry h =
     let named : Bool = bytes_eq (cell_of entry.0) cell in
-    let t = and_parts (named && parent_fits nodes entry.0 && numbers_fit next entry.1) (content_fits entry.1.view.kind entry.1.view) h in
+    let t = and_parts (named && parent_fits nodes entry.0 && numbers_fit next entry.1) (content_fits entry.1.node.kind entry.1.node) h in
     let u = and_parts (named && parent_fits nodes entry.0) (numbers_fit next entry.1) t.0 in
     (and_parts named (parent_fits nodes entry.0) u.0).0
 
 -- the root's cell is the text behind `/ls/`, so no slash stands there
 no_parent : (cell : List ℕ) (rows : Rows) → SoundParts cell rows → parent_of (root_of cell) ≡ None
 no_parent cell rows p =
-    (elim (stored_node rows.nodes (root_of cell)) as (λ o. stored_node rows.nodes (root_of cell) ≡ o → option_map_or (λ (node : Node). is_directory node.view.kind) o false ≡ true → parent_of (root_of cell) ≡ None) [
+    (elim (stored_node rows.nodes (root_of cell)) as (λ o. stored_node rows.nodes (root_of cell) ≡ o → option_map_or (λ (node : StoredNode). is_directory node.node.kind) o false ≡ true → parent_of (root_of cell) ≡ None) [
       | None ↦ (λ e h. cc)
       | Some root ↦ (λ e h.
           let fits = all_found (slice_cmp nat_cmp) exact_bytes (node_fits cell rows.next_instance rows.nodes) rows.nodes (root_of cell) root p.nodes e in
@@ -215,7 +215,7 @@ pub record GoneFits (rows : Rows) (name : List ℕ) (next : ℕ) : Type 0 where
 
 module _ (cell : List ℕ) (rows : Rows) (name : List ℕ) (next : ℕ) (parts : SoundParts cell rows) (fits : GoneFits rows name next) where
   -- the rows without the node that stood at the name
-  abbrev after_gone : Option Node → Rows
+  abbrev after_gone : Option StoredNode → Rows
   after_gone former = record rows { nodes = without rows.nodes name; locks = without_locks_of former rows.locks; next_instance = next }
 
   root_left : is_directory_at (without rows.nodes name) (root_of cell) ≡ true
@@ -227,32 +227,32 @@ module _ (cell : List ℕ) (rows : Rows) (name : List ℕ) (next : ℕ) (parts :
 
   nodes_left : list_all (node_fits cell next (without rows.nodes name)) (without rows.nodes name) ≡ true
   nodes_left =
-      let childless : List ℕ × Node → Bool = λ e. not (is_child e.0 name) in
+      let childless : List ℕ × StoredNode → Bool = λ e. not (is_child e.0 name) in
       all_gone (is_at (slice_cmp nat_cmp name)) (node_fits cell next (without rows.nodes name)) rows.nodes
       (all_from_both (node_fits cell rows.next_instance rows.nodes) childless (node_fits cell next (without rows.nodes name)) rows.nodes
       (λ e h no_child. node_stays cell rows.next_instance next rows.nodes (without rows.nodes name) e fits.least (parent_left rows.nodes name e.0 no_child) h)
       parts.nodes (no_child_of rows.nodes name fits.no_children))
 
   -- the locks of other nodes
-  other_lock : (former : Option Node) (entry : LockKey × LockRow) → beside (without_locks_of former rows.locks) entry.0 ≡ beside rows.locks entry.0 → ((w : Node) → stored_node rows.nodes name ≡ Some w → (w.view.instance == entry.0.instance) ≡ false) → lock_fits rows entry ≡ true → lock_fits (after_gone former) entry ≡ true
+  other_lock : (former : Option StoredNode) (entry : LockKey × LockRow) → beside (without_locks_of former rows.locks) entry.0 ≡ beside rows.locks entry.0 → ((w : StoredNode) → stored_node rows.nodes name ≡ Some w → (w.node.instance == entry.0.instance) ≡ false) → lock_fits rows entry ≡ true → lock_fits (after_gone former) entry ≡ true
   other_lock former entry same other h =
       let at : List ℕ → Bool = is_at (slice_cmp nat_cmp name) in
-      let some : StoredNodes → Bool = list_any (λ e. e.1.view.instance == entry.0.instance && nat_le 1 e.1.lock_generation) in
+      let some : StoredNodes → Bool = list_any (λ e. e.1.node.instance == entry.0.instance && nat_le 1 e.1.lock_generation) in
       let holder : holder_fits rows entry.0 ≡ true → holder_fits (after_gone former) entry.0 ≡ true = λ k.
       let t = and_parts (some rows.nodes) (is_live_in rows entry.0.client) k in
       and_from (some (without rows.nodes name)) (is_live_in rows entry.0.client)
-      (any_gone at (λ (node : Node). node.view.instance == entry.0.instance && nat_le 1 node.lock_generation) rows.nodes (λ w e. rw (other w e) refl) t.0) t.1 in
-      lock_left rows (after_gone former) entry same (any_gone at (λ (node : Node). node.view.instance == entry.0.instance) rows.nodes other) holder h
+      (any_gone at (λ (node : StoredNode). node.node.instance == entry.0.instance && nat_le 1 node.lock_generation) rows.nodes (λ w e. rw (other w e) refl) t.0) t.1 in
+      lock_left rows (after_gone former) entry same (any_gone at (λ (node : StoredNode). node.node.instance == entry.0.instance) rows.nodes other) holder h
 
   locks_left : list_all (lock_fits (after_gone (stored_node rows.nodes name))) (without_locks_of (stored_node rows.nodes name) rows.locks) ≡ true
   locks_left =
       (elim (stored_node rows.nodes name) as (λ o. stored_node rows.nodes name ≡ o → list_all (lock_fits (after_gone o)) (without_locks_of o rows.locks) ≡ true) [
         | None ↦ (λ e. all_more (lock_fits rows) (lock_fits (after_gone None)) rows.locks (λ entry. other_lock None entry refl (λ w f. cc)) parts.locks)
         | Some node ↦ (λ e.
-            let keep : LockKey × LockRow → Bool = λ entry. not (entry.0.instance == node.view.instance) in
+            let keep : LockKey × LockRow → Bool = λ entry. not (entry.0.instance == node.node.instance) in
             all_let_through keep (lock_fits rows) (lock_fits (after_gone (Some node))) rows.locks
-            (λ entry kept. other_lock (Some node) entry (beside_left rows.locks entry.0 node.view.instance kept)
-            (λ w f. let same : node ≡ w = cc in rw (← same) (turned entry.0.instance node.view.instance kept))) parts.locks)
+            (λ entry kept. other_lock (Some node) entry (beside_left rows.locks entry.0 node.node.instance kept)
+            (λ w f. let same : node ≡ w = cc in rw (← same) (turned entry.0.instance node.node.instance kept))) parts.locks)
       ]) refl
 
 -- a node without children that is not the root may go, with its locks. The order of the names does not matter, nor whether the node is there
@@ -265,7 +265,7 @@ gone_sound cell rows name next h fits =
       next = fits.most;
       root = root_left cell rows name next p fits;
       nodes = nodes_left cell rows name next p fits;
-      distinct = distinct_gone (is_at (slice_cmp nat_cmp name)) (λ (node : Node). node.view.instance) rows.nodes p.distinct;
+      distinct = distinct_gone (is_at (slice_cmp nat_cmp name)) (λ (node : StoredNode). node.node.instance) rows.nodes p.distinct;
       sessions = p.sessions;
       locks = locks_left cell rows name next p fits;
     })

@@ -19,11 +19,11 @@ numbers_are_sound cell rows = bytes_eq rows.cell cell && is_number rows.epoch &&
 
 -- no two nodes have the same instance
 abbrev pub are_apart : StoredNodes → Bool
-are_apart nodes = are_distinct (map (λ e. e.1.view.instance) nodes)
+are_apart nodes = are_distinct (map (λ e. e.1.node.instance) nodes)
 
 -- the generation of the lock of the first node with the instance
 abbrev pub lock_generation_in : StoredNodes → ℕ → Option ℕ
-lock_generation_in nodes n = lookup (λ m. m == n) (map (λ e. (e.1.view.instance, e.1.lock_generation)) nodes)
+lock_generation_in nodes n = lookup (λ m. m == n) (map (λ e. (e.1.node.instance, e.1.lock_generation)) nodes)
 
 -- each node has an instance of its own, by which the generation of its lock is found
 pub record HasGenerations (nodes : StoredNodes) (table : List (ℕ × ℕ)) : Type 0 where

@@ -52,7 +52,7 @@ are_legal_rows rows instance locks = list_all (row_fits rows instance) locks && 
 
 -- the node of this instance is there, and its lock had a first generation
 abbrev pub has_generation : StoredNodes → ℕ → Bool
-has_generation nodes instance = list_any (λ e. e.1.view.instance == instance && nat_le 1 e.1.lock_generation) nodes
+has_generation nodes instance = list_any (λ e. e.1.node.instance == instance && nat_le 1 e.1.lock_generation) nodes
 
 -- ---- edits
 

@@ -5,7 +5,7 @@ use Rattle.node_core.specs.declared.kinds.Kind.{Kind}
 use Rattle.node_core.specs.declared.kinds.Kind.TheVariants.{File, Directory}
 use Rattle.node_core.specs.declared.kinds.Life.TheVariants.{Permanent}
 use Rattle.settings_core.specs.Settings.{Settled}
-use Rattle.rows_cell.specs.declared.tables.Node.{Node}
+use Rattle.rows_cell.specs.declared.tables.StoredNode.{StoredNode}
 use Rattle.rows_cell.specs.declared.tables.Rows.{Rows}
 
 abbrev pub first_content_generation : Kind → ℕ
@@ -13,9 +13,9 @@ first_content_generation File = 1
 first_content_generation Directory = 0
 
 -- a new node under one ACL
-abbrev pub opening_node : Kind → ℕ → List ℕ → List ℕ → Node
+abbrev pub opening_node : Kind → ℕ → List ℕ → List ℕ → StoredNode
 opening_node kind instance acl content = record {
-  view = record {
+  node = record {
     kind = kind;
     instance = instance;
     content_generation = first_content_generation kind;

@@ -6,8 +6,8 @@ use Rattle.std.specs.BTreeMap.{is_at, insert_entry}
 use Rattle.std.specs.Cmp.Lexicographic.{slice_cmp}
 use Rattle.std.specs.Ordering.{nat_cmp}
 use Rattle.node_core.specs.Nodes.{Nodes}
-use Rattle.node_core.specs.declared.views.View.{View}
-use Rattle.rows_cell.specs.declared.tables.Node.{Node}
+use Rattle.node_core.specs.declared.nodes.Node.{Node}
+use Rattle.rows_cell.specs.declared.tables.StoredNode.{StoredNode}
 use Rattle.rows_cell.specs.declared.tables.LockRow.{LockRow}
 use Rattle.rows_cell.specs.declared.keys.LockKey.{LockKey}
 use Rattle.rows_cell.specs.declared.tables.Rows.{Rows}
@@ -17,41 +17,41 @@ use Rattle.rows_cell.specs.Keys.{lock_order}
 
 -- entries of names and stored nodes
 abbrev pub StoredNodes : Type 0
-StoredNodes = List (List ℕ × Node)
+StoredNodes = List (List ℕ × StoredNode)
 
 abbrev pub StoredLocks : Type 0
 StoredLocks = List (LockKey × LockRow)
 
-abbrev pub stored_node : StoredNodes → List ℕ → Option Node
+abbrev pub stored_node : StoredNodes → List ℕ → Option StoredNode
 stored_node nodes name = lookup (is_at (slice_cmp nat_cmp name)) nodes
 
--- the views of stored nodes
-abbrev pub views_of : StoredNodes → Nodes
-views_of nodes = map (λ e. (e.0, e.1.view)) nodes
+-- the nodes, without the generations of their locks
+abbrev pub nodes_of : StoredNodes → Nodes
+nodes_of nodes = map (λ e. (e.0, e.1.node)) nodes
 
--- the map of names to nodes that the rows hold: the nodes without their locks' generations
+-- the map of names to nodes that the rows hold
 abbrev pub map_of : Rows → Nodes
-map_of rows = views_of rows.nodes
+map_of rows = nodes_of rows.nodes
 
 -- the locks of all other nodes
-abbrev pub without_locks_of : Option Node → StoredLocks → StoredLocks
+abbrev pub without_locks_of : Option StoredNode → StoredLocks → StoredLocks
 without_locks_of None locks = locks
-without_locks_of (Some node) locks = filter (λ e. not (e.0.instance == node.view.instance)) locks
+without_locks_of (Some node) locks = filter (λ e. not (e.0.instance == node.node.instance)) locks
 
-abbrev pub at_generation : StoredNodes → List ℕ → Option Node → ℕ → StoredNodes
+abbrev pub at_generation : StoredNodes → List ℕ → Option StoredNode → ℕ → StoredNodes
 at_generation nodes name None generation = nodes
 at_generation nodes name (Some node) generation = set_value (is_at (slice_cmp nat_cmp name)) nodes (record node { lock_generation = generation })
 
--- with another view at a name: the generation of the node's lock stays, and that of a new node is 0
-abbrev pub put_view : StoredNodes → List ℕ → View → StoredNodes
-put_view nodes name view =
-    insert_entry (slice_cmp nat_cmp) nodes name (record { view = view; lock_generation = option_map_or (λ node. node.lock_generation) (stored_node nodes name) 0 })
+-- with another node at a name: the generation of its lock stays, and that of a new node is 0
+abbrev pub put_stored : StoredNodes → List ℕ → Node → StoredNodes
+put_stored nodes name node =
+    insert_entry (slice_cmp nat_cmp) nodes name (record { node = node; lock_generation = option_map_or (λ stored. stored.lock_generation) (stored_node nodes name) 0 })
 
 -- the rows after one edit
 abbrev pub edited : Rows → Edit → Rows
 edited rows (Epoch epoch) = record rows { epoch = epoch }
 edited rows (NextInstance next) = record rows { next_instance = next }
-edited rows (PutNode name view) = record rows { nodes = put_view rows.nodes name view }
+edited rows (PutNode name node) = record rows { nodes = put_stored rows.nodes name node }
 edited rows (LockGeneration name generation) = record rows { nodes = at_generation rows.nodes name (stored_node rows.nodes name) generation }
 edited rows (RemoveNode name) =
     record rows { nodes = remove_entry (is_at (slice_cmp nat_cmp name)) rows.nodes; locks = without_locks_of (stored_node rows.nodes name) rows.locks }

@@ -10,8 +10,8 @@ use Rattle.names_cell.specs.Text.{is_component, is_name, parent_of, cell_of, roo
 use Rattle.node_core.specs.Limits.{content_limit, number_limit, lock_delay_limit}
 use Rattle.node_core.specs.declared.kinds.Kind.{Kind}
 use Rattle.node_core.specs.declared.kinds.Kind.TheVariants.{File, Directory}
-use Rattle.node_core.specs.declared.views.View.{View}
-use Rattle.rows_cell.specs.declared.tables.Node.{Node}
+use Rattle.node_core.specs.declared.nodes.Node.{Node}
+use Rattle.rows_cell.specs.declared.tables.StoredNode.{StoredNode}
 use Rattle.rows_cell.specs.declared.tables.LockRow.{LockRow}
 use Rattle.rows_cell.specs.declared.tables.LockState.{LockState}
 use Rattle.rows_cell.specs.declared.tables.LockState.TheVariants.{Lapsed, Exclusive, Shared}
@@ -28,26 +28,26 @@ is_directory File = false
 is_directory Directory = true
 
 abbrev pub is_directory_at : StoredNodes → List ℕ → Bool
-is_directory_at nodes name = option_map_or (λ node. is_directory node.view.kind) (stored_node nodes name) false
+is_directory_at nodes name = option_map_or (λ node. is_directory node.node.kind) (stored_node nodes name) false
 
 -- an instance that was given out, and generations within their limit
-abbrev pub numbers_fit : ℕ → Node → Bool
+abbrev pub numbers_fit : ℕ → StoredNode → Bool
 numbers_fit next node =
-    nat_le 1 node.view.instance && nat_lt node.view.instance next && is_number node.view.content_generation
-    && is_number node.view.acl_generation && is_number node.lock_generation
+    nat_le 1 node.node.instance && nat_lt node.node.instance next && is_number node.node.content_generation
+    && is_number node.node.acl_generation && is_number node.lock_generation
 
 -- a content within its limit; a directory has none, and no content generation
-abbrev pub content_fits : Kind → View → Bool
-content_fits File view = nat_le (length view.content) content_limit
-content_fits Directory view = view.content_generation == 0 && length view.content == 0
+abbrev pub content_fits : Kind → Node → Bool
+content_fits File node = nat_le (length node.content) content_limit
+content_fits Directory node = node.content_generation == 0 && length node.content == 0
 
 -- each name but the root's stands under a directory
 abbrev pub parent_fits : StoredNodes → List ℕ → Bool
 parent_fits nodes name = option_map_or (λ parent. is_directory_at nodes parent) (parent_of name) true
 
-abbrev pub node_fits : List ℕ → ℕ → StoredNodes → List ℕ × Node → Bool
+abbrev pub node_fits : List ℕ → ℕ → StoredNodes → List ℕ × StoredNode → Bool
 node_fits cell next nodes entry =
-    bytes_eq (cell_of entry.0) cell && parent_fits nodes entry.0 && numbers_fit next entry.1 && content_fits entry.1.view.kind entry.1.view
+    bytes_eq (cell_of entry.0) cell && parent_fits nodes entry.0 && numbers_fit next entry.1 && content_fits entry.1.node.kind entry.1.node
 
 abbrev pub are_distinct : List ℕ → Bool
 are_distinct [] = true
@@ -56,7 +56,7 @@ are_distinct (n ∷ ns) = not (list_any (λ m. m == n) ns) && are_distinct ns
 -- each name is one of the cell, each node fits, no two have the same instance, and the root is there
 abbrev pub nodes_fit : List ℕ → ℕ → StoredNodes → Bool
 nodes_fit cell next nodes =
-    is_directory_at nodes (root_of cell) && list_all (node_fits cell next nodes) nodes && are_distinct (map (λ e. e.1.view.instance) nodes)
+    is_directory_at nodes (root_of cell) && list_all (node_fits cell next nodes) nodes && are_distinct (map (λ e. e.1.node.instance) nodes)
 
 abbrev pub is_live_in : Rows → ℕ → Bool
 is_live_in rows client = option_map_or (λ session. session.live) (lookup (is_at (nat_cmp client)) rows.sessions) false
@@ -64,7 +64,7 @@ is_live_in rows client = option_map_or (λ session. session.live) (lookup (is_at
 -- a held lock is on a node, and had a first generation; its holder's session is live
 abbrev pub holder_fits : Rows → LockKey → Bool
 holder_fits rows key =
-    list_any (λ e. e.1.view.instance == key.instance && nat_le 1 e.1.lock_generation) rows.nodes && is_live_in rows key.client
+    list_any (λ e. e.1.node.instance == key.instance && nat_le 1 e.1.lock_generation) rows.nodes && is_live_in rows key.client
 
 abbrev pub is_shared : LockState → Bool
 is_shared Shared = true
@@ -83,7 +83,7 @@ state_fits rows key Lapsed = length (beside rows.locks key) == 1 && key.client =
 -- a lock is on a node that is there, its numbers and its delay are within their limits
 abbrev pub lock_fits : Rows → LockKey × LockRow → Bool
 lock_fits rows entry =
-    list_any (λ e. e.1.view.instance == entry.0.instance) rows.nodes && is_number entry.0.client && is_number entry.0.handle
+    list_any (λ e. e.1.node.instance == entry.0.instance) rows.nodes && is_number entry.0.client && is_number entry.0.handle
     && nat_le entry.1.delay lock_delay_limit && state_fits rows entry.0 entry.1.state
 
 -- rows that a cell of this name may have
@@ -92,8 +92,8 @@ sound cell rows =
     bytes_eq rows.cell cell && is_number rows.epoch && is_number rows.next_instance && nodes_fit cell rows.next_instance rows.nodes
     && list_all (λ e. is_number e.0) rows.sessions && list_all (lock_fits rows) rows.locks
 
-abbrev pub is_typed_node : List ℕ × Node → Bool
-is_typed_node entry = is_name entry.0 && is_component entry.1.view.read && is_component entry.1.view.write && is_component entry.1.view.change
+abbrev pub is_typed_node : List ℕ × StoredNode → Bool
+is_typed_node entry = is_name entry.0 && is_component entry.1.node.read && is_component entry.1.node.write && is_component entry.1.node.change
 
 -- names are names, ACL names components, principals principals, and the secret has its 32 bytes; rows as the program holds them can't be other
 abbrev pub is_typed : Rows → Bool

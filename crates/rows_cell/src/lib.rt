@@ -14,4 +14,4 @@ pub use lists::ListRecords;
 pub use records::{Records, StoreFault};
 pub use settings_core::Settings;
 pub use soundness::is_sound;
-pub use tables::{Edit, LockRow, LockState, Node, Rows, Session};
+pub use tables::{Edit, LockRow, LockState, Rows, Session, StoredNode};

@@ -8,9 +8,9 @@ ghost use Rattle.rows_cell.specs.Opening.{opening, opening_node};
 ghost use Rattle.rows_cell.specs.Sound.{sound};
 
 use crate::records::{Records, StoreFault};
-use crate::tables::{Edit, Node, Rows};
+use crate::tables::{Edit, Rows, StoredNode};
 use names_cell::{Component, Name};
-use node_core::{Kind, Life, View};
+use node_core::{Kind, Life, Node};
 use plain::{Bytes, Items, Table};
 use settings_core::{Settings, component};
 use std::alloc::{AllocError, Global};
@@ -68,7 +68,7 @@ fn opening_nodes(
     alloc: Global,
     settings: &Settings,
     base: &Component,
-) -> Result<Table<Name, Node>, AllocError>
+) -> Result<Table<Name, StoredNode>, AllocError>
     requires { base.now ≡ codes "base" }
     ensures { IfOk result (λ nodes. nodes ≡ (opening settings.now).nodes) }
 {
@@ -85,7 +85,7 @@ fn opening_nodes(
 
 // Puts a new node under one ACL.
 fn put_opening(
-    nodes: &mut Table<Name, Node>,
+    nodes: &mut Table<Name, StoredNode>,
     name: Name,
     kind: Kind,
     instance: u64,
@@ -122,15 +122,15 @@ fn opening_node(
     instance: u64,
     acl: &Component,
     content: Bytes,
-) -> Result<Node, AllocError>
+) -> Result<StoredNode, AllocError>
     ensures { IfOk result (λ node. node ≡ opening_node kind instance acl.now content) }
 {
     let content_generation = match kind {
         Kind::File => 1,
         Kind::Directory => 0,
     };
-    Ok(Node {
-        view: View {
+    Ok(StoredNode {
+        node: Node {
             kind,
             instance,
             content_generation,

@@ -9,9 +9,9 @@ ghost use Rattle.rows_cell.specs.Sound.{sound, is_number, is_directory_at, numbe
 ghost use Rattle.rows_cell.specs.Indexes.{IsIndexed, HasGenerations, HasGroups, numbers_are_sound, are_apart, joined, alone_in, shared_in};
 
 use crate::keys::LockKey;
-use crate::tables::{LockRow, LockState, Node, Rows, Session};
+use crate::tables::{LockRow, LockState, Rows, Session, StoredNode};
 use names_cell::{Component, Name};
-use node_core::{CONTENT_LIMIT, Kind, NUMBER_LIMIT, View};
+use node_core::{CONTENT_LIMIT, Kind, NUMBER_LIMIT, Node};
 use plain::Table;
 use std::alloc::{AllocError, Global};
 
@@ -75,16 +75,16 @@ fn clients_fit(sessions: &Table<u64, Session>) -> bool
     true
 }
 
-fn is_directory_at(nodes: &Table<Name, Node>, name: &Name) -> bool
+fn is_directory_at(nodes: &Table<Name, StoredNode>, name: &Name) -> bool
     ensures { result ≡ is_directory_at nodes.now name.now }
 {
     match nodes.get(name) {
-        Some(node) => matches!(node.view.kind, Kind::Directory),
+        Some(node) => matches!(node.node.kind, Kind::Directory),
         None => false,
     }
 }
 
-fn parent_fits(nodes: &Table<Name, Node>, name: &Name) -> Result<bool, AllocError>
+fn parent_fits(nodes: &Table<Name, StoredNode>, name: &Name) -> Result<bool, AllocError>
     ensures { IfOk result (λ fits. fits ≡ parent_fits nodes.now name.now) }
 {
     match name.parent()? {
@@ -93,31 +93,31 @@ fn parent_fits(nodes: &Table<Name, Node>, name: &Name) -> Result<bool, AllocErro
     }
 }
 
-fn numbers_fit(next: u64, node: &Node) -> bool
+fn numbers_fit(next: u64, node: &StoredNode) -> bool
     ensures { result ≡ numbers_fit next node.now }
 {
-    node.view.instance >= 1
-        && node.view.instance < next
-        && node.view.content_generation <= NUMBER_LIMIT
-        && node.view.acl_generation <= NUMBER_LIMIT
+    node.node.instance >= 1
+        && node.node.instance < next
+        && node.node.content_generation <= NUMBER_LIMIT
+        && node.node.acl_generation <= NUMBER_LIMIT
         && node.lock_generation <= NUMBER_LIMIT
 }
 
-fn content_fits(view: &View) -> bool
-    ensures { result ≡ content_fits view.now.kind view.now }
+fn content_fits(node: &Node) -> bool
+    ensures { result ≡ content_fits node.now.kind node.now }
 {
-    match view.kind {
-        Kind::File => view.content.len() <= CONTENT_LIMIT,
-        Kind::Directory => view.content_generation == 0 && view.content.len() == 0,
+    match node.kind {
+        Kind::File => node.content.len() <= CONTENT_LIMIT,
+        Kind::Directory => node.content_generation == 0 && node.content.len() == 0,
     }
 }
 
 fn node_fits(
     cell: &Component,
     next: u64,
-    nodes: &Table<Name, Node>,
+    nodes: &Table<Name, StoredNode>,
     name: &Name,
-    node: &Node,
+    node: &StoredNode,
 ) -> Result<bool, AllocError>
     ensures { IfOk result (λ fits. fits ≡ node_fits cell.now next nodes.now (name.now, node.now)) }
 {
@@ -127,14 +127,18 @@ fn node_fits(
     if !numbers_fit(next, node) {
         return Ok(false);
     }
-    if !content_fits(&node.view) {
+    if !content_fits(&node.node) {
         return Ok(false);
     }
     parent_fits(nodes, name)
 }
 
 #[tactic(auto, using(crate::proofs::WholeTest::all_left, crate::proofs::WholeTest::all_stop))]
-fn nodes_fit(cell: &Component, next: u64, nodes: &Table<Name, Node>) -> Result<bool, AllocError>
+fn nodes_fit(
+    cell: &Component,
+    next: u64,
+    nodes: &Table<Name, StoredNode>,
+) -> Result<bool, AllocError>
     ensures { IfOk result (λ fit. fit ≡ list_all (node_fits cell.now next nodes.now) nodes.now) }
 {
     for (name, node) in nodes.as_map() {
@@ -162,13 +166,13 @@ fn index_of(alloc: Global, rows: &Rows) -> Result<Option<Index>, AllocError>
 #[tactic(auto, using(crate::proofs::InstanceTables::gather_start, crate::proofs::InstanceTables::gather_more, crate::proofs::InstanceTables::gather_stop, crate::proofs::InstanceTables::gather_done))]
 fn generations_of(
     alloc: Global,
-    nodes: &Table<Name, Node>,
+    nodes: &Table<Name, StoredNode>,
 ) -> Result<Option<Table<u64, u64>>, AllocError>
     ensures { IfOk result (λ table. MatchOption table (are_apart nodes.now ≡ false) (λ t. HasGenerations nodes.now t)) }
 {
     let mut generations = Table::new(alloc);
     for (_name, node) in nodes.as_map() {
-        let former = generations.put(node.view.instance, node.lock_generation)?;
+        let former = generations.put(node.node.instance, node.lock_generation)?;
         if former.is_some() {
             return Ok(None);
         }

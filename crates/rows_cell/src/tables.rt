@@ -6,34 +6,34 @@ ghost use Rattle.std.specs.Map.{remove_entry};
 ghost use Rattle.std.specs.BTreeMap.{is_at};
 ghost use Rattle.std.specs.Cmp.Lexicographic.{slice_cmp};
 ghost use Rattle.std.specs.Ordering.{nat_cmp};
-ghost use Rattle.rows_cell.specs.Rows.{edited, changed_rows, takes_memory, map_of, stored_node, put_view, at_generation, without_locks_of};
+ghost use Rattle.rows_cell.specs.Rows.{edited, changed_rows, takes_memory, map_of, stored_node, put_stored, at_generation, without_locks_of};
 
 use crate::keys::LockKey;
 use names_cell::{Component, Name, Principal};
-use node_core::{Map, View};
+use node_core::{Map, Node};
 use plain::{Items, Same, Secret, Table};
 use std::alloc::{AllocError, Global};
 
-/// A node as it is stored: what is seen of it, and the generation of its lock.
+/// A node as it is stored, with the generation of its lock.
 #[derive(Drop)]
-pub struct Node {
-    pub view: View,
+pub struct StoredNode {
+    pub node: Node,
     /// 0 for a new node, one more each time that its lock goes from free to held.
     pub lock_generation: u64,
 }
 
-impl Clone for Node {
+impl Clone for StoredNode {
     ghost is_clone = { λ s t. t ≡ s };
 
-    fn clone(&self) -> Result<Node, AllocError> {
-        Ok(Node {
-            view: self.view.clone()?,
+    fn clone(&self) -> Result<StoredNode, AllocError> {
+        Ok(StoredNode {
+            node: self.node.clone()?,
             lock_generation: self.lock_generation,
         })
     }
 }
 
-impl Same for Node {
+impl Same for StoredNode {
     ghost exact = { λ x y h. h };
 }
 
@@ -88,7 +88,7 @@ pub struct Rows {
     pub epoch: u64,
     /// The instance of the next node.
     pub next_instance: u64,
-    pub nodes: Table<Name, Node>,
+    pub nodes: Table<Name, StoredNode>,
     /// By client number.
     pub sessions: Table<u64, Session>,
     pub locks: Table<LockKey, LockRow>,
@@ -120,7 +120,7 @@ pub enum Edit {
     Epoch(u64),
     NextInstance(u64),
     /// The generation of its lock stays; that of a new node is 0.
-    PutNode(Name, View),
+    PutNode(Name, Node),
     /// Of the node of this name, where it is there.
     LockGeneration(Name, u64),
     /// With its locks.
@@ -168,7 +168,7 @@ impl Rows {
         ensures err { OnErr result (self.new ≡ self.old) }
     {
         match edit {
-            Edit::PutNode(name, view) => self.put_node(name, view)?,
+            Edit::PutNode(name, node) => self.put_node(name, node)?,
             Edit::LockGeneration(name, generation) => self.set_generation(name, *generation)?,
             Edit::PutSession(client, session) => {
                 self.sessions.put(*client, session.clone()?)?;
@@ -215,22 +215,22 @@ impl Rows {
         let _count = stored.len();
         let mut map = Map::new(alloc);
         for (name, node) in stored {
-            map.set(name.clone()?, node.view.clone()?)?;
+            map.set(name.clone()?, node.node.clone()?)?;
         }
         Ok(map)
     }
 
-    fn put_node(&mut self, name: &Name, view: &View) -> Result<(), AllocError>
-        ensures ok { OnOk result (self.new ≡ record self.old { nodes = put_view self.old.nodes name.now view.now }) }
+    fn put_node(&mut self, name: &Name, node: &Node) -> Result<(), AllocError>
+        ensures ok { OnOk result (self.new ≡ record self.old { nodes = put_stored self.old.nodes name.now node.now }) }
         ensures err { OnErr result (self.new ≡ self.old) }
     {
         let lock_generation = generation_at(&self.nodes, name);
         let name = name.clone()?;
-        let node = Node {
-            view: view.clone()?,
+        let stored = StoredNode {
+            node: node.clone()?,
             lock_generation,
         };
-        self.nodes.put(name, node)?;
+        self.nodes.put(name, stored)?;
         Ok(())
     }
 
@@ -241,8 +241,8 @@ impl Rows {
         let Some(node) = self.nodes.get(name) else {
             return Ok(());
         };
-        let node = Node {
-            view: node.view.clone()?,
+        let node = StoredNode {
+            node: node.node.clone()?,
             lock_generation: generation,
         };
         let _ = self.nodes.replace(name, node);
@@ -253,7 +253,7 @@ impl Rows {
         ensures { self.new ≡ record self.old { nodes = remove_entry (is_at (slice_cmp nat_cmp name.now)) self.old.nodes; locks = without_locks_of (stored_node self.old.nodes name.now) self.old.locks } }
     {
         if let Some(node) = self.nodes.remove(name) {
-            remove_locks_of(&mut self.locks, node.view.instance);
+            remove_locks_of(&mut self.locks, node.node.instance);
         }
     }
 
@@ -270,7 +270,7 @@ impl Rows {
 }
 
 // The generation of the lock of the node at a name; 0 where none is there.
-fn generation_at(nodes: &Table<Name, Node>, name: &Name) -> u64
+fn generation_at(nodes: &Table<Name, StoredNode>, name: &Name) -> u64
     ensures { result ≡ option_map_or (λ node. node.lock_generation) (stored_node nodes.now name.now) 0 }
 {
     match nodes.get(name) {

@@ -11,9 +11,9 @@ use Rattle.std.proofs.lemmas.Cmp.{nat_list_cmp_total, tied_itself}
 use Rattle.std.proofs.lemmas.Map.Lookups.{exact_bytes}
 use Rattle.sqlite_rules.specs.Lists.{Has}
 use Rattle.names_cell.specs.Text.{parent_of}
-use Rattle.node_core.specs.declared.views.View.{View}
-use Rattle.rows_cell.specs.declared.tables.Node.{Node}
-use Rattle.rows_cell.specs.Rows.{StoredNodes, stored_node, put_view, at_generation}
+use Rattle.node_core.specs.declared.nodes.Node.{Node}
+use Rattle.rows_cell.specs.declared.tables.StoredNode.{StoredNode}
+use Rattle.rows_cell.specs.Rows.{StoredNodes, stored_node, put_stored, at_generation}
 use Rattle.rows_read.specs.Children.{Parents, children_of, with_child, put_under}
 use Rattle.rows_read.proofs.Parents.{children_all}
 use Rattle.rows_edits.specs.Ongoing.{MayLack}
@@ -38,7 +38,7 @@ later_child k None x other es over = refl
 later_child k (Some parent) x None es over = refl
 later_child k (Some parent) x (Some other) es over = rw over refl
 
-pub children_put : (nodes : StoredNodes) (k : List ℕ) (v : Node) → IsStrictlySortedBy names (keys_of nodes) → children_of (insert_entry names nodes k v) ≡ put_under k (parent_of k) (children_of nodes)
+pub children_put : (nodes : StoredNodes) (k : List ℕ) (v : StoredNode) → IsStrictlySortedBy names (keys_of nodes) → children_of (insert_entry names nodes k v) ≡ put_under k (parent_of k) (children_of nodes)
 unfolding IsStrictlySortedBy
 children_put [] k v s = first_child k (parent_of k) [] tt
 children_put (e ∷ es) k v s =
@@ -48,19 +48,19 @@ children_put (e ∷ es) k v s =
       | Greater ↦ (λ c. ap (with_child e.0 (parent_of e.0)) (children_put es k v s.1) ∙ later_child k (parent_of k) e.0 (parent_of e.0) (children_of es) c)
     ]) refl
 
-pub children_put_view : (nodes : StoredNodes) (name : List ℕ) (view : View) → IsStrictlySortedBy names (keys_of nodes) → children_of (put_view nodes name view) ≡ put_under name (parent_of name) (children_of nodes)
-children_put_view nodes name view s = children_put nodes name _ s
+pub children_put_stored : (nodes : StoredNodes) (name : List ℕ) (node : Node) → IsStrictlySortedBy names (keys_of nodes) → children_of (put_stored nodes name node) ≡ put_under name (parent_of name) (children_of nodes)
+children_put_stored nodes name node s = children_put nodes name _ s
 
 -- ---- another lock generation
 
-with_value : (test : List ℕ → Bool) (nodes : StoredNodes) (v : Node) → children_of (set_value test nodes v) ≡ children_of nodes
+with_value : (test : List ℕ → Bool) (nodes : StoredNodes) (v : StoredNode) → children_of (set_value test nodes v) ≡ children_of nodes
 with_value test [] v = refl
 with_value test (e ∷ es) v = elim (cases_Bool (test e.0)) [
   | inl t ↦ rw t refl
   | inr f ↦ rw f (ap (with_child e.0 (parent_of e.0)) (with_value test es v))
 ]
 
-pub children_at : (nodes : StoredNodes) (name : List ℕ) (node : Option Node) (n : ℕ) → children_of (at_generation nodes name node n) ≡ children_of nodes
+pub children_at : (nodes : StoredNodes) (name : List ℕ) (node : Option StoredNode) (n : ℕ) → children_of (at_generation nodes name node n) ≡ children_of nodes
 children_at nodes name None n = refl
 children_at nodes name (Some node) n = with_value (is_at (names name)) nodes (record node { lock_generation = n })
 

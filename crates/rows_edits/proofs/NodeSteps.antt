@@ -7,7 +7,7 @@ use Rattle.std.specs.Ordering.{nat_cmp}
 use Rattle.std.specs.Cmp.Lexicographic.{slice_cmp}
 use Rattle.sqlite.specs.State.{State}
 use Rattle.names_cell.specs.Text.{parent_of}
-use Rattle.node_core.specs.declared.views.View.{View}
+use Rattle.node_core.specs.declared.nodes.Node.{Node}
 use Rattle.rows_cell.specs.declared.tables.Edit.TheVariants.{PutNode, RemoveNode}
 use Rattle.rows_cell.specs.Rows.{StoredNodes, edited}
 use Rattle.rows_schema.specs.declared.ours.Version.TheVariants.{Second}
@@ -15,7 +15,7 @@ use Rattle.rows_read.specs.Children.{children_of, put_under}
 use Rattle.rows_read.specs.Held.{SaysWith}
 use Rattle.rows_read.specs.Ready.{tables_of}
 use Rattle.rows_edits.specs.Ongoing.{Changed, PutsEntry, PutsChild, TakesChild, RemovesEntry, HasNoOther}
-use Rattle.rows_edits.proofs.ChildLists.{children_put_view, parent_found}
+use Rattle.rows_edits.proofs.ChildLists.{children_put_stored, parent_found}
 
 -- its name is under no other parent
 no_other : (nodes : StoredNodes) (k p : List ℕ) → parent_of k ≡ Some p → HasNoOther (children_of nodes) k p
@@ -25,22 +25,22 @@ no_other nodes k p is =
       | Some other ↦ (λ found. let own = sym (parent_found nodes k other found) ∙ is in let same : other ≡ p = cc in same)
     ]) refl
 
-pub node_under : (name parent : List ℕ) (view : View) (a b c : State) → parent_of name ≡ Some parent → PutsEntry name view a b → PutsChild name parent b c → Changed (PutNode name view ∷ []) a c
-node_under name parent view a b c is entry child = record {
+pub node_under : (name parent : List ℕ) (node : Node) (a b c : State) → parent_of name ≡ Some parent → PutsEntry name node a b → PutsChild name parent b c → Changed (PutNode name node ∷ []) a c
+node_under name parent node a b c is entry child = record {
   store = λ store. child.store (entry.store store);
   says = λ store rows h.
-      let put = edited rows (PutNode name view) in
+      let put = edited rows (PutNode name node) in
       let mid = entry.says store rows h in
       let last = child.says (entry.store store) Second put (children_of rows.nodes) (no_other rows.nodes name parent is) mid in
-      subst (SaysWith Second (tables_of c.now.trees) put) (ap (λ (o : Option (List ℕ)). put_under name o (children_of rows.nodes)) (sym is) ∙ sym (children_put_view rows.nodes name view h.nodes.sorted)) last;
+      subst (SaysWith Second (tables_of c.now.trees) put) (ap (λ (o : Option (List ℕ)). put_under name o (children_of rows.nodes)) (sym is) ∙ sym (children_put_stored rows.nodes name node h.nodes.sorted)) last;
 }
 
-pub node_alone : (name : List ℕ) (view : View) (a b : State) → parent_of name ≡ None → PutsEntry name view a b → Changed (PutNode name view ∷ []) a b
-node_alone name view a b is entry = record {
+pub node_alone : (name : List ℕ) (node : Node) (a b : State) → parent_of name ≡ None → PutsEntry name node a b → Changed (PutNode name node ∷ []) a b
+node_alone name node a b is entry = record {
   store = entry.store;
   says = λ store rows h.
-      let put = edited rows (PutNode name view) in
-      subst (SaysWith Second (tables_of b.now.trees) put) (ap (λ (o : Option (List ℕ)). put_under name o (children_of rows.nodes)) (sym is) ∙ sym (children_put_view rows.nodes name view h.nodes.sorted)) (entry.says store rows h);
+      let put = edited rows (PutNode name node) in
+      subst (SaysWith Second (tables_of b.now.trees) put) (ap (λ (o : Option (List ℕ)). put_under name o (children_of rows.nodes)) (sym is) ∙ sym (children_put_stored rows.nodes name node h.nodes.sorted)) (entry.says store rows h);
 }
 
 pub gone_under : (name parent : List ℕ) (a b c : State) → parent_of name ≡ Some parent → TakesChild name parent a b → RemovesEntry name b c → Changed (RemoveNode name ∷ []) a c

@@ -5,7 +5,7 @@ use Rattle.std.specs.Ordering.{nat_cmp}
 use Rattle.std.specs.Cmp.Lexicographic.{slice_cmp}
 use Rattle.std.proofs.lemmas.Bool.Decides.{nat_tests}
 use Rattle.names_cell.specs.Text.{root_of}
-use Rattle.node_core.specs.declared.views.View.{View}
+use Rattle.node_core.specs.declared.nodes.Node.{Node}
 use Rattle.rows_cell.specs.declared.tables.Rows.{Rows}
 use Rattle.rows_cell.specs.declared.tables.Edit.TheVariants.{PutNode}
 use Rattle.rows_cell.specs.Opening.{opening}
@@ -22,9 +22,9 @@ longer [] y ys = refl
 longer (b ∷ bs) y ys = rw (nat_same b) (longer bs y ys)
 
 -- three new nodes, each behind those before
-put_three : (rows : Rows) (x y z : List ℕ) (u v w : View) → slice_cmp nat_cmp y x ≡ Greater → slice_cmp nat_cmp z x ≡ Greater → slice_cmp nat_cmp z y ≡ Greater
+put_three : (rows : Rows) (x y z : List ℕ) (u v w : Node) → slice_cmp nat_cmp y x ≡ Greater → slice_cmp nat_cmp z x ≡ Greater → slice_cmp nat_cmp z y ≡ Greater
     → changed_rows (record rows { nodes = [] }) (PutNode x u ∷ PutNode y v ∷ PutNode z w ∷ [])
-    ≡ record rows { nodes = (x, record { view = u; lock_generation = 0 }) ∷ (y, record { view = v; lock_generation = 0 }) ∷ (z, record { view = w; lock_generation = 0 }) ∷ [] }
+    ≡ record rows { nodes = (x, record { node = u; lock_generation = 0 }) ∷ (y, record { node = v; lock_generation = 0 }) ∷ (z, record { node = w; lock_generation = 0 }) ∷ [] }
 put_three rows x y z u v w yx zx zy = rw (yx, zx, zy) refl
 
 pub opening_put : (settings : Settled) → changed_rows (bare_rows settings) (opening_edits settings) ≡ opening settings

@@ -31,7 +31,7 @@ use Rattle.sqlite.specs.State.{State, Executes, Writes}
 use Rattle.sqlite.proofs.Callers.{runs_as, statement_of}
 use Rattle.rows_cell.specs.declared.keys.LockKey.{LockKey}
 use Rattle.rows_cell.specs.declared.tables.LockRow.{LockRow}
-use Rattle.rows_cell.specs.declared.tables.Node.{Node}
+use Rattle.rows_cell.specs.declared.tables.StoredNode.{StoredNode}
 use Rattle.rows_cell.specs.Keys.{lock_order}
 use Rattle.rows_cell.specs.Rows.{StoredNodes, StoredLocks, stored_node, without_locks_of}
 use Rattle.rows_schema.specs.OurSchema.{the_schema, nodes}
@@ -119,10 +119,10 @@ module _ (t : List ℕ) where
 
   module _ (old new : Database) (store : IsStore old) (gone : NodeGone t old new) (nodes : StoredNodes) (locks : StoredLocks) (held : Holds (slice_cmp nat_cmp) (λ r. node_in (node_shown r)) (old.trees 1) nodes)
       (held_locks : Holds lock_order (λ r. lock_in (lock_shown r)) (old.trees 5) locks) where
-    test : (r : Row) → Has (old.trees 1) r → (e : List ℕ × Node) → node_in (node_shown r) ≡ Some e → has_name t r ≡ is_at (slice_cmp nat_cmp t) e.0
+    test : (r : Row) → Has (old.trees 1) r → (e : List ℕ × StoredNode) → node_in (node_shown r) ≡ Some e → has_name t r ≡ is_at (slice_cmp nat_cmp t) e.0
     test r there e says = name_test t r (node_rows old store r there) e says
 
-    abbrev After : Option Node → Type 0
+    abbrev After : Option StoredNode → Type 0
     After o = Holds lock_order (λ r. lock_in (lock_shown r)) (filter (λ r. not (gone.lock r)) (old.trees 5)) (without_locks_of o locks)
 
     with_none : ((o : Row) → Has (old.trees 1) o → has_name t o ≡ false) → After (stored_node nodes t)
@@ -135,12 +135,12 @@ module _ (t : List ℕ) where
     with_one o h k =
         let e = entry_of (slice_cmp nat_cmp) nat_list_cmp_total (λ r. node_in (node_shown r)) (old.trees 1) nodes held o h in
         let found : stored_node nodes t ≡ Some e.0.1 = found_at (slice_cmp nat_cmp) nat_list_cmp_total (λ r. node_in (node_shown r)) (old.trees 1) nodes held t (has_name t) test o h k e.0 e.2 in
-        let instance : count_in (column o 2) ≡ Some e.0.1.view.instance = (node_said o e.0 e.2).2 in
-        let same : (r : Row) → Has (old.trees 5) r → (l : LockKey × LockRow) → lock_in (lock_shown r) ≡ Some l → gone.lock r ≡ (l.0.instance == e.0.1.view.instance) = λ r there l says.
+        let instance : count_in (column o 2) ≡ Some e.0.1.node.instance = (node_said o e.0 e.2).2 in
+        let same : (r : Row) → Has (old.trees 5) r → (l : LockKey × LockRow) → lock_in (lock_shown r) ≡ Some l → gone.lock r ≡ (l.0.instance == e.0.1.node.instance) = λ r there l says.
         gone.one_lock o h k r ∙ alone_and _ ∙ ap₂ (equal Binary) (lock_rows old store r there).instance (node_rows old store o h).instance
-        ∙ equal_counts (id_in (column r 1)) (id_in (column o 2)) l.0.instance e.0.1.view.instance (lock_said r l says).instance instance ∙ same_number l.0.instance e.0.1.view.instance in
+        ∙ equal_counts (id_in (column r 1)) (id_in (column o 2)) l.0.instance e.0.1.node.instance (lock_said r l says).instance instance ∙ same_number l.0.instance e.0.1.node.instance in
         subst After (sym found)
-        (holds_kept lock_order locks_total (λ r. lock_in (lock_shown r)) (old.trees 5) locks held_locks (λ l. not (l.0.instance == e.0.1.view.instance)) (λ r. not (gone.lock r)) (λ r there l says. ap not (same r there l says)))
+        (holds_kept lock_order locks_total (λ r. lock_in (lock_shown r)) (old.trees 5) locks held_locks (λ l. not (l.0.instance == e.0.1.node.instance)) (λ r. not (gone.lock r)) (λ r there l says. ap not (same r there l says)))
 
     locks_left : After (stored_node nodes t)
     locks_left = elim (cases_Bool (list_any (has_name t) (old.trees 1))) [

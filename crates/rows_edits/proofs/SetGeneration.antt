@@ -25,7 +25,7 @@ use Rattle.sqlite_rules.proofs.ListLemmas.{all_has, has_kept}
 use Rattle.sqlite_rules.proofs.TableLemmas.{int_is}
 use Rattle.sqlite.specs.Effect.{Database}
 use Rattle.sqlite.specs.State.{State, Executes}
-use Rattle.rows_cell.specs.declared.tables.Node.{Node}
+use Rattle.rows_cell.specs.declared.tables.StoredNode.{StoredNode}
 use Rattle.rows_cell.specs.declared.tables.Edit.TheVariants.{LockGeneration}
 use Rattle.rows_cell.specs.Rows.{StoredNodes, stored_node, at_generation}
 use Rattle.rows_cell.proofs.EntriesInOrder.{put_is_set}
@@ -107,11 +107,11 @@ module _ (t : List ℕ) (g : ℤ) where
 
     -- what the nodes are then
     module _ (n : ℕ) (counted : count_of g ≡ Some n) (entries : StoredNodes) (held : Holds (slice_cmp nat_cmp) (λ r. node_in (node_shown r)) es entries) where
-      test : (r : Row) → Has es r → (e : List ℕ × Node) → node_in (node_shown r) ≡ Some e → has_name t r ≡ is_at (slice_cmp nat_cmp t) e.0
+      test : (r : Row) → Has es r → (e : List ℕ × StoredNode) → node_in (node_shown r) ≡ Some e → has_name t r ≡ is_at (slice_cmp nat_cmp t) e.0
       test r there e says = name_test t r (node_rows old.now store r there) e says
 
       -- the row that is changed
-      changed_says : (r : Row) → Has es r → has_name t r ≡ true → (e : List ℕ × Node) → node_in (node_shown r) ≡ Some e → node_in (node_shown (becomes r)) ≡ Some (t, record e.1 { lock_generation = n })
+      changed_says : (r : Row) → Has es r → has_name t r ≡ true → (e : List ℕ × StoredNode) → node_in (node_shown r) ≡ Some e → node_in (node_shown (becomes r)) ≡ Some (t, record e.1 { lock_generation = n })
       changed_says r there has e says =
           let k : column r 1 ≡ Text t = text_value (column r 1) t (node_rows old.now store r there).name (and_parts _ _ has).0 in
           let named : e.0 ≡ t = sym (name_said r e says) ∙ ap bytes k in
@@ -129,7 +129,7 @@ module _ (t : List ℕ) (g : ℤ) where
       one_changed : (r : Row) → Has es r → has_name t r ≡ true → filter (has_name t) es ≡ r ∷ [] → Holds (slice_cmp nat_cmp) (λ x. node_in (node_shown x)) (map (renewed (has_name t) becomes) es) (at_generation entries t (stored_node entries t) n)
       one_changed r there has one =
           let e = entry_of (slice_cmp nat_cmp) nat_list_cmp_total (λ x. node_in (node_shown x)) es entries held r there in
-          let node : Node = record e.0.1 { lock_generation = n } in
+          let node : StoredNode = record e.0.1 { lock_generation = n } in
           let found : stored_node entries t ≡ Some e.0.1 = found_at (slice_cmp nat_cmp) nat_list_cmp_total (λ x. node_in (node_shown x)) es entries held t (has_name t) test r there has e.0 e.2 in
           let put = holds_put (slice_cmp nat_cmp) nat_list_cmp_total (λ x. node_in (node_shown x)) es entries held t (has_name t) test exact_bytes (becomes r) node (map (renewed (has_name t) becomes) es)
           (changed_says r there has e.0 e.2) (one_renewed (has_name t) becomes es r one) in

@@ -95,7 +95,7 @@ bare_rows settings = record { cell = settings.cell; secret = settings.secret; ep
 
 -- the edits that put these nodes
 abbrev pub puts_of : StoredNodes → List Edit
-puts_of nodes = map (λ e. PutNode e.0 e.1.view) nodes
+puts_of nodes = map (λ e. PutNode e.0 e.1.node) nodes
 
 -- those of a new store
 abbrev pub opening_edits : Settled → List Edit

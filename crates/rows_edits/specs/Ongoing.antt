@@ -14,7 +14,7 @@ use Rattle.rows_cell.specs.declared.tables.Rows.{Rows}
 use Rattle.rows_cell.specs.declared.tables.Edit.{Edit}
 use Rattle.rows_cell.specs.declared.tables.Edit.TheVariants.{PutNode, RemoveNode}
 use Rattle.rows_cell.specs.Rows.{changed_rows, edited}
-use Rattle.node_core.specs.declared.views.View.{View}
+use Rattle.node_core.specs.declared.nodes.Node.{Node}
 use Rattle.rows_schema.specs.declared.ours.Version.{Version}
 use Rattle.rows_schema.specs.declared.ours.Version.TheVariants.{Second}
 use Rattle.rows_schema.specs.OurSchema.{the_schema}
@@ -62,9 +62,9 @@ MayCommit change old db = IsStore old.now → SaysChanged change old.now.trees d
 -- ---- a put of a node, in its two statements
 
 -- the node was put, and its name not yet under its parent
-pub record PutsEntry (name : List ℕ) (view : View) (old new : State) : Type 0 where
+pub record PutsEntry (name : List ℕ) (node : Node) (old new : State) : Type 0 where
   pub store : IsStore old.now → IsStore new.now
-  pub says : IsStore old.now → (rows : Rows) → Says (tables_of old.now.trees) rows → SaysWith Second (tables_of new.now.trees) (edited rows (PutNode name view)) (children_of rows.nodes)
+  pub says : IsStore old.now → (rows : Rows) → Says (tables_of old.now.trees) rows → SaysWith Second (tables_of new.now.trees) (edited rows (PutNode name node)) (children_of rows.nodes)
 
 -- it has no other parent there
 abbrev pub HasNoOther : Parents → List ℕ → List ℕ → Type 0

@@ -21,7 +21,7 @@ fn edit<S: Alter>(tx: &mut Transaction<'_, S>, edit: &Edit) -> Result<(), Error>
     match edit {
         Edit::Epoch(epoch) => set_epoch(tx, *epoch),
         Edit::NextInstance(next) => set_next_instance(tx, *next),
-        Edit::PutNode(name, view) => put_node(tx, name, view),
+        Edit::PutNode(name, node) => put_node(tx, name, node),
         Edit::LockGeneration(name, generation) => set_lock_generation(tx, name, *generation),
         Edit::RemoveNode(name) => remove_node(tx, name),
         Edit::PutSession(client, session) => put_session(tx, *client, session),

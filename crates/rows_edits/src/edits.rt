@@ -9,7 +9,7 @@ ghost use Rattle.rows_edits.specs.Ongoing.{RanInside, Changed, PutsEntry, PutsCh
 
 use crate::values::{kind_as, life_as, live_as, mode_as, number};
 use names_cell::Name;
-use node_core::View;
+use node_core::Node;
 use rows_cell::{LockKey, LockRow, Session};
 use sqlite::{Alter, Error, Transaction};
 use sqlite_value::value::ValueRef;
@@ -62,15 +62,15 @@ pub(crate) fn set_next_instance<S: Alter>(
 pub(crate) fn put_node<S: Alter>(
     tx: &mut Transaction<'_, S>,
     name: &Name,
-    view: &View,
+    node: &Node,
 ) -> Result<(), Error>
     ensures same { tx.new.conn.ghost_name ≡ tx.old.conn.ghost_name }
-    ensures ok { HasCleanDisk (state S.Store tx.new.conn.now) → OnOk result (Changed (PutNode name.now view.now ∷ []) (state S.Store tx.old.conn.now) (state S.Store tx.new.conn.now)) }
+    ensures ok { HasCleanDisk (state S.Store tx.new.conn.now) → OnOk result (Changed (PutNode name.now node.now ∷ []) (state S.Store tx.old.conn.now) (state S.Store tx.new.conn.now)) }
     ensures kept { HasCleanDisk (state S.Store tx.new.conn.now) → KeepsCommit (state S.Store tx.old.conn.now) (state S.Store tx.new.conn.now) }
     ensures survives { Survives (state S.Store tx.old.conn.now) (state S.Store tx.new.conn.now) (λ _. ⊥) }
 {
     let parent = name.parent()?;
-    put_entry(tx, name, view)?;
+    put_entry(tx, name, node)?;
     match parent {
         Some(parent) => put_child(tx, &parent, name),
         None => Ok(()),
@@ -99,29 +99,29 @@ pub(crate) fn put_child<S: Alter>(
 }
 
 // Puts the row of a node.
-fn put_entry<S: Alter>(tx: &mut Transaction<'_, S>, name: &Name, view: &View) -> Result<(), Error>
+fn put_entry<S: Alter>(tx: &mut Transaction<'_, S>, name: &Name, node: &Node) -> Result<(), Error>
     ensures same { tx.new.conn.ghost_name ≡ tx.old.conn.ghost_name }
-    ensures ok { HasCleanDisk (state S.Store tx.new.conn.now) → OnOk result (PutsEntry name.now view.now (state S.Store tx.old.conn.now) (state S.Store tx.new.conn.now)) }
+    ensures ok { HasCleanDisk (state S.Store tx.new.conn.now) → OnOk result (PutsEntry name.now node.now (state S.Store tx.old.conn.now) (state S.Store tx.new.conn.now)) }
     ensures kept { HasCleanDisk (state S.Store tx.new.conn.now) → KeepsCommit (state S.Store tx.old.conn.now) (state S.Store tx.new.conn.now) }
     ensures survives { Survives (state S.Store tx.old.conn.now) (state S.Store tx.new.conn.now) (λ _. ⊥) }
 {
-    let instance = number(view.instance)?;
-    let content_generation = number(view.content_generation)?;
-    let acl_generation = number(view.acl_generation)?;
+    let instance = number(node.instance)?;
+    let content_generation = number(node.content_generation)?;
+    let acl_generation = number(node.acl_generation)?;
     run(
         tx,
         "INSERT INTO nodes (name, instance, kind, life, content_gen, acl_gen, lock_gen, acl_read, acl_write, acl_change, content) VALUES (?1, ?2, ?3, ?4, ?5, ?6, 0, ?7, ?8, ?9, ?10) ON CONFLICT (name) DO UPDATE SET instance = excluded.instance, kind = excluded.kind, life = excluded.life, content_gen = excluded.content_gen, acl_gen = excluded.acl_gen, acl_read = excluded.acl_read, acl_write = excluded.acl_write, acl_change = excluded.acl_change, content = excluded.content",
         &[
             ValueRef::Text(name.as_str().as_bytes()),
             instance,
-            kind_as(view.kind),
-            life_as(view.life),
+            kind_as(node.kind),
+            life_as(node.life),
             content_generation,
             acl_generation,
-            ValueRef::Text(view.read.as_str().as_bytes()),
-            ValueRef::Text(view.write.as_str().as_bytes()),
-            ValueRef::Text(view.change.as_str().as_bytes()),
-            ValueRef::Blob(view.content.as_slice()),
+            ValueRef::Text(node.read.as_str().as_bytes()),
+            ValueRef::Text(node.write.as_str().as_bytes()),
+            ValueRef::Text(node.change.as_str().as_bytes()),
+            ValueRef::Blob(node.content.as_slice()),
         ],
     )
 }

@@ -10,19 +10,19 @@ use Rattle.std.specs.Cmp.Lexicographic.{slice_cmp, nat_list_cmp_total, pointwise
 use Rattle.std.specs.Prelude.{Decides}
 use Rattle.std.proofs.lemmas.Bool.{and_parts, and_from}
 use Rattle.names_cell.specs.Text.{parent_of}
-use Rattle.rows_cell.specs.declared.tables.Node.{Node}
+use Rattle.rows_cell.specs.declared.tables.StoredNode.{StoredNode}
 use Rattle.rows_cell.specs.Rows.{StoredNodes}
 use Rattle.rows_read.specs.Children.{Parents, children_of, with_child, put_under}
 
 behind : (x y : List ℕ) → slice_cmp nat_cmp x y ≡ Less → slice_cmp nat_cmp y x ≡ Greater
 behind x y h = nat_list_cmp_total.antisymm y x ∙ ap ordering_reverse h
 
-before_all : (x : List ℕ) (front : StoredNodes) (k : List ℕ) (v : Node) (rest : StoredNodes) → AllByRecursion (λ z. slice_cmp nat_cmp x z ≡ Less) (keys_of (front ++ (k, v) ∷ rest)) → slice_cmp nat_cmp x k ≡ Less
+before_all : (x : List ℕ) (front : StoredNodes) (k : List ℕ) (v : StoredNode) (rest : StoredNodes) → AllByRecursion (λ z. slice_cmp nat_cmp x z ≡ Less) (keys_of (front ++ (k, v) ∷ rest)) → slice_cmp nat_cmp x k ≡ Less
 before_all x [] k v rest h = h.0
 before_all x (e ∷ front) k v rest h = before_all x front k v rest h.1
 
 -- the names of the front lie below one that comes behind it
-front_below : (front : StoredNodes) (k : List ℕ) (v : Node) (rest : StoredNodes) → IsStrictlySortedBy (slice_cmp nat_cmp) (keys_of (front ++ (k, v) ∷ rest)) → AllByRecursion (λ z. slice_cmp nat_cmp z k ≡ Less) (keys_of front)
+front_below : (front : StoredNodes) (k : List ℕ) (v : StoredNode) (rest : StoredNodes) → IsStrictlySortedBy (slice_cmp nat_cmp) (keys_of (front ++ (k, v) ∷ rest)) → AllByRecursion (λ z. slice_cmp nat_cmp z k ≡ Less) (keys_of front)
 unfolding IsStrictlySortedBy
 front_below [] k v rest h = tt
 front_below (e ∷ front) k v rest h = (before_all e.0 front k v rest h.0, front_below front k v rest h.1)
@@ -44,7 +44,7 @@ with_push : (name : List ℕ) (parent : Option (List ℕ)) (rest last : Parents)
 with_push name None rest last = refl
 with_push name (Some parent) rest last = refl
 
-children_push : (front : StoredNodes) (k : List ℕ) (v : Node) → children_of (front ++ (k, v) ∷ []) ≡ children_of front ++ with_child k (parent_of k) []
+children_push : (front : StoredNodes) (k : List ℕ) (v : StoredNode) → children_of (front ++ (k, v) ∷ []) ≡ children_of front ++ with_child k (parent_of k) []
 children_push [] k v = refl
 children_push (e ∷ front) k v = ap (with_child e.0 (parent_of e.0)) (children_push front k v) ∙ with_push e.0 (parent_of e.0) (children_of front) (with_child k (parent_of k) [])
 
@@ -61,7 +61,7 @@ abbrev pub IsGathered : StoredNodes → StoredNodes → Parents → Type 0
 IsGathered nodes left children = (front : StoredNodes) × (front ++ left ≡ nodes) × (children ≡ children_of front)
 
 -- one more
-pub gathered_more : (nodes left next : StoredNodes) (old new : Parents) (k : List ℕ) (v : Node) → IsStrictlySortedBy (slice_cmp nat_cmp) (keys_of nodes) → IsGathered nodes left old → left ≡ (k, v) ∷ next → new ≡ put_under k (parent_of k) old → IsGathered nodes next new
+pub gathered_more : (nodes left next : StoredNodes) (old new : Parents) (k : List ℕ) (v : StoredNode) → IsStrictlySortedBy (slice_cmp nat_cmp) (keys_of nodes) → IsGathered nodes left old → left ≡ (k, v) ∷ next → new ≡ put_under k (parent_of k) old → IsGathered nodes next new
 gathered_more nodes left next old new k v sorted put l e =
     let whole : put.0 ++ (k, v) ∷ next ≡ nodes = ap (λ r. put.0 ++ r) (sym l) ∙ put.1 in
     let P : StoredNodes → Type 0 = λ all. IsStrictlySortedBy (slice_cmp nat_cmp) (keys_of all) in

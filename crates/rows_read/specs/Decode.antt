@@ -9,7 +9,7 @@ use Rattle.node_core.specs.declared.kinds.Kind.{Kind}
 use Rattle.node_core.specs.declared.kinds.Kind.TheVariants.{File, Directory}
 use Rattle.node_core.specs.declared.kinds.Life.{Life}
 use Rattle.node_core.specs.declared.kinds.Life.TheVariants.{Permanent, Ephemeral}
-use Rattle.rows_cell.specs.declared.tables.Node.{Node}
+use Rattle.rows_cell.specs.declared.tables.StoredNode.{StoredNode}
 use Rattle.rows_cell.specs.declared.tables.Session.{Session}
 use Rattle.rows_cell.specs.declared.tables.LockRow.{LockRow}
 use Rattle.rows_cell.specs.declared.tables.LockState.{LockState}
@@ -67,9 +67,9 @@ acls_from _ _ _ = None
 abbrev pub acls_in : Row → Option Acls
 acls_in r = acls_from (component_in (column r 7)) (component_in (column r 8)) (component_in (column r 9))
 
-abbrev pub node_with : Numbers → Acls → List ℕ → Node
+abbrev pub node_with : Numbers → Acls → List ℕ → StoredNode
 node_with numbers acls content = record {
-  view = record {
+  node = record {
     kind = numbers.kind;
     instance = numbers.instance;
     content_generation = numbers.content_generation;
@@ -83,12 +83,12 @@ node_with numbers acls content = record {
   lock_generation = numbers.lock_generation;
 }
 
-abbrev pub node_from : Option Numbers → Option Acls → Option (List ℕ) → List ℕ → Option (List ℕ × Node)
+abbrev pub node_from : Option Numbers → Option Acls → Option (List ℕ) → List ℕ → Option (List ℕ × StoredNode)
 node_from (Some numbers) (Some acls) (Some name) content = Some (name, node_with numbers acls content)
 node_from _ _ _ content = None
 
 -- name, instance, kind, life, content_gen, acl_gen, lock_gen, acl_read, acl_write, acl_change, content
-abbrev pub node_in : Row → Option (List ℕ × Node)
+abbrev pub node_in : Row → Option (List ℕ × StoredNode)
 node_in r = node_from (numbers_in r) (acls_in r) (name_in (column r 0)) (bytes (column r 10))
 
 -- ---- a session

@@ -7,7 +7,7 @@ use Rattle.std.specs.Ordering.{nat_cmp}
 use Rattle.std.specs.Cmp.Lexicographic.{slice_cmp}
 use Rattle.sqlite_value.specs.Order.{Row}
 use Rattle.rows_cell.specs.Keys.{lock_order}
-use Rattle.rows_cell.specs.declared.tables.Node.{Node}
+use Rattle.rows_cell.specs.declared.tables.StoredNode.{StoredNode}
 use Rattle.rows_cell.specs.declared.tables.Session.{Session}
 use Rattle.rows_cell.specs.declared.tables.LockRow.{LockRow}
 use Rattle.rows_cell.specs.declared.tables.Rows.{Rows}
@@ -27,7 +27,7 @@ pub record Holds {K V : Type 0} (cmp : K → K → Ordering) (read : Row → Opt
 abbrev pub IsRead : {K V : Type 0} → (K → K → Ordering) → (Row → Option (K × V)) → List Row → Option (List (K × V)) → Type 0
 IsRead {K} {V} cmp read rows o = MatchOption o ((es : List (K × V)) → ¬ Holds cmp read rows es) (λ es. Holds cmp read rows es)
 
-abbrev pub HoldsNodes : List Row → List (List ℕ × Node) → Type 0
+abbrev pub HoldsNodes : List Row → List (List ℕ × StoredNode) → Type 0
 HoldsNodes = Holds (slice_cmp nat_cmp) node_in
 
 abbrev pub HoldsSessions : List Row → List (ℕ × Session) → Type 0

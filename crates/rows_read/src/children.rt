@@ -5,7 +5,7 @@ ghost use Rattle.rows_read.specs.Children.{children_of, children_for, put_under}
 
 use names_cell::Name;
 use plain::Table;
-use rows_cell::Node;
+use rows_cell::StoredNode;
 use rows_schema::Version;
 use std::alloc::{AllocError, Global};
 
@@ -13,7 +13,7 @@ use std::alloc::{AllocError, Global};
 /// nodes.
 pub fn children_of(
     alloc: Global,
-    nodes: &Table<Name, Node>,
+    nodes: &Table<Name, StoredNode>,
 ) -> Result<Table<Name, Name>, AllocError>
     ensures { IfOk result (λ children. children ≡ children_of nodes.now) }
 {
@@ -41,7 +41,7 @@ fn put_under(children: &mut Table<Name, Name>, name: &Name) -> Result<(), AllocE
 pub(crate) fn children_for(
     alloc: Global,
     version: Version,
-    nodes: &Table<Name, Node>,
+    nodes: &Table<Name, StoredNode>,
 ) -> Result<Table<Name, Name>, AllocError>
     ensures { IfOk result (λ children. children ≡ children_for version nodes.now) }
 {

@@ -11,12 +11,12 @@ use crate::reads::Raw;
 use crate::stored::{Meta, child_of, lock_of, meta_of, node_of, session_of};
 use names_cell::Name;
 use plain::Table;
-use rows_cell::{LockKey, LockRow, Node, Rows, Session};
+use rows_cell::{LockKey, LockRow, Rows, Session, StoredNode};
 use rows_schema::Version;
 use sqlite::Row;
 use std::alloc::{AllocError, Global};
 
-fn nodes_of(alloc: Global, rows: &[Row]) -> Result<Option<Table<Name, Node>>, AllocError>
+fn nodes_of(alloc: Global, rows: &[Row]) -> Result<Option<Table<Name, StoredNode>>, AllocError>
     ensures { IfOk result (λ nodes. IsRead (slice_cmp nat_cmp) node_in rows.now nodes) }
 {
     let mut nodes = Table::new(alloc);

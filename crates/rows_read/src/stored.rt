@@ -5,9 +5,9 @@ ghost use Rattle.sqlite.specs.Edit.{id_in};
 ghost use Rattle.rows_read.specs.Decode.{count_of, count_in, node_with, name_in, component_in, secret_in, kind_of, life_of, live_of, lock_state_of, numbers_in, acls_in, node_in, session_in, lock_in, child_in, meta_as};
 
 use names_cell::{Component, Name, NameFault, Principal};
-use node_core::{Kind, Life, View};
+use node_core::{Kind, Life, Node};
 use plain::{Bytes, Secret};
-use rows_cell::{LockKey, LockRow, LockState, Node, Session};
+use rows_cell::{LockKey, LockRow, LockState, Session, StoredNode};
 use rows_schema::Version;
 use sqlite::Row;
 use sqlite_value::value::ValueRef;
@@ -218,7 +218,7 @@ fn acls_of(alloc: Global, row: &Row) -> Result<Option<Acls>, AllocError>
 }
 
 /// The node that a row says.
-pub(crate) fn node_of(alloc: Global, row: &Row) -> Result<Option<(Name, Node)>, AllocError>
+pub(crate) fn node_of(alloc: Global, row: &Row) -> Result<Option<(Name, StoredNode)>, AllocError>
     ensures { IfOk result (λ node. node ≡ node_in row.now) }
 {
     let Some(numbers) = numbers_of(row) else {
@@ -234,11 +234,11 @@ pub(crate) fn node_of(alloc: Global, row: &Row) -> Result<Option<(Name, Node)>, 
     Ok(Some((name, node_with(numbers, acls, content))))
 }
 
-fn node_with(numbers: Numbers, acls: Acls, content: Bytes) -> Node
+fn node_with(numbers: Numbers, acls: Acls, content: Bytes) -> StoredNode
     ensures { result ≡ node_with numbers acls content }
 {
-    Node {
-        view: View {
+    StoredNode {
+        node: Node {
             kind: numbers.kind,
             instance: numbers.instance,
             content_generation: numbers.content_generation,

@@ -10,8 +10,8 @@ use Rattle.sqlite_schema.specs.declared.schema.Schema.{Schema}
 use Rattle.sqlite.specs.State.{State, HasCleanDisk, Survives, Opens, IsLive}
 use Rattle.sqlite.specs.Held.{Held, state, IsNew}
 use Rattle.sqlite.specs.Steps.{IsFresh}
-use Rattle.node_core.specs.declared.views.View.{View as Shown}
-use Rattle.rows_cell.specs.declared.tables.Node.{Node}
+use Rattle.node_core.specs.declared.nodes.Node.{Node}
+use Rattle.rows_cell.specs.declared.tables.StoredNode.{StoredNode}
 use Rattle.rows_cell.specs.declared.tables.Rows.{Rows}
 use Rattle.rows_cell.specs.declared.tables.Edit.{Edit}
 use Rattle.rows_cell.specs.declared.tables.Edit.TheVariants.{PutNode}
@@ -229,10 +229,10 @@ left_quiet g store (Err e) h = (h.clean, h.outcomes)
 -- ---- the edits of a new store
 
 -- some edits are pushed, and these nodes are left
-pub pushed_more : (front new : List Edit) (all left rest : StoredNodes) (name : List ℕ) (node : Node) (put : List ℕ) (view : Shown) → front ++ puts_of left ≡ puts_of all → left ≡ (name, node) ∷ rest → put ≡ name → view ≡ node.view → new ≡ front ++ PutNode put view ∷ [] → new ++ puts_of rest ≡ puts_of all
-pushed_more front new all left rest name node put view before steps same shown pushed =
+pub pushed_more : (front new : List Edit) (all left rest : StoredNodes) (name : List ℕ) (stored : StoredNode) (put : List ℕ) (node : Node) → front ++ puts_of left ≡ puts_of all → left ≡ (name, stored) ∷ rest → put ≡ name → node ≡ stored.node → new ≡ front ++ PutNode put node ∷ [] → new ++ puts_of rest ≡ puts_of all
+pushed_more front new all left rest name stored put node before steps same shown pushed =
     ap (λ (es : List Edit). es ++ puts_of rest) pushed
-    ∙ append_assoc front (PutNode put view ∷ []) (puts_of rest)
+    ∙ append_assoc front (PutNode put node ∷ []) (puts_of rest)
     ∙ ap (λ (e : Edit). front ++ e ∷ puts_of rest) (λ i. PutNode (same i) (shown i))
     ∙ ap (λ (es : StoredNodes). front ++ puts_of es) (sym steps)
     ∙ before

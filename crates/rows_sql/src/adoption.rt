@@ -82,7 +82,7 @@ fn edits_of(alloc: Global, rows: &Rows) -> Result<Items<Edit>, AllocError>
 {
     let mut edits = Items::new(alloc);
     for (name, node) in rows.nodes.as_map() {
-        edits.push(Edit::PutNode(name.clone()?, node.view.clone()?))?;
+        edits.push(Edit::PutNode(name.clone()?, node.node.clone()?))?;
     }
     Ok(edits)
 }

@@ -1,11 +1,16 @@
 //! Rows as texts.
 use names_cell::Name;
-use rows_cell::{LockKey, LockRow, LockState, Node, Rows, Session};
+use node_core::{Listing, View};
+use rows_cell::{LockKey, LockRow, LockState, Rows, Session, StoredNode};
 use std::alloc::{AllocError, Global};
 
-fn push_node(text: &mut String, name: &Name, node: &Node) -> Result<(), AllocError> {
-    let view = &node.view;
-    let generation = node.lock_generation;
+// A directory is shown without children, which have lines of their own.
+fn push_node(text: &mut String, name: &Name, stored: &StoredNode) -> Result<(), AllocError> {
+    let view = View {
+        node: stored.node.clone()?,
+        children: Listing::new(),
+    };
+    let generation = stored.lock_generation;
     write!(text, "node {name} {view} {generation}\n")
 }
 

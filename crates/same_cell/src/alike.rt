@@ -2,6 +2,7 @@
 ghost use Rattle.std.specs.Prelude.{◌≡◌, ◌↔◌, IsTrue};
 
 use names_cell::{Component, Name, Principal};
+use node_core::Listing;
 use plain::{Bytes, Items};
 use tags_cell::HandleBytes;
 
@@ -61,6 +62,12 @@ impl<T: Alike> Alike for Option<T> {
 
 impl<T: Alike> Alike for Items<T> {
     fn is_same(&self, other: &Items<T>) -> bool {
+        are_same(self.as_slice(), other.as_slice())
+    }
+}
+
+impl Alike for Listing {
+    fn is_same(&self, other: &Listing) -> bool {
         are_same(self.as_slice(), other.as_slice())
     }
 }

@@ -1,6 +1,6 @@
 //! Lines.
 use crate::alike::Alike;
-use node_core::{Answer, Event, Fault, Kind, Line, Mod, Right, Stat, View};
+use node_core::{Answer, Event, Fault, Kind, Line, Mod, Node, Right, Stat, View};
 
 impl Alike for Kind {
     fn is_same(&self, other: &Kind) -> bool {
@@ -88,8 +88,8 @@ impl Alike for Stat {
     }
 }
 
-impl Alike for View {
-    fn is_same(&self, other: &View) -> bool {
+impl Alike for Node {
+    fn is_same(&self, other: &Node) -> bool {
         self.kind.is_same(&other.kind)
             && self.instance == other.instance
             && self.content_generation == other.content_generation
@@ -102,11 +102,17 @@ impl Alike for View {
     }
 }
 
+impl Alike for View {
+    fn is_same(&self, other: &View) -> bool {
+        self.node.is_same(&other.node) && self.children.is_same(&other.children)
+    }
+}
+
 impl Alike for Mod {
     fn is_same(&self, other: &Mod) -> bool {
         match (self, other) {
-            (Mod::Put(name, view), Mod::Put(name_b, view_b)) => {
-                name.is_same(name_b) && view.is_same(view_b)
+            (Mod::Put(name, node), Mod::Put(name_b, node_b)) => {
+                name.is_same(name_b) && node.is_same(node_b)
             }
             (Mod::Gone(name), Mod::Gone(name_b)) => name.is_same(name_b),
             _ => false,
@@ -156,7 +162,9 @@ impl Alike for Line {
             (Line::Recovered, Line::Recovered) => true,
             (Line::Started(a), Line::Started(x)) => a == x,
             (Line::Ended(a), Line::Ended(x)) => a == x,
-            (Line::Applied(a, b, c), Line::Applied(x, y, z)) => a == x && b == y && c.is_same(z),
+            (Line::Applied(a, b, c, d), Line::Applied(x, y, z, w)) => {
+                a == x && b == y && c.is_same(z) && d.is_same(w)
+            }
             (Line::Granted(a, b, c), Line::Granted(x, y, z)) => a == x && b == y && c.is_same(z),
             (Line::Acked(a), Line::Acked(x)) => a == x,
             (Line::Expired(a), Line::Expired(x)) => a == x,

@@ -51,7 +51,7 @@ impl Alike for CallResult {
             (CallResult::Closed, CallResult::Closed) => true,
             (CallResult::Viewed(a), CallResult::Viewed(b)) => a.is_same(b),
             (CallResult::Stated(a), CallResult::Stated(b)) => a.is_same(b),
-            (CallResult::Names(a), CallResult::Names(b)) => a.is_same(b),
+            (CallResult::Listed(a), CallResult::Listed(b)) => a.is_same(b),
             (CallResult::Sequencer(a), CallResult::Sequencer(b)) => a.is_same(b),
             (CallResult::Done, CallResult::Done) => true,
             (CallResult::Refused(a), CallResult::Refused(b)) => a.is_same(b),

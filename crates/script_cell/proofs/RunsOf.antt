@@ -10,8 +10,7 @@ use Rattle.node_core.specs.declared.refusals.Fault.{Fault}
 use Rattle.node_core.specs.declared.refusals.Fault.TheVariants.{MasterDown}
 use Rattle.node_core.specs.declared.lines.Line.{Line}
 use Rattle.node_core.specs.declared.lines.Line.TheVariants as lines
-use Rattle.node_core.specs.declared.views.View.{View}
-use Rattle.node_core.specs.Nodes.{Nodes, get_node}
+use Rattle.node_core.specs.Nodes.{Nodes, view_at}
 use Rattle.rows_cell.specs.Rows.{map_of}
 use Rattle.rows_cell.specs.Sound.{is_live_in}
 use Rattle.world_clients.specs.declared.steps.Step.{Step}
@@ -152,7 +151,7 @@ serves_adds opening told (line ∷ printed) (inl h) serves [] rest client name e
     serves [] h.0 client name entry (h.1 ∙ ap (λ l. l ∷ h.0) e.0)
 serves_adds opening told (line ∷ printed) (inl h) serves (x ∷ before) rest client name entry is =
     let e = head_of line x printed (before ++ lines.Served client name entry ∷ rest) is in
-    subst (λ l. entry ≡ get_node (map_at (map_by opening l) before) name) e.0
+    subst (λ l. entry ≡ view_at (map_at (map_by opening l) before) name) e.0
     (serves_adds (map_by opening line) h.0 printed h.2 (λ front back c n v at. serves (line ∷ front) back c n v (h.1 ∙ ap (λ xs. line ∷ xs) at)) before rest client name entry e.1)
 serves_adds opening told (line ∷ printed) (inr h) serves [] rest client name entry is =
     let e = head_of line (lines.Served client name entry) printed rest is in
@@ -160,7 +159,7 @@ serves_adds opening told (line ∷ printed) (inr h) serves [] rest client name e
 serves_adds opening told (line ∷ printed) (inr h) serves (x ∷ before) rest client name entry is =
     let e = head_of line x printed (before ++ lines.Served client name entry ∷ rest) is in
     let same : map_by opening x ≡ opening = ap (map_by opening) (sym e.0 ∙ h.1) in
-    subst (λ n. entry ≡ get_node (map_at n before) name) (sym same) (serves_adds opening told printed h.2 serves before rest client name entry e.1)
+    subst (λ n. entry ≡ view_at (map_at n before) name) (sym same) (serves_adds opening told printed h.2 serves before rest client name entry e.1)
 
 tells_of : (old new : WorldView) (printed : List Line) (r : Ran old new printed) → HoldsOfRun old r.steps r.told new → TellsOfRun old new printed
 tells_of old new printed r h = record {

@@ -1,9 +1,9 @@
 //! Changes of the rows, done in SQL and in memory.
 use crate::records::sql_records;
 use names_cell::{Component, Name, Principal};
-use node_core::{Kind, Life, View};
+use node_core::{Kind, Life, Listing, Node, View};
 use plain::{Bytes, Items};
-use rows_cell::{Edit, LockKey, LockRow, LockState, Rows, Session};
+use rows_cell::{Edit, LockKey, LockRow, LockState, Rows, Session, StoredNode};
 use rows_edits::commit_all;
 use rows_read::load_said;
 use settings_core::Settings;
@@ -26,8 +26,8 @@ pub(crate) enum Do {
     Unlock(u64, u64, u64),
 }
 
-fn file(alloc: Global, instance: u64, byte: u8) -> Result<View, Fail> {
-    Ok(View {
+fn file(alloc: Global, instance: u64, byte: u8) -> Result<Node, Fail> {
+    Ok(Node {
         kind: Kind::File,
         instance,
         content_generation: 1,
@@ -95,12 +95,25 @@ pub(crate) fn edits(alloc: Global, change: &[Do]) -> Result<Items<Edit>, Fail> {
     Ok(edits)
 }
 
+// A directory is shown without children.
+fn push_node(
+    alloc: Global,
+    shown: &mut String,
+    name: &Name,
+    stored: &StoredNode,
+) -> Result<(), Fail> {
+    let view = View {
+        node: stored.node.clone()?,
+        children: Listing::new(),
+    };
+    let generation = stored.lock_generation;
+    Ok(shown.push_str(format!(in alloc; "; {name} {view} {generation}")?.as_str())?)
+}
+
 fn nodes_of(alloc: Global, rows: &Rows) -> Result<String, Fail> {
     let mut shown = format!(in alloc; "epoch {} next {}", rows.epoch, rows.next_instance)?;
-    for (name, node) in rows.nodes.as_map() {
-        let view = &node.view;
-        let generation = node.lock_generation;
-        shown.push_str(format!(in alloc; "; {name} {view} {generation}")?.as_str())?;
+    for (name, stored) in rows.nodes.as_map() {
+        push_node(alloc, &mut shown, name, stored)?;
     }
     Ok(shown)
 }
@@ -140,7 +153,7 @@ pub(crate) fn shown(alloc: Global, rows: &Rows) -> Result<String, Fail> {
 
 // The nodes of a new store.
 const NODES: &str =
-    "; /ls/c dir 1 0 1 base base base permanent 0; /ls/c/acl dir 2 0 1 base base base permanent 0; /ls/c/acl/base file 3 1 1 base base base permanent 8 616e6e0a626f620a 0";
+    "; /ls/c dir 1 0 1 base base base permanent 0 0; /ls/c/acl dir 2 0 1 base base base permanent 0 0; /ls/c/acl/base file 3 1 1 base base base permanent 8 616e6e0a626f620a 0";
 
 // A name, changes of a new store, the epoch and the next instance behind them, and what stands in its rows behind the nodes of a
 // new store.

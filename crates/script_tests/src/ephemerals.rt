@@ -49,7 +49,7 @@ pub(crate) const EPHEMERALS: &[Row] = &[
         "directory_behind_its_child",
         Before::Nothing,
         "up 0; tick 60000 60000; join 1 ann; beat 1; settle; ask 1 open /ls/c/d rw must dir ephemeral; settle; ask 1 open /ls/c/d/a rw must file ephemeral -; settle; ask 1 close 1; settle; ask 1 close 2; settle",
-        "up 1; started 1; applied 1 1 put /ls/c/d dir 4 0 1 base base base ephemeral; done 1 1 opened 1; applied 1 2 put /ls/c/d/a file 5 1 1 base base base ephemeral 0 -; done 1 2 opened 2; done 1 3 closed; done 1 4 closed; applied 0 0 gone /ls/c/d/a; applied 0 0 gone /ls/c/d",
+        "up 1; started 1; applied 1 1 put /ls/c/d dir 4 0 1 base base base ephemeral 0; done 1 1 opened 1; applied 1 2 put /ls/c/d/a file 5 1 1 base base base ephemeral 0 -; done 1 2 opened 2; done 1 3 closed; done 1 4 closed; applied 0 0 gone /ls/c/d/a; applied 0 0 gone /ls/c/d",
     ),
     (
         "by_their_names",

@@ -49,13 +49,13 @@ pub(crate) const MASKS: &[Row] = &[
         "no_child_event_of_a_grandchild",
         Before::File,
         "ask 1 open /ls/c/d w must dir permanent; settle; ask 2 open /ls/c r events d; settle; ask 1 open /ls/c/d/a w must file permanent -; settle; beat 2; settle",
-        "applied 1 2 put /ls/c/d dir 5 0 1 base base base permanent; done 1 2 opened 2; done 2 2 opened 2; applied 1 3 put /ls/c/d/a file 6 1 1 base base base permanent 0 -; done 1 3 opened 3",
+        "applied 1 2 put /ls/c/d dir 5 0 1 base base base permanent 0; done 1 2 opened 2; done 2 2 opened 2; applied 1 3 put /ls/c/d/a file 6 1 1 base base base permanent 0 -; done 1 3 opened 3",
     ),
     (
         "child_event_of_a_new_directory",
         Before::File,
         "ask 2 open /ls/c r events d; settle; ask 1 open /ls/c/d w must dir permanent; settle; beat 2; settle",
-        "done 2 2 opened 2; applied 1 2 put /ls/c/d dir 5 0 1 base base base permanent; done 1 2 opened 2; event 2 child-added 2 /ls/c/d",
+        "done 2 2 opened 2; applied 1 2 put /ls/c/d dir 5 0 1 base base base permanent 0; done 1 2 opened 2; event 2 child-added 2 /ls/c/d",
     ),
     (
         "end_of_a_node_without_a_letter",

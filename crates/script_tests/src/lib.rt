@@ -20,6 +20,8 @@ mod kept;
 #[cfg(test)]
 mod leases;
 #[cfg(test)]
+mod listings;
+#[cfg(test)]
 mod locks;
 #[cfg(test)]
 mod records;

@@ -4,6 +4,7 @@ use crate::ephemerals::{EPHEMERALS, SPARED, WAITS};
 use crate::events::{MASKS, MISSED, ORDERS};
 use crate::fail_overs::{CUTS, FAIL_OVERS};
 use crate::leases::{BEATS, CLOCKS, SESSION_ENDS};
+use crate::listings::{INSTANCES, LISTINGS, TAKEN_BACK};
 use crate::locks::{DELAYS, LOCKS, SEQUENCERS, WAITERS};
 use crate::records::sql_records;
 use crate::rights::RIGHTS;
@@ -102,7 +103,7 @@ const SCRIPTS: &[Row] = &[
         "directories",
         Before::Client,
         "ask 1 open /ls/c/d rw must dir permanent; settle; ask 1 open /ls/c/d/a rw must file permanent -; settle; ask 1 delete 1; settle; ask 1 delete 2; settle; ask 1 delete 1; settle; ask 1 read 2; settle; ask 1 open /ls/c r; settle; ask 1 list 3; settle",
-        "applied 1 1 put /ls/c/d dir 4 0 1 base base base permanent; done 1 1 opened 1; applied 1 2 put /ls/c/d/a file 5 1 1 base base base permanent 0 -; done 1 2 opened 2; done 1 3 refused 9 NotEmpty; applied 1 4 gone /ls/c/d/a; done 1 4 ok; applied 1 5 gone /ls/c/d; done 1 5 ok; done 1 6 refused 14 StaleInstance; done 1 7 opened 3; done 1 8 names acl",
+        "applied 1 1 put /ls/c/d dir 4 0 1 base base base permanent 0; done 1 1 opened 1; applied 1 2 put /ls/c/d/a file 5 1 1 base base base permanent 0 -; done 1 2 opened 2; done 1 3 refused 9 NotEmpty; applied 1 4 gone /ls/c/d/a; done 1 4 ok; applied 1 5 gone /ls/c/d; done 1 5 ok; done 1 6 refused 14 StaleInstance; done 1 7 opened 3; granted 1 1 /ls/c; done 1 8 names acl",
     ),
     (
         "acl_generation_and_poison",
@@ -281,6 +282,18 @@ fn shares_print(rt: &impl Abort, alloc: Global) -> Result<(), Fail> {
     all_print(rt, alloc, SHARES)
 }
 
+fn listings_print(rt: &impl Abort, alloc: Global) -> Result<(), Fail> {
+    all_print(rt, alloc, LISTINGS)
+}
+
+fn taken_back_print(rt: &impl Abort, alloc: Global) -> Result<(), Fail> {
+    all_print(rt, alloc, TAKEN_BACK)
+}
+
+fn instances_print(rt: &impl Abort, alloc: Global) -> Result<(), Fail> {
+    all_print(rt, alloc, INSTANCES)
+}
+
 fn leases_print(rt: &impl Abort, alloc: Global) -> Result<(), Fail> {
     all_print(rt, alloc, LEASES)
 }
@@ -347,6 +360,12 @@ fn first_tables(rt: &impl Abort, alloc: Global) -> Result<(), Fail> {
     shares_print(rt, alloc)
 }
 
+fn listing_tables(rt: &impl Abort, alloc: Global) -> Result<(), Fail> {
+    listings_print(rt, alloc)?;
+    taken_back_print(rt, alloc)?;
+    instances_print(rt, alloc)
+}
+
 fn middle_tables(rt: &impl Abort, alloc: Global) -> Result<(), Fail> {
     leases_print(rt, alloc)?;
     room_print(rt, alloc)?;
@@ -370,6 +389,7 @@ fn last_tables(rt: &impl Abort, alloc: Global) -> Result<(), Fail> {
 #[test]
 fn scripts(rt: HostRuntime) -> Result<(), Fail> {
     first_tables(&rt, rt.alloc())?;
+    listing_tables(&rt, rt.alloc())?;
     middle_tables(&rt, rt.alloc())?;
     last_tables(&rt, rt.alloc())
 }

@@ -1,11 +1,12 @@
 //! What a viewer answers.
+use cache_core::Shared;
 use node_core::View;
 
 /// What a viewer answers for a name.
 #[derive(Drop)]
 pub enum Hit {
-    /// The entry is this view; its content is shared with the cache.
-    View(View),
+    /// The entry is this view, which is shared with the cache.
+    View(Shared<View>),
     /// The entry is the absence of a node.
     Absent,
     /// No entry may be served.

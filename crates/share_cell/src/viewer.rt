@@ -7,6 +7,7 @@ ghost use Rattle.share_cell.specs.Hits.{Hits};
 use crate::hit::Hit;
 use crate::rule::{Known, Published, Sees};
 use crate::side::Side;
+use cache_core::Shared;
 use core::mem::replace_with;
 use lease_core::Clock;
 use left_right::reader::Reader;
@@ -112,7 +113,7 @@ impl Viewer {
                 let hit = match side.cache.look(name, now) {
                     None => Ok(Hit::Miss),
                     Some(None) => Ok(Hit::Absent),
-                    Some(Some(found)) => copied(found),
+                    Some(Some(found)) => shared(found),
                 };
                 let reader = reading.leave();
                 (Viewer { reader, front }, hit)
@@ -144,7 +145,7 @@ impl Viewer {
     }
 }
 
-fn copied(found: &View) -> Result<Hit, AllocError>
+fn shared(found: &Shared<View>) -> Result<Hit, AllocError>
     ensures { IfOk result (λ h. h ≡ Hit.View found.now) }
 {
     Ok(Hit::View(found.clone()?))

@@ -9,7 +9,7 @@ use Rattle.std.proofs.lemmas.Slice.Eq.{bytes_eq-Decides}
 use Rattle.names_cell.specs.Text.{parent_of, cell_of}
 use Rattle.node_core.specs.declared.refusals.Fault.{Fault}
 use Rattle.node_core.specs.declared.refusals.Fault.TheVariants as faults
-use Rattle.node_core.specs.declared.views.View.{View}
+use Rattle.node_core.specs.declared.nodes.Node.{Node}
 use Rattle.node_core.specs.declared.views.Mod.TheVariants.{Put, Gone}
 use Rattle.node_core.specs.declared.kinds.Kind.{Kind}
 use Rattle.node_core.specs.declared.kinds.Kind.TheVariants.{File, Directory}
@@ -17,11 +17,11 @@ use Rattle.node_core.specs.declared.kinds.Life.{Life}
 use Rattle.node_core.specs.declared.kinds.Right.{Right}
 use Rattle.node_core.specs.declared.kinds.Right.TheVariants as rights
 use Rattle.node_core.specs.Nodes.{Nodes, get_node, has_children}
-use Rattle.rows_cell.specs.declared.tables.Node.{Node}
+use Rattle.rows_cell.specs.declared.tables.StoredNode.{StoredNode}
 use Rattle.rows_cell.specs.declared.tables.Rows.{Rows}
 use Rattle.rows_cell.specs.Rows.{stored_node}
 use Rattle.rows_cell.specs.Sound.{sound, is_number, is_directory, numbers_fit, content_fits, parent_fits}
-use Rattle.rows_cell.proofs.RowViews.{views_get}
+use Rattle.rows_cell.proofs.RowNodes.{nodes_get}
 use Rattle.rows_cell.proofs.SoundChanges.{PutFits, found_fits, sound_numbers}
 use Rattle.rows_cell.proofs.SoundParts.{five_parts}
 use Rattle.tags_cell.specs.Modes.{has_right}
@@ -49,7 +49,7 @@ use Rattle.cell_state.specs.Lookups.{is_live, may, missing_right, is_of_cell, no
 use Rattle.cell_parts.specs.Calls.{content_fault, node_fault, delay_fault, create_fault, write_fault, needing}
 use Rattle.cell_parts.specs.EphemeralNames.{is_ephemeral}
 use Rattle.cell_core.specs.Ephemerals.{is_idle_node, is_still_idle}
-use Rattle.cell_apply.specs.Effect.{answered, refused, changes_to, is_last, new_view, acls_of, create_made, create_numbered, create_permitted, create_in, create_under, create_new, create_over, create_effect, create_under_sequencer, open_effect, generation_fits, with_content, with_acls, put_at, deleted, delete_at, change_at, close_under, effect_on, handle_effect, effect}
+use Rattle.cell_apply.specs.Effect.{answered, refused, changes_to, is_last, new_node, acls_of, create_made, create_numbered, create_permitted, create_in, create_under, create_new, create_over, create_effect, create_under_sequencer, open_effect, generation_fits, with_content, with_acls, put_at, deleted, delete_at, change_at, close_under, effect_on, handle_effect, effect}
 use Rattle.sweep_laws.specs.Kept.{IsKept, IsOwnCall}
 use Rattle.sweep_laws.proofs.LockEffects.{IsOwnHandle, own_handle_read, acquire_fits, try_fits, release_fits, close_fits}
 use Rattle.sweep_laws.specs.SweepCase.{gone_change}
@@ -57,16 +57,16 @@ use Rattle.sweep_laws.proofs.LockingFits.{GoesFit, ApplicationFits, EffectFits}
 
 -- ---- the node that stands at a name
 
-no_node : (o : Option Node) → option_map (λ (node : Node). node.view) o ≡ None → o ≡ None
+no_node : (o : Option StoredNode) → option_map (λ (node : StoredNode). node.node) o ≡ None → o ≡ None
 no_node None h = refl
 no_node (Some w) h = cc
 
-some_node : (o : Option Node) (view : View) → option_map (λ (node : Node). node.view) o ≡ Some view → (w : Node) × (o ≡ Some w) × (w.view ≡ view)
+some_node : (o : Option StoredNode) (view : Node) → option_map (λ (node : StoredNode). node.node) o ≡ Some view → (w : StoredNode) × (o ≡ Some w) × (w.node ≡ view)
 some_node None view h = cc
-some_node (Some w) view h = let same : w.view ≡ view = cc in (w, refl, same)
+some_node (Some w) view h = let same : w.node ≡ view = cc in (w, refl, same)
 
 -- the parts of a node that fits
-record NodeParts (cell : List ℕ) (rows : Rows) (name : List ℕ) (view : View) : Type 0 where
+record NodeParts (cell : List ℕ) (rows : Rows) (name : List ℕ) (view : Node) : Type 0 where
   named : bytes_eq (cell_of name) cell ≡ true
   parent : parent_fits rows.nodes name ≡ true
   first : nat_le 1 view.instance ≡ true
@@ -79,10 +79,10 @@ four_parts : (a b c d : Bool) → (a && b && c && d) ≡ true → (a ≡ true) �
 four_parts true true true true h = (refl, refl, refl, refl)
 four_parts _ _ _ _ h = cc
 
-parts_of_node : (cell : List ℕ) (rows : Rows) (name : List ℕ) (node : Node) → sound cell rows ≡ true → stored_node rows.nodes name ≡ Some node → NodeParts cell rows name node.view
+parts_of_node : (cell : List ℕ) (rows : Rows) (name : List ℕ) (node : StoredNode) → sound cell rows ≡ true → stored_node rows.nodes name ≡ Some node → NodeParts cell rows name node.node
 parts_of_node cell rows name node h found =
-    let t = four_parts (bytes_eq (cell_of name) cell) (parent_fits rows.nodes name) (numbers_fit rows.next_instance node) (content_fits node.view.kind node.view) (found_fits cell rows name node h found) in
-    let n = five_parts (nat_le 1 node.view.instance) (nat_lt node.view.instance rows.next_instance) (is_number node.view.content_generation) (is_number node.view.acl_generation) (is_number node.lock_generation) t.2 in
+    let t = four_parts (bytes_eq (cell_of name) cell) (parent_fits rows.nodes name) (numbers_fit rows.next_instance node) (content_fits node.node.kind node.node) (found_fits cell rows name node h found) in
+    let n = five_parts (nat_le 1 node.node.instance) (nat_lt node.node.instance rows.next_instance) (is_number node.node.content_generation) (is_number node.node.acl_generation) (is_number node.lock_generation) t.2 in
     record { named = t.0; parent = t.1; first = n.0; given = n.1; written = n.2; acl = n.3; content = t.3 }
 
 -- ---- what an effect puts or takes away
@@ -122,7 +122,7 @@ not_less n m same = omega arith
 directory_kind : (kind : Kind) → kind ≡ Directory → is_directory kind ≡ true
 directory_kind kind same = rw same refl
 
-no_directory : (o : Option Node) → o ≡ None → option_map_or (λ (node : Node). is_directory node.view.kind) o false ≡ true → ⊥
+no_directory : (o : Option StoredNode) → o ≡ None → option_map_or (λ (node : StoredNode). is_directory node.node.kind) o false ≡ true → ⊥
 no_directory None h k = cc
 no_directory (Some w) h k = cc
 
@@ -130,20 +130,20 @@ within : (content : List ℕ) → content_fault content ≡ None → nat_le (len
 within content h = grind (arith, nat_tests)
 
 -- what a new node holds fits
-new_content : (node : NewNode) (instance : ℕ) (life : Life) (acls : AclNames) → node_fault node ≡ None → content_fits (new_view instance node life acls).kind (new_view instance node life acls) ≡ true
+new_content : (node : NewNode) (instance : ℕ) (life : Life) (acls : AclNames) → node_fault node ≡ None → content_fits (new_node instance node life acls).kind (new_node instance node life acls) ≡ true
 new_content (made.File content) instance life acls h = within content h
 new_content made.Directory instance life acls h = refl
 
-new_number : (node : NewNode) (instance : ℕ) (life : Life) (acls : AclNames) → is_number (new_view instance node life acls).content_generation ≡ true
+new_number : (node : NewNode) (instance : ℕ) (life : Life) (acls : AclNames) → is_number (new_node instance node life acls).content_generation ≡ true
 new_number (made.File content) instance life acls = refl
 new_number made.Directory instance life acls = refl
 
 -- another content of a file fits
-written_content : (kind : Kind) (view : View) (content : List ℕ) → write_fault kind content ≡ None → content_fits kind (with_content view content) ≡ true
+written_content : (kind : Kind) (view : Node) (content : List ℕ) → write_fault kind content ≡ None → content_fits kind (with_content view content) ≡ true
 written_content File view content h = within content h
 written_content Directory view content h = cc
 
-acl_content : (kind : Kind) (view : View) (acls : AclNames) → content_fits kind view ≡ true → content_fits kind (with_acls view acls) ≡ true
+acl_content : (kind : Kind) (view : Node) (acls : AclNames) → content_fits kind view ≡ true → content_fits kind (with_acls view acls) ≡ true
 acl_content File view acls h = h
 acl_content Directory view acls h = h
 
@@ -159,22 +159,22 @@ no_fault : (o p : Option CallResult) → option_map_or (λ answer. Some answer) 
 no_fault None p h = refl
 no_fault (Some answer) p h = cc
 
-node_here : (view found : View) (instance : ℕ) → cond (view.instance == instance) (Some view) None ≡ Some found → (view ≡ found) × (found.instance ≡ instance)
+node_here : (view found : Node) (instance : ℕ) → cond (view.instance == instance) (Some view) None ≡ Some found → (view ≡ found) × (found.instance ≡ instance)
 node_here view found instance h =
     (elim (view.instance == instance) as (λ b. (view.instance == instance) ≡ b → cond b (Some view) None ≡ Some found → (view ≡ found) × (found.instance ≡ instance)) [
       | true ↦ (λ c e.
           let same : view ≡ found = cc in
-          (same, ap (λ (v : View). v.instance) (sym same) ∙ eqb-true view.instance instance c))
+          (same, ap (λ (v : Node). v.instance) (sym same) ∙ eqb-true view.instance instance c))
       | false ↦ (λ c e. absurd cc)
     ]) refl h
 
 module _ (cell : List ℕ) (rows : Rows) (s : MasterState) (k : IsKept cell rows s) where
-  stored : (name : List ℕ) (o : Option View) → get_node s.nodes name ≡ o → option_map (λ (node : Node). node.view) (stored_node rows.nodes name) ≡ o
-  stored name o h = sym (views_get rows.nodes name) ∙ (sym (ap (λ (n : Nodes). get_node n name) k.nodes) ∙ h)
+  stored : (name : List ℕ) (o : Option Node) → get_node s.nodes name ≡ o → option_map (λ (node : StoredNode). node.node) (stored_node rows.nodes name) ≡ o
+  stored name o h = sym (nodes_get rows.nodes name) ∙ (sym (ap (λ (n : Nodes). get_node n name) k.nodes) ∙ h)
 
   -- ---- a node that goes, and its lock with it
 
-  goes_fits : (name : List ℕ) (instance : ℕ) (w : Node) → stored_node rows.nodes name ≡ Some w → w.view.instance ≡ instance → has_to_stay s name ≡ false → GoesFit rows s (record { change = Gone name; next_instance = s.next_instance }) instance (lock_at s.locks instance).waiters
+  goes_fits : (name : List ℕ) (instance : ℕ) (w : StoredNode) → stored_node rows.nodes name ≡ Some w → w.node.instance ≡ instance → has_to_stay s name ≡ false → GoesFit rows s (record { change = Gone name; next_instance = s.next_instance }) instance (lock_at s.locks instance).waiters
   goes_fits name instance w found present free =
       let t = neither (has_children s.nodes name) (is_none (parent_of name)) free in
       let next = k.next_instance in
@@ -195,14 +195,14 @@ module _ (cell : List ℕ) (rows : Rows) (s : MasterState) (k : IsKept cell rows
       }
 
   -- an ephemeral node that nobody holds open
-  still_fits : (idle : Idle) (o : Option View) → get_node s.nodes idle.name ≡ o → option_map_or (λ view. view.instance == idle.instance && is_idle_node s idle.name view) o false ≡ true → GoesFit rows s (gone_change s idle) idle.instance (lock_at s.locks idle.instance).waiters
+  still_fits : (idle : Idle) (o : Option Node) → get_node s.nodes idle.name ≡ o → option_map_or (λ view. view.instance == idle.instance && is_idle_node s idle.name view) o false ≡ true → GoesFit rows s (gone_change s idle) idle.instance (lock_at s.locks idle.instance).waiters
   still_fits idle None found h = absurd cc
   still_fits idle (Some view) found h =
       let t = and_parts (view.instance == idle.instance) (is_idle_node s idle.name view) h in
       let stays : Bool = has_to_stay s idle.name in
       let goes = (and_parts (is_ephemeral view.life && not (has_open s view.instance)) (not stays) t.1).1 in
       let w = some_node (stored_node rows.nodes idle.name) view (stored idle.name (Some view) found) in
-      goes_fits idle.name idle.instance w.0 w.1 (ap (λ (v : View). v.instance) w.2 ∙ eqb-true view.instance idle.instance t.0) (not-true stays goes)
+      goes_fits idle.name idle.instance w.0 w.1 (ap (λ (v : Node). v.instance) w.2 ∙ eqb-true view.instance idle.instance t.0) (not-true stays goes)
 
   pub tidied_fits : (idle : Idle) → is_still_idle s idle ≡ true → GoesFit rows s (gone_change s idle) idle.instance (lock_at s.locks idle.instance).waiters
   tidied_fits idle still = still_fits idle (get_node s.nodes idle.name) refl still
@@ -222,15 +222,15 @@ module _ (cell : List ℕ) (rows : Rows) (s : MasterState) (k : IsKept cell rows
 
   -- ---- a new node under a directory
 
-  node_put_fits : (name parent : List ℕ) (node : NewNode) (life : Life) (acls : AclNames) (w : Node) → is_of_cell (name_space s) name ≡ true → node_fault node ≡ None → stored_node rows.nodes name ≡ None → parent_of name ≡ Some parent → stored_node rows.nodes parent ≡ Some w → w.view.kind ≡ Directory → is_last s.next_instance ≡ false → PutFits rows name (new_view s.next_instance node life acls) (s.next_instance + 1)
+  node_put_fits : (name parent : List ℕ) (node : NewNode) (life : Life) (acls : AclNames) (w : StoredNode) → is_of_cell (name_space s) name ≡ true → node_fault node ≡ None → stored_node rows.nodes name ≡ None → parent_of name ≡ Some parent → stored_node rows.nodes parent ≡ Some w → w.node.kind ≡ Directory → is_last s.next_instance ≡ false → PutFits rows name (new_node s.next_instance node life acls) (s.next_instance + 1)
   node_put_fits name parent node life acls w named short absent p found kind room =
       let parts = parts_of_node cell rows parent w k.sound_rows found in
       record {
         least = rises rows.next_instance s.next_instance k.next_instance;
         most = next_number s.next_instance room;
         cell = of_cell name named;
-        parent = rw (p, found) (directory_kind w.view.kind kind);
-        first = above_first w.view.instance rows.next_instance s.next_instance k.next_instance parts.given;
+        parent = rw (p, found) (directory_kind w.node.kind kind);
+        first = above_first w.node.instance rows.next_instance s.next_instance k.next_instance parts.given;
         given = just_given s.next_instance;
         content_number = new_number node s.next_instance life acls;
         acl_number = refl;
@@ -239,40 +239,40 @@ module _ (cell : List ℕ) (rows : Rows) (s : MasterState) (k : IsKept cell rows
         own = rw absent (not_given rows.next_instance s.next_instance k.next_instance);
       }
 
-  made_fits : (opening : Open) (view : View) (r : Result Handle Fault) → PutFits rows opening.name view (s.next_instance + 1) → Fits (create_made (name_space s) opening view r)
+  made_fits : (opening : Open) (view : Node) (r : Result Handle Fault) → PutFits rows opening.name view (s.next_instance + 1) → Fits (create_made (name_space s) opening view r)
   made_fits opening view (Err fault) h = tt
   made_fits opening view (Ok handle) h = record { name = opening.name; view = view; is = refl; fits = h }
 
-  permitted_fits : (number : ℕ) (opening : Open) (view : View) → (is_last s.next_instance ≡ false → PutFits rows opening.name view (s.next_instance + 1)) → Fits (create_permitted (name_space s) (caller s client) number opening view)
+  permitted_fits : (number : ℕ) (opening : Open) (view : Node) → (is_last s.next_instance ≡ false → PutFits rows opening.name view (s.next_instance + 1)) → Fits (create_permitted (name_space s) (caller s client) number opening view)
   permitted_fits number opening view h =
       unless_fits rows s client (missing_right (name_space s) (caller s client) opening.mode view) (λ right. refused (faults.Denied right)) (create_numbered (name_space s) (caller s client) number opening view) (λ right. tt)
       (λ none. else_fits rows s client (is_last s.next_instance) (refused faults.Exhausted) (create_made (name_space s) opening view (new_handle (name_space s) (caller s client) number opening view)) tt
       (λ room. made_fits opening view (new_handle (name_space s) (caller s client) number opening view) (h room)))
 
-  in_fits : (number : ℕ) (opening : Open) (create : Create) (parent : List ℕ) (w : Node) (kind : Kind) → is_of_cell (name_space s) opening.name ≡ true → node_fault create.node ≡ None → stored_node rows.nodes opening.name ≡ None → parent_of opening.name ≡ Some parent → stored_node rows.nodes parent ≡ Some w → w.view.kind ≡ kind → Fits (create_in (name_space s) (caller s client) number opening create w.view kind)
+  in_fits : (number : ℕ) (opening : Open) (create : Create) (parent : List ℕ) (w : StoredNode) (kind : Kind) → is_of_cell (name_space s) opening.name ≡ true → node_fault create.node ≡ None → stored_node rows.nodes opening.name ≡ None → parent_of opening.name ≡ Some parent → stored_node rows.nodes parent ≡ Some w → w.node.kind ≡ kind → Fits (create_in (name_space s) (caller s client) number opening create w.node kind)
   in_fits number opening create parent w File named short absent p found kind = tt
   in_fits number opening create parent w Directory named short absent p found kind =
-      let view : View = new_view s.next_instance create.node create.life (acls_of w.view create.acls) in
-      then_fits rows s client (may (name_space s) (caller s client) w.view rights.Write) (create_permitted (name_space s) (caller s client) number opening view) (refused (faults.Denied rights.Write))
-      (λ allowed. permitted_fits number opening view (λ room. node_put_fits opening.name parent create.node create.life (acls_of w.view create.acls) w named short absent p found kind room)) tt
+      let view : Node = new_node s.next_instance create.node create.life (acls_of w.node create.acls) in
+      then_fits rows s client (may (name_space s) (caller s client) w.node rights.Write) (create_permitted (name_space s) (caller s client) number opening view) (refused (faults.Denied rights.Write))
+      (λ allowed. permitted_fits number opening view (λ room. node_put_fits opening.name parent create.node create.life (acls_of w.node create.acls) w named short absent p found kind room)) tt
 
-  under_fits : (number : ℕ) (opening : Open) (create : Create) (parent : List ℕ) (o : Option View) → is_of_cell (name_space s) opening.name ≡ true → node_fault create.node ≡ None → stored_node rows.nodes opening.name ≡ None → parent_of opening.name ≡ Some parent → get_node s.nodes parent ≡ o → Fits (create_under (name_space s) (caller s client) number opening create o)
+  under_fits : (number : ℕ) (opening : Open) (create : Create) (parent : List ℕ) (o : Option Node) → is_of_cell (name_space s) opening.name ≡ true → node_fault create.node ≡ None → stored_node rows.nodes opening.name ≡ None → parent_of opening.name ≡ Some parent → get_node s.nodes parent ≡ o → Fits (create_under (name_space s) (caller s client) number opening create o)
   under_fits number opening create parent None named short absent p found = tt
   under_fits number opening create parent (Some above) named short absent p found =
       let t = some_node (stored_node rows.nodes parent) above (stored cell rows s k parent (Some above) found) in
-      let P : View → Type 0 = λ view. Fits (create_in (name_space s) (caller s client) number opening create view view.kind) in
-      subst P t.2 (in_fits number opening create parent t.0 t.0.view.kind named short absent p t.1 refl)
+      let P : Node → Type 0 = λ view. Fits (create_in (name_space s) (caller s client) number opening create view view.kind) in
+      subst P t.2 (in_fits number opening create parent t.0 t.0.node.kind named short absent p t.1 refl)
 
   new_fits : (number : ℕ) (opening : Open) (create : Create) (o : Option (List ℕ)) → is_of_cell (name_space s) opening.name ≡ true → node_fault create.node ≡ None → stored_node rows.nodes opening.name ≡ None → parent_of opening.name ≡ o → Fits (option_map_or (λ parent. create_under (name_space s) (caller s client) number opening create (get_node s.nodes parent)) o (refused faults.NotFound))
   new_fits number opening create None named short absent p = tt
   new_fits number opening create (Some parent) named short absent p =
       under_fits number opening create parent (get_node s.nodes parent) named short absent p refl
 
-  over_fits : (number : ℕ) (opening : Open) (disposition : Disposition) (view : View) → Fits (create_over (name_space s) (caller s client) number opening disposition view)
+  over_fits : (number : ℕ) (opening : Open) (disposition : Disposition) (view : Node) → Fits (create_over (name_space s) (caller s client) number opening disposition view)
   over_fits number opening Must view = tt
   over_fits number opening May view = tt
 
-  create_fits : (number : ℕ) (opening : Open) (create : Create) (o : Option View) → is_of_cell (name_space s) opening.name ≡ true → node_fault create.node ≡ None → get_node s.nodes opening.name ≡ o → Fits (option_map_or (λ view. create_over (name_space s) (caller s client) number opening create.disposition view) o (create_new (name_space s) (caller s client) number opening create))
+  create_fits : (number : ℕ) (opening : Open) (create : Create) (o : Option Node) → is_of_cell (name_space s) opening.name ≡ true → node_fault create.node ≡ None → get_node s.nodes opening.name ≡ o → Fits (option_map_or (λ view. create_over (name_space s) (caller s client) number opening create.disposition view) o (create_new (name_space s) (caller s client) number opening create))
   create_fits number opening create None named short found =
       let absent = no_node (stored_node rows.nodes opening.name) (stored cell rows s k opening.name None found) in
       new_fits number opening create (parent_of opening.name) named short absent refl
@@ -292,11 +292,11 @@ module _ (cell : List ℕ) (rows : Rows) (s : MasterState) (k : IsKept cell rows
 
   -- ---- a node that stands
 
-  again_fits : (name : List ℕ) (w : Node) (view : View) → stored_node rows.nodes name ≡ Some w → view.instance ≡ w.view.instance → view.kind ≡ w.view.kind → is_number view.content_generation ≡ true → is_number view.acl_generation ≡ true → content_fits view.kind view ≡ true → PutFits rows name view s.next_instance
+  again_fits : (name : List ℕ) (w : StoredNode) (view : Node) → stored_node rows.nodes name ≡ Some w → view.instance ≡ w.node.instance → view.kind ≡ w.node.kind → is_number view.content_generation ≡ true → is_number view.acl_generation ≡ true → content_fits view.kind view ≡ true → PutFits rows name view s.next_instance
   again_fits name w view found instance kind written acl content =
       let parts = parts_of_node cell rows name w k.sound_rows found in
       let next = k.next_instance in
-      let same : (w.view.instance == view.instance) ≡ true = eq-eqb w.view.instance view.instance (sym instance) in
+      let same : (w.node.instance == view.instance) ≡ true = eq-eqb w.node.instance view.instance (sym instance) in
       record {
         least = not_less rows.next_instance s.next_instance k.next_instance;
         most = rw next (sound_numbers cell rows k.sound_rows).2;
@@ -307,37 +307,37 @@ module _ (cell : List ℕ) (rows : Rows) (s : MasterState) (k : IsKept cell rows
         content_number = written;
         acl_number = acl;
         content = content;
-        kind = λ d. let there : is_directory w.view.kind ≡ true = rw found at d in rw kind there;
+        kind = λ d. let there : is_directory w.node.kind ≡ true = rw found at d in rw kind there;
         own = rw found same;
       }
 
-  put_fits : (handle : Handle) (present : ℕ) (wanted : Option ℕ) (view : View) → (is_last present ≡ false → PutFits rows handle.name view s.next_instance) → Fits (put_at (name_space s) handle present wanted view)
+  put_fits : (handle : Handle) (present : ℕ) (wanted : Option ℕ) (view : Node) → (is_last present ≡ false → PutFits rows handle.name view s.next_instance) → Fits (put_at (name_space s) handle present wanted view)
   put_fits handle present wanted view h =
       let written : Effect = changes_to (Put handle.name view) s.next_instance results.Done in
       then_fits rows s client (generation_fits wanted present) (cond (is_last present) (refused faults.Exhausted) written) (refused (faults.WrongGeneration present))
       (λ fits. else_fits rows s client (is_last present) (refused faults.Exhausted) written tt (λ room. record { name = handle.name; view = view; is = refl; fits = h room })) tt
 
-  set_fits : (handle : Handle) (content : List ℕ) (generation : Option ℕ) (w : Node) → stored_node rows.nodes handle.name ≡ Some w → write_fault w.view.kind content ≡ None → Fits (put_at (name_space s) handle w.view.content_generation generation (with_content w.view content))
+  set_fits : (handle : Handle) (content : List ℕ) (generation : Option ℕ) (w : StoredNode) → stored_node rows.nodes handle.name ≡ Some w → write_fault w.node.kind content ≡ None → Fits (put_at (name_space s) handle w.node.content_generation generation (with_content w.node content))
   set_fits handle content generation w found h =
       let parts = parts_of_node cell rows handle.name w k.sound_rows found in
-      put_fits handle w.view.content_generation generation (with_content w.view content)
-      (λ room. again_fits handle.name w (with_content w.view content) found refl refl (next_number w.view.content_generation room) parts.acl (written_content w.view.kind w.view content h))
+      put_fits handle w.node.content_generation generation (with_content w.node content)
+      (λ room. again_fits handle.name w (with_content w.node content) found refl refl (next_number w.node.content_generation room) parts.acl (written_content w.node.kind w.node content h))
 
-  acl_fits : (handle : Handle) (acls : AclNames) (generation : Option ℕ) (w : Node) → stored_node rows.nodes handle.name ≡ Some w → Fits (put_at (name_space s) handle w.view.acl_generation generation (with_acls w.view acls))
+  acl_fits : (handle : Handle) (acls : AclNames) (generation : Option ℕ) (w : StoredNode) → stored_node rows.nodes handle.name ≡ Some w → Fits (put_at (name_space s) handle w.node.acl_generation generation (with_acls w.node acls))
   acl_fits handle acls generation w found =
       let parts = parts_of_node cell rows handle.name w k.sound_rows found in
-      put_fits handle w.view.acl_generation generation (with_acls w.view acls)
-      (λ room. again_fits handle.name w (with_acls w.view acls) found refl refl parts.written (next_number w.view.acl_generation room) (acl_content w.view.kind w.view acls parts.content))
+      put_fits handle w.node.acl_generation generation (with_acls w.node acls)
+      (λ room. again_fits handle.name w (with_acls w.node acls) found refl refl parts.written (next_number w.node.acl_generation room) (acl_content w.node.kind w.node acls parts.content))
 
   -- its lock goes with it
-  delete_fits : (handle : Handle) (w : Node) → stored_node rows.nodes handle.name ≡ Some w → w.view.instance ≡ handle.instance → Fits (delete_at (name_space s) handle)
+  delete_fits : (handle : Handle) (w : StoredNode) → stored_node rows.nodes handle.name ≡ Some w → w.node.instance ≡ handle.instance → Fits (delete_at (name_space s) handle)
   delete_fits handle w found present =
       else_fits rows s client (has_children s.nodes handle.name || is_none (parent_of handle.name)) (refused faults.NotEmpty) (deleted (name_space s) handle) tt
       (λ free. goes_fits cell rows s k handle.name handle.instance w found present free)
 
-  change_fits : (handle : Handle) (call : Call) (w : Node) → IsOwnHandle client handle → stored_node rows.nodes handle.name ≡ Some w → w.view.instance ≡ handle.instance → answer_on_node (name_space s) handle call w.view ≡ None → Fits (change_at (name_space s) s.clock handle call w.view)
+  change_fits : (handle : Handle) (call : Call) (w : StoredNode) → IsOwnHandle client handle → stored_node rows.nodes handle.name ≡ Some w → w.node.instance ≡ handle.instance → answer_on_node (name_space s) handle call w.node ≡ None → Fits (change_at (name_space s) s.clock handle call w.node)
   change_fits handle (calls.Set bytes content generation) w shown found present h =
-      set_fits handle content generation w found (needed handle rights.Write (write_fault w.view.kind content) h)
+      set_fits handle content generation w found (needed handle rights.Write (write_fault w.node.kind content) h)
   change_fits handle (calls.SetAcl bytes acls generation) w shown found present h = acl_fits handle acls generation w found
   change_fits handle (calls.Delete bytes) w shown found present h = delete_fits handle w found present
   change_fits handle (calls.Acquire bytes mode) w shown found present h = acquire_fits cell rows s k client live numbered handle shown w found present mode
@@ -353,16 +353,16 @@ module _ (cell : List ℕ) (rows : Rows) (s : MasterState) (k : IsKept cell rows
   change_fits handle (calls.CheckSequencer bytes) w shown found present h = tt
 
   -- what would be answered at once is answered, and else the change is made
-  view_fits : (handle : Handle) (call : Call) (view : View) (f : Option Fault) → IsOwnHandle client handle → get_node s.nodes handle.name ≡ Some view → view.instance ≡ handle.instance → Fits (option_map_or (λ answer. answered answer) (answer_under (name_space s) handle call view f) (change_at (name_space s) s.clock handle call view))
+  view_fits : (handle : Handle) (call : Call) (view : Node) (f : Option Fault) → IsOwnHandle client handle → get_node s.nodes handle.name ≡ Some view → view.instance ≡ handle.instance → Fits (option_map_or (λ answer. answered answer) (answer_under (name_space s) handle call view f) (change_at (name_space s) s.clock handle call view))
   view_fits handle call view (Some fault) shown found present = tt
   view_fits handle call view None shown found present =
       let t = some_node (stored_node rows.nodes handle.name) view (stored cell rows s k handle.name (Some view) found) in
-      let P : View → Type 0 = λ v. Fits (option_map_or (λ answer. answered answer) (answer_on_node (name_space s) handle call v) (change_at (name_space s) s.clock handle call v)) in
+      let P : Node → Type 0 = λ v. Fits (option_map_or (λ answer. answered answer) (answer_on_node (name_space s) handle call v) (change_at (name_space s) s.clock handle call v)) in
       subst P t.2
-      (unless_fits rows s client (answer_on_node (name_space s) handle call t.0.view) (λ answer. answered answer) (change_at (name_space s) s.clock handle call t.0.view) (λ answer. tt)
-      (λ none. change_fits handle call t.0 shown t.1 (ap (λ (v : View). v.instance) t.2 ∙ present) none))
+      (unless_fits rows s client (answer_on_node (name_space s) handle call t.0.node) (λ answer. answered answer) (change_at (name_space s) s.clock handle call t.0.node) (λ answer. tt)
+      (λ none. change_fits handle call t.0 shown t.1 (ap (λ (v : Node). v.instance) t.2 ∙ present) none))
 
-  present_fits : (handle : Handle) (call : Call) (f : Option Fault) (o p : Option View) → IsOwnHandle client handle → get_node s.nodes handle.name ≡ p → option_map_or (λ (view : View). cond (view.instance == handle.instance) (Some view) None) p None ≡ o
+  present_fits : (handle : Handle) (call : Call) (f : Option Fault) (o p : Option Node) → IsOwnHandle client handle → get_node s.nodes handle.name ≡ p → option_map_or (λ (view : Node). cond (view.instance == handle.instance) (Some view) None) p None ≡ o
       → Fits (option_map_or (λ answer. answered answer) (option_map_or (λ view. answer_under (name_space s) handle call view f) o (Some (results.Refused faults.StaleInstance))) (option_map_or (λ view. change_at (name_space s) s.clock handle call view) o (refused faults.StaleInstance)))
   present_fits handle call f None p shown found is = tt
   present_fits handle call f (Some view) None shown found is = cc
@@ -371,13 +371,13 @@ module _ (cell : List ℕ) (rows : Rows) (s : MasterState) (k : IsKept cell rows
       view_fits handle call view f shown (found ∙ ap (λ v. Some v) t.0) t.1
 
   -- a handle that is closed leaves the lock of its node, where that is there
-  close_here : (handle : Handle) (o p : Option View) → IsOwnHandle client handle → get_node s.nodes handle.name ≡ p → option_map_or (λ (view : View). cond (view.instance == handle.instance) (Some view) None) p None ≡ o → ApplicationFits rows s client None (close_under (name_space s) handle o)
+  close_here : (handle : Handle) (o p : Option Node) → IsOwnHandle client handle → get_node s.nodes handle.name ≡ p → option_map_or (λ (view : Node). cond (view.instance == handle.instance) (Some view) None) p None ≡ o → ApplicationFits rows s client None (close_under (name_space s) handle o)
   close_here handle None p shown found is = tt
   close_here handle (Some view) None shown found is = cc
   close_here handle (Some view) (Some there) shown found is =
       let t = node_here there view handle.instance is in
       let u = some_node (stored_node rows.nodes handle.name) view (stored cell rows s k handle.name (Some view) (found ∙ ap (λ v. Some v) t.0)) in
-      close_fits cell rows s k client live numbered handle shown u.0 u.1 (ap (λ (v : View). v.instance) u.2 ∙ t.1)
+      close_fits cell rows s k client live numbered handle shown u.0 u.1 (ap (λ (v : Node). v.instance) u.2 ∙ t.1)
 
   call_fits : (handle : Handle) (call : Call) (sequencer : Option (List ℕ)) → IsOwnHandle client handle → Fits (effect_on (name_space s) s.clock handle call sequencer)
   call_fits handle (calls.Close bytes) sequencer shown = close_here handle (node_of_handle (name_space s) handle) (get_node s.nodes handle.name) shown refl refl

@@ -12,19 +12,19 @@ use Rattle.std.proofs.lemmas.Bool.{and_parts, and_from}
 use Rattle.std.proofs.lemmas.List.Elements.{All-head, All-tail}
 use Rattle.std.proofs.lemmas.List.Sums.{sum_by_push}
 use Rattle.node_core.specs.declared.refusals.Fault.TheVariants as faults
-use Rattle.node_core.specs.declared.views.View.{View}
+use Rattle.node_core.specs.declared.nodes.Node.{Node}
 use Rattle.node_core.specs.declared.views.Mod.{Mod}
 use Rattle.node_core.specs.declared.views.Mod.TheVariants.{Put, Gone}
 use Rattle.node_core.specs.Nodes.{Nodes, changed}
 use Rattle.rows_cell.specs.declared.keys.LockKey.{LockKey}
 use Rattle.rows_cell.specs.declared.tables.LockRow.{LockRow}
-use Rattle.rows_cell.specs.declared.tables.Node.{Node}
+use Rattle.rows_cell.specs.declared.tables.StoredNode.{StoredNode}
 use Rattle.rows_cell.specs.declared.tables.Rows.{Rows}
 use Rattle.rows_cell.specs.declared.tables.Edit.TheVariants.{NextInstance}
 use Rattle.rows_cell.specs.Keys.{lock_order}
-use Rattle.rows_cell.specs.Rows.{StoredLocks, stored_node, views_of, put_view, without_locks_of, changed_rows}
+use Rattle.rows_cell.specs.Rows.{StoredLocks, stored_node, nodes_of, put_stored, without_locks_of, changed_rows}
 use Rattle.rows_cell.proofs.EntriesInOrder.{sorted_put, sorted_gone, sorted_kept}
-use Rattle.rows_cell.proofs.RowViews.{views_put, views_gone}
+use Rattle.rows_cell.proofs.RowNodes.{nodes_put, nodes_gone}
 use Rattle.rows_cell.proofs.SoundChanges.{PutFits, put_sound}
 use Rattle.rows_cell.proofs.SoundRemovals.{GoneFits, gone_sound}
 use Rattle.tags_cell.specs.Numbers.{is_client_number}
@@ -84,14 +84,14 @@ some_wait (y ∷ ys) x back h = cc
 
 -- ---- the map
 
-order_left : (locks : StoredLocks) (o : Option Node) → IsStrictlySortedBy lock_order (keys_of locks) → IsStrictlySortedBy lock_order (keys_of (without_locks_of o locks))
+order_left : (locks : StoredLocks) (o : Option StoredNode) → IsStrictlySortedBy lock_order (keys_of locks) → IsStrictlySortedBy lock_order (keys_of (without_locks_of o locks))
 order_left locks None h = h
-order_left locks (Some node) h = sorted_kept lock_order (λ (e : LockKey × LockRow). not (e.0.instance == node.view.instance)) locks h
+order_left locks (Some node) h = sorted_kept lock_order (λ (e : LockKey × LockRow). not (e.0.instance == node.node.instance)) locks h
 
 module _ (cell : List ℕ) (rows : Rows) (s : MasterState) (k : IsKept cell rows s) where
-  put_kept : (name : List ℕ) (view : View) (next : ℕ) → PutFits rows name view next → IsKept cell (changed_rows rows (edit_of (Put name view) ∷ NextInstance next ∷ [])) (mapped s (record { change = Put name view; next_instance = next }))
+  put_kept : (name : List ℕ) (view : Node) (next : ℕ) → PutFits rows name view next → IsKept cell (changed_rows rows (edit_of (Put name view) ∷ NextInstance next ∷ [])) (mapped s (record { change = Put name view; next_instance = next }))
   put_kept name view next fits =
-      let nodes : changed s.nodes (Put name view) ≡ views_of (put_view rows.nodes name view) = ap (λ (n : Nodes). insert_entry (slice_cmp nat_cmp) n name view) k.nodes ∙ sym (views_put rows.nodes name view) in
+      let nodes : changed s.nodes (Put name view) ≡ nodes_of (put_stored rows.nodes name view) = ap (λ (n : Nodes). insert_entry (slice_cmp nat_cmp) n name view) k.nodes ∙ sym (nodes_put rows.nodes name view) in
       record {
         name = k.name;
         secret = k.secret;
@@ -108,7 +108,7 @@ module _ (cell : List ℕ) (rows : Rows) (s : MasterState) (k : IsKept cell rows
           each = put_each cell rows s k name view next fits (changed s.nodes (Put name view)) nodes;
         };
         one_call = k.one_call;
-        names_in_order = sorted_put (slice_cmp nat_cmp) nat_list_cmp_total rows.nodes name (record { view = view; lock_generation = option_map_or (λ (node : Node). node.lock_generation) (stored_node rows.nodes name) 0 }) k.names_in_order;
+        names_in_order = sorted_put (slice_cmp nat_cmp) nat_list_cmp_total rows.nodes name (record { node = view; lock_generation = option_map_or (λ (node : StoredNode). node.lock_generation) (stored_node rows.nodes name) 0 }) k.names_in_order;
         sessions_in_order = k.sessions_in_order;
         locks_in_order = k.locks_in_order;
         recovery_is_empty = k.recovery_is_empty;
@@ -136,9 +136,9 @@ module _ (cell : List ℕ) (rows : Rows) (s : MasterState) (k : IsKept cell rows
       less_gone (sum_by (call_count q) s.gate.waiting) (sum_by (waits_count q) (values_of (remove_entry (is_at (nat_cmp instance)) s.locks))) (waits_count q (lock_at s.locks instance)) (sum_by (waits_count q) (values_of s.locks)) (unanswered (kept_of s.sessions q))
       (sum_gone q s.locks instance) (k.one_call q)
 
-  goes_kept : (name : List ℕ) (next instance : ℕ) (node : Node) → stored_node rows.nodes name ≡ Some node → node.view.instance ≡ instance → GoneFits rows name next → IsKept cell (changed_rows rows (edit_of (Gone name) ∷ NextInstance next ∷ [])) (without_lock (mapped s (record { change = Gone name; next_instance = next })) (Some instance))
+  goes_kept : (name : List ℕ) (next instance : ℕ) (node : StoredNode) → stored_node rows.nodes name ≡ Some node → node.node.instance ≡ instance → GoneFits rows name next → IsKept cell (changed_rows rows (edit_of (Gone name) ∷ NextInstance next ∷ [])) (without_lock (mapped s (record { change = Gone name; next_instance = next })) (Some instance))
   goes_kept name next instance node found of_node fits =
-      let nodes : changed s.nodes (Gone name) ≡ views_of (remove_entry (is_at (slice_cmp nat_cmp name)) rows.nodes) = ap (λ (n : Nodes). remove_entry (is_at (slice_cmp nat_cmp name)) n) k.nodes ∙ sym (views_gone rows.nodes name) in
+      let nodes : changed s.nodes (Gone name) ≡ nodes_of (remove_entry (is_at (slice_cmp nat_cmp name)) rows.nodes) = ap (λ (n : Nodes). remove_entry (is_at (slice_cmp nat_cmp name)) n) k.nodes ∙ sym (nodes_gone rows.nodes name) in
       record {
         name = k.name;
         secret = k.secret;
@@ -168,7 +168,7 @@ module _ (cell : List ℕ) (rows : Rows) (s : MasterState) (k : IsKept cell rows
         own = k.own;
       }
 
-  gone_kept : (change : Change) (instance : ℕ) (name : List ℕ) (node : Node) → change.change ≡ Gone name → stored_node rows.nodes name ≡ Some node → node.view.instance ≡ instance → GoneFits rows name change.next_instance
+  gone_kept : (change : Change) (instance : ℕ) (name : List ℕ) (node : StoredNode) → change.change ≡ Gone name → stored_node rows.nodes name ≡ Some node → node.node.instance ≡ instance → GoneFits rows name change.next_instance
       → IsKept cell (changed_rows rows (edit_of change.change ∷ NextInstance change.next_instance ∷ [])) (without_lock (mapped s change) (Some instance))
   gone_kept change instance name node is found of_node fits =
       let P : Mod → Type 0 = λ m. IsKept cell (changed_rows rows (edit_of m ∷ NextInstance change.next_instance ∷ [])) (without_lock (mapped s (record { change = m; next_instance = change.next_instance })) (Some instance)) in

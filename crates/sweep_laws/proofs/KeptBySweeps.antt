@@ -14,6 +14,7 @@ use Rattle.node_core.specs.declared.events.Event.{Event}
 use Rattle.node_core.specs.declared.refusals.Fault.{Fault}
 use Rattle.node_core.specs.declared.refusals.Fault.TheVariants as faults
 use Rattle.node_core.specs.Limits.{number_limit}
+use Rattle.node_core.specs.Nodes.{with_parent}
 use Rattle.rows_cell.specs.declared.tables.Session as stored
 use Rattle.rows_cell.specs.declared.tables.Rows.{Rows}
 use Rattle.rows_cell.specs.declared.tables.Edit.{Edit}
@@ -58,7 +59,7 @@ use Rattle.sweep_laws.specs.SweepCase.{IsNextApplied, SweepCase, rest, swept_by,
 use Rattle.sweep_laws.specs.SweepCase.SweepCase.{Quiet, Recovers, Expires, AnswersBeat, TurnedAway, StartedAgain, Started, Reopens, Tidies, Spared, Tidied, OfEnded, Ended, Applied, Deleted, Locked, Awaited, Left}
 use Rattle.sweep_laws.proofs.FitsByEffects.{effect_fits}
 use Rattle.sweep_laws.proofs.EachSession.{new_each, new_without}
-use Rattle.sweep_laws.proofs.KeptByTakes.{IsByBeats, IsIssued, HasNoRight, stays, same_call_kept, queued_kept, asked_kept, clock_kept}
+use Rattle.sweep_laws.proofs.KeptByTakes.{IsByBeats, IsIssued, HasNoRight, stays, same_call_kept, queued_kept, asking_kept, clock_kept}
 use Rattle.sweep_laws.proofs.KeptByApplications.{application_client, application_own, rest_kept, tidied_application, ended_application, applied_application, deleted_application, locked_application, awaited_application, left_by_application}
 use Rattle.sweep_laws.proofs.LockingFits.{EffectFits}
 use Rattle.sweep_laws.proofs.LocksKept.{locks_stay}
@@ -127,9 +128,10 @@ module _ (cell : List ℕ) (rows : Rows) where
       let serving : s.recovering ≡ false = not-true s.recovering (and_parts (not s.recovering) (nat_le (s.serving_from + spared_for) s.clock) t.0).0 in
       let room = has_room (nat_le pending_limit (length s.gate.waiting)) (nat_le number_limit s.gate.pushed) (s.gate.pushed + 1) t.1 in
       let task : Task = tasks.Tidies idle in
-      let w : Waiting Task = record { number = s.gate.pushed + 1; change = record { touched = idle.name ∷ []; body = task } } in
-      asked_kept cell rows (queued s (idle.name ∷ []) task) idle.name
-      (queued_kept cell rows s (idle.name ∷ []) task serving room.0 room.1 refl tt refl (one_started s.gate.waiting s.locks s.sessions w (λ q. refl) k.one_call) k)
+      let names = with_parent idle.name in
+      let w : Waiting Task = record { number = s.gate.pushed + 1; change = record { touched = names; body = task } } in
+      asking_kept cell rows (queued s names task) names
+      (queued_kept cell rows s names task serving room.0 room.1 refl tt refl (one_started s.gate.waiting s.locks s.sessions w (λ q. refl) k.one_call) k)
 
   -- its client was granted nothing, and waits for nothing
   begun_kept : (s : MasterState) (client : ℕ) (principal : List ℕ) (timeout : ℕ) → session_of s client ≡ None → is_number client ≡ true → IsKept cell rows s → IsKept cell (changed_rows rows (PutSession client (record { principal = principal; live = true }) ∷ [])) (record s { sessions = with_new s.sessions client (session_until principal true timeout) })

@@ -50,7 +50,8 @@ use Rattle.cell_state.specs.Lookups.{is_full, acknowledgement, stamped_reply, no
 use Rattle.cell_core.specs.Step.{queued, parked, recorded, with_right, granting, asking, asking_for, names_of, task_of, with_call, waits, take_step}
 use Rattle.cell_update.specs.Updates.{with_note}
 use Rattle.cell_parts.specs.Answered.{answered_by}
-use Rattle.cell_core.specs.Names.{name_changed, names_touched}
+use Rattle.cell_core.specs.declared.asking.Touched.{Touched}
+use Rattle.cell_core.specs.Names.{call_touched, names_touched}
 use Rattle.cell_core.specs.Cases.{IsBehind, IsNew, IsAdmitted, TakeCase, taken_by}
 use Rattle.cell_core.specs.Cases.TakeCase.{StartRefused, StartRecovering, StartFull, StartQueued, OldBeat, BeatRefused, BeatParked, OldEpoch, NoSession, Repeated, OlderCall, Outstanding, Recovering, Answered, Granted, Waits}
 use Rattle.cell_core.proofs.TakeCases.{taken_case, taken_unspent}
@@ -342,9 +343,10 @@ module _ (cell : List ℕ) (rows : Rows) where
         own = k.own;
       })
 
-  asking_kept : (s : MasterState) (o : Option (List ℕ)) → IsKept cell rows s → IsKept cell rows (asking_for s o)
-  asking_kept s None k = k
-  asking_kept s (Some name) k = asked_kept s name k
+  -- for one name after the other
+  pub asking_kept : (s : MasterState) (names : List (List ℕ)) → IsKept cell rows s → IsKept cell rows (asking_for s names)
+  asking_kept s [] k = k
+  asking_kept s (name ∷ names) k = asking_kept (asking s name) names (asked_kept s name k)
 
   pub clock_kept : (s : MasterState) (clock : ℕ) → IsKept cell rows s → IsKept cell rows (record s { clock = clock })
   clock_kept s clock k = stays cell rows s (record s { clock = clock }) k (record {
@@ -372,7 +374,7 @@ module _ (cell : List ℕ) (rows : Rows) where
   client_of request other is h = let P : Request → Type 0 = λ r. is_client_number (request_client r) ≡ true in subst P is h
 
   -- a call that waits behind its note
-  waits_kept : (s : MasterState) (message : CallMessage) (note : Option Note) (touched : Option (List ℕ)) → s.recovering ≡ false → nat_le number_limit s.gate.pushed ≡ false → IsAdmitted s message note touched → is_client_number message.client ≡ true → is_live s.sessions message.client ≡ true → outstanding s message.client ≡ 0 → IsKept cell rows s → IsKept cell rows (waits (with_note s note) message touched).0
+  waits_kept : (s : MasterState) (message : CallMessage) (note : Option Note) (touched : Option Touched) → s.recovering ≡ false → nat_le number_limit s.gate.pushed ≡ false → IsAdmitted s message note touched → is_client_number message.client ≡ true → is_live s.sessions message.client ≡ true → outstanding s message.client ≡ 0 → IsKept cell rows s → IsKept cell rows (waits (with_note s note) message touched).0
   waits_kept s message note touched serving spare admitted in_range live none k =
       let t = with_note s note in
       let client = message.client in
@@ -382,12 +384,12 @@ module _ (cell : List ℕ) (rows : Rows) where
       let none_noted : outstanding t client ≡ 0 = unnoted (λ x. outstanding x client) (λ x n. refl) s note ∙ none in
       let live_noted : is_live t.sessions client ≡ true = unnoted (λ x. is_live x.sessions client) (λ x n. refl) s note ∙ live in
       let secret : t.secret ≡ s.secret = unnoted (λ x. x.secret) (λ x n. refl) s note in
-      let names : names_of touched ≡ names_of (name_changed t.secret message.call) =
-      ap names_of (admitted.is_touched ∙ touched_is_changed s client message.number message.call message.sequencer admitted.passes ∙ ap (λ x. name_changed x message.call) (sym secret)) in
+      let names : names_of touched ≡ names_of (call_touched t.secret message.call) =
+      ap names_of (admitted.is_touched ∙ touched_is_changed s client message.number message.call message.sequencer admitted.passes ∙ ap (λ x. call_touched x message.call) (sym secret)) in
       let Q : List ℕ → Type 0 = λ code. IsOwnCall code client (works.Calls message.call message.sequencer) in
       let own : Q t.secret = subst Q (sym secret) (own_call s client message.number message.call message.sequencer admitted.passes) in
       let one : HaveOneCall (with_call t message touched) = one_called t.gate.waiting t.locks t.sessions client last (t.gate.pushed + 1) (names_of touched) (task_of message) refl refl live_noted none_noted noted.one_call in
-      asking_kept (with_call t message touched) touched
+      asking_kept (with_call t message touched) (names_of touched)
       (queued_kept before (names_of touched) (tasks.Asked (task_of message)) (unnoted (λ x. x.recovering) (λ x n. refl) s note ∙ serving) admitted.room (unnoted (λ x. nat_le number_limit x.gate.pushed) (λ x n. refl) s note ∙ spare) names own in_range one
       (recorded_kept t client last none_noted noted))
 

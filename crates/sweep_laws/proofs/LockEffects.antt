@@ -11,7 +11,7 @@ use Rattle.node_core.specs.Limits.{lock_delay_limit}
 use Rattle.node_core.specs.declared.refusals.Fault.{Fault}
 use Rattle.node_core.specs.declared.refusals.Fault.TheVariants as faults
 use Rattle.node_core.specs.declared.kinds.LockMode.{LockMode}
-use Rattle.rows_cell.specs.declared.tables.Node.{Node}
+use Rattle.rows_cell.specs.declared.tables.StoredNode.{StoredNode}
 use Rattle.rows_cell.specs.declared.tables.Rows.{Rows}
 use Rattle.rows_cell.specs.Rows.{stored_node}
 use Rattle.rows_cell.specs.Sound.{is_number}
@@ -112,7 +112,7 @@ module _ (cell : List ℕ) (rows : Rows) (s : MasterState) (k : IsKept cell rows
   waiter_holds : (claim : Claim) → waiter_fits s.sessions claim ≡ true → claim_fits s.sessions claim.owner claim.hold ≡ true
   waiter_holds claim h = (and_parts (is_client_number claim.owner.client) (claim_fits s.sessions claim.owner claim.hold) h).1
 
-  module _ (w : Node) (found : stored_node rows.nodes handle.name ≡ Some w) (present : w.view.instance ≡ handle.instance) where
+  module _ (w : StoredNode) (found : stored_node rows.nodes handle.name ≡ Some w) (present : w.node.instance ≡ handle.instance) where
     is_put : (lock : LockState) → IsFit (claim_fits s.sessions) (waiter_fits s.sessions) lock → (lock_under (name_space s) handle).generation ≤ lock.generation → IsPut rows s.locks s.sessions (lock_put handle lock)
     is_put lock fit higher = record { node = w; found = found; instance = present; fit = fit; higher = higher }
 

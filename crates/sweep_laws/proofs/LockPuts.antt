@@ -14,7 +14,7 @@ use Rattle.std.proofs.lemmas.Map.Lookups.{exact_unsigned}
 use Rattle.plain.proofs.Entries.{lookup_put}
 use Rattle.node_core.specs.Nodes.{Nodes}
 use Rattle.node_core.specs.Limits.{number_end, lock_delay_limit}
-use Rattle.rows_cell.specs.declared.tables.Node.{Node}
+use Rattle.rows_cell.specs.declared.tables.StoredNode.{StoredNode}
 use Rattle.rows_cell.specs.declared.tables.Session as stored
 use Rattle.rows_cell.specs.declared.tables.Rows.{Rows}
 use Rattle.rows_cell.specs.Keys.{lock_order}
@@ -135,9 +135,9 @@ kept_of_fit nodes sessions instance lock there k = record { legal = k.legal; the
 
 -- its node is there, what is kept of a lock is kept of it, and its generation doesn't fall
 pub record IsPut (rows : Rows) (locks : LockTable) (sessions : SessionTable Reply) (put : LockPut) : Type 0 where
-  pub node : Node
+  pub node : StoredNode
   pub found : stored_node rows.nodes put.name ≡ Some node
-  pub instance : node.view.instance ≡ put.instance
+  pub instance : node.node.instance ≡ put.instance
   pub fit : IsFit (claim_fits sessions) (waiter_fits sessions) put.lock
   pub higher : (lock_at locks put.instance).generation ≤ put.lock.generation
 

@@ -1,9 +1,9 @@
 -- What a change needs that its turn may do, so that it fits the locks and the rows.
 use Rattle.std.specs.Prelude.{◌≡◌, ℕ, ◌≤◌, List, [], ◌∷◌, ◌++◌, Option, Some, None}
 use Rattle.std.specs.List.{sum_by}
-use Rattle.node_core.specs.declared.views.View.{View}
+use Rattle.node_core.specs.declared.nodes.Node.{Node}
 use Rattle.node_core.specs.declared.views.Mod.TheVariants.{Put, Gone}
-use Rattle.rows_cell.specs.declared.tables.Node.{Node}
+use Rattle.rows_cell.specs.declared.tables.StoredNode.{StoredNode}
 use Rattle.rows_cell.specs.declared.tables.Rows.{Rows}
 use Rattle.rows_cell.specs.Rows.{stored_node}
 use Rattle.rows_cell.proofs.SoundChanges.{PutFits}
@@ -25,17 +25,17 @@ use Rattle.sweep_laws.proofs.LockPuts.{IsPut}
 -- a node that is put, and no lock with it
 pub record PutsFit (rows : Rows) (change : Change) : Type 0 where
   pub name : List ℕ
-  pub view : View
+  pub view : Node
   pub is : change.change ≡ Put name view
   pub fits : PutFits rows name view change.next_instance
 
 -- a node that goes, and its lock with it
 pub record GoesFit (rows : Rows) (s : MasterState) (change : Change) (instance : ℕ) (waiters : List Claim) : Type 0 where
   pub name : List ℕ
-  pub node : Node
+  pub node : StoredNode
   pub is : change.change ≡ Gone name
   pub found : stored_node rows.nodes name ≡ Some node
-  pub of_node : node.view.instance ≡ instance
+  pub of_node : node.node.instance ≡ instance
   pub all : waiters ≡ (lock_at s.locks instance).waiters
   pub fits : GoneFits rows name change.next_instance
 

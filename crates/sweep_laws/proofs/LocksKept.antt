@@ -11,7 +11,7 @@ use Rattle.node_core.specs.Nodes.{Nodes}
 use Rattle.tags_cell.specs.Numbers.{is_client_number}
 use Rattle.rows_cell.specs.declared.tables.Rows.{Rows}
 use Rattle.rows_cell.specs.Keys.{lock_order}
-use Rattle.rows_cell.specs.Rows.{StoredNodes, views_of, map_of, changed_rows}
+use Rattle.rows_cell.specs.Rows.{StoredNodes, nodes_of, map_of, changed_rows}
 use Rattle.rows_cell.specs.LockRows.{locks_edits}
 use Rattle.rows_cell.specs.Sound.{sound, is_number, are_distinct}
 use Rattle.rows_cell.proofs.SoundParts.{has_instance}
@@ -70,9 +70,9 @@ locks_stay rows s new nodes locks lives k =
 
 -- ---- the node of a lock
 
-pub there_by_rows : (nodes : StoredNodes) (n : ℕ) → is_there (views_of nodes) n ≡ has_instance nodes n
+pub there_by_rows : (nodes : StoredNodes) (n : ℕ) → is_there (nodes_of nodes) n ≡ has_instance nodes n
 there_by_rows [] n = refl
-there_by_rows (e ∷ es) n = ap (λ b. e.1.view.instance == n || b) (there_by_rows es n)
+there_by_rows (e ∷ es) n = ap (λ b. e.1.node.instance == n || b) (there_by_rows es n)
 
 pub put_there : (rows : Rows) (locks : LockTable) (sessions : SessionTable Reply) (nodes : Nodes) (put : LockPut) → nodes ≡ map_of rows → IsPut rows locks sessions put → is_there nodes put.instance ≡ true
 put_there rows locks sessions nodes put same is =

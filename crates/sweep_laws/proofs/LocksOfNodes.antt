@@ -12,13 +12,13 @@ use Rattle.std.specs.Cmp.Lexicographic.{slice_cmp}
 use Rattle.std.proofs.lemmas.Bool.{and_parts, and_from, or_parts, or_from, not-true, not_from_false, eqb-true, eq-eqb}
 use Rattle.std.proofs.lemmas.Bool.Decides.{nat_tests}
 use Rattle.std.proofs.lemmas.Map.Lookups.{exact_bytes, exact_unsigned}
-use Rattle.node_core.specs.declared.views.View.{View}
+use Rattle.node_core.specs.declared.nodes.Node.{Node}
 use Rattle.node_core.specs.Nodes.{Nodes}
 use Rattle.rows_cell.specs.declared.keys.LockKey.{LockKey}
 use Rattle.rows_cell.specs.declared.tables.LockRow.{LockRow}
-use Rattle.rows_cell.specs.declared.tables.Node.{Node}
+use Rattle.rows_cell.specs.declared.tables.StoredNode.{StoredNode}
 use Rattle.rows_cell.specs.declared.tables.Rows.{Rows}
-use Rattle.rows_cell.specs.Rows.{StoredNodes, StoredLocks, stored_node, views_of, put_view, without_locks_of}
+use Rattle.rows_cell.specs.Rows.{StoredNodes, StoredLocks, stored_node, nodes_of, put_stored, without_locks_of}
 use Rattle.rows_cell.specs.Indexes.{locks_at, lock_generation_in}
 use Rattle.rows_cell.specs.Sound.{are_distinct, node_fits}
 use Rattle.rows_cell.proofs.EntriesInOrder.{sorted_gone}
@@ -42,8 +42,8 @@ use Rattle.sweep_laws.proofs.LocksKept.{there_by_rows}
 
 -- ---- generations, as a test of each node
 
-abbrev has_own : LockTable → List ℕ × Node → Bool
-has_own locks e = e.1.lock_generation == (lock_at locks e.1.view.instance).generation
+abbrev has_own : LockTable → List ℕ × StoredNode → Bool
+has_own locks e = e.1.lock_generation == (lock_at locks e.1.node.instance).generation
 
 same_number : (n : ℕ) → (n == n) ≡ true
 same_number n = grind (arith, nat_tests)
@@ -52,16 +52,16 @@ each_generation : (locks : LockTable) (nodes : StoredNodes) → list_all (has_ow
 each_generation locks [] h n g is = absurd cc
 each_generation locks (e ∷ es) h n g is =
     let t = and_parts (has_own locks e) (list_all (has_own locks) es) h in
-    (elim (e.1.view.instance == n) as (λ b. (e.1.view.instance == n) ≡ b → cond b (Some e.1.lock_generation) (lock_generation_in es n) ≡ Some g → g ≡ (lock_at locks n).generation) [
+    (elim (e.1.node.instance == n) as (λ b. (e.1.node.instance == n) ≡ b → cond b (Some e.1.lock_generation) (lock_generation_in es n) ≡ Some g → g ≡ (lock_at locks n).generation) [
       | true ↦ (λ c k.
           let same : e.1.lock_generation ≡ g = cc in
-          sym same ∙ eqb-true e.1.lock_generation (lock_at locks e.1.view.instance).generation t.0 ∙ ap (λ i. (lock_at locks i).generation) (eqb-true e.1.view.instance n c))
+          sym same ∙ eqb-true e.1.lock_generation (lock_at locks e.1.node.instance).generation t.0 ∙ ap (λ i. (lock_at locks i).generation) (eqb-true e.1.node.instance n c))
       | false ↦ (λ c k. each_generation locks es t.1 n g k)
     ]) refl is
 
 by_instance : (nodes : StoredNodes) (n : ℕ) → has_instance nodes n ≡ list_any (λ m. m == n) (instances nodes)
 by_instance [] n = refl
-by_instance (e ∷ es) n = ap (λ b. e.1.view.instance == n || b) (by_instance es n)
+by_instance (e ∷ es) n = ap (λ b. e.1.node.instance == n || b) (by_instance es n)
 
 not_twice : (nodes : StoredNodes) (n g : ℕ) (P : Type 0) → lock_generation_in nodes n ≡ Some g → not (list_any (λ m. m == n) (instances nodes)) ≡ true → P
 not_twice nodes n g P found none =
@@ -73,7 +73,7 @@ not_twice nodes n g P found none =
 all_generations : (locks : LockTable) (nodes : StoredNodes) → are_distinct (instances nodes) ≡ true → AreGenerations locks nodes → list_all (has_own locks) nodes ≡ true
 all_generations locks [] distinct are = refl
 all_generations locks (e ∷ es) distinct are =
-    let i : ℕ = e.1.view.instance in
+    let i : ℕ = e.1.node.instance in
     let t = and_parts (not (list_any (λ m. m == i) (instances es))) (are_distinct (instances es)) distinct in
     let head : e.1.lock_generation ≡ (lock_at locks i).generation = are i e.1.lock_generation (ap (λ b. cond b (Some e.1.lock_generation) (lock_generation_in es i)) (same_number i)) in
     and_from (has_own locks e) (list_all (has_own locks) es) (eq-eqb e.1.lock_generation (lock_at locks i).generation head)
@@ -109,11 +109,11 @@ still_kept nodes new sessions n lock there k = record {
 past_apart : (a next n : ℕ) → nat_lt a next ≡ true → nat_le next n ≡ true → (a == n) ≡ false
 past_apart a next n below past = grind (arith, nat_tests)
 
-none_past : (nodes : StoredNodes) (next n : ℕ) → list_all (λ e. nat_lt e.1.view.instance next) nodes ≡ true → nat_le next n ≡ true → has_instance nodes n ≡ false
+none_past : (nodes : StoredNodes) (next n : ℕ) → list_all (λ e. nat_lt e.1.node.instance next) nodes ≡ true → nat_le next n ≡ true → has_instance nodes n ≡ false
 none_past [] next n below past = refl
 none_past (e ∷ es) next n below past =
-    let t = and_parts (nat_lt e.1.view.instance next) (list_all (λ (x : List ℕ × Node). nat_lt x.1.view.instance next) es) below in
-    or_from (e.1.view.instance == n) (has_instance es n) (past_apart e.1.view.instance next n t.0 past) (none_past es next n t.1 past)
+    let t = and_parts (nat_lt e.1.node.instance next) (list_all (λ (x : List ℕ × StoredNode). nat_lt x.1.node.instance next) es) below in
+    or_from (e.1.node.instance == n) (has_instance es n) (past_apart e.1.node.instance next n t.0 past) (none_past es next n t.1 past)
 
 -- a lock of a node that isn't there was never held
 idle_generation : (lock : LockState) → is_idle lock ≡ true → lock.generation ≡ 0
@@ -130,75 +130,75 @@ module _ (cell : List ℕ) (rows : Rows) (s : MasterState) (k : IsKept cell rows
   own_generations : list_all (has_own s.locks) rows.nodes ≡ true
   own_generations = all_generations s.locks rows.nodes (parts_of cell rows k.sound_rows).distinct k.locks.generations
 
-  module _ (name : List ℕ) (view : View) (next : ℕ) (fits : PutFits rows name view next) where
-    new_generation_is : (o : Option Node) → stored_node rows.nodes name ≡ o → (option_map_or (λ (node : Node). node.lock_generation) o 0 == (lock_at s.locks view.instance).generation) ≡ true
+  module _ (name : List ℕ) (view : Node) (next : ℕ) (fits : PutFits rows name view next) where
+    new_generation_is : (o : Option StoredNode) → stored_node rows.nodes name ≡ o → (option_map_or (λ (node : StoredNode). node.lock_generation) o 0 == (lock_at s.locks view.instance).generation) ≡ true
     new_generation_is None e =
         let lock : LockState = lock_at s.locks view.instance in
         let past : nat_le rows.next_instance view.instance ≡ true = rw e at fits.own in
-        let below : list_all (λ (x : List ℕ × Node). nat_lt x.1.view.instance rows.next_instance) rows.nodes ≡ true =
-        all_more (node_fits cell rows.next_instance rows.nodes) (λ x. nat_lt x.1.view.instance rows.next_instance) rows.nodes (λ x h. (numbers_of cell rows.next_instance rows.nodes x h).0) (parts_of cell rows k.sound_rows).nodes in
+        let below : list_all (λ (x : List ℕ × StoredNode). nat_lt x.1.node.instance rows.next_instance) rows.nodes ≡ true =
+        all_more (node_fits cell rows.next_instance rows.nodes) (λ x. nat_lt x.1.node.instance rows.next_instance) rows.nodes (λ x h. (numbers_of cell rows.next_instance rows.nodes x h).0) (parts_of cell rows k.sound_rows).nodes in
         let none : is_there s.nodes view.instance ≡ false = there_in_rows view.instance ∙ none_past rows.nodes rows.next_instance view.instance below past in
         let idle = or_first (is_idle lock) (is_there s.nodes view.instance) (k.locks.each view.instance).there none in
         eq-eqb 0 lock.generation (sym (idle_generation lock idle))
     new_generation_is (Some node) e =
-        let own : (node.view.instance == view.instance) ≡ true = rw e at fits.own in
-        let is : node.view.instance ≡ view.instance = eqb-true node.view.instance view.instance own in
+        let own : (node.node.instance == view.instance) ≡ true = rw e at fits.own in
+        let is : node.node.instance ≡ view.instance = eqb-true node.node.instance view.instance own in
         let found = found_by_instance rows.nodes name node e (parts_of cell rows k.sound_rows).distinct in
         eq-eqb node.lock_generation (lock_at s.locks view.instance).generation (k.locks.generations view.instance node.lock_generation (ap (λ n. lock_generation_in rows.nodes n) (sym is) ∙ found))
 
-    pub put_generations : AreGenerations s.locks (put_view rows.nodes name view)
+    pub put_generations : AreGenerations s.locks (put_stored rows.nodes name view)
     put_generations =
-        each_generation s.locks (put_view rows.nodes name view)
-        (all_put (slice_cmp nat_cmp) exact_bytes (has_own s.locks) rows.nodes name (record { view = view; lock_generation = option_map_or (λ (node : Node). node.lock_generation) (stored_node rows.nodes name) 0 }) own_generations
+        each_generation s.locks (put_stored rows.nodes name view)
+        (all_put (slice_cmp nat_cmp) exact_bytes (has_own s.locks) rows.nodes name (record { node = view; lock_generation = option_map_or (λ (node : StoredNode). node.lock_generation) (stored_node rows.nodes name) 0 }) own_generations
         (new_generation_is (stored_node rows.nodes name) refl))
 
-    there_with_put : (n : ℕ) → has_instance rows.nodes n ≡ true → has_instance (put_view rows.nodes name view) n ≡ true
+    there_with_put : (n : ℕ) → has_instance rows.nodes n ≡ true → has_instance (put_stored rows.nodes name view) n ≡ true
     there_with_put n h =
-        any_put (slice_cmp nat_cmp) (λ (node : Node). node.view.instance == n) rows.nodes name (record { view = view; lock_generation = option_map_or (λ (node : Node). node.lock_generation) (stored_node rows.nodes name) 0 })
+        any_put (slice_cmp nat_cmp) (λ (node : StoredNode). node.node.instance == n) rows.nodes name (record { node = view; lock_generation = option_map_or (λ (node : StoredNode). node.lock_generation) (stored_node rows.nodes name) 0 })
         (λ node found is.
-        let own : (node.view.instance == view.instance) ≡ true = rw found at fits.own in
-        ap (λ i. i == n) (sym (eqb-true node.view.instance view.instance own)) ∙ is) h
+        let own : (node.node.instance == view.instance) ≡ true = rw found at fits.own in
+        ap (λ i. i == n) (sym (eqb-true node.node.instance view.instance own)) ∙ is) h
 
-    pub put_each : (new : Nodes) → new ≡ views_of (put_view rows.nodes name view) → (n : ℕ) → IsLockKept new s.sessions n (lock_at s.locks n)
+    pub put_each : (new : Nodes) → new ≡ nodes_of (put_stored rows.nodes name view) → (n : ℕ) → IsLockKept new s.sessions n (lock_at s.locks n)
     put_each new is n =
         still_kept s.nodes new s.sessions n (lock_at s.locks n)
-        (λ there. ap (λ (ns : Nodes). is_there ns n) is ∙ there_by_rows (put_view rows.nodes name view) n ∙ there_with_put n (sym (there_in_rows n) ∙ there))
+        (λ there. ap (λ (ns : Nodes). is_there ns n) is ∙ there_by_rows (put_stored rows.nodes name view) n ∙ there_with_put n (sym (there_in_rows n) ∙ there))
         (k.locks.each n)
 
 -- ---- a node that goes, and its lock with it
 
-none_there : (es : StoredNodes) (n : ℕ) → list_any (λ m. m == n) (instances es) ≡ false → list_all (λ (e : List ℕ × Node). not (e.1.view.instance == n)) es ≡ true
+none_there : (es : StoredNodes) (n : ℕ) → list_any (λ m. m == n) (instances es) ≡ false → list_all (λ (e : List ℕ × StoredNode). not (e.1.node.instance == n)) es ≡ true
 none_there [] n h = refl
 none_there (e ∷ es) n h =
-    let t = or_parts (e.1.view.instance == n) (list_any (λ m. m == n) (instances es)) h in
-    and_from (not (e.1.view.instance == n)) (list_all (λ (x : List ℕ × Node). not (x.1.view.instance == n)) es) (not_from_false (e.1.view.instance == n) t.0) (none_there es n t.1)
+    let t = or_parts (e.1.node.instance == n) (list_any (λ m. m == n) (instances es)) h in
+    and_from (not (e.1.node.instance == n)) (list_all (λ (x : List ℕ × StoredNode). not (x.1.node.instance == n)) es) (not_from_false (e.1.node.instance == n) t.0) (none_there es n t.1)
 
-apart_from : (name : List ℕ) (es : StoredNodes) (node : Node) (i : ℕ) (any : Bool) → any ≡ list_any (λ m. m == i) (instances es) → stored_node es name ≡ Some node → any ≡ false → (i == node.view.instance) ≡ false
+apart_from : (name : List ℕ) (es : StoredNodes) (node : StoredNode) (i : ℕ) (any : Bool) → any ≡ list_any (λ m. m == i) (instances es) → stored_node es name ≡ Some node → any ≡ false → (i == node.node.instance) ≡ false
 apart_from name es node i any is f none =
-    (elim (i == node.view.instance) as (λ b. (i == node.view.instance) ≡ b → b ≡ false) [
+    (elim (i == node.node.instance) as (λ b. (i == node.node.instance) ≡ b → b ≡ false) [
       | true ↦ (λ c.
-          let own : (node.view.instance == i) ≡ true = eq-eqb node.view.instance i (sym (eqb-true i node.view.instance c)) in
-          let there : has_instance es i ≡ true = any_found (is_at (slice_cmp nat_cmp name)) (λ (x : Node). x.view.instance == i) es node f own in
+          let own : (node.node.instance == i) ≡ true = eq-eqb node.node.instance i (sym (eqb-true i node.node.instance c)) in
+          let there : has_instance es i ≡ true = any_found (is_at (slice_cmp nat_cmp name)) (λ (x : StoredNode). x.node.instance == i) es node f own in
           let among = by_instance es i in
           absurd cc)
       | false ↦ (λ c. refl)
     ]) refl
 
-only_there : (nodes : StoredNodes) (name : List ℕ) (node : Node) → stored_node nodes name ≡ Some node → are_distinct (instances nodes) ≡ true → list_all (λ e. not (e.1.view.instance == node.view.instance)) (remove_entry (is_at (slice_cmp nat_cmp name)) nodes) ≡ true
+only_there : (nodes : StoredNodes) (name : List ℕ) (node : StoredNode) → stored_node nodes name ≡ Some node → are_distinct (instances nodes) ≡ true → list_all (λ e. not (e.1.node.instance == node.node.instance)) (remove_entry (is_at (slice_cmp nat_cmp name)) nodes) ≡ true
 only_there [] name node found distinct = refl
 only_there (e ∷ es) name node found distinct =
     let at : List ℕ → Bool = is_at (slice_cmp nat_cmp name) in
-    let i : ℕ = e.1.view.instance in
+    let i : ℕ = e.1.node.instance in
     let any : Bool = list_any (λ m. m == i) (instances es) in
-    let other : List ℕ × Node → Bool = λ x. not (x.1.view.instance == node.view.instance) in
+    let other : List ℕ × StoredNode → Bool = λ x. not (x.1.node.instance == node.node.instance) in
     let t = and_parts (not any) (are_distinct (instances es)) distinct in
     (elim (at e.0) as (λ b. cond b (Some e.1) (stored_node es name) ≡ Some node → list_all other (cond b es (e ∷ remove_entry at es)) ≡ true) [
       | true ↦ (λ f.
           let same : e.1 ≡ node = cc in
-          let P : Node → Type 0 = λ x. list_any (λ m. m == x.view.instance) (instances es) ≡ false in
-          none_there es node.view.instance (subst P same (not-true any t.0)))
+          let P : StoredNode → Type 0 = λ x. list_any (λ m. m == x.node.instance) (instances es) ≡ false in
+          none_there es node.node.instance (subst P same (not-true any t.0)))
       | false ↦ (λ f.
-          and_from (other e) (list_all other (remove_entry at es)) (not_from_false (i == node.view.instance) (apart_from name es node i any refl f (not-true any t.0))) (only_there es name node f t.1))
+          and_from (other e) (list_all other (remove_entry at es)) (not_from_false (i == node.node.instance) (apart_from name es node i any refl f (not-true any t.0))) (only_there es name node f t.1))
     ]) found
 
 -- the lock of an instance that goes, and all others
@@ -246,7 +246,7 @@ rows_off (e ∷ es) instance n =
     apart : (i j n : ℕ) → (i == j) ≡ false → (i == n) ≡ true → (j == n) ≡ false
     apart i j n h k = grind (arith, nat_tests)
 
-module _ (cell : List ℕ) (rows : Rows) (s : MasterState) (k : IsKept cell rows s) (name : List ℕ) (node : Node) (instance : ℕ) (found : stored_node rows.nodes name ≡ Some node) (of_node : node.view.instance ≡ instance) where
+module _ (cell : List ℕ) (rows : Rows) (s : MasterState) (k : IsKept cell rows s) (name : List ℕ) (node : StoredNode) (instance : ℕ) (found : stored_node rows.nodes name ≡ Some node) (of_node : node.node.instance ≡ instance) where
   abbrev left_nodes : StoredNodes
   left_nodes = remove_entry (is_at (slice_cmp nat_cmp name)) rows.nodes
 
@@ -256,9 +256,9 @@ module _ (cell : List ℕ) (rows : Rows) (s : MasterState) (k : IsKept cell rows
   left_at : (n : ℕ) → lock_at left_locks n ≡ cond (instance == n) (lock_of 0) (lock_at s.locks n)
   left_at n = lock_gone s.locks instance n k.locks.in_order
 
-  others_left : list_all (λ e. not (e.1.view.instance == instance)) left_nodes ≡ true
+  others_left : list_all (λ e. not (e.1.node.instance == instance)) left_nodes ≡ true
   others_left =
-      let P : ℕ → Type 0 = λ i. list_all (λ (e : List ℕ × Node). not (e.1.view.instance == i)) left_nodes ≡ true in
+      let P : ℕ → Type 0 = λ i. list_all (λ (e : List ℕ × StoredNode). not (e.1.node.instance == i)) left_nodes ≡ true in
       subst P of_node (only_there rows.nodes name node found (parts_of cell rows k.sound_rows).distinct)
 
   turned : (a b : ℕ) → not (a == b) ≡ true → (b == a) ≡ false
@@ -270,9 +270,9 @@ module _ (cell : List ℕ) (rows : Rows) (s : MasterState) (k : IsKept cell rows
   pub gone_generations : AreGenerations left_locks left_nodes
   gone_generations =
       each_generation left_locks left_nodes
-      (all_from_both (has_own s.locks) (λ e. not (e.1.view.instance == instance)) (has_own left_locks) left_nodes
+      (all_from_both (has_own s.locks) (λ e. not (e.1.node.instance == instance)) (has_own left_locks) left_nodes
       (λ e own other.
-      let same : lock_at left_locks e.1.view.instance ≡ lock_at s.locks e.1.view.instance = left_at e.1.view.instance ∙ ap (λ b. cond b (lock_of 0) (lock_at s.locks e.1.view.instance)) (turned e.1.view.instance instance other) in
+      let same : lock_at left_locks e.1.node.instance ≡ lock_at s.locks e.1.node.instance = left_at e.1.node.instance ∙ ap (λ b. cond b (lock_of 0) (lock_at s.locks e.1.node.instance)) (turned e.1.node.instance instance other) in
       ap (λ (lock : LockState). e.1.lock_generation == lock.generation) same ∙ own)
       (all_gone (is_at (slice_cmp nat_cmp name)) (has_own s.locks) rows.nodes (own_generations cell rows s k)) others_left)
 
@@ -285,13 +285,13 @@ module _ (cell : List ℕ) (rows : Rows) (s : MasterState) (k : IsKept cell rows
 
   still_there : (n : ℕ) → (instance == n) ≡ false → has_instance rows.nodes n ≡ true → has_instance left_nodes n ≡ true
   still_there n other h =
-      any_gone (is_at (slice_cmp nat_cmp name)) (λ (x : Node). x.view.instance == n) rows.nodes
+      any_gone (is_at (slice_cmp nat_cmp name)) (λ (x : StoredNode). x.node.instance == n) rows.nodes
       (λ w is.
       let first = found in
       let same : node ≡ w = cc in
-      ap (λ (x : Node). x.view.instance == n) (sym same) ∙ ap (λ i. i == n) of_node ∙ other) h
+      ap (λ (x : StoredNode). x.node.instance == n) (sym same) ∙ ap (λ i. i == n) of_node ∙ other) h
 
-  pub gone_each : (new : Nodes) → new ≡ views_of left_nodes → (n : ℕ) → IsLockKept new s.sessions n (lock_at left_locks n)
+  pub gone_each : (new : Nodes) → new ≡ nodes_of left_nodes → (n : ℕ) → IsLockKept new s.sessions n (lock_at left_locks n)
   gone_each new is n =
       let P : LockState → Type 0 = IsLockKept new s.sessions n in
       subst P (sym (left_at n))

@@ -16,7 +16,7 @@ use Rattle.node_core.specs.Limits.{number_end, number_limit, lock_delay_limit}
 use Rattle.node_core.specs.declared.kinds.LockMode.{LockMode}
 use Rattle.node_core.specs.declared.kinds.LockMode.TheVariants as modes
 use Rattle.rows_cell.specs.declared.keys.LockKey.{LockKey}
-use Rattle.rows_cell.specs.declared.tables.Node.{Node}
+use Rattle.rows_cell.specs.declared.tables.StoredNode.{StoredNode}
 use Rattle.rows_cell.specs.declared.tables.LockRow.{LockRow}
 use Rattle.rows_cell.specs.declared.tables.LockState as stored
 use Rattle.rows_cell.specs.declared.tables.LockState.TheVariants.{Lapsed, Exclusive, Shared}
@@ -83,9 +83,9 @@ none_at nodes n h = none_of (lock_generation_in nodes n) (there_is nodes n ∙ h
 
 by_instances : (nodes : StoredNodes) (n : ℕ) → has_instance nodes n ≡ list_any (λ m. m == n) (instances nodes)
 by_instances [] n = refl
-by_instances (e ∷ es) n = ap (λ b. e.1.view.instance == n || b) (by_instances es n)
+by_instances (e ∷ es) n = ap (λ b. e.1.node.instance == n || b) (by_instances es n)
 
-with_number : (locks : LockTable) (entry : List ℕ × Node) → is_number entry.1.lock_generation ≡ true → with_generation locks entry ≡ with_lock locks entry.1.view.instance (lock_of entry.1.lock_generation)
+with_number : (locks : LockTable) (entry : List ℕ × StoredNode) → is_number entry.1.lock_generation ≡ true → with_generation locks entry ≡ with_lock locks entry.1.node.instance (lock_of entry.1.lock_generation)
 with_number locks entry h = rw h refl
 
 one_told : (a : Bool) (g : ℕ) (o : Option ℕ) (lock : LockState) → (a ≡ true → o ≡ None) → option_map_or lock_of o (cond a (lock_of g) lock) ≡ option_map_or lock_of (cond a (Some g) o) lock
@@ -96,10 +96,10 @@ told : (locks : LockTable) (nodes : StoredNodes) (n : ℕ) → list_all (λ e. i
     → lock_at (fold with_generation locks nodes) n ≡ option_map_or lock_of (lock_generation_in nodes n) (lock_at locks n)
 told locks [] n h distinct = refl
 told locks (e ∷ es) n h distinct =
-    let i : ℕ = e.1.view.instance in
+    let i : ℕ = e.1.node.instance in
     let g : ℕ = e.1.lock_generation in
     let among : ℕ → Bool = λ x. list_any (λ m. m == x) (instances es) in
-    let t = and_parts (is_number g) (list_all (λ (x : List ℕ × Node). is_number x.1.lock_generation) es) h in
+    let t = and_parts (is_number g) (list_all (λ (x : List ℕ × StoredNode). is_number x.1.lock_generation) es) h in
     let u = and_parts (not (among i)) (are_distinct (instances es)) distinct in
     let P : ℕ → Type 0 = λ x. among x ≡ false in
     ap (λ ls. lock_at (fold with_generation ls es) n) (with_number locks e t.0)
@@ -115,8 +115,8 @@ of_told (Some g) = refl
 numbers_within : (nodes : StoredNodes) (n : ℕ) → list_all (λ e. is_number e.1.lock_generation) nodes ≡ true → is_number (told_generation nodes n) ≡ true
 numbers_within [] n h = refl
 numbers_within (e ∷ es) n h =
-    let t = and_parts (is_number e.1.lock_generation) (list_all (λ (x : List ℕ × Node). is_number x.1.lock_generation) es) h in
-    (elim (e.1.view.instance == n) as (λ b. is_number (unwrap_or (cond b (Some e.1.lock_generation) (lock_generation_in es n)) 0) ≡ true) [
+    let t = and_parts (is_number e.1.lock_generation) (list_all (λ (x : List ℕ × StoredNode). is_number x.1.lock_generation) es) h in
+    (elim (e.1.node.instance == n) as (λ b. is_number (unwrap_or (cond b (Some e.1.lock_generation) (lock_generation_in es n)) 0) ≡ true) [
       | true ↦ t.0
       | false ↦ numbers_within es n t.1
     ])
@@ -442,8 +442,8 @@ quiet_generations : (nodes : StoredNodes) (locks : LockTable) → IsQuiet locks 
 quiet_generations [] locks h = h
 quiet_generations (e ∷ es) locks h =
     quiet_generations es (with_generation locks e)
-    (elim (nat_le e.1.lock_generation number_limit) as (λ b. IsQuiet (cond b (with_lock locks e.1.view.instance (lock_of e.1.lock_generation)) locks)) [
-      | true ↦ quiet_put locks e.1.view.instance (lock_of e.1.lock_generation) refl h
+    (elim (nat_le e.1.lock_generation number_limit) as (λ b. IsQuiet (cond b (with_lock locks e.1.node.instance (lock_of e.1.lock_generation)) locks)) [
+      | true ↦ quiet_put locks e.1.node.instance (lock_of e.1.lock_generation) refl h
       | false ↦ h
     ])
 

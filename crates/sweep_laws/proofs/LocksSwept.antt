@@ -21,7 +21,7 @@ use Rattle.rows_cell.specs.Rows.{changed_rows, map_of}
 use Rattle.rows_cell.specs.Sound.{sound, is_number, are_distinct}
 use Rattle.rows_cell.proofs.EntriesInOrder.{sorted_put, sorted_kept, put_is_set}
 use Rattle.rows_cell.proofs.PutEntries.{all_found}
-use Rattle.rows_cell.proofs.RowViews.{keys_of_views}
+use Rattle.rows_cell.proofs.RowNodes.{keys_of_nodes}
 use Rattle.rows_cell.proofs.SoundParts.{parts_of}
 use Rattle.rows_cell.proofs.LockChanges.{ChangesFit, nodes_behind, locks_behind, expiry_sound, expiry_done}
 use Rattle.tags_cell.specs.Numbers.{is_client_number}
@@ -69,7 +69,7 @@ module _ (cell : List ℕ) (rows : Rows) (s : MasterState) (puts : List LockPut)
   names_stay =
       let P : List (List ℕ) → Type 0 = IsStrictlySortedBy (slice_cmp nat_cmp) in
       let views : map_of (rows_behind rows s.locks puts) ≡ map_of rows = puts_map cell rows s puts k.sound_rows k.sessions k.locks_in_order k.locks all distinct in
-      subst P (sym (sym (keys_of_views (rows_behind rows s.locks puts).nodes) ∙ ap (λ (ns : Nodes). keys_of ns) views ∙ keys_of_views rows.nodes)) k.names_in_order
+      subst P (sym (sym (keys_of_nodes (rows_behind rows s.locks puts).nodes) ∙ ap (λ (ns : Nodes). keys_of ns) views ∙ keys_of_nodes rows.nodes)) k.names_in_order
 
   behind_kept : HaveOneCall (with_locks s puts) → IsKept cell (rows_behind rows s.locks puts) (with_locks s puts)
   behind_kept one =

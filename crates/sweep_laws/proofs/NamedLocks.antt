@@ -10,12 +10,12 @@ use Rattle.std.specs.Ordering.{nat_cmp, ordering_reverse, is_eq}
 use Rattle.std.specs.Cmp.{IsTotalOrder, nat_cmp_total, tied_itself}
 use Rattle.std.specs.Cmp.Lexicographic.{slice_cmp, nat_list_cmp_total}
 use Rattle.std.proofs.lemmas.Bool.{eqb-true}
-use Rattle.node_core.specs.declared.views.View.{View}
+use Rattle.node_core.specs.declared.nodes.Node.{Node}
 use Rattle.node_core.specs.Nodes.{Nodes, get_node}
-use Rattle.rows_cell.specs.declared.tables.Node.{Node}
+use Rattle.rows_cell.specs.declared.tables.StoredNode.{StoredNode}
 use Rattle.rows_cell.specs.declared.tables.Rows.{Rows}
 use Rattle.rows_cell.specs.Rows.{stored_node, map_of}
-use Rattle.rows_cell.proofs.RowViews.{views_get, keys_of_views}
+use Rattle.rows_cell.proofs.RowNodes.{nodes_get, keys_of_nodes}
 use Rattle.lock_core.specs.State.{LockState, lock_of}
 use Rattle.lock_core.specs.Locks.{LockTable, lock_at}
 use Rattle.cell_update.specs.declared.updates.LockPut.{LockPut}
@@ -82,33 +82,33 @@ found_of_any {X} test (y ∷ ys) h =
 -- the name of the node of an instance, and the node that stands there in the rows
 pub record IsNamed (rows : Rows) (nodes : Nodes) (instance : ℕ) : Type 0 where
   pub name : List ℕ
-  pub node : Node
+  pub node : StoredNode
   pub is : name_of nodes instance ≡ Some name
   pub found : stored_node rows.nodes name ≡ Some node
-  pub of_node : node.view.instance ≡ instance
+  pub of_node : node.node.instance ≡ instance
 
-stored_of : (o : Option Node) (view : View) → option_map (λ (node : Node). node.view) o ≡ Some view → (node : Node) × (o ≡ Some node) × (node.view ≡ view)
+stored_of : (o : Option StoredNode) (view : Node) → option_map (λ (node : StoredNode). node.node) o ≡ Some view → (node : StoredNode) × (o ≡ Some node) × (node.node ≡ view)
 stored_of None view h = absurd cc
-stored_of (Some node) view h = let same : node.view ≡ view = cc in (node, refl, same)
+stored_of (Some node) view h = let same : node.node ≡ view = cc in (node, refl, same)
 
 in_order : (rows : Rows) (nodes : Nodes) → nodes ≡ map_of rows → IsStrictlySortedBy (slice_cmp nat_cmp) (keys_of rows.nodes) → IsStrictlySortedBy (slice_cmp nat_cmp) (keys_of nodes)
 in_order rows nodes same order =
     let P : List (List ℕ) → Type 0 = IsStrictlySortedBy (slice_cmp nat_cmp) in
-    subst P (sym (ap (λ (ns : Nodes). keys_of ns) same ∙ keys_of_views rows.nodes)) order
+    subst P (sym (ap (λ (ns : Nodes). keys_of ns) same ∙ keys_of_nodes rows.nodes)) order
 
 pub named_node : (rows : Rows) (nodes : Nodes) (instance : ℕ) → nodes ≡ map_of rows → IsStrictlySortedBy (slice_cmp nat_cmp) (keys_of rows.nodes) → is_there nodes instance ≡ true → IsNamed rows nodes instance
 named_node rows nodes instance same order there =
-    let t = found_of_any (λ (e : List ℕ × View). e.1.instance == instance) nodes there in
-    let own = all_of_found (λ (e : List ℕ × View). lookup (is_at (slice_cmp nat_cmp e.0)) nodes ≡ Some e.1) (λ (e : List ℕ × View). e.1.instance == instance) nodes t.0 (own_entries (slice_cmp nat_cmp) nat_list_cmp_total nodes (in_order rows nodes same order)) t.1 in
-    let stored : option_map (λ (node : Node). node.view) (stored_node rows.nodes t.0.0) ≡ Some t.0.1 =
-    sym (views_get rows.nodes t.0.0) ∙ ap (λ ns. get_node ns t.0.0) (sym same) ∙ own.0 in
+    let t = found_of_any (λ (e : List ℕ × Node). e.1.instance == instance) nodes there in
+    let own = all_of_found (λ (e : List ℕ × Node). lookup (is_at (slice_cmp nat_cmp e.0)) nodes ≡ Some e.1) (λ (e : List ℕ × Node). e.1.instance == instance) nodes t.0 (own_entries (slice_cmp nat_cmp) nat_list_cmp_total nodes (in_order rows nodes same order)) t.1 in
+    let stored : option_map (λ (node : StoredNode). node.node) (stored_node rows.nodes t.0.0) ≡ Some t.0.1 =
+    sym (nodes_get rows.nodes t.0.0) ∙ ap (λ ns. get_node ns t.0.0) (sym same) ∙ own.0 in
     let u = stored_of (stored_node rows.nodes t.0.0) t.0.1 stored in
     record {
       name = t.0.0;
       node = u.0;
-      is = ap (λ o. option_map (λ (entry : List ℕ × View). entry.0) o) t.1;
+      is = ap (λ o. option_map (λ (entry : List ℕ × Node). entry.0) o) t.1;
       found = u.1;
-      of_node = ap (λ (view : View). view.instance) u.2 ∙ eqb-true t.0.1.instance instance own.1;
+      of_node = ap (λ (view : Node). view.instance) u.2 ∙ eqb-true t.0.1.instance instance own.1;
     }
 
 -- the lock that is put there

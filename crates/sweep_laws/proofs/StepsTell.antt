@@ -2,6 +2,7 @@
 use Rattle.std.proofs.Common.{◌≡◌, ℕ, ◌+◌, List, [], ◌∷◌, ◌++◌, length, Bool, true, false, cond, Option, Some, None, Result, Ok, Err, refl, sym, ap, ◌∙◌, map, subst}
 use Rattle.std.specs.Prelude.{nat_le, find, not}
 use Rattle.node_core.specs.Limits.{number_limit}
+use Rattle.node_core.specs.Nodes.{with_parent}
 use Rattle.node_core.specs.declared.refusals.Fault.{Fault}
 use Rattle.node_core.specs.declared.refusals.Fault.TheVariants as faults
 use Rattle.node_core.specs.declared.lines.Line.{Line}
@@ -22,9 +23,10 @@ use Rattle.lock_core.specs.Turns.{is_nobody, reopened}
 use Rattle.lock_core.specs.Locks.{lock_at}
 use Rattle.cell_parts.specs.declared.handles.Note.{Note}
 use Rattle.cell_parts.specs.declared.pending.Taken.{Taken}
+use Rattle.cell_parts.specs.declared.pending.Task.TheVariants as tasks
 use Rattle.cell_state.specs.State.{MasterState}
 use Rattle.cell_state.specs.Lookups.{granted_lines, repeated_reply, noted}
-use Rattle.cell_core.specs.Step.{with_call, asking_for, take_step}
+use Rattle.cell_core.specs.Step.{queued, asking, asking_for, names_of, with_call, take_step}
 use Rattle.cell_core.specs.Cases.{TakeCase, taken_by}
 use Rattle.cell_core.specs.Cases.TakeCase.{StartRefused, OldBeat, BeatRefused, BeatParked, OldEpoch, NoSession, Repeated, OlderCall, Outstanding, Answered, Granted, Waits}
 use Rattle.cell_update.specs.Updates.{with_note}
@@ -102,9 +104,9 @@ note_rights : (s : MasterState) (note : Option Note) → (with_note s note).righ
 note_rights s None = refl
 note_rights s (Some note) = refl
 
-asking_told : (s : MasterState) (touched : Option (List ℕ)) → map told_of (asking_for s touched).rights ≡ map told_of s.rights
-asking_told s None = refl
-asking_told s (Some name) = asked_told name s.rights s.rights
+asking_told : (s : MasterState) (names : List (List ℕ)) → map told_of (asking_for s names).rights ≡ map told_of s.rights
+asking_told s [] = refl
+asking_told s (name ∷ names) = asking_told (asking s name) names ∙ asked_told name s.rights s.rights
 
 repeated_rights : (rights : List Told) (reply : Option Reply) → rights_at rights (repeated_reply reply).lines ≡ Some rights
 repeated_rights rights None = refl
@@ -119,7 +121,7 @@ take_told s request (Granted message note answer name new serving may) h =
     ap (λ rights. rights_at (map told_of rights) (granted_lines message.client name (grant_answer message.client name t.rights))) (sym (note_rights s note)) ∙ granted_told message.client name t.rights
 take_told s request (Waits message note touched new serving admitted) h =
     let t = with_note s note in
-    ap (λ rights. Some (map told_of rights)) (sym (note_rights s note)) ∙ ap (λ told. Some told) (sym (asking_told (with_call t message touched) touched))
+    ap (λ rights. Some (map told_of rights)) (sym (note_rights s note)) ∙ ap (λ told. Some told) (sym (asking_told (with_call t message touched) (names_of touched)))
 take_told s request _ h = refl
 
 locks_told : (rights : List Told) (printed : List Line) → AreOfNoRight printed → rights_at rights printed ≡ Some rights
@@ -135,7 +137,7 @@ sweep_told s (Expires client session due) h =
 sweep_told s (Reopens instance due) h =
     let turn = reopened (lock_at s.locks instance) in
     locks_told (map told_of s.rights) (lines.Reopened instance ∷ locked_lines instance turn) (tt, locked_of_no_right instance turn)
-sweep_told s (Tidies idle due) h = ap (λ told. Some told) (sym (asked_told idle.name s.rights s.rights))
+sweep_told s (Tidies idle due) h = ap (λ told. Some told) (sym (asking_told (queued s (with_parent idle.name) (tasks.Tidies idle)) (with_parent idle.name)))
 sweep_told s (Ended front back asked call sequencer None answer turn work live made) h = refl
 sweep_told s (Ended front back asked call sequencer (Some note) answer turn work live made) h = refl
 sweep_told s (Applied front back asked call sequencer None change answer turn work live made) h = refl

@@ -38,7 +38,7 @@ use Rattle.sweep_laws.specs.declared.swept.Swept.{Swept}
 use Rattle.sweep_plan.specs.Plans.{first_action, started_out, alive_out}
 use Rattle.cell_update.specs.Lapses.{expiry_lines, lapses_of, lapses_puts, lapses_replies}
 use Rattle.cell_update.specs.Replies.{kept_puts, sent, turn_replies, locked_line, locked_lines, puts_of, replies_to}
-use Rattle.cell_apply.specs.Outcomes.{leave_lines, left_put}
+use Rattle.cell_apply.specs.Outcomes.{put_listing, leave_lines, left_put}
 use Rattle.node_core.specs.declared.refusals.Fault.TheVariants as faults
 use Rattle.node_core.specs.declared.lines.Line.TheVariants as lines
 use Rattle.messages_cell.specs.declared.outs.Out.TheVariants as outs
@@ -155,7 +155,7 @@ swept_by s (Tidies idle due) = (tidied s idle, swept_with [] [])
 swept_by s (Spared front back idle turn held) = (rest s front back, swept_with [] [])
 swept_by s (Tidied front back idle turn still) = (
   without_lock (told (mapped (rest s front back) (gone_change s idle)) (gone_replies s idle)) (Some idle.instance),
-  swept_with (lines.Applied 0 0 (Gone idle.name) ∷ []) (sent (gone_replies s idle)),
+  swept_with (lines.Applied 0 0 (Gone idle.name) [] ∷ []) (sent (gone_replies s idle)),
 )
 swept_by s (AnswersBeat client session beat due) = (
   record s { sessions = with_session s.sessions client (answered s.sessions.lease s.clock) },
@@ -175,11 +175,11 @@ swept_by s (Ended front back asked call sequencer note answer turn work live mad
     (ended (rest s front back) asked note answer, swept_with [] (replied_with s asked answer []))
 swept_by s (Applied front back asked call sequencer note change answer turn work live made) = (
   ended (mapped (rest s front back) change) asked note answer,
-  swept_with (lines.Applied asked.client asked.number change.change ∷ []) (replied_with s asked answer []),
+  swept_with (lines.Applied asked.client asked.number change.change (put_listing s.nodes change.change) ∷ []) (replied_with s asked answer []),
 )
 swept_by s (Deleted front back asked call sequencer change instance waiters answer turn work live made) = (
   without_lock (told (ended (mapped (rest s front back) change) asked None answer) (replies_to s (results.Refused faults.StaleInstance) waiters)) (Some instance),
-  swept_with (lines.Applied asked.client asked.number change.change ∷ []) (replied_with s asked answer (replies_to s (results.Refused faults.StaleInstance) waiters)),
+  swept_with (lines.Applied asked.client asked.number change.change (put_listing s.nodes change.change) ∷ []) (replied_with s asked answer (replies_to s (results.Refused faults.StaleInstance) waiters)),
 )
 swept_by s (Locked front back asked call sequencer put claim answer turn work live made) = (
   ended (with_locks (rest s front back) (put ∷ [])) asked None answer,

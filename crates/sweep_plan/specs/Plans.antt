@@ -120,7 +120,7 @@ plan_effect s client number effected = record {
         ends_lock = lock_ended effected.locking;
       };
   taken = record {
-    lines = applied_lines client number effected.change ++ locking_lines client effected.locking;
+    lines = applied_lines s.nodes client number effected.change ++ locking_lines client effected.locking;
     outs = sent (effect_replies s client number effected);
   };
   contested = None;

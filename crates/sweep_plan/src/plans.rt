@@ -181,7 +181,7 @@ fn unasked_told(master: &Master, effect: &Effect) -> Result<Told, AllocError>
     ensures kept { IfOk result (λ told. told.kept ≡ (plan_effect master.now 0 0 effect.now).update.kept) }
     ensures taken { IfOk result (λ told. told.taken ≡ (plan_effect master.now 0 0 effect.now).taken) }
 {
-    let lines = effect_lines(master.alloc(), 0, 0, effect)?;
+    let lines = effect_lines(master, 0, 0, effect)?;
     let replies = locking_replies(master, &effect.locking)?;
     told_by(master.alloc(), lines, replies)
 }
@@ -336,7 +336,7 @@ fn effect_told(
     ensures kept { IfOk result (λ told. told.kept ≡ (plan_effect master.now client number effect.now).update.kept) }
     ensures taken { IfOk result (λ told. told.taken ≡ (plan_effect master.now client number effect.now).taken) }
 {
-    let lines = effect_lines(master.alloc(), client.get(), number.get(), effect)?;
+    let lines = effect_lines(master, client.get(), number.get(), effect)?;
     let replies = effect_replies(master, client, number, effect)?;
     told_by(master.alloc(), lines, replies)
 }

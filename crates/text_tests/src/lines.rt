@@ -13,6 +13,9 @@ fn shows(alloc: Global, line: &Line, text: &str) -> Result<bool, Fail> {
     Ok(printed.as_str() == text)
 }
 
+// The last components of a directory's children.
+type Children = &'static [&'static str];
+
 // A node whose ACLs for reading and changing are `base`: its kind, instance, content generation, ACL for writing, life, and a
 // content so many times over.
 type NodeRow = (Kind, u64, u64, &'static str, Life, (&'static str, usize));
@@ -26,9 +29,9 @@ fn content_of(alloc: Global, content: (&'static str, usize)) -> Result<Bytes, Fa
     Ok(Bytes::copy_of(alloc, run.as_bytes())?)
 }
 
-fn view_of(alloc: Global, row: &NodeRow) -> Result<View, Fail> {
+fn node_of(alloc: Global, row: &NodeRow) -> Result<Node, Fail> {
     let (kind, instance, generation, write, life, content) = row;
-    Ok(View {
+    Ok(Node {
         kind: *kind,
         instance: *instance,
         content_generation: *generation,
@@ -41,13 +44,29 @@ fn view_of(alloc: Global, row: &NodeRow) -> Result<View, Fail> {
     })
 }
 
+fn listing(alloc: Global, texts: &[&str]) -> Result<Listing, Fail> {
+    let mut names = Items::new(alloc);
+    for text in texts {
+        names.push(acl_of(alloc, text)?)?;
+    }
+    Ok(Listing::of(names)?)
+}
+
+fn view_of(alloc: Global, row: &NodeRow, children: &[&str]) -> Result<View, Fail> {
+    let node = node_of(alloc, row)?;
+    Ok(View {
+        node,
+        children: listing(alloc, children)?,
+    })
+}
+
 fn name(alloc: Global, text: &str) -> Result<Name, Fail> {
     Ok(Name::parse(alloc, text)?)
 }
 
 fn put_of(alloc: Global, at: &str, row: &NodeRow) -> Result<Mod, Fail> {
     let name = name(alloc, at)?;
-    Ok(Mod::Put(name, view_of(alloc, row)?))
+    Ok(Mod::Put(name, node_of(alloc, row)?))
 }
 
 // A line, without what it holds that takes memory.
@@ -78,14 +97,14 @@ enum Shape {
     Poisoned,
     Okay,
     CallRefused(Fault),
-    Put(NodeRow),
+    Put(NodeRow, Children),
     Gone(&'static str),
     Granted(&'static str),
     Absent(&'static str),
-    Served(&'static str, NodeRow),
-    Viewed(NodeRow),
+    Served(&'static str, NodeRow, Children),
+    Viewed(NodeRow, Children),
     Stated,
-    Names(&'static [&'static str]),
+    Names(Children),
     Sequencer(&'static [u8]),
     Added(&'static str),
     Removed(&'static str),
@@ -97,6 +116,8 @@ const SEQUENCER: &[u8] =
     b"\x01\x01\x00\x00\x00\x00\x00\x00\x00\x04\x00\x00\x00\x00\x00\x00\x00\x01\x00\x07/ls/c/f";
 
 const FIRST: NodeRow = (Kind::File, 4, 1, "base", Life::Permanent, ("a", 1));
+
+const DIRECTORY: NodeRow = (Kind::Directory, 4, 0, "base", Life::Permanent, ("", 0));
 
 const LINES: &[(Shape, &str)] = &[
     (Shape::Refused(Fault::NoMemory), "refused 1 NoMemory"),
@@ -244,43 +265,55 @@ const LINES: &[(Shape, &str)] = &[
         "done 1 4 refused 11 WrongGeneration 1",
     ),
     (
-        Shape::Put(FIRST),
+        Shape::Put(FIRST, &[]),
         "applied 1 1 put /ls/c/f file 4 1 1 base base base permanent 1 61",
     ),
     (
-        Shape::Put((Kind::File, 4, 2, "base", Life::Permanent, ("b", 1))),
+        Shape::Put((Kind::File, 4, 2, "base", Life::Permanent, ("b", 1)), &[]),
         "applied 1 1 put /ls/c/f file 4 2 1 base base base permanent 1 62",
     ),
     (
-        Shape::Put((Kind::File, 5, 1, "base", Life::Permanent, ("", 0))),
+        Shape::Put((Kind::File, 5, 1, "base", Life::Permanent, ("", 0)), &[]),
         "applied 1 1 put /ls/c/f file 5 1 1 base base base permanent 0 -",
     ),
     (
-        Shape::Put((Kind::File, 4, 2, "base", Life::Permanent, ("a", 17))),
+        Shape::Put((Kind::File, 4, 2, "base", Life::Permanent, ("a", 17)), &[]),
         "applied 1 1 put /ls/c/f file 4 2 1 base base base permanent 17 61616161616161616161616161616161",
     ),
     (
-        Shape::Put((Kind::Directory, 4, 0, "base", Life::Permanent, ("", 0))),
-        "applied 1 1 put /ls/c/f dir 4 0 1 base base base permanent",
+        Shape::Put(DIRECTORY, &[]),
+        "applied 1 1 put /ls/c/f dir 4 0 1 base base base permanent 0",
     ),
     (
-        Shape::Put((Kind::File, 5, 1, "foo", Life::Permanent, ("a", 1))),
+        Shape::Put(DIRECTORY, &["-", "g"]),
+        "applied 1 1 put /ls/c/f dir 4 0 1 base base base permanent 2 - g",
+    ),
+    (
+        Shape::Put((Kind::File, 5, 1, "foo", Life::Permanent, ("a", 1)), &[]),
         "applied 1 1 put /ls/c/f file 5 1 1 base foo base permanent 1 61",
     ),
     (
-        Shape::Put((Kind::File, 4, 1, "base", Life::Ephemeral, ("", 0))),
+        Shape::Put((Kind::File, 4, 1, "base", Life::Ephemeral, ("", 0)), &[]),
         "applied 1 1 put /ls/c/f file 4 1 1 base base base ephemeral 0 -",
     ),
     (Shape::Gone("/ls/c/e"), "applied 0 0 gone /ls/c/e"),
     (Shape::Granted("/ls/c/g"), "granted 1 2 /ls/c/g"),
     (Shape::Absent("/ls/c/g"), "served 2 /ls/c/g absent"),
     (
-        Shape::Served("/ls/c/f", FIRST),
+        Shape::Served("/ls/c/f", FIRST, &[]),
         "served 1 /ls/c/f file 4 1 1 base base base permanent 1 61",
     ),
     (
-        Shape::Viewed(FIRST),
+        Shape::Served("/ls/c/d", DIRECTORY, &["a"]),
+        "served 1 /ls/c/d dir 4 0 1 base base base permanent 1 a",
+    ),
+    (
+        Shape::Viewed(FIRST, &[]),
         "done 1 4 view file 4 1 1 base base base permanent 1 61",
+    ),
+    (
+        Shape::Viewed(DIRECTORY, &["a", "b"]),
+        "done 1 4 view dir 4 0 1 base base base permanent 2 a b",
     ),
     (
         Shape::Stated,
@@ -304,14 +337,6 @@ const LINES: &[(Shape, &str)] = &[
     ),
 ];
 
-fn listing(alloc: Global, texts: &[&str]) -> Result<Answer, Fail> {
-    let mut names = Items::new(alloc);
-    for text in texts {
-        names.push(acl_of(alloc, text)?)?;
-    }
-    Ok(Answer::Names(names))
-}
-
 fn stat_of(alloc: Global) -> Result<Answer, Fail> {
     Ok(Answer::Stated(Stat {
         kind: Kind::File,
@@ -327,9 +352,14 @@ fn stat_of(alloc: Global) -> Result<Answer, Fail> {
     }))
 }
 
-fn served(alloc: Global, at: &str, row: &NodeRow) -> Result<Line, Fail> {
+fn applied_line(alloc: Global, row: &NodeRow, children: &[&str]) -> Result<Line, Fail> {
+    let children = listing(alloc, children)?;
+    Ok(Line::Applied(1, 1, put_of(alloc, "/ls/c/f", row)?, children))
+}
+
+fn served(alloc: Global, at: &str, row: &NodeRow, children: &[&str]) -> Result<Line, Fail> {
     let name = name(alloc, at)?;
-    Ok(Line::Served(1, name, Some(view_of(alloc, row)?)))
+    Ok(Line::Served(1, name, Some(view_of(alloc, row, children)?)))
 }
 
 // A line of numbers and words alone.
@@ -376,14 +406,16 @@ fn plain_part(shape: &Shape) -> Option<Line> {
 
 fn line_of(alloc: Global, shape: &Shape) -> Result<Line, Fail> {
     Ok(match shape {
-        Shape::Put(row) => Line::Applied(1, 1, put_of(alloc, "/ls/c/f", row)?),
-        Shape::Gone(at) => Line::Applied(0, 0, Mod::Gone(name(alloc, at)?)),
+        Shape::Put(row, children) => applied_line(alloc, row, children)?,
+        Shape::Gone(at) => Line::Applied(0, 0, Mod::Gone(name(alloc, at)?), Listing::new()),
         Shape::Granted(at) => Line::Granted(1, 2, name(alloc, at)?),
         Shape::Absent(at) => Line::Served(2, name(alloc, at)?, None),
-        Shape::Served(at, row) => served(alloc, at, row)?,
-        Shape::Viewed(row) => Line::Done(1, 4, Answer::Viewed(view_of(alloc, row)?)),
+        Shape::Served(at, row, children) => served(alloc, at, row, children)?,
+        Shape::Viewed(row, children) => {
+            Line::Done(1, 4, Answer::Viewed(view_of(alloc, row, children)?))
+        }
         Shape::Stated => Line::Done(1, 4, stat_of(alloc)?),
-        Shape::Names(texts) => Line::Done(1, 4, listing(alloc, texts)?),
+        Shape::Names(texts) => Line::Done(1, 4, Answer::Names(listing(alloc, texts)?)),
         Shape::Sequencer(bytes) => {
             Line::Done(1, 4, Answer::Sequencer(Bytes::copy_of(alloc, bytes)?))
         }
@@ -642,7 +674,7 @@ fn answer_text(alloc: Global, answer: &Answer) -> Result<String, Fail> {
 
 fn children(alloc: Global, map: &Map, at: &str) -> Result<String, Fail> {
     let name = name(alloc, at)?;
-    let answer = Answer::Names(map.children(&name)?);
+    let answer = Answer::Names(map.listing(&name, Kind::Directory)?);
     let text = answer_text(alloc, &answer);
     drop(answer);
     text
@@ -650,9 +682,9 @@ fn children(alloc: Global, map: &Map, at: &str) -> Result<String, Fail> {
 
 fn may(alloc: Global, map: &Map, principal: &str, right: Right) -> Result<bool, Fail> {
     let principal = Principal::parse(alloc, principal)?;
-    let view = view_of(alloc, &(Kind::File, 5, 1, "foo", P, ("", 0)))?;
-    let allowed = permitted(map, &principal, &view, right);
-    drop(view);
+    let node = node_of(alloc, &(Kind::File, 5, 1, "foo", P, ("", 0)))?;
+    let allowed = permitted(map, &principal, &node, right);
+    drop(node);
     Ok(allowed?)
 }
 

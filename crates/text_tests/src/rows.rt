@@ -1,7 +1,8 @@
 //! The rows of a new store, and each public call once on its happy path.
-use names_cell::{Component, Principal};
+use names_cell::{Component, Name, Principal};
+use node_core::{Listing, View};
 use plain::Secret;
-use rows_cell::{ListRecords, Records, Rows};
+use rows_cell::{ListRecords, Records, Rows, StoredNode};
 use settings_core::{Settings, SettingsFault};
 use std::alloc::Global;
 use std::test::Fail;
@@ -77,18 +78,27 @@ fn new_rows(alloc: Global) -> Result<Rows, Fail> {
     Ok(records.load()?)
 }
 
-// Each name with its node, as it is printed.
+// A name with its node, as it is printed without children.
+fn node_text(alloc: Global, name: &Name, stored: &StoredNode) -> Result<String, Fail> {
+    let view = View {
+        node: stored.node.clone()?,
+        children: Listing::new(),
+    };
+    let text = format!(in alloc; "{name} {view};");
+    drop(view);
+    Ok(text?)
+}
+
 fn nodes_of(alloc: Global, rows: &Rows) -> Result<String, Fail> {
     let mut shown = String::new(alloc);
-    for (name, node) in rows.nodes.as_map() {
-        let view = &node.view;
-        shown.push_str(format!(in alloc; "{name} {view};")?.as_str())?;
+    for (name, stored) in rows.nodes.as_map() {
+        shown.push_str(node_text(alloc, name, stored)?.as_str())?;
     }
     Ok(shown)
 }
 
 const NODES: &str =
-    "/ls/c dir 1 0 1 base base base permanent;/ls/c/acl dir 2 0 1 base base base permanent;/ls/c/acl/base file 3 1 1 base base base permanent 8 616e6e0a626f620a;";
+    "/ls/c dir 1 0 1 base base base permanent 0;/ls/c/acl dir 2 0 1 base base base permanent 0;/ls/c/acl/base file 3 1 1 base base base permanent 8 616e6e0a626f620a;";
 
 fn has_its_nodes(alloc: Global, rows: &Rows) -> Result<bool, Fail> {
     let shown = nodes_of(alloc, rows)?;

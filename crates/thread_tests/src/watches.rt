@@ -248,7 +248,7 @@ fn has(alloc: Global, rows: &Rows, name: &str, content: &[u8]) -> bool {
         return false;
     };
     match rows.nodes.get(&name) {
-        Some(node) => node.view.content.as_slice() == content,
+        Some(node) => node.node.content.as_slice() == content,
         None => false,
     }
 }

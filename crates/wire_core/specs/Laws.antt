@@ -4,7 +4,7 @@ use Rattle.messages_cell.specs.declared.requests.Request.{Request}
 use Rattle.messages_cell.specs.declared.outs.Out.{Out}
 use Rattle.wire_core.specs.Forms.{Form, written, read_whole}
 use Rattle.wire_core.specs.Requests.{request}
-use Rattle.wire_core.specs.Outs.{out_message}
+use Rattle.wire_core.specs.Outs.{out_message, out_written}
 
 abbrev pub AreBytes : List ℕ → Type 0
 AreBytes bytes = (i : ℕ) → slice_index bytes i < 256
@@ -20,8 +20,8 @@ ReadRequestWasWritten =
 
 -- the same of what a master writes
 abbrev pub WrittenOutIsRead : Type 0
-WrittenOutIsRead = (message : Out) (bytes : List ℕ) → out_message.is message → written out_message message ≡ Ok bytes → read_whole out_message bytes ≡ Ok message
+WrittenOutIsRead = (message : Out) (bytes : List ℕ) → out_message.is message → out_written message ≡ Ok bytes → read_whole out_message bytes ≡ Ok message
 
 abbrev pub ReadOutWasWritten : Type 0
 ReadOutWasWritten =
-    (bytes : List ℕ) (message : Out) → AreBytes bytes → read_whole out_message bytes ≡ Ok message → out_message.is message × (written out_message message ≡ Ok bytes)
+    (bytes : List ℕ) (message : Out) → AreBytes bytes → read_whole out_message bytes ≡ Ok message → out_message.is message × (out_written message ≡ Ok bytes)

@@ -1,5 +1,8 @@
 -- The forms of a call's end, and of all that a master sends.
-use Rattle.std.specs.Prelude.{ℕ, List, [], ◌∷◌, Result}
+use Rattle.std.specs.Prelude.{ℕ, ◌==◌, Bool, true, List, [], ◌∷◌, length, Result, Err, if◌then◌else◌}
+use Rattle.node_core.specs.declared.kinds.Kind.{Kind}
+use Rattle.node_core.specs.declared.kinds.Kind.TheVariants as kinds
+use Rattle.node_core.specs.declared.nodes.Node.{Node}
 use Rattle.node_core.specs.declared.views.View.{View}
 use Rattle.node_core.specs.declared.stats.Stat.{Stat}
 use Rattle.messages_cell.specs.declared.outs.Started.{Started}
@@ -11,11 +14,12 @@ use Rattle.messages_cell.specs.declared.outs.Refused.{Refused}
 use Rattle.messages_cell.specs.declared.outs.Out.{Out}
 use Rattle.messages_cell.specs.declared.outs.Out.TheVariants as outs
 use Rattle.wire_core.specs.declared.faults.WireFault.{WireFault}
+use Rattle.wire_core.specs.declared.faults.WireFault.TheVariants.{BadNumber}
 use Rattle.wire_core.specs.declared.kinds.ResultKind.{ResultKind}
 use Rattle.wire_core.specs.declared.kinds.ResultKind.TheVariants as ends
 use Rattle.wire_core.specs.declared.kinds.OutKind.{OutKind}
 use Rattle.wire_core.specs.declared.kinds.OutKind.TheVariants as of
-use Rattle.wire_core.specs.Forms.{Form, nothing, ◌⊗◌, made, choice, of_kind, behind, listed}
+use Rattle.wire_core.specs.Forms.{Form, nothing, ◌⊗◌, made, tested, choice, of_kind, behind, listed, written}
 use Rattle.wire_core.specs.Fields.{word, optional_word, client, ordinal, block, component, kind, life}
 use Rattle.wire_core.specs.Faults.{fault}
 use Rattle.wire_core.specs.Beats.{alive}
@@ -30,8 +34,8 @@ started =
 unfoldable pub new_handle : Form NewHandle
 new_handle = made (λ x. record { bytes = x.0; instance = x.1.0; life = x.1.1 }) (λ h. (h.bytes, (h.instance, h.life))) (block ⊗ ordinal ⊗ life)
 
-unfoldable pub view : Form View
-view =
+unfoldable pub node : Form Node
+node =
     made (λ x. record {
       kind = x.0;
       instance = x.1.0;
@@ -45,6 +49,20 @@ view =
     })
     (λ v. (v.kind, (v.instance, (v.content_generation, (v.acl_generation, (v.read, (v.write, (v.change, (v.life, v.content)))))))))
     (kind ⊗ word ⊗ word ⊗ word ⊗ component ⊗ component ⊗ component ⊗ life ⊗ block)
+
+unfoldable pub components : Form (List (List ℕ))
+components = listed component
+
+-- a file has no children
+abbrev pub may_have : Kind → List (List ℕ) → Bool
+may_have kinds.File children = length children == 0
+may_have kinds.Directory children = true
+
+abbrev pub is_view : View → Bool
+is_view seen = may_have seen.node.kind seen.children
+
+unfoldable pub view : Form View
+view = tested BadNumber is_view (made (λ x. record { node = x.0; children = x.1 }) (λ v. (v.node, v.children)) (node ⊗ components))
 
 unfoldable pub stat : Form Stat
 stat =
@@ -63,18 +81,15 @@ stat =
     (λ s. (s.kind, (s.instance, (s.content_generation, (s.acl_generation, (s.lock_generation, (s.read, (s.write, (s.change, (s.life, s.length))))))))))
     (kind ⊗ word ⊗ word ⊗ word ⊗ word ⊗ component ⊗ component ⊗ component ⊗ life ⊗ word)
 
-unfoldable pub components : Form (List (List ℕ))
-components = listed component
-
 abbrev pub all_results : List ResultKind
-all_results = ends.Opened ∷ ends.Closed ∷ ends.Viewed ∷ ends.Stated ∷ ends.Names ∷ ends.Sequencer ∷ ends.Done ∷ ends.Refused ∷ []
+all_results = ends.Opened ∷ ends.Closed ∷ ends.Viewed ∷ ends.Stated ∷ ends.Listed ∷ ends.Sequencer ∷ ends.Done ∷ ends.Refused ∷ []
 
 abbrev pub result_place : ResultKind → ℕ
 result_place ends.Opened = 0
 result_place ends.Closed = 1
 result_place ends.Viewed = 2
 result_place ends.Stated = 3
-result_place ends.Names = 4
+result_place ends.Listed = 4
 result_place ends.Sequencer = 5
 result_place ends.Done = 6
 result_place ends.Refused = 7
@@ -84,7 +99,7 @@ result_kind (results.Opened handle) = ends.Opened
 result_kind results.Closed = ends.Closed
 result_kind (results.Viewed seen) = ends.Viewed
 result_kind (results.Stated told) = ends.Stated
-result_kind (results.Names names) = ends.Names
+result_kind (results.Listed seen) = ends.Listed
 result_kind (results.Sequencer bytes) = ends.Sequencer
 result_kind results.Done = ends.Done
 result_kind (results.Refused why) = ends.Refused
@@ -94,7 +109,7 @@ result_is (results.Opened handle) = new_handle.is handle
 result_is results.Closed = nothing.is tt
 result_is (results.Viewed seen) = view.is seen
 result_is (results.Stated told) = stat.is told
-result_is (results.Names names) = components.is names
+result_is (results.Listed seen) = view.is seen
 result_is (results.Sequencer bytes) = block.is bytes
 result_is results.Done = nothing.is tt
 result_is (results.Refused why) = fault.is why
@@ -104,7 +119,7 @@ result_bytes (results.Opened handle) = new_handle.write handle
 result_bytes results.Closed = nothing.write tt
 result_bytes (results.Viewed seen) = view.write seen
 result_bytes (results.Stated told) = stat.write told
-result_bytes (results.Names names) = components.write names
+result_bytes (results.Listed seen) = view.write seen
 result_bytes (results.Sequencer bytes) = block.write bytes
 result_bytes results.Done = nothing.write tt
 result_bytes (results.Refused why) = fault.write why
@@ -114,7 +129,7 @@ result_behind ends.Opened rest = behind results.Opened new_handle rest
 result_behind ends.Closed rest = behind (λ _. results.Closed) nothing rest
 result_behind ends.Viewed rest = behind results.Viewed view rest
 result_behind ends.Stated rest = behind results.Stated stat rest
-result_behind ends.Names rest = behind results.Names components rest
+result_behind ends.Listed rest = behind results.Listed view rest
 result_behind ends.Sequencer rest = behind results.Sequencer block rest
 result_behind ends.Done rest = behind (λ _. results.Done) nothing rest
 result_behind ends.Refused rest = behind results.Refused fault rest
@@ -172,3 +187,18 @@ out_behind of.Refused rest = behind outs.Refused refused rest
 -- the kind of the message, and its fields
 unfoldable pub out_message : Form Out
 out_message = of_kind (choice all_outs out_place) out_kind out_is out_bytes out_behind
+
+-- ---- what has no bytes
+
+abbrev pub has_view : CallResult → Bool
+has_view (results.Viewed seen) = is_view seen
+has_view (results.Listed seen) = is_view seen
+has_view _ = true
+
+abbrev pub has_bytes : Out → Bool
+has_bytes (outs.Reply message) = has_view message.result
+has_bytes _ = true
+
+-- the bytes of what a master sends, behind the version; none where a file has children
+abbrev pub out_written : Out → Result (List ℕ) WireFault
+out_written message = if has_bytes message then written out_message message else Err BadNumber

@@ -26,7 +26,7 @@ pub enum WireFault {
     /// A byte that stands for none of the choices at its place.
     #[error("no such kind")]
     BadKind,
-    /// A number out of its range.
+    /// A number out of its range; and a file has 0 children.
     #[error("a number out of its range")]
     BadNumber,
     /// A text that isn't a name, a component or a principal.

@@ -3,12 +3,12 @@ ghost use Rattle.std.specs.Prelude.{◌≡◌, Ok, IfOk};
 ghost use Rattle.plain.specs.Results.{Gives};
 ghost use Rattle.wire_core.specs.Forms.{Form, short_of, begin_at, written, read_whole};
 ghost use Rattle.wire_core.specs.Requests.{request};
-ghost use Rattle.wire_core.specs.Outs.{out_message};
+ghost use Rattle.wire_core.specs.Outs.{out_message, out_written};
 
 use crate::faults::WireFault;
 use crate::inputs::Input;
 use crate::outputs::put_byte;
-use crate::outs::{put_out_body, read_out_body};
+use crate::outs::{has_bytes, put_out_body, read_out_body};
 use crate::requests::{put_request_body, read_request_body};
 use messages_cell::{Out, Request};
 use plain::Bytes;
@@ -45,11 +45,14 @@ pub fn read_request(alloc: Global, bytes: &[u8]) -> Result<Request, WireFault>
     Ok(message)
 }
 
-/// The bytes of what a master sends. Refused is a message of 2^32 bytes or more.
+/// The bytes of what a master sends. Refused are a view of a file with children, and a message of 2^32 bytes or more.
 pub fn write_out(alloc: Global, message: &Out) -> Result<Bytes, WireFault>
-    ensures bytes { Gives WireFault.NoMemory result (written out_message message.now) }
+    ensures bytes { Gives WireFault.NoMemory result (out_written message.now) }
     ensures back { IfOk result (λ bytes. read_whole out_message bytes ≡ Ok message.now) }
 {
+    if !has_bytes(message) {
+        return Err(WireFault::BadNumber);
+    }
     let mut out = Vec::new(alloc);
     put_byte(&mut out, VERSION)?;
     put_out_body(&mut out, message)?;
@@ -60,7 +63,7 @@ pub fn write_out(alloc: Global, message: &Out) -> Result<Bytes, WireFault>
 /// what stands there, whatever a count or a length in the bytes says.
 pub fn read_out(alloc: Global, bytes: &[u8]) -> Result<Out, WireFault>
     ensures message { Gives WireFault.NoMemory result (read_whole out_message bytes.now) }
-    ensures back { IfOk result (λ message. written out_message message ≡ Ok bytes.now) }
+    ensures back { IfOk result (λ message. out_written message ≡ Ok bytes.now) }
 {
     let mut fields = begin(bytes)?;
     let message = read_out_body(alloc, &mut fields)?;

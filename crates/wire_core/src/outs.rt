@@ -1,7 +1,7 @@
 //! What a master sends.
-ghost use Rattle.std.specs.Prelude.{OnOk};
+ghost use Rattle.std.specs.Prelude.{◌≡◌, true, OnOk};
 ghost use Rattle.wire_core.specs.Forms.{Reads, Appends, Form};
-ghost use Rattle.wire_core.specs.Outs.{started, reply, refused, out_message, out_behind};
+ghost use Rattle.wire_core.specs.Outs.{started, reply, refused, out_message, out_behind, has_view, has_bytes};
 
 use crate::beats::{put_alive, read_alive};
 use crate::faults::WireFault;
@@ -12,7 +12,7 @@ use crate::numbers::{
 };
 use crate::outputs::{put_byte, put_word};
 use crate::refusals::{put_fault, read_fault};
-use crate::results::{put_result, read_result};
+use crate::results::{has_view, put_result, read_result};
 use messages_cell::{Out, Refused, Reply, Started};
 use std::alloc::{AllocError, Global};
 
@@ -53,6 +53,7 @@ fn read_reply(alloc: Global, input: &mut Input) -> Result<Reply, WireFault>
 
 #[tactic(auto, unfolding(crate::specs::Outs::reply))]
 fn put_reply(out: &mut Vec<u8>, message: &Reply) -> Result<(), AllocError>
+    requires { has_view message.now.result ≡ true }
     ensures { OnOk result (Appends reply message.now out.old.items out.new.items) }
 {
     put_client(out, message.client)?;
@@ -103,8 +104,19 @@ fn read_out_of(alloc: Global, input: &mut Input, kind: OutKind) -> Result<Out, W
     })
 }
 
+// Whether it has bytes.
+pub(crate) fn has_bytes(message: &Out) -> bool
+    ensures { result ≡ has_bytes message.now }
+{
+    match message {
+        Out::Reply(reply) => has_view(&reply.result),
+        _ => true,
+    }
+}
+
 #[tactic(auto, unfolding(crate::specs::Outs::out_message))]
 pub(crate) fn put_out_body(out: &mut Vec<u8>, message: &Out) -> Result<(), AllocError>
+    requires { has_bytes message.now ≡ true }
     ensures { OnOk result (Appends out_message message.now out.old.items out.new.items) }
 {
     match message {

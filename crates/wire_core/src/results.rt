@@ -1,8 +1,8 @@
 //! What a call gives.
-ghost use Rattle.std.specs.Prelude.{◌≡◌, OnOk};
+ghost use Rattle.std.specs.Prelude.{◌≡◌, true, OnOk};
 ghost use Rattle.wire_core.specs.Forms.{Reads, Appends, Form, read_all};
 ghost use Rattle.wire_core.specs.Fields.{component};
-ghost use Rattle.wire_core.specs.Outs.{new_handle, view, stat, components, call_result, result_behind};
+ghost use Rattle.wire_core.specs.Outs.{new_handle, node, may_have, is_view, view, stat, components, has_view, call_result, result_behind};
 
 use crate::choices::{put_kind, put_life, read_kind, read_life};
 use crate::faults::WireFault;
@@ -14,7 +14,7 @@ use crate::refusals::{put_fault, read_fault};
 use crate::texts::{put_component, read_bytes, read_component, read_handle};
 use messages_cell::{CallResult, NewHandle};
 use names_cell::Component;
-use node_core::{Stat, View};
+use node_core::{Kind, Listing, Node, Stat, View};
 use plain::Items;
 use std::alloc::{AllocError, Global};
 
@@ -38,11 +38,11 @@ fn put_new_handle(out: &mut Vec<u8>, handle: &NewHandle) -> Result<(), AllocErro
     put_life(out, handle.life)
 }
 
-#[tactic(auto, unfolding(crate::specs::Outs::view))]
-fn read_view(alloc: Global, input: &mut Input) -> Result<View, WireFault>
-    ensures { Reads (λ x. x) result input.new (view.read input.old) }
+#[tactic(auto, unfolding(crate::specs::Outs::node))]
+fn read_node(alloc: Global, input: &mut Input) -> Result<Node, WireFault>
+    ensures { Reads (λ x. x) result input.new (node.read input.old) }
 {
-    Ok(View {
+    Ok(Node {
         kind: read_kind(input)?,
         instance: input.word()?,
         content_generation: input.word()?,
@@ -55,9 +55,9 @@ fn read_view(alloc: Global, input: &mut Input) -> Result<View, WireFault>
     })
 }
 
-#[tactic(auto, unfolding(crate::specs::Outs::view))]
-fn put_view(out: &mut Vec<u8>, seen: &View) -> Result<(), AllocError>
-    ensures { OnOk result (Appends view seen.now out.old.items out.new.items) }
+#[tactic(auto, unfolding(crate::specs::Outs::node))]
+fn put_node(out: &mut Vec<u8>, seen: &Node) -> Result<(), AllocError>
+    ensures { OnOk result (Appends node seen.now out.old.items out.new.items) }
 {
     put_kind(out, seen.kind)?;
     put_word(out, seen.instance)?;
@@ -68,6 +68,37 @@ fn put_view(out: &mut Vec<u8>, seen: &View) -> Result<(), AllocError>
     put_component(out, &seen.change)?;
     put_life(out, seen.life)?;
     put_block(out, seen.content.as_slice())
+}
+
+// Whether a node of this kind may have so many children.
+fn may_have(kind: Kind, children: &Listing) -> bool
+    ensures { result ≡ may_have kind children.now }
+{
+    match kind {
+        Kind::File => children.as_slice().is_empty(),
+        Kind::Directory => true,
+    }
+}
+
+#[tactic(auto, unfolding(crate::specs::Outs::view))]
+fn read_view(alloc: Global, input: &mut Input) -> Result<View, WireFault>
+    ensures { Reads (λ x. x) result input.new (view.read input.old) }
+{
+    let node = read_node(alloc, input)?;
+    let children = Listing::of(read_components(alloc, input)?)?;
+    if !may_have(node.kind, &children) {
+        return Err(WireFault::BadNumber);
+    }
+    Ok(View { node, children })
+}
+
+#[tactic(auto, unfolding(crate::specs::Outs::view))]
+fn put_view(out: &mut Vec<u8>, seen: &View) -> Result<(), AllocError>
+    requires { is_view seen.now ≡ true }
+    ensures { OnOk result (Appends view seen.now out.old.items out.new.items) }
+{
+    put_node(out, &seen.node)?;
+    put_components(out, seen.children.as_slice())
 }
 
 #[tactic(auto, unfolding(crate::specs::Outs::stat))]
@@ -129,10 +160,9 @@ fn components_of(
 }
 
 #[tactic(auto, unfolding(crate::specs::Outs::components))]
-fn put_components(out: &mut Vec<u8>, told: &Items<Component>) -> Result<(), AllocError>
-    ensures { OnOk result (Appends components told.now out.old.items out.new.items) }
+fn put_components(out: &mut Vec<u8>, items: &[Component]) -> Result<(), AllocError>
+    ensures { OnOk result (Appends components items.now out.old.items out.new.items) }
 {
-    let items = told.as_slice();
     put_count(out, items.len())?;
     for item in items {
         put_component(out, item)?;
@@ -160,15 +190,27 @@ fn read_result_of(
         ResultKind::Closed => CallResult::Closed,
         ResultKind::Viewed => CallResult::Viewed(read_view(alloc, input)?),
         ResultKind::Stated => CallResult::Stated(read_stat(alloc, input)?),
-        ResultKind::Names => CallResult::Names(read_components(alloc, input)?),
+        ResultKind::Listed => CallResult::Listed(read_view(alloc, input)?),
         ResultKind::Sequencer => CallResult::Sequencer(read_bytes(alloc, input)?),
         ResultKind::Done => CallResult::Done,
         ResultKind::Refused => CallResult::Refused(read_fault(input)?),
     })
 }
 
+// Whether it has bytes.
+pub(crate) fn has_view(given: &CallResult) -> bool
+    ensures { result ≡ has_view given.now }
+{
+    match given {
+        CallResult::Viewed(view) => may_have(view.node.kind, &view.children),
+        CallResult::Listed(view) => may_have(view.node.kind, &view.children),
+        _ => true,
+    }
+}
+
 #[tactic(auto, unfolding(crate::specs::Outs::call_result))]
 pub(crate) fn put_result(out: &mut Vec<u8>, given: &CallResult) -> Result<(), AllocError>
+    requires { has_view given.now ≡ true }
     ensures { OnOk result (Appends call_result given.now out.old.items out.new.items) }
 {
     match given {
@@ -185,9 +227,9 @@ pub(crate) fn put_result(out: &mut Vec<u8>, given: &CallResult) -> Result<(), Al
             put_byte(out, 3)?;
             put_stat(out, stat)
         }
-        CallResult::Names(names) => {
+        CallResult::Listed(view) => {
             put_byte(out, 4)?;
-            put_components(out, names)
+            put_view(out, view)
         }
         CallResult::Sequencer(bytes) => {
             put_byte(out, 5)?;

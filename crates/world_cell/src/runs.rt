@@ -38,11 +38,11 @@ impl<R: Records + Drop> World<R> {
         ensures once { IfOk result (λ lines. IsUndoubted self.new → (client : ℕ) → 1 ≤ client → Rises (applied client lines)) }
         // Each change applied for a client is what a call does to the map just before it; the client sent the call in that
         // epoch, and the master took it before.
-        ensures calls { IfOk result (λ lines. IsUndoubted self.new → (before rest : List PrintedLine) (client number : ℕ) (change : Mod) →
-            lines ≡ before ++ Line.Applied client number change ∷ rest → 1 ≤ client → IsOfCall self.old steps.now before client number change rest self.new) }
+        ensures calls { IfOk result (λ lines. IsUndoubted self.new → (before rest : List PrintedLine) (client number : ℕ) (change : Mod) (names : List (List ℕ)) →
+            lines ≡ before ++ Line.Applied client number change names ∷ rest → 1 ≤ client → IsOfCall self.old steps.now before client number change names rest self.new) }
         // What the cell applies by itself is that an ephemeral node goes, which nobody held open.
-        ensures own { IfOk result (λ lines. IsUndoubted self.new → (before rest : List PrintedLine) (number : ℕ) (change : Mod) →
-            lines ≡ before ++ Line.Applied 0 number change ∷ rest → IsOfIdle self.old steps.now before number change rest self.new) }
+        ensures own { IfOk result (λ lines. IsUndoubted self.new → (before rest : List PrintedLine) (number : ℕ) (change : Mod) (names : List (List ℕ)) →
+            lines ≡ before ++ Line.Applied 0 number change names ∷ rest → IsOfIdle self.old steps.now before number change names rest self.new) }
         // A client's session is live in the rows where the lines of its start and its end make it so.
         ensures sessions { IfOk result (λ lines. IsUndoubted self.new → (client : ℕ) → is_live_in self.new.world.rows client ≡ live_at client (is_live_in self.old.world.rows client) lines) }
         // Of one master's life each right to cache a name is recorded once: numbered from 1 in order, ended at most once and

@@ -12,8 +12,8 @@ use Rattle.node_core.specs.declared.lines.Line.{Line}
 use Rattle.node_core.specs.declared.lines.Line.TheVariants as lines
 use Rattle.node_core.specs.declared.views.Mod.{Mod}
 use Rattle.node_core.specs.declared.views.Mod.TheVariants.{Gone}
-use Rattle.node_core.specs.declared.views.View.{View}
-use Rattle.node_core.specs.Nodes.{get_node}
+use Rattle.node_core.specs.declared.nodes.Node.{Node}
+use Rattle.node_core.specs.Nodes.{get_node, with_parent}
 use Rattle.tags_cell.specs.Numbers.{is_client_number}
 use Rattle.tags_cell.specs.Handles.{read_handle}
 use Rattle.tags_cell.specs.declared.handles.Handle.{Handle}
@@ -42,12 +42,12 @@ use Rattle.cell_parts.specs.declared.pending.Work.TheVariants as works
 use Rattle.cell_state.specs.NameSpace.{name_space, caller}
 use Rattle.cell_state.specs.State.{MasterState}
 use Rattle.cell_core.specs.Ephemerals.{is_idle_node, is_still_idle}
-use Rattle.cell_core.specs.Step.{names_of, task_of, with_call, asking_for}
+use Rattle.cell_core.specs.Step.{queued, names_of, task_of, with_call, asking, asking_for}
 use Rattle.cell_state.specs.Lookups.{noted, lock_under, node_of_handle, answer_on}
 use Rattle.cell_apply.specs.declared.effects.Effect.{Effect}
 use Rattle.cell_apply.specs.Effect.{answered, refused, try_by, try_at, change_at, change_on, handle_effect, effect}
 use Rattle.cell_update.specs.Replies.{locked_line, locked_lines}
-use Rattle.cell_apply.specs.Outcomes.{leave_lines, left_put}
+use Rattle.cell_apply.specs.Outcomes.{put_listing, leave_lines, left_put}
 use Rattle.cell_update.specs.Lapses.{lapses_lines, lapses_of}
 use Rattle.cell_core.specs.Cases.{TakeCase, taken_by}
 use Rattle.sweep_laws.specs.SweepCase.{IsNextApplied, SweepCase, swept_by, rest, ended, mapped}
@@ -100,34 +100,34 @@ one_split : {X : Type 0} (a : X) (before rest : List X) (x : X) → a ∷ [] ≡
 one_split a [] rest x h = (refl, cc)
 one_split a (b ∷ before) rest x h = let t : [] ≡ before ++ x ∷ rest = cc in absurd (no_split before rest x t)
 
-silent_split : (printed before rest : List Line) (client number : ℕ) (change : Mod) → IsSilent printed → printed ≡ before ++ lines.Applied client number change ∷ rest → ⊥
-silent_split [] before rest client number change h e = no_split before rest (lines.Applied client number change) e
-silent_split (line ∷ printed) [] rest client number change h e =
-    let same : line ≡ lines.Applied client number change = cc in rw same at h.0
-silent_split (line ∷ printed) (b ∷ before) rest client number change h e =
-    let t : printed ≡ before ++ lines.Applied client number change ∷ rest = cc in silent_split printed before rest client number change h.1 t
+silent_split : (printed before rest : List Line) (client number : ℕ) (change : Mod) (names : List (List ℕ)) → IsSilent printed → printed ≡ before ++ lines.Applied client number change names ∷ rest → ⊥
+silent_split [] before rest client number change names h e = no_split before rest (lines.Applied client number change names) e
+silent_split (line ∷ printed) [] rest client number change names h e =
+    let same : line ≡ lines.Applied client number change names = cc in rw same at h.0
+silent_split (line ∷ printed) (b ∷ before) rest client number change names h e =
+    let t : printed ≡ before ++ lines.Applied client number change names ∷ rest = cc in silent_split printed before rest client number change names h.1 t
 
 -- an expiry tells of no change
-expiry_split : (numbers : List ℕ) (others : List Line) (whose : ℕ) (before rest : List Line) (client number : ℕ) (change : Mod) → IsSilent others → map lines.Expired numbers ++ others ++ lines.Ended whose ∷ [] ≡ before ++ lines.Applied client number change ∷ rest → ⊥
-expiry_split [] others whose before rest client number change silent e =
-    elim (split others (lines.Ended whose ∷ []) before rest (lines.Applied client number change) e) [
-      | inl k ↦ silent_split others before k.0 client number change silent k.1
+expiry_split : (numbers : List ℕ) (others : List Line) (whose : ℕ) (before rest : List Line) (client number : ℕ) (change : Mod) (names : List (List ℕ)) → IsSilent others → map lines.Expired numbers ++ others ++ lines.Ended whose ∷ [] ≡ before ++ lines.Applied client number change names ∷ rest → ⊥
+expiry_split [] others whose before rest client number change names silent e =
+    elim (split others (lines.Ended whose ∷ []) before rest (lines.Applied client number change names) e) [
+      | inl k ↦ silent_split others before k.0 client number change names silent k.1
       | inr k ↦
-          (let t = one_split (lines.Ended whose) k.0 rest (lines.Applied client number change) k.2 in
-          let line : lines.Ended whose ≡ lines.Applied client number change = t.1 in cc)
+          (let t = one_split (lines.Ended whose) k.0 rest (lines.Applied client number change names) k.2 in
+          let line : lines.Ended whose ≡ lines.Applied client number change names = t.1 in cc)
     ]
-expiry_split (right ∷ numbers) others whose [] rest client number change silent e =
-    let line : lines.Expired right ≡ lines.Applied client number change = cc in cc
-expiry_split (right ∷ numbers) others whose (b ∷ before) rest client number change silent e =
-    let t : map lines.Expired numbers ++ others ++ lines.Ended whose ∷ [] ≡ before ++ lines.Applied client number change ∷ rest = cc in
-    expiry_split numbers others whose before rest client number change silent t
+expiry_split (right ∷ numbers) others whose [] rest client number change names silent e =
+    let line : lines.Expired right ≡ lines.Applied client number change names = cc in cc
+expiry_split (right ∷ numbers) others whose (b ∷ before) rest client number change names silent e =
+    let t : map lines.Expired numbers ++ others ++ lines.Ended whose ∷ [] ≡ before ++ lines.Applied client number change names ∷ rest = cc in
+    expiry_split numbers others whose before rest client number change names silent t
 
 -- nor does a master that came up and is gone
-up_split : (epoch : ℕ) (before rest : List Line) (client number : ℕ) (change : Mod) → lines.Up epoch ∷ lines.Down ∷ [] ≡ before ++ lines.Applied client number change ∷ rest → ⊥
-up_split epoch [] rest client number change e = let line : lines.Up epoch ≡ lines.Applied client number change = cc in cc
-up_split epoch (b ∷ before) rest client number change e =
-    let t : lines.Down ∷ [] ≡ before ++ lines.Applied client number change ∷ rest = cc in
-    silent_split (lines.Down ∷ []) before rest client number change (tt, tt) t
+up_split : (epoch : ℕ) (before rest : List Line) (client number : ℕ) (change : Mod) (names : List (List ℕ)) → lines.Up epoch ∷ lines.Down ∷ [] ≡ before ++ lines.Applied client number change names ∷ rest → ⊥
+up_split epoch [] rest client number change names e = let line : lines.Up epoch ≡ lines.Applied client number change names = cc in cc
+up_split epoch (b ∷ before) rest client number change names e =
+    let t : lines.Down ∷ [] ≡ before ++ lines.Applied client number change names ∷ rest = cc in
+    silent_split (lines.Down ∷ []) before rest client number change names (tt, tt) t
 
 -- ---- where the calls that wait come from
 
@@ -221,9 +221,9 @@ epoch_note : (s : MasterState) (note : Option Note) → (with_note s note).epoch
 epoch_note s None = refl
 epoch_note s (Some note) = refl
 
-asking_calls : (g : Ground) (s : MasterState) (touched : Option (List ℕ)) → AreCalled g s.epoch s.gate.waiting → AreCalled g (asking_for s touched).epoch (asking_for s touched).gate.waiting
-asking_calls g s None h = h
-asking_calls g s (Some name) h = h
+asking_calls : (g : Ground) (s : MasterState) (names : List (List ℕ)) → AreCalled g s.epoch s.gate.waiting → AreCalled g (asking_for s names).epoch (asking_for s names).gate.waiting
+asking_calls g s [] h = h
+asking_calls g s (name ∷ names) h = asking_calls g (asking s name) names h
 
 -- ---- a message is taken
 
@@ -236,7 +236,7 @@ take_calls g s request (Granted message note answer name new serving may) h k = 
 take_calls g s request (Waits message note touched new serving admitted) h k =
     let t = with_note s note in
     let taken : WasTaken g t.epoch message.client message.number message.call message.sequencer = rw (epoch_note s note) (k message new.heard.is_call new.heard.epoch) in
-    asking_calls g (with_call t message touched) touched
+    asking_calls g (with_call t message touched) (names_of touched)
     (calls_push g t.epoch t.gate.waiting (waits_as (t.gate.pushed + 1) (names_of touched) (tasks.Asked (task_of message))) (note_calls g s note h) taken)
 take_calls g s request _ h k = h
 
@@ -259,7 +259,9 @@ sweep_calls g s (Quiet none) h = h
 sweep_calls g s (Recovers recovering heard) h = h
 sweep_calls g s (Expires client session due) h = h
 sweep_calls g s (Reopens instance due) h = h
-sweep_calls g s (Tidies idle due) h = calls_push g s.epoch s.gate.waiting (waits_as (s.gate.pushed + 1) (idle.name ∷ []) (tasks.Tidies idle)) h tt
+sweep_calls g s (Tidies idle due) h =
+    asking_calls g (queued s (with_parent idle.name) (tasks.Tidies idle)) (with_parent idle.name)
+    (calls_push g s.epoch s.gate.waiting (waits_as (s.gate.pushed + 1) (with_parent idle.name) (tasks.Tidies idle)) h tt)
 sweep_calls g s (Spared front back idle turn held) h = (application_calls g s front (tasks.Tidies idle) back turn h).1
 sweep_calls g s (Tidied front back idle turn still) h = (application_calls g s front (tasks.Tidies idle) back turn h).1
 sweep_calls g s (AnswersBeat client session beat due) h = h
@@ -420,20 +422,23 @@ record IsByItself (s : MasterState) (client number : ℕ) (change : Mod) : Type 
   unnumbered : number ≡ 0
   goes : change ≡ Gone gone.name
 
--- a change that a sweep tells of comes first
-record IsOfApplication (s : MasterState) (before : List Line) (client number : ℕ) (change : Mod) : Type 0 where
+-- a change that a sweep tells of comes first, and what is listed of the node that it puts is what the map has there
+record IsOfApplication (s : MasterState) (before : List Line) (client number : ℕ) (change : Mod) (names : List (List ℕ)) : Type 0 where
   first : before ≡ []
+  listed : names ≡ put_listing s.nodes change
   does : IsByCall s client number change ⊎ IsByItself s client number change
 
-of_call : (s : MasterState) (front back : List (Waiting Task)) (asked : Asked) (call : Call) (sequencer : Option (List ℕ)) (made : Mod) (before told : List Line) (client number : ℕ) (change : Mod) → IsNextApplied s front (tasks.Asked asked) back → asked.work ≡ works.Calls call sequencer → change_of (effect (name_space s) (caller s asked.client) s.clock asked.number call sequencer) ≡ Some made → lines.Applied asked.client asked.number made ∷ [] ≡ before ++ lines.Applied client number change ∷ told → IsOfApplication s before client number change
-of_call s front back asked call sequencer made before told client number change turn work does e =
-    let t = one_split (lines.Applied asked.client asked.number made) before told (lines.Applied client number change) e in
-    let line : lines.Applied asked.client asked.number made ≡ lines.Applied client number change = t.1 in
+of_call : (s : MasterState) (front back : List (Waiting Task)) (asked : Asked) (call : Call) (sequencer : Option (List ℕ)) (made : Mod) (before told : List Line) (client number : ℕ) (change : Mod) (names : List (List ℕ)) → IsNextApplied s front (tasks.Asked asked) back → asked.work ≡ works.Calls call sequencer → change_of (effect (name_space s) (caller s asked.client) s.clock asked.number call sequencer) ≡ Some made → lines.Applied asked.client asked.number made (put_listing s.nodes made) ∷ [] ≡ before ++ lines.Applied client number change names ∷ told → IsOfApplication s before client number change names
+of_call s front back asked call sequencer made before told client number change names turn work does e =
+    let t = one_split (lines.Applied asked.client asked.number made (put_listing s.nodes made)) before told (lines.Applied client number change names) e in
+    let line : lines.Applied asked.client asked.number made (put_listing s.nodes made) ≡ lines.Applied client number change names = t.1 in
     let c : asked.client ≡ client = cc in
     let n : asked.number ≡ number = cc in
     let m : made ≡ change = cc in
+    let l : put_listing s.nodes made ≡ names = cc in
     record {
       first = t.0;
+      listed = sym l ∙ ap (put_listing s.nodes) m;
       does = inl (record {
         front = front;
         back = back;
@@ -448,52 +453,53 @@ of_call s front back asked call sequencer made before told client number change 
       });
     }
 
-of_itself : (s : MasterState) (idle : Idle) (before told : List Line) (client number : ℕ) (change : Mod) → is_still_idle s idle ≡ true → lines.Applied 0 0 (Gone idle.name) ∷ [] ≡ before ++ lines.Applied client number change ∷ told → IsOfApplication s before client number change
-of_itself s idle before told client number change still e =
-    let t = one_split (lines.Applied 0 0 (Gone idle.name)) before told (lines.Applied client number change) e in
-    let line : lines.Applied 0 0 (Gone idle.name) ≡ lines.Applied client number change = t.1 in
+of_itself : (s : MasterState) (idle : Idle) (before told : List Line) (client number : ℕ) (change : Mod) (names : List (List ℕ)) → is_still_idle s idle ≡ true → lines.Applied 0 0 (Gone idle.name) [] ∷ [] ≡ before ++ lines.Applied client number change names ∷ told → IsOfApplication s before client number change names
+of_itself s idle before told client number change names still e =
+    let t = one_split (lines.Applied 0 0 (Gone idle.name) []) before told (lines.Applied client number change names) e in
+    let line : lines.Applied 0 0 (Gone idle.name) [] ≡ lines.Applied client number change names = t.1 in
     let c : client ≡ 0 = cc in
     let n : number ≡ 0 = cc in
     let m : change ≡ Gone idle.name = cc in
-    record { first = t.0; does = inr (record { gone = idle; still = still; nobody = c; unnumbered = n; goes = m }) }
+    let l : names ≡ [] = cc in
+    record { first = t.0; listed = l ∙ ap (put_listing s.nodes) (sym m); does = inr (record { gone = idle; still = still; nobody = c; unnumbered = n; goes = m }) }
 
-of_application : (s : MasterState) (c : SweepCase s) (before told : List Line) (client number : ℕ) (change : Mod) → (swept_by s c).1.lines ≡ before ++ lines.Applied client number change ∷ told → IsOfApplication s before client number change
-of_application s (Applied front back asked call sequencer _ made answer turn work live does) before told client number change e =
-    of_call s front back asked call sequencer made.change before told client number change turn work (ap change_of does) e
-of_application s (Deleted front back asked call sequencer made instance waiters answer turn work live does) before told client number change e =
-    of_call s front back asked call sequencer made.change before told client number change turn work (ap change_of does) e
-of_application s (Tidied front back idle turn still) before told client number change e = of_itself s idle before told client number change still e
-of_application s (Recovers recovering heard) before told client number change e =
-    let t = one_split lines.Recovered before told (lines.Applied client number change) e in
-    let line : lines.Recovered ≡ lines.Applied client number change = t.1 in cc
-of_application s (Expires whose session due) before told client number change e =
+of_application : (s : MasterState) (c : SweepCase s) (before told : List Line) (client number : ℕ) (change : Mod) (names : List (List ℕ)) → (swept_by s c).1.lines ≡ before ++ lines.Applied client number change names ∷ told → IsOfApplication s before client number change names
+of_application s (Applied front back asked call sequencer _ made answer turn work live does) before told client number change names e =
+    of_call s front back asked call sequencer made.change before told client number change names turn work (ap change_of does) e
+of_application s (Deleted front back asked call sequencer made instance waiters answer turn work live does) before told client number change names e =
+    of_call s front back asked call sequencer made.change before told client number change names turn work (ap change_of does) e
+of_application s (Tidied front back idle turn still) before told client number change names e = of_itself s idle before told client number change names still e
+of_application s (Recovers recovering heard) before told client number change names e =
+    let t = one_split lines.Recovered before told (lines.Applied client number change names) e in
+    let line : lines.Recovered ≡ lines.Applied client number change names = t.1 in cc
+of_application s (Expires whose session due) before told client number change names e =
     let others = lapses_lines whose (lapses_of s whose) in
-    absurd (expiry_split (numbers_ending whose endings.Expiry s.rights) others whose before told client number change (quiet_silent others (lapses_of_locks whose (lapses_of s whose)).quiet) e)
-of_application s (StartedFirst front back asked principal received turn work none) before told client number change e =
-    let t = one_split (lines.Started asked.client) before told (lines.Applied client number change) e in
-    let line : lines.Started asked.client ≡ lines.Applied client number change = t.1 in cc
-of_application s (Reopens instance due) before told client number change e =
+    absurd (expiry_split (numbers_ending whose endings.Expiry s.rights) others whose before told client number change names (quiet_silent others (lapses_of_locks whose (lapses_of s whose)).quiet) e)
+of_application s (StartedFirst front back asked principal received turn work none) before told client number change names e =
+    let t = one_split (lines.Started asked.client) before told (lines.Applied client number change names) e in
+    let line : lines.Started asked.client ≡ lines.Applied client number change names = t.1 in cc
+of_application s (Reopens instance due) before told client number change names e =
     let turn = reopened (lock_at s.locks instance) in
     let printed = lines.Reopened instance ∷ locked_lines instance turn in
-    absurd (silent_split printed before told client number change (quiet_silent printed (reopened_of_locks instance turn).quiet) e)
-of_application s (Locked front back asked call sequencer put claim answer turn work live made) before told client number change e =
-    absurd (silent_split (locked_line put.instance put.lock.generation claim ∷ []) before told client number change (tt, tt) e)
-of_application s (Left front back asked call sequencer _ leave answer turn work live made) before told client number change e =
+    absurd (silent_split printed before told client number change names (quiet_silent printed (reopened_of_locks instance turn).quiet) e)
+of_application s (Locked front back asked call sequencer put claim answer turn work live made) before told client number change names e =
+    absurd (silent_split (locked_line put.instance put.lock.generation claim ∷ []) before told client number change names (tt, tt) e)
+of_application s (Left front back asked call sequencer _ leave answer turn work live made) before told client number change names e =
     let printed = leave_lines asked.client leave in
-    absurd (silent_split printed before told client number change (quiet_silent printed (left_of_locks asked.client leave).quiet) e)
-of_application s _ before told client number change e = absurd (no_split before told (lines.Applied client number change) e)
+    absurd (silent_split printed before told client number change names (quiet_silent printed (left_of_locks asked.client leave).quiet) e)
+of_application s _ before told client number change names e = absurd (no_split before told (lines.Applied client number change names) e)
 
 -- the same of a sweep that was cut
-of_cut : (s : MasterState) (c : SweepCase s) (before told : List Line) (client number : ℕ) (change : Mod) → cut_lines (swept_by s c).1.lines ≡ before ++ lines.Applied client number change ∷ told → IsOfApplication s before client number change
-of_cut s c before told client number change e =
-    elim (split (filter is_of_commit (swept_by s c).1.lines) (lines.Down ∷ []) before told (lines.Applied client number change) e) [
+of_cut : (s : MasterState) (c : SweepCase s) (before told : List Line) (client number : ℕ) (change : Mod) (names : List (List ℕ)) → cut_lines (swept_by s c).1.lines ≡ before ++ lines.Applied client number change names ∷ told → IsOfApplication s before client number change names
+of_cut s c before told client number change names e =
+    elim (split (filter is_of_commit (swept_by s c).1.lines) (lines.Down ∷ []) before told (lines.Applied client number change names) e) [
       | inl k ↦ elim (swept_kept s c) [
-        | inl all ↦ of_application s c before k.0 client number change (sym all ∙ k.1)
-        | inr none ↦ absurd (no_split before k.0 (lines.Applied client number change) (sym none ∙ k.1))
+        | inl all ↦ of_application s c before k.0 client number change names (sym all ∙ k.1)
+        | inr none ↦ absurd (no_split before k.0 (lines.Applied client number change names) (sym none ∙ k.1))
       ]
       | inr k ↦
-          (let t = one_split lines.Down k.0 told (lines.Applied client number change) k.2 in
-          let line : lines.Down ≡ lines.Applied client number change = t.1 in cc)
+          (let t = one_split lines.Down k.0 told (lines.Applied client number change names) k.2 in
+          let line : lines.Down ≡ lines.Applied client number change names = t.1 in cc)
     ]
 
 -- ---- what it is of
@@ -512,21 +518,21 @@ asked_counts s front back asked fits turn =
 
 -- the node that goes is there, and nobody holds it open
 record IsIdleAt (s : MasterState) (name : List ℕ) : Type 0 where
-  view : View
+  view : Node
   found : get_node s.nodes name ≡ Some view
   idle : is_idle_node s name view ≡ true
 
-idle_at : (s : MasterState) (gone : Idle) (o : Option View) → get_node s.nodes gone.name ≡ o → option_map_or (λ view. view.instance == gone.instance && is_idle_node s gone.name view) o false ≡ true → IsIdleAt s gone.name
+idle_at : (s : MasterState) (gone : Idle) (o : Option Node) → get_node s.nodes gone.name ≡ o → option_map_or (λ view. view.instance == gone.instance && is_idle_node s gone.name view) o false ≡ true → IsIdleAt s gone.name
 idle_at s gone None found h = cc
 idle_at s gone (Some view) found h = record { view = view; found = found; idle = (and_parts (view.instance == gone.instance) (is_idle_node s gone.name view) h).1 }
 
 -- of a client's call, or the cell's own
-abbrev IsOfOne : WorldView → List Step → List Line → ℕ → ℕ → Mod → List Line → WorldView → Type 0
-IsOfOne old steps before client number change rest new =
-    ((1 ≤ client) × IsOfCall old steps before client number change rest new) ⊎ ((client ≡ 0) × IsOfIdle old steps before number change rest new)
+abbrev IsOfOne : WorldView → List Step → List Line → ℕ → ℕ → Mod → List (List ℕ) → List Line → WorldView → Type 0
+IsOfOne old steps before client number change names rest new =
+    ((1 ≤ client) × IsOfCall old steps before client number change names rest new) ⊎ ((client ≡ 0) × IsOfIdle old steps before number change names rest new)
 
 -- the sweep of this master tells of the change first
-module _ (g : Ground) (step : Step) (next : WorldView) (printed told later : List Line) (change : Mod) (steps : List Step) (rest : List Line) (new : WorldView) (h : Stands g) (sweeps : (step ≡ Sweep) ⊎ (step ≡ CutSweep Kept)) (master : MasterState) (is_up : g.here.world.master ≡ Some master) (made : IsMade g.here step next printed) (run : Run next steps later new) (behind : rest ≡ told ++ later) where
+module _ (g : Ground) (step : Step) (next : WorldView) (printed told later : List Line) (change : Mod) (names : List (List ℕ)) (steps : List Step) (rest : List Line) (new : WorldView) (h : Stands g) (sweeps : (step ≡ Sweep) ⊎ (step ≡ CutSweep Kept)) (master : MasterState) (is_up : g.here.world.master ≡ Some master) (made : IsMade g.here step next printed) (run : Run next steps later new) (behind : rest ≡ told ++ later) (listed : names ≡ put_listing (noted master g.here.world.clock).nodes change) where
   -- at this moment
   abbrev s : MasterState
   s = noted master g.here.world.clock
@@ -537,7 +543,7 @@ module _ (g : Ground) (step : Step) (next : WorldView) (printed told later : Lis
   tells : Tells g.old.world.rows g.here.world.rows g.told
   tells = run_tells g.old g.past g.told g.here h.began h.run
 
-  abbrev at_sweep : (client number : ℕ) → printed ≡ lines.Applied client number change ∷ told → IsApplied g.old (g.past ++ step ∷ steps) g.told client number change rest new
+  abbrev at_sweep : (client number : ℕ) → printed ≡ lines.Applied client number change names ∷ told → IsApplied g.old (g.past ++ step ∷ steps) g.told client number change names rest new
   at_sweep client number is_line = record {
     front = g.past;
     at = step;
@@ -556,9 +562,10 @@ module _ (g : Ground) (step : Step) (next : WorldView) (printed told later : Lis
     is_up = is_up;
     nodes = kept.nodes ∙ tells.is_map;
     epoch = kept.epoch ∙ tells.is_epoch;
+    listed = listed;
   }
 
-  by_call : (client number : ℕ) → printed ≡ lines.Applied client number change ∷ told → IsByCall s client number change → IsOfCall g.old (g.past ++ step ∷ steps) g.told client number change rest new
+  by_call : (client number : ℕ) → printed ≡ lines.Applied client number change names ∷ told → IsByCall s client number change → IsOfCall g.old (g.past ++ step ∷ steps) g.told client number change names rest new
   by_call client number is_line turn = record {
     made = at_sweep client number is_line;
     call = turn.call;
@@ -572,11 +579,11 @@ module _ (g : Ground) (step : Step) (next : WorldView) (printed told later : Lis
     is_effect = sym (noted_change master g.here.world.clock client number turn.call turn.sequencer) ∙ turn.is_effect;
   }
 
-  by_itself : (client number : ℕ) → printed ≡ lines.Applied client number change ∷ told → IsByItself s client number change → IsOfIdle g.old (g.past ++ step ∷ steps) g.told number change rest new
+  by_itself : (client number : ℕ) → printed ≡ lines.Applied client number change names ∷ told → IsByItself s client number change → IsOfIdle g.old (g.past ++ step ∷ steps) g.told number change names rest new
   by_itself client number is_line turn =
       let at = idle_at master turn.gone (get_node master.nodes turn.gone.name) refl turn.still in
       record {
-        made = at_sweep 0 number (is_line ∙ ap (λ n. lines.Applied n number change ∷ told) turn.nobody);
+        made = at_sweep 0 number (is_line ∙ ap (λ n. lines.Applied n number change names ∷ told) turn.nobody);
         unnumbered = turn.unnumbered;
         name = turn.gone.name;
         goes = turn.goes;
@@ -585,50 +592,50 @@ module _ (g : Ground) (step : Step) (next : WorldView) (printed told later : Lis
         idle = at.idle;
       }
 
-  by_one : (client number : ℕ) → printed ≡ lines.Applied client number change ∷ told → IsByCall s client number change ⊎ IsByItself s client number change → IsOfOne g.old (g.past ++ step ∷ steps) g.told client number change rest new
+  by_one : (client number : ℕ) → printed ≡ lines.Applied client number change names ∷ told → IsByCall s client number change ⊎ IsByItself s client number change → IsOfOne g.old (g.past ++ step ∷ steps) g.told client number change names rest new
   by_one client number is_line (inl turn) = inl (subst (λ n. 1 ≤ n) turn.own (asked_counts s turn.front turn.back turn.asked kept.waiting turn.turn), by_call client number is_line turn)
   by_one client number is_line (inr turn) = inr (turn.nobody, by_itself client number is_line turn)
 
-of_sweep : (g : Ground) (step : Step) (next : WorldView) (printed before told later : List Line) (client number : ℕ) (change : Mod) (steps : List Step) (rest : List Line) (new : WorldView) → Stands g → (step ≡ Sweep) ⊎ (step ≡ CutSweep Kept) → (master : MasterState) → g.here.world.master ≡ Some master → IsOfApplication (noted master g.here.world.clock) before client number change → IsMade g.here step next printed → Run next steps later new → printed ≡ before ++ lines.Applied client number change ∷ told → rest ≡ told ++ later → IsOfOne g.old (g.past ++ step ∷ steps) (g.told ++ before) client number change rest new
-of_sweep g step next printed before told later client number change steps rest new h sweeps master is_up turn made run e r =
-    let is_line : printed ≡ lines.Applied client number change ∷ told = e ∙ ap (λ l. l ++ lines.Applied client number change ∷ told) turn.first in
-    rw (turn.first, append-nil g.told) (by_one g step next printed told later change steps rest new h sweeps master is_up made run r client number is_line turn.does)
+of_sweep : (g : Ground) (step : Step) (next : WorldView) (printed before told later : List Line) (client number : ℕ) (change : Mod) (names : List (List ℕ)) (steps : List Step) (rest : List Line) (new : WorldView) → Stands g → (step ≡ Sweep) ⊎ (step ≡ CutSweep Kept) → (master : MasterState) → g.here.world.master ≡ Some master → IsOfApplication (noted master g.here.world.clock) before client number change names → IsMade g.here step next printed → Run next steps later new → printed ≡ before ++ lines.Applied client number change names ∷ told → rest ≡ told ++ later → IsOfOne g.old (g.past ++ step ∷ steps) (g.told ++ before) client number change names rest new
+of_sweep g step next printed before told later client number change names steps rest new h sweeps master is_up turn made run e r =
+    let is_line : printed ≡ lines.Applied client number change names ∷ told = e ∙ ap (λ l. l ++ lines.Applied client number change names ∷ told) turn.first in
+    rw (turn.first, append-nil g.told) (by_one g step next printed told later change names steps rest new h sweeps master is_up made run r turn.listed client number is_line turn.does)
 
-made_here : (g : Ground) (step : Step) (next : WorldView) (printed before told later : List Line) (client number : ℕ) (change : Mod) (steps : List Step) (rest : List Line) (new : WorldView) → Stands g → Does g.here step next printed → Run next steps later new → printed ≡ before ++ lines.Applied client number change ∷ told → rest ≡ told ++ later → IsOfOne g.old (g.past ++ step ∷ steps) (g.told ++ before) client number change rest new
-made_here g step next printed before told later client number change steps rest new h (inr refused) run e r =
-    absurd (silent_split printed before told client number change (rw refused.line (tt, tt)) e)
-made_here g step next printed before told later client number change steps rest new h (inl made) run e r =
+made_here : (g : Ground) (step : Step) (next : WorldView) (printed before told later : List Line) (client number : ℕ) (change : Mod) (names : List (List ℕ)) (steps : List Step) (rest : List Line) (new : WorldView) → Stands g → Does g.here step next printed → Run next steps later new → printed ≡ before ++ lines.Applied client number change names ∷ told → rest ≡ told ++ later → IsOfOne g.old (g.past ++ step ∷ steps) (g.told ++ before) client number change names rest new
+made_here g step next printed before told later client number change names steps rest new h (inr refused) run e r =
+    absurd (silent_split printed before told client number change names (rw refused.line (tt, tt)) e)
+made_here g step next printed before told later client number change names steps rest new h (inl made) run e r =
     elim (world_case g.here.world step next.world printed h.consistent.master made.is_step) [
       | ComesUp u ↦
-          (let t = one_split (lines.Up (g.here.world.rows.epoch + 1)) before told (lines.Applied client number change) (sym u.tells ∙ e) in
-          let line : lines.Up (g.here.world.rows.epoch + 1) ≡ lines.Applied client number change = t.1 in cc)
-      | Joins j ↦ absurd (silent_split printed before told client number change (rw j.tells tt) e)
-      | Asks a ↦ absurd (silent_split printed before told client number change (own_silent g.here.world next.world printed (asks_own g.here.world step next.world printed a)) e)
-      | Beats b ↦ absurd (silent_split printed before told client number change (own_silent g.here.world next.world printed (beats_own g.here.world step next.world printed b)) e)
-      | Gives v ↦ absurd (silent_split printed before told client number change (own_silent g.here.world next.world printed (gives_own g.here.world step next.world printed v)) e)
-      | Ticks t ↦ absurd (silent_split printed before told client number change (rw t.tells tt) e)
-      | Takes t ↦ absurd (silent_split printed before told client number change (rw t.tells (taken_silent (noted t.master g.here.world.clock) t.request t.case)) e)
+          (let t = one_split (lines.Up (g.here.world.rows.epoch + 1)) before told (lines.Applied client number change names) (sym u.tells ∙ e) in
+          let line : lines.Up (g.here.world.rows.epoch + 1) ≡ lines.Applied client number change names = t.1 in cc)
+      | Joins j ↦ absurd (silent_split printed before told client number change names (rw j.tells tt) e)
+      | Asks a ↦ absurd (silent_split printed before told client number change names (own_silent g.here.world next.world printed (asks_own g.here.world step next.world printed a)) e)
+      | Beats b ↦ absurd (silent_split printed before told client number change names (own_silent g.here.world next.world printed (beats_own g.here.world step next.world printed b)) e)
+      | Gives v ↦ absurd (silent_split printed before told client number change names (own_silent g.here.world next.world printed (gives_own g.here.world step next.world printed v)) e)
+      | Ticks t ↦ absurd (silent_split printed before told client number change names (rw t.tells tt) e)
+      | Takes t ↦ absurd (silent_split printed before told client number change names (rw t.tells (taken_silent (noted t.master g.here.world.clock) t.request t.case)) e)
       | Sweeps t ↦
-          of_sweep g step next printed before told later client number change steps rest new h (inl t.is_step) t.master t.is_up
-          (of_application (noted t.master g.here.world.clock) t.case before told client number change (sym t.tells ∙ e)) made run e r
-      | GoesDown d ↦ absurd (silent_split printed before told client number change (rw d.tells (tt, tt)) e)
+          of_sweep g step next printed before told later client number change names steps rest new h (inl t.is_step) t.master t.is_up
+          (of_application (noted t.master g.here.world.clock) t.case before told client number change names (sym t.tells ∙ e)) made run e r
+      | GoesDown d ↦ absurd (silent_split printed before told client number change names (rw d.tells (tt, tt)) e)
       | CutsSweep k ↦
-          of_sweep g step next printed before told later client number change steps rest new h (inr k.is_step) k.sweeps.master k.sweeps.is_up
-          (of_cut (noted k.sweeps.master g.here.world.clock) k.sweeps.case before told client number change (sym (k.tells ∙ ap cut_lines k.sweeps.tells) ∙ e)) made run e r
-      | CutsUp k ↦ absurd (up_split (g.here.world.rows.epoch + 1) before told client number change (sym (k.tells ∙ ap (λ xs. xs ++ lines.Down ∷ []) k.comes.tells) ∙ e))
-      | LosesUp k ↦ absurd (silent_split printed before told client number change (rw k.tells (tt, tt)) e)
+          of_sweep g step next printed before told later client number change names steps rest new h (inr k.is_step) k.sweeps.master k.sweeps.is_up
+          (of_cut (noted k.sweeps.master g.here.world.clock) k.sweeps.case before told client number change names (sym (k.tells ∙ ap cut_lines k.sweeps.tells) ∙ e)) made run e r
+      | CutsUp k ↦ absurd (up_split (g.here.world.rows.epoch + 1) before told client number change names (sym (k.tells ∙ ap (λ xs. xs ++ lines.Down ∷ []) k.comes.tells) ∙ e))
+      | LosesUp k ↦ absurd (silent_split printed before told client number change names (rw k.tells (tt, tt)) e)
     ]
 
 -- ---- a run
 
-run_on : (g : Ground) (steps : List Step) (printed : List Line) (new : WorldView) → Stands g → Run g.here steps printed new → (before rest : List Line) (client number : ℕ) (change : Mod) → printed ≡ before ++ lines.Applied client number change ∷ rest → IsOfOne g.old (g.past ++ steps) (g.told ++ before) client number change rest new
-run_on g [] printed new h run before rest client number change e =
-    absurd (no_split before rest (lines.Applied client number change) (sym run.0 ∙ e))
-run_on g (step ∷ steps) printed new h run before rest client number change e =
-    (elim (split run.1 run.2 before rest (lines.Applied client number change) (sym run.5 ∙ e)) as (λ s. IsOfOne g.old (g.past ++ step ∷ steps) (g.told ++ before) client number change rest new) [
-      | inl k ↦ made_here g step run.0 run.1 before k.0 run.2 client number change steps rest new h run.3 run.4 k.1 k.2
+run_on : (g : Ground) (steps : List Step) (printed : List Line) (new : WorldView) → Stands g → Run g.here steps printed new → (before rest : List Line) (client number : ℕ) (change : Mod) (names : List (List ℕ)) → printed ≡ before ++ lines.Applied client number change names ∷ rest → IsOfOne g.old (g.past ++ steps) (g.told ++ before) client number change names rest new
+run_on g [] printed new h run before rest client number change names e =
+    absurd (no_split before rest (lines.Applied client number change names) (sym run.0 ∙ e))
+run_on g (step ∷ steps) printed new h run before rest client number change names e =
+    (elim (split run.1 run.2 before rest (lines.Applied client number change names) (sym run.5 ∙ e)) as (λ s. IsOfOne g.old (g.past ++ step ∷ steps) (g.told ++ before) client number change names rest new) [
+      | inl k ↦ made_here g step run.0 run.1 before k.0 run.2 client number change names steps rest new h run.3 run.4 k.1 k.2
       | inr k ↦
-          let there = run_on (ground_after g step run.1 run.0) steps run.2 new (step_stands g step run.0 run.1 h run.3 (does_holds g.here step run.0 run.1 h.consistent run.3)) run.4 k.0 rest client number change k.2 in
+          let there = run_on (ground_after g step run.1 run.0) steps run.2 new (step_stands g step run.0 run.1 h run.3 (does_holds g.here step run.0 run.1 h.consistent run.3)) run.4 k.0 rest client number change names k.2 in
           rw (k.1, ← append_assoc g.told run.1 k.0, ← append_assoc g.past (step ∷ []) steps) there
     ])
 
@@ -659,23 +666,23 @@ first_queue : (g : Ground) (m : Option MasterState) → g.old.world.master ≡ m
 first_queue g None up = tt
 first_queue g (Some s) up = have_waited g s up [] s.gate.waiting refl
 
-run_ones : (old : WorldView) (steps : List Step) (printed : List Line) (new : WorldView) → Run old steps printed new → IsConsistent old.world → (before rest : List Line) (client number : ℕ) (change : Mod) → printed ≡ before ++ lines.Applied client number change ∷ rest → IsOfOne old steps before client number change rest new
-run_ones old steps printed new run h before rest client number change e =
+run_ones : (old : WorldView) (steps : List Step) (printed : List Line) (new : WorldView) → Run old steps printed new → IsConsistent old.world → (before rest : List Line) (client number : ℕ) (change : Mod) (names : List (List ℕ)) → printed ≡ before ++ lines.Applied client number change names ∷ rest → IsOfOne old steps before client number change names rest new
+run_ones old steps printed new run h before rest client number change names e =
     let g : Ground = record { old = old; past = []; told = []; here = old } in
-    run_on g steps printed new (record { began = h; run = (refl, refl); consistent = h; queue = first_queue g old.world.master refl }) run before rest client number change e
+    run_on g steps printed new (record { began = h; run = (refl, refl); consistent = h; queue = first_queue g old.world.master refl }) run before rest client number change names e
 
 -- each change that the lines show of a client is the effect of a call that was sent and taken
-pub run_calls : (old : WorldView) (steps : List Step) (printed : List Line) (new : WorldView) → Run old steps printed new → IsConsistent old.world → (before rest : List Line) (client number : ℕ) (change : Mod) → printed ≡ before ++ lines.Applied client number change ∷ rest → 1 ≤ client → IsOfCall old steps before client number change rest new
-run_calls old steps printed new run h before rest client number change e some =
-    elim (run_ones old steps printed new run h before rest client number change e) [
+pub run_calls : (old : WorldView) (steps : List Step) (printed : List Line) (new : WorldView) → Run old steps printed new → IsConsistent old.world → (before rest : List Line) (client number : ℕ) (change : Mod) (names : List (List ℕ)) → printed ≡ before ++ lines.Applied client number change names ∷ rest → 1 ≤ client → IsOfCall old steps before client number change names rest new
+run_calls old steps printed new run h before rest client number change names e some =
+    elim (run_ones old steps printed new run h before rest client number change names e) [
       | inl t ↦ t.1
       | inr t ↦ (let none = t.0 in absurd (omega arith))
     ]
 
 -- and what is of no client is that a node goes which nobody held open
-pub run_own : (old : WorldView) (steps : List Step) (printed : List Line) (new : WorldView) → Run old steps printed new → IsConsistent old.world → (before rest : List Line) (number : ℕ) (change : Mod) → printed ≡ before ++ lines.Applied 0 number change ∷ rest → IsOfIdle old steps before number change rest new
-run_own old steps printed new run h before rest number change e =
-    elim (run_ones old steps printed new run h before rest 0 number change e) [
+pub run_own : (old : WorldView) (steps : List Step) (printed : List Line) (new : WorldView) → Run old steps printed new → IsConsistent old.world → (before rest : List Line) (number : ℕ) (change : Mod) (names : List (List ℕ)) → printed ≡ before ++ lines.Applied 0 number change names ∷ rest → IsOfIdle old steps before number change names rest new
+run_own old steps printed new run h before rest number change names e =
+    elim (run_ones old steps printed new run h before rest 0 number change names e) [
       | inl t ↦ (let some = t.0 in absurd (omega arith))
       | inr t ↦ t.1
     ]

@@ -34,6 +34,7 @@ use Rattle.session_core.specs.Session.{events_of, first_events, session_until, b
 use Rattle.session_core.specs.Sessions.{SessionTable, with_session, with_new, issued_by, unacked_events, session_of as session_in}
 use Rattle.cell_parts.specs.declared.handles.Note.{Note}
 use Rattle.cell_parts.specs.declared.notices.Telling.{Telling}
+use Rattle.cell_parts.specs.declared.pending.Task.TheVariants as tasks
 use Rattle.cell_state.specs.NameSpace.{name_space, caller}
 use Rattle.cell_state.specs.Notices.{with_telling}
 use Rattle.cell_state.specs.State.{MasterState}
@@ -41,7 +42,8 @@ use Rattle.cell_parts.specs.StoredSessions.{taken_over}
 use Rattle.cell_state.specs.Lookups.{kept_of, reply_of, stamped_reply, repeated_reply}
 use Rattle.cell_parts.specs.Answered.{answered_by}
 use Rattle.cell_update.specs.Updates.{with_note, with_kept_put}
-use Rattle.cell_core.specs.Step.{with_call, asking_for}
+use Rattle.node_core.specs.Nodes.{with_parent}
+use Rattle.cell_core.specs.Step.{queued as queued_in, with_call, asking, asking_for, names_of}
 use Rattle.cell_core.specs.Cases.{TakeCase, taken_by}
 use Rattle.cell_core.specs.Cases.TakeCase.{StartQueued, BeatParked, Repeated, Recovering, Answered, Granted, Waits}
 use Rattle.cell_apply.specs.declared.effects.Effect.{Effect}
@@ -197,9 +199,9 @@ module _ (R : Reply → Type 0) (E : Event → Type 0) where
   note_holds s None h = h
   note_holds s (Some note) h = h
 
-  asking_holds : (s : MasterState) (touched : Option (List ℕ)) → OfSessions s.sessions → OfSessions (asking_for s touched).sessions
-  asking_holds s None h = h
-  asking_holds s (Some name) h = issued_holds s.sessions h (clients_to_ask name s.rights)
+  asking_holds : (s : MasterState) (names : List (List ℕ)) → OfSessions s.sessions → OfSessions (asking_for s names).sessions
+  asking_holds s [] h = h
+  asking_holds s (name ∷ names) h = asking_holds (asking s name) names (issued_holds s.sessions h (clients_to_ask name s.rights))
 
   -- ---- a message is taken
 
@@ -214,7 +216,7 @@ module _ (R : Reply → Type 0) (E : Event → Type 0) where
   taken_hold s request (Granted message note answer name new serving may) lost h k =
       keeping_holds (with_note s note).sessions (note_holds s note h) message.client (answered_by (stamped_reply (with_note s note) message.client message.number answer)) k.0
   taken_hold s request (Waits message note touched new serving admitted) lost h k =
-      asking_holds (with_call (with_note s note) message touched) touched
+      asking_holds (with_call (with_note s note) message touched) (names_of touched)
       (keeping_holds (with_note s note).sessions (note_holds s note h) message.client (record { number = message.number; reply = None }) tt)
   taken_hold s request _ lost h k = h
 
@@ -299,7 +301,7 @@ module _ (R : Reply → Type 0) (E : Event → Type 0) where
   swept_hold s (Expires client session due) h k =
       replies_hold (with_session s.sessions client of_session.ended) (lapses_replies s (lapses_of s client)) (stepped_holds s.sessions h client of_session.ended (λ session g. (g.0, tt))) k
   swept_hold s (Reopens instance due) h k = replies_hold s.sessions (turn_replies s (reopened (lock_at s.locks instance))) h k
-  swept_hold s (Tidies idle due) h k = issued_holds s.sessions h (clients_to_ask idle.name s.rights)
+  swept_hold s (Tidies idle due) h k = asking_holds (queued_in s (with_parent idle.name) (tasks.Tidies idle)) (with_parent idle.name) h
   swept_hold s (Tidied front back idle turn still) h k = replies_hold s.sessions (gone_replies s idle) h k
   swept_hold s (AnswersBeat client session beat due) h k = stepped_holds s.sessions h client (answered s.sessions.lease s.clock) (answered_holds s.sessions.lease s.clock)
   swept_hold s (StartedAgain front back asked principal received session turn work found live) h k =

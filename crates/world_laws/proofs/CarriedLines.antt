@@ -142,7 +142,7 @@ module _ (R : Reply → Type 0) (E : Event → Type 0) where
   done_holds s message results.Closed is own h = tt
   done_holds s message (results.Viewed view) is own h = (message, h, own, refl, is)
   done_holds s message (results.Stated stat) is own h = (message, h, own, refl, is)
-  done_holds s message (results.Names names) is own h = tt
+  done_holds s message (results.Listed view) is own h = tt
   done_holds s message (results.Sequencer bytes) is own h = tt
   done_holds s message results.Done is own h = tt
   done_holds s message (results.Refused fault) is own h = tt
@@ -161,7 +161,7 @@ module _ (R : Reply → Type 0) (E : Event → Type 0) where
     ask_tells ask (AskedTooLate late) = tt
     ask_tells ask (Unsafe fault early is) = refusal_lines (note_lines s then) fault (noted_lines s s.session then)
     ask_tells ask (Refused fault safe is) = (tt, tt)
-    ask_tells ask (ReadServed handle mine entry safe is readable) = (tt, tt)
+    ask_tells ask (ReadServed handle mine call entry given safe is readable) = (tt, tt)
     ask_tells ask (AbsenceServed opening safe is plain cached) = (tt, tt)
     ask_tells ask (Shared opening view handle safe is shared room) = (tt, (tt, tt))
     ask_tells ask (OutOfHandles opening view handle safe is shared last) = tt

@@ -13,6 +13,7 @@ use Rattle.plain.proofs.OneKey.{lookup_set, lookup_set_apart, lookup_put, lookup
 use Rattle.node_core.proofs.Orders.{sorted_insert, sorted_remove}
 use Rattle.node_core.specs.declared.refusals.Fault.{Fault}
 use Rattle.node_core.specs.declared.refusals.Fault.TheVariants as faults
+use Rattle.node_core.specs.declared.answers.Answer.{Answer}
 use Rattle.node_core.specs.declared.views.View.{View}
 use Rattle.tags_cell.specs.Handles.{name_in}
 use Rattle.messages_cell.specs.declared.calls.Call.{Call}
@@ -30,7 +31,7 @@ use Rattle.cache_core.specs.Kept.{serving, with_kept}
 use Rattle.cache_core.specs.declared.kept.Kept as shared
 use Rattle.cache_core.proofs.Sharing.{served_is_kept}
 use Rattle.client_parts.specs.Calls.{call_on}
-use Rattle.client_parts.specs.Opens.{is_plain, only_reads, is_shareable, kept_handle}
+use Rattle.client_parts.specs.Opens.{is_plain, only_reads, is_shareable, kept_handle, cached_answer}
 use Rattle.client_parts.specs.Targets.{is_on, opening_in, opening_by, dropped, opening_of, sequencer_of}
 use Rattle.client_parts.specs.declared.asks.Ask.{Ask}
 use Rattle.client_parts.specs.declared.asks.Ask.TheVariants as asks
@@ -46,7 +47,7 @@ use Rattle.client_core.specs.declared.plans.Plan.{Plan}
 use Rattle.client_core.specs.declared.plans.Plan.TheVariants as plans
 use Rattle.client_core.specs.State.{ClientState, new_client, note_in, note_live}
 use Rattle.client_parts.specs.Handles.{handle_of, usable_handle, put_under, handles_behind, kept_behind}
-use Rattle.client_core.specs.Serves.{serve_read, read_served, share, entry_served, open_served}
+use Rattle.client_core.specs.Serves.{serve_answer, cached_served, read_served, share, entry_served, open_served}
 use Rattle.client_core.specs.Asks.{send_plan, served_or, open_plan, close_plan, poison_plan, node_plan, sequencer_plan, plan_of, message_of, with_call, with_shared, without_handle}
 use Rattle.client_core.specs.Poisons.{poisoned, with_poisoned}
 use Rattle.client_core.specs.Gives.{closed, sequenced, ended_plainly}
@@ -294,7 +295,7 @@ module _ (s : ClientState) where
   made_entry : (opening : Open) (o : Option (Option View)) → MadeIf s (entry_served s opening o)
   made_entry opening None = tt
   made_entry opening (Some None) = tt
-  made_entry opening (Some (Some view)) = made_if (only_reads opening) (option_map (share s opening view) (serving s.kept opening.name view.instance)) (made_share opening view (serving s.kept opening.name view.instance))
+  made_entry opening (Some (Some view)) = made_if (only_reads opening) (option_map (share s opening view) (serving s.kept opening.name view.node.instance)) (made_share opening view (serving s.kept opening.name view.node.instance))
 
   made_open : (moment : ℕ) (opening : Open) → MadeBy s (open_plan s moment opening)
   made_open moment opening = made_or (open_served s moment opening) (send_plan s (calls.Open opening) None targets.NewHandle)
@@ -312,13 +313,16 @@ module _ (s : ClientState) where
   made_poison number (Err fault) = tt
   made_poison number (Ok handle) = tt
 
-  made_read : (handle : ClientHandle) (o : Option (Option View)) → MadeIf s (option_map (serve_read s handle) o)
-  made_read handle None = tt
-  made_read handle (Some entry) = tt
+  made_given : (handle : ClientHandle) (entry : Option View) (o : Option Answer) → MadeIf s (option_map (serve_answer s handle entry) o)
+  made_given handle entry None = tt
+  made_given handle entry (Some given) = tt
+
+  made_cached : (handle : ClientHandle) (node : NodeCall) (o : Option (Option View)) → MadeIf s (cached_served s handle node o)
+  made_cached handle node None = tt
+  made_cached handle node (Some entry) = made_given handle entry (cached_answer handle node entry)
 
   made_served : (moment : ℕ) (handle : ClientHandle) (node : NodeCall) → MadeIf s (read_served s moment handle node)
-  made_served moment handle node_calls.Read = made_if (handle.mode.read && is_none handle.sequencer) (option_map (serve_read s handle) (answer s.cache moment handle.name)) (made_read handle (answer s.cache moment handle.name))
-  made_served moment handle _ = tt
+  made_served moment handle node = made_if (handle.mode.read && is_none handle.sequencer) (cached_served s handle node (answer s.cache moment handle.name)) (made_cached handle node (answer s.cache moment handle.name))
 
   made_on : (moment number : ℕ) (handle : ClientHandle) (node : NodeCall) → handle_of s.handles number ≡ Some handle → MadeBy s (node_plan s moment number node (Ok handle))
   made_on moment number handle node found = made_or (read_served s moment handle node) (send_plan s (call_on handle.bytes node) handle.sequencer (targets.Handle number)) (made_served moment handle node)

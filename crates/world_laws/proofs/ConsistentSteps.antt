@@ -11,7 +11,7 @@ use Rattle.plain.proofs.OneKey.{lookup_put, lookup_put_apart}
 use Rattle.lease_core.specs.Lease.{longest_lease}
 use Rattle.coherence.specs.Slice.{Reached}
 use Rattle.coherence.proofs.Reached.{reached_at_start}
-use Rattle.node_core.specs.Nodes.{get_node}
+use Rattle.node_core.specs.Nodes.{view_at, with_parent}
 use Rattle.node_core.specs.declared.refusals.Fault.{Fault}
 use Rattle.node_core.specs.declared.refusals.Fault.TheVariants as faults
 use Rattle.node_core.specs.declared.lines.Line.{Line}
@@ -39,11 +39,13 @@ use Rattle.event_core.specs.Queue.{count_of}
 use Rattle.session_core.specs.Session.{events_of, live_beat_fault, beat_fault}
 use Rattle.lock_core.specs.Turns.{reopened}
 use Rattle.lock_core.specs.Locks.{lock_at}
+use Rattle.cell_parts.specs.declared.pending.Task.TheVariants as tasks
 use Rattle.cell_state.specs.State.{MasterState, master_of}
 use Rattle.cell_parts.specs.StoredSessions.{taken_over}
 use Rattle.cell_state.specs.Lookups.{session_of, repeated_reply, noted}
 use Rattle.cell_update.specs.Updates.{with_note, edit_of, lock_changes}
-use Rattle.cell_core.specs.Step.{with_call, asking_for}
+use Rattle.cell_core.proofs.AskedFor.{asks_only}
+use Rattle.cell_core.specs.Step.{with_call, asking_for, queued, names_of}
 use Rattle.cell_core.specs.Cases.{TakeCase, taken_by}
 use Rattle.sweep_laws.specs.SweepCase.{SweepCase, swept_by, swept_edits, gone_replies}
 use Rattle.sweep_laws.proofs.SweepCases.{first_tellings}
@@ -662,18 +664,18 @@ note_clock : (s : MasterState) (note : Option Note) → (with_note s note).clock
 note_clock s None = refl
 note_clock s (Some note) = refl
 
-asking_clock : (s : MasterState) (touched : Option (List ℕ)) → (asking_for s touched).clock ≡ s.clock
-asking_clock s None = refl
-asking_clock s (Some name) = refl
+asking_clock : (s : MasterState) (names : List (List ℕ)) → (asking_for s names).clock ≡ s.clock
+asking_clock s names = ap (λ (t : MasterState). t.clock) (asks_only names s)
 
 pub taken_clock : (s : MasterState) (request : Request) (c : TakeCase s request) → (taken_by s request c).0.clock ≡ s.clock
 taken_clock s request (Answered message note answer new serving answered) = note_clock s note
 taken_clock s request (Granted message note answer name new serving may) = note_clock s note
 taken_clock s request (Waits message note touched new serving admitted) =
-    asking_clock (with_call (with_note s note) message touched) touched ∙ note_clock s note
+    asking_clock (with_call (with_note s note) message touched) (names_of touched) ∙ note_clock s note
 taken_clock s request _ = refl
 
 pub swept_clock : (s : MasterState) (c : SweepCase s) → (swept_by s c).0.clock ≡ s.clock
+swept_clock s (Tidies idle due) = asking_clock (queued s (with_parent idle.name) (tasks.Tidies idle)) (with_parent idle.name)
 swept_clock s (Ended front back asked call sequencer None answer turn work live made) = refl
 swept_clock s (Ended front back asked call sequencer (Some note) answer turn work live made) = refl
 swept_clock s (Applied front back asked call sequencer None change answer turn work live made) = refl
@@ -823,6 +825,6 @@ new_holds cell rows lease range = record {
   lease = range;
   noted = tt;
   fair = tt;
-  reached = λ client name. reached_at_start (get_node (map_of rows) name) (standing_in rows client) rows.epoch;
+  reached = λ client name. reached_at_start (view_at (map_of rows) name) (standing_in rows client) rows.epoch;
   tells = record { sent = λ at alive is. none_out at (outs.Alive alive) is; queued = tt };
 }

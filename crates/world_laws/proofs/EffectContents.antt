@@ -9,11 +9,12 @@ use Rattle.node_core.specs.declared.kinds.Kind.{Kind}
 use Rattle.node_core.specs.declared.kinds.Kind.TheVariants as kinds
 use Rattle.node_core.specs.declared.kinds.Right.{Right}
 use Rattle.node_core.specs.declared.kinds.Right.TheVariants as rights
+use Rattle.node_core.specs.declared.nodes.Node.{Node}
 use Rattle.node_core.specs.declared.views.View.{View}
 use Rattle.node_core.specs.declared.views.Mod.{Mod}
 use Rattle.node_core.specs.declared.views.Mod.TheVariants.{Put, Gone}
 use Rattle.node_core.specs.Limits.{content_limit}
-use Rattle.node_core.specs.Nodes.{Nodes, get_node, has_children}
+use Rattle.node_core.specs.Nodes.{Nodes, get_node, view_of, has_children}
 use Rattle.tags_cell.specs.Modes.{has_right}
 use Rattle.tags_cell.specs.Handles.{read_handle}
 use Rattle.tags_cell.specs.declared.handles.Handle.{Handle}
@@ -43,13 +44,13 @@ use Rattle.cell_state.specs.Lookups.{missing_right, node_of_handle, new_handle, 
 use Rattle.cell_parts.specs.Calls.{is_too_long, content_fault, node_fault, delay_fault, create_fault, write_fault, needing}
 use Rattle.cell_core.specs.Step.{admission_of_open, answering, admission_under, check_admission, handle_admission, admission_of}
 use Rattle.cell_apply.specs.declared.effects.Effect.{Effect}
-use Rattle.cell_apply.specs.Effect.{answered, refused, deleted, create_made, create_numbered, create_permitted, create_in, create_under, create_new, create_over, create_effect, create_under_sequencer, open_effect, generation_fits, is_last, put_at, acquire_by, try_by, release_by, change_at, change_on, effect_on, handle_effect, effect, new_view, acls_of, with_content, with_acls}
+use Rattle.cell_apply.specs.Effect.{answered, refused, deleted, create_made, create_numbered, create_permitted, create_in, create_under, create_new, create_over, create_effect, create_under_sequencer, open_effect, generation_fits, is_last, put_at, acquire_by, try_by, release_by, change_at, change_on, effect_on, handle_effect, effect, new_node, acls_of, with_content, with_acls}
 
 -- a view is that of a node of the map, and a stat tells of one
 abbrev pub IsShown : Nodes → CallResult → Type 0
-IsShown nodes (results.Viewed view) = (name : List ℕ) × (get_node nodes name ≡ Some view)
+IsShown nodes (results.Viewed view) = (name : List ℕ) × (get_node nodes name ≡ Some view.node)
 IsShown nodes (results.Stated stat) =
-    (name : List ℕ) × (view : View) × (get_node nodes name ≡ Some view) × (stat.instance ≡ view.instance) × (stat.content_generation ≡ view.content_generation)
+    (name : List ℕ) × (view : Node) × (get_node nodes name ≡ Some view) × (stat.instance ≡ view.instance) × (stat.content_generation ≡ view.content_generation)
 IsShown nodes _ = Unit {0}
 
 -- a first answer, if there is one
@@ -58,10 +59,10 @@ IsShownIf nodes None = Unit {0}
 IsShownIf nodes (Some answer) = IsShown nodes answer
 
 -- a new node, or one of the map with no older content
-abbrev pub IsRenewed : MasterState → View → Type 0
+abbrev pub IsRenewed : MasterState → Node → Type 0
 IsRenewed s view =
     (s.next_instance ≤ view.instance)
-    ⊎ ((name : List ℕ) × (former : View) × (get_node s.nodes name ≡ Some former) × (former.instance ≡ view.instance) × (former.content_generation ≤ view.content_generation))
+    ⊎ ((name : List ℕ) × (former : Node) × (get_node s.nodes name ≡ Some former) × (former.instance ≡ view.instance) × (former.content_generation ≤ view.content_generation))
 
 abbrev pub Renews : MasterState → Mod → Type 0
 Renews s (Put name view) = IsRenewed s view
@@ -90,10 +91,10 @@ one_more n = omega arith
 
 module _ (s : MasterState) where
   -- the node that a handle shows
-  node_shown : (handle : Handle) (o : Option View) (view : View) → get_node s.nodes handle.name ≡ o → option_map_or (λ (v : View). cond (v.instance == handle.instance) (Some v) None) o None ≡ Some view → get_node s.nodes handle.name ≡ Some view
+  node_shown : (handle : Handle) (o : Option Node) (view : Node) → get_node s.nodes handle.name ≡ o → option_map_or (λ (v : Node). cond (v.instance == handle.instance) (Some v) None) o None ≡ Some view → get_node s.nodes handle.name ≡ Some view
   node_shown handle None view found is = cc
   node_shown handle (Some v) view found is =
-      (elim (v.instance == handle.instance) as (λ b. ◌≡◌ {A = Option View} (cond b (Some v) None) (Some view) → get_node s.nodes handle.name ≡ Some view) [
+      (elim (v.instance == handle.instance) as (λ b. ◌≡◌ {A = Option Node} (cond b (Some v) None) (Some view) → get_node s.nodes handle.name ≡ Some view) [
         | true ↦ (λ k. found ∙ k)
         | false ↦ (λ k. cc)
       ]) is
@@ -125,9 +126,9 @@ module _ (s : MasterState) where
   write_shown kinds.Directory content = tt
   write_shown kinds.File content = content_shown content
 
-  list_shown : (name : List ℕ) (kind : Kind) → IsShown s.nodes (list_answer (name_space s) name kind)
-  list_shown name kinds.Directory = tt
-  list_shown name kinds.File = tt
+  list_shown : (view : View) (kind : Kind) → IsShown s.nodes (list_answer view kind)
+  list_shown view kinds.Directory = tt
+  list_shown view kinds.File = tt
 
   needing_shown : (handle : Handle) (right : Right) (answer : Option CallResult) → IsShownIf s.nodes answer → IsShownIf s.nodes (needing handle right answer)
   needing_shown handle right answer h = either (IsShownIf s.nodes) (has_right handle.mode right) answer (Some (results.Refused (faults.Denied right))) h tt
@@ -139,12 +140,12 @@ module _ (s : MasterState) where
   sequencer_shown (Ok sequencer) = tt
   sequencer_shown (Err fault) = tt
 
-  on_node_shown : (handle : Handle) (call : Call) (view : View) → get_node s.nodes handle.name ≡ Some view → IsShownIf s.nodes (answer_on_node (name_space s) handle call view)
+  on_node_shown : (handle : Handle) (call : Call) (view : Node) → get_node s.nodes handle.name ≡ Some view → IsShownIf s.nodes (answer_on_node (name_space s) handle call view)
   on_node_shown handle (calls.Open opening) view found = tt
   on_node_shown handle (calls.Close bytes) view found = tt
-  on_node_shown handle (calls.Read bytes) view found = needing_shown handle rights.Read (Some (results.Viewed view)) (handle.name, found)
+  on_node_shown handle (calls.Read bytes) view found = needing_shown handle rights.Read (Some (results.Viewed (view_of s.nodes handle.name view))) (handle.name, found)
   on_node_shown handle (calls.Stat bytes) view found = (handle.name, view, found, refl, refl)
-  on_node_shown handle (calls.List bytes) view found = needing_shown handle rights.Read (Some (list_answer (name_space s) handle.name view.kind)) (list_shown handle.name view.kind)
+  on_node_shown handle (calls.List bytes) view found = needing_shown handle rights.Read (Some (list_answer (view_of s.nodes handle.name view) view.kind)) (list_shown (view_of s.nodes handle.name view) view.kind)
   on_node_shown handle (calls.Set bytes content generation) view found = needing_shown handle rights.Write (write_fault view.kind content) (write_shown view.kind content)
   on_node_shown handle (calls.SetAcl bytes acls generation) view found = needing_shown handle rights.Change None tt
   on_node_shown handle (calls.Delete bytes) view found = needing_shown handle rights.Write None tt
@@ -155,7 +156,7 @@ module _ (s : MasterState) where
   on_node_shown handle (calls.SetSequencer bytes) view found = tt
   on_node_shown handle (calls.CheckSequencer bytes) view found = tt
 
-  on_node_under_shown : (handle : Handle) (call : Call) (view : View) (o : Option Fault) → get_node s.nodes handle.name ≡ Some view → IsShownIf s.nodes (answer_under (name_space s) handle call view o)
+  on_node_under_shown : (handle : Handle) (call : Call) (view : Node) (o : Option Fault) → get_node s.nodes handle.name ≡ Some view → IsShownIf s.nodes (answer_under (name_space s) handle call view o)
   on_node_under_shown handle call view (Some fault) found = tt
   on_node_under_shown handle call view None found = on_node_shown handle call view found
 
@@ -224,29 +225,29 @@ module _ (s : MasterState) where
 
   -- a node is made
 
-  made_faithful : (opening : Open) (view : View) (made : Result Handle Fault) → s.next_instance ≤ view.instance → IsFaithful s (create_made (name_space s) opening view made)
+  made_faithful : (opening : Open) (view : Node) (made : Result Handle Fault) → s.next_instance ≤ view.instance → IsFaithful s (create_made (name_space s) opening view made)
   made_faithful opening view (Ok handle) new = (inl new, tt)
   made_faithful opening view (Err fault) new = (tt, tt)
 
   module _ (client number : ℕ) (opening : Open) where
-    numbered_faithful : (view : View) → s.next_instance ≤ view.instance → IsFaithful s (create_numbered (name_space s) (caller s client) number opening view)
+    numbered_faithful : (view : Node) → s.next_instance ≤ view.instance → IsFaithful s (create_numbered (name_space s) (caller s client) number opening view)
     numbered_faithful view new =
         either (IsFaithful s) (is_last s.next_instance) (refused faults.Exhausted) (create_made (name_space s) opening view (new_handle (name_space s) (caller s client) number opening view)) (tt, tt) (made_faithful opening view (new_handle (name_space s) (caller s client) number opening view) new)
 
-    permitted_faithful : (view : View) → s.next_instance ≤ view.instance → IsFaithful s (create_permitted (name_space s) (caller s client) number opening view)
+    permitted_faithful : (view : Node) → s.next_instance ≤ view.instance → IsFaithful s (create_permitted (name_space s) (caller s client) number opening view)
     permitted_faithful view new =
         found_or (IsFaithful s) (λ (right : Right). refused (faults.Denied right)) (missing_right (name_space s) (caller s client) opening.mode view) (create_numbered (name_space s) (caller s client) number opening view) (λ right is. (tt, tt)) (numbered_faithful view new)
 
-    in_faithful : (create : Create) (above : View) (kind : Kind) → IsFaithful s (create_in (name_space s) (caller s client) number opening create above kind)
+    in_faithful : (create : Create) (above : Node) (kind : Kind) → IsFaithful s (create_in (name_space s) (caller s client) number opening create above kind)
     in_faithful create above kinds.File = (tt, tt)
     in_faithful create above kinds.Directory =
-        either (IsFaithful s) (may (name_space s) (caller s client) above rights.Write) _ (refused (faults.Denied rights.Write)) (permitted_faithful (new_view s.next_instance create.node create.life (acls_of above create.acls)) (least s.next_instance)) (tt, tt)
+        either (IsFaithful s) (may (name_space s) (caller s client) above rights.Write) _ (refused (faults.Denied rights.Write)) (permitted_faithful (new_node s.next_instance create.node create.life (acls_of above create.acls)) (least s.next_instance)) (tt, tt)
 
-    under_faithful : (create : Create) (o : Option View) → IsFaithful s (create_under (name_space s) (caller s client) number opening create o)
+    under_faithful : (create : Create) (o : Option Node) → IsFaithful s (create_under (name_space s) (caller s client) number opening create o)
     under_faithful create None = (tt, tt)
     under_faithful create (Some above) = in_faithful create above above.kind
 
-    over_faithful : (disposition : Disposition) (view : View) → IsFaithful s (create_over (name_space s) (caller s client) number opening disposition view)
+    over_faithful : (disposition : Disposition) (view : Node) → IsFaithful s (create_over (name_space s) (caller s client) number opening disposition view)
     over_faithful Must view = (tt, tt)
     over_faithful May view = (tt, opened_shown (open_present (name_space s) (caller s client) number opening view))
 
@@ -269,7 +270,7 @@ module _ (s : MasterState) where
 
   -- a node that stands
 
-  put_faithful : (handle : Handle) (present : ℕ) (wanted : Option ℕ) (view : View) → IsRenewed s view → IsFaithful s (put_at (name_space s) handle present wanted view)
+  put_faithful : (handle : Handle) (present : ℕ) (wanted : Option ℕ) (view : Node) → IsRenewed s view → IsFaithful s (put_at (name_space s) handle present wanted view)
   put_faithful handle present wanted view renewed =
       either (IsFaithful s) (generation_fits wanted present) _ (refused (faults.WrongGeneration present)) (either (IsFaithful s) (is_last present) (refused faults.Exhausted) _ (tt, tt) (renewed, tt)) (tt, tt)
 
@@ -286,7 +287,7 @@ module _ (s : MasterState) where
   released_faithful handle (Ok turn) = (tt, tt)
   released_faithful handle (Err fault) = (tt, tt)
 
-  change_faithful : (handle : Handle) (call : Call) (view : View) → get_node s.nodes handle.name ≡ Some view → IsFaithful s (change_at (name_space s) s.clock handle call view)
+  change_faithful : (handle : Handle) (call : Call) (view : Node) → get_node s.nodes handle.name ≡ Some view → IsFaithful s (change_at (name_space s) s.clock handle call view)
   change_faithful handle (calls.Open opening) view found = (tt, tt)
   change_faithful handle (calls.Close bytes) view found = (tt, tt)
   change_faithful handle (calls.Read bytes) view found = (tt, tt)

@@ -13,7 +13,7 @@ use Rattle.node_core.specs.declared.kinds.Kind.{Kind}
 use Rattle.node_core.specs.declared.kinds.Kind.TheVariants as kinds
 use Rattle.node_core.specs.declared.kinds.Right.{Right}
 use Rattle.node_core.specs.declared.kinds.Right.TheVariants as rights
-use Rattle.node_core.specs.declared.views.View.{View}
+use Rattle.node_core.specs.declared.nodes.Node.{Node}
 use Rattle.node_core.specs.declared.views.Mod.{Mod}
 use Rattle.node_core.specs.declared.views.Mod.TheVariants.{Put, Gone}
 use Rattle.node_core.specs.Nodes.{Nodes, get_node, has_children}
@@ -41,7 +41,7 @@ use Rattle.cell_state.specs.Lookups.{missing_right, node_of_handle, new_handle, 
 use Rattle.cell_parts.specs.Calls.{create_fault}
 use Rattle.sweep_laws.specs.Kept.{is_there}
 use Rattle.cell_apply.specs.declared.effects.Effect.{Effect}
-use Rattle.cell_apply.specs.Effect.{answered, refused, deleted, create_made, create_numbered, create_permitted, create_in, create_under, create_new, create_over, create_effect, create_under_sequencer, open_effect, generation_fits, is_last, put_at, acquire_by, try_by, release_by, change_at, change_on, effect_on, handle_effect, effect, new_view, acls_of, with_content, with_acls}
+use Rattle.cell_apply.specs.Effect.{answered, refused, deleted, create_made, create_numbered, create_permitted, create_in, create_under, create_new, create_over, create_effect, create_under_sequencer, open_effect, generation_fits, is_last, put_at, acquire_by, try_by, release_by, change_at, change_on, effect_on, handle_effect, effect, new_node, acls_of, with_content, with_acls}
 
 -- the instance of a node that is put
 abbrev pub IsGiven : MasterState → Mod → Type 0
@@ -78,26 +78,26 @@ same_number n = grind (arith, nat_tests)
 
 -- ---- a create
 
-made_gives : (s : MasterState) (opening : Open) (view : View) (made : Result Handle Fault) → s.next_instance ≤ view.instance → GivesBy s (create_made (name_space s) opening view made)
+made_gives : (s : MasterState) (opening : Open) (view : Node) (made : Result Handle Fault) → s.next_instance ≤ view.instance → GivesBy s (create_made (name_space s) opening view made)
 made_gives s opening view (Ok handle) new = record { given = inr new; next = one_more s.next_instance }
 made_gives s opening view (Err fault) new = tt
 
 module _ (s : MasterState) (client number : ℕ) (opening : Open) where
-  numbered_gives : (view : View) → s.next_instance ≤ view.instance → GivesBy s (create_numbered (name_space s) (caller s client) number opening view)
+  numbered_gives : (view : Node) → s.next_instance ≤ view.instance → GivesBy s (create_numbered (name_space s) (caller s client) number opening view)
   numbered_gives view new = either s (is_last s.next_instance) (refused faults.Exhausted) (create_made (name_space s) opening view (new_handle (name_space s) (caller s client) number opening view)) tt (made_gives s opening view (new_handle (name_space s) (caller s client) number opening view) new)
 
-  permitted_gives : (view : View) → s.next_instance ≤ view.instance → GivesBy s (create_permitted (name_space s) (caller s client) number opening view)
+  permitted_gives : (view : Node) → s.next_instance ≤ view.instance → GivesBy s (create_permitted (name_space s) (caller s client) number opening view)
   permitted_gives view new = found_or s (λ (right : Right). refused (faults.Denied right)) (missing_right (name_space s) (caller s client) opening.mode view) (create_numbered (name_space s) (caller s client) number opening view) (λ right is. tt) (numbered_gives view new)
 
-  in_gives : (create : Create) (above : View) (kind : Kind) → GivesBy s (create_in (name_space s) (caller s client) number opening create above kind)
+  in_gives : (create : Create) (above : Node) (kind : Kind) → GivesBy s (create_in (name_space s) (caller s client) number opening create above kind)
   in_gives create above kinds.File = tt
-  in_gives create above kinds.Directory = either s (may (name_space s) (caller s client) above rights.Write) _ (refused (faults.Denied rights.Write)) (permitted_gives (new_view s.next_instance create.node create.life (acls_of above create.acls)) (itself s.next_instance)) tt
+  in_gives create above kinds.Directory = either s (may (name_space s) (caller s client) above rights.Write) _ (refused (faults.Denied rights.Write)) (permitted_gives (new_node s.next_instance create.node create.life (acls_of above create.acls)) (itself s.next_instance)) tt
 
-  under_gives : (create : Create) (o : Option View) → GivesBy s (create_under (name_space s) (caller s client) number opening create o)
+  under_gives : (create : Create) (o : Option Node) → GivesBy s (create_under (name_space s) (caller s client) number opening create o)
   under_gives create None = tt
   under_gives create (Some above) = in_gives create above above.kind
 
-  over_gives : (disposition : Disposition) (view : View) → GivesBy s (create_over (name_space s) (caller s client) number opening disposition view)
+  over_gives : (disposition : Disposition) (view : Node) → GivesBy s (create_over (name_space s) (caller s client) number opening disposition view)
   over_gives Must view = tt
   over_gives May view = tt
 
@@ -116,18 +116,18 @@ module _ (s : MasterState) (client number : ℕ) (opening : Open) where
 -- ---- a node that stands
 
 -- the node that a handle shows is there
-node_there : (nodes : Nodes) (name : List ℕ) (view : View) → get_node nodes name ≡ Some view → is_there nodes view.instance ≡ true
-node_there nodes name view found = any_found (is_at (slice_cmp nat_cmp name)) (λ (v : View). v.instance == view.instance) nodes view found (same_number view.instance)
+node_there : (nodes : Nodes) (name : List ℕ) (view : Node) → get_node nodes name ≡ Some view → is_there nodes view.instance ≡ true
+node_there nodes name view found = any_found (is_at (slice_cmp nat_cmp name)) (λ (v : Node). v.instance == view.instance) nodes view found (same_number view.instance)
 
-shown_there : (nodes : Nodes) (name : List ℕ) (instance : ℕ) (o : Option View) (view : View) → get_node nodes name ≡ o → option_map_or (λ (v : View). cond (v.instance == instance) (Some v) None) o None ≡ Some view → is_there nodes view.instance ≡ true
+shown_there : (nodes : Nodes) (name : List ℕ) (instance : ℕ) (o : Option Node) (view : Node) → get_node nodes name ≡ o → option_map_or (λ (v : Node). cond (v.instance == instance) (Some v) None) o None ≡ Some view → is_there nodes view.instance ≡ true
 shown_there nodes name instance None view found is = absurd cc
 shown_there nodes name instance (Some v) view found is =
-    (elim (v.instance == instance) as (λ b. ◌≡◌ {A = Option View} (cond b (Some v) None) (Some view) → is_there nodes view.instance ≡ true) [
+    (elim (v.instance == instance) as (λ b. ◌≡◌ {A = Option Node} (cond b (Some v) None) (Some view) → is_there nodes view.instance ≡ true) [
       | true ↦ (λ k. let same : v ≡ view = cc in node_there nodes name view (found ∙ ap (λ x. Some x) same))
       | false ↦ (λ k. absurd cc)
     ]) is
 
-put_gives : (s : MasterState) (handle : Handle) (present : ℕ) (wanted : Option ℕ) (view : View) → is_there s.nodes view.instance ≡ true → GivesBy s (put_at (name_space s) handle present wanted view)
+put_gives : (s : MasterState) (handle : Handle) (present : ℕ) (wanted : Option ℕ) (view : Node) → is_there s.nodes view.instance ≡ true → GivesBy s (put_at (name_space s) handle present wanted view)
 put_gives s handle present wanted view there =
     either s (generation_fits wanted present) _ (refused (faults.WrongGeneration present)) (either s (is_last present) (refused faults.Exhausted) _ tt (record { given = inl there; next = itself s.next_instance })) tt
 
@@ -144,7 +144,7 @@ released_gives : (s : MasterState) (handle : Handle) (o : Result Turn Fault) →
 released_gives s handle (Ok turn) = tt
 released_gives s handle (Err fault) = tt
 
-change_gives : (s : MasterState) (handle : Handle) (call : Call) (view : View) → is_there s.nodes view.instance ≡ true → GivesBy s (change_at (name_space s) s.clock handle call view)
+change_gives : (s : MasterState) (handle : Handle) (call : Call) (view : Node) → is_there s.nodes view.instance ≡ true → GivesBy s (change_at (name_space s) s.clock handle call view)
 change_gives s handle (calls.Open opening) view there = tt
 change_gives s handle (calls.Close bytes) view there = tt
 change_gives s handle (calls.Read bytes) view there = tt

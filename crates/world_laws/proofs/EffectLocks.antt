@@ -9,7 +9,7 @@ use Rattle.node_core.specs.declared.kinds.Kind.{Kind}
 use Rattle.node_core.specs.declared.kinds.Kind.TheVariants as kinds
 use Rattle.node_core.specs.declared.kinds.Right.{Right}
 use Rattle.node_core.specs.declared.kinds.Right.TheVariants as rights
-use Rattle.node_core.specs.declared.views.View.{View}
+use Rattle.node_core.specs.declared.nodes.Node.{Node}
 use Rattle.node_core.specs.declared.views.Mod.{Mod}
 use Rattle.node_core.specs.declared.views.Mod.TheVariants.{Put, Gone}
 use Rattle.node_core.specs.Nodes.{get_node, has_children}
@@ -38,7 +38,7 @@ use Rattle.cell_parts.specs.Calls.{create_fault}
 use Rattle.cell_apply.specs.declared.effects.Effect.{Effect}
 use Rattle.cell_apply.specs.declared.effects.Locking.{Locking}
 use Rattle.cell_apply.specs.declared.effects.Locking.TheVariants.{Nothing, Takes, Waits, Leaves, Goes}
-use Rattle.cell_apply.specs.Effect.{answered, refused, deleted, create_made, create_numbered, create_permitted, create_in, create_under, create_new, create_over, create_effect, create_under_sequencer, open_effect, generation_fits, is_last, put_at, acquire_by, try_by, release_by, close_by, close_under, change_at, change_on, effect_on, handle_effect, effect, new_view, acls_of, with_content, with_acls}
+use Rattle.cell_apply.specs.Effect.{answered, refused, deleted, create_made, create_numbered, create_permitted, create_in, create_under, create_new, create_over, create_effect, create_under_sequencer, open_effect, generation_fits, is_last, put_at, acquire_by, try_by, release_by, close_by, close_under, change_at, change_on, effect_on, handle_effect, effect, new_node, acls_of, with_content, with_acls}
 use Rattle.world_laws.proofs.LocksRise.{RisesTo, RisesBy, RisesIf, RisesWhere, rises_tried, rises_acquired, rises_released, rises_closed}
 
 abbrev pub IsGone : Mod → Type 0
@@ -70,26 +70,26 @@ found_or s f (Some x) y h k = h x
 
 -- ---- a create
 
-made_raises : (s : MasterState) (opening : Open) (view : View) (made : Result Handle Fault) → Raises s (create_made (name_space s) opening view made)
+made_raises : (s : MasterState) (opening : Open) (view : Node) (made : Result Handle Fault) → Raises s (create_made (name_space s) opening view made)
 made_raises s opening view (Ok handle) = tt
 made_raises s opening view (Err fault) = tt
 
 module _ (s : MasterState) (client number : ℕ) (opening : Open) where
-  numbered_raises : (view : View) → Raises s (create_numbered (name_space s) (caller s client) number opening view)
+  numbered_raises : (view : Node) → Raises s (create_numbered (name_space s) (caller s client) number opening view)
   numbered_raises view = either s (is_last s.next_instance) (refused faults.Exhausted) (create_made (name_space s) opening view (new_handle (name_space s) (caller s client) number opening view)) tt (made_raises s opening view (new_handle (name_space s) (caller s client) number opening view))
 
-  permitted_raises : (view : View) → Raises s (create_permitted (name_space s) (caller s client) number opening view)
+  permitted_raises : (view : Node) → Raises s (create_permitted (name_space s) (caller s client) number opening view)
   permitted_raises view = found_or s (λ (right : Right). refused (faults.Denied right)) (missing_right (name_space s) (caller s client) opening.mode view) (create_numbered (name_space s) (caller s client) number opening view) (λ right. tt) (numbered_raises view)
 
-  in_raises : (create : Create) (above : View) (kind : Kind) → Raises s (create_in (name_space s) (caller s client) number opening create above kind)
+  in_raises : (create : Create) (above : Node) (kind : Kind) → Raises s (create_in (name_space s) (caller s client) number opening create above kind)
   in_raises create above kinds.File = tt
-  in_raises create above kinds.Directory = either s (may (name_space s) (caller s client) above rights.Write) _ (refused (faults.Denied rights.Write)) (permitted_raises (new_view s.next_instance create.node create.life (acls_of above create.acls))) tt
+  in_raises create above kinds.Directory = either s (may (name_space s) (caller s client) above rights.Write) _ (refused (faults.Denied rights.Write)) (permitted_raises (new_node s.next_instance create.node create.life (acls_of above create.acls))) tt
 
-  under_raises : (create : Create) (o : Option View) → Raises s (create_under (name_space s) (caller s client) number opening create o)
+  under_raises : (create : Create) (o : Option Node) → Raises s (create_under (name_space s) (caller s client) number opening create o)
   under_raises create None = tt
   under_raises create (Some above) = in_raises create above above.kind
 
-  over_raises : (disposition : Disposition) (view : View) → Raises s (create_over (name_space s) (caller s client) number opening disposition view)
+  over_raises : (disposition : Disposition) (view : Node) → Raises s (create_over (name_space s) (caller s client) number opening disposition view)
   over_raises Must view = tt
   over_raises May view = tt
 
@@ -107,7 +107,7 @@ module _ (s : MasterState) (client number : ℕ) (opening : Open) where
 
 -- ---- a node that stands
 
-put_raises : (s : MasterState) (handle : Handle) (present : ℕ) (wanted : Option ℕ) (view : View) → Raises s (put_at (name_space s) handle present wanted view)
+put_raises : (s : MasterState) (handle : Handle) (present : ℕ) (wanted : Option ℕ) (view : Node) → Raises s (put_at (name_space s) handle present wanted view)
 put_raises s handle present wanted view =
     either s (generation_fits wanted present) _ (refused (faults.WrongGeneration present)) (either s (is_last present) (refused faults.Exhausted) _ tt tt) tt
 
@@ -129,11 +129,11 @@ closed_raises s handle None h = tt
 closed_raises s handle (Some turn) h = h
 
 -- a Close where the node is gone leaves every lock
-shut_raises : (s : MasterState) (handle : Handle) (o : Option View) → RaisesIn s None (close_under (name_space s) handle o)
+shut_raises : (s : MasterState) (handle : Handle) (o : Option Node) → RaisesIn s None (close_under (name_space s) handle o)
 shut_raises s handle None = tt
 shut_raises s handle (Some view) = closed_raises s handle (closed_by (lock_under (name_space s) handle) (owner_of handle)) (rises_closed (lock_under (name_space s) handle) (owner_of handle))
 
-change_raises : (s : MasterState) (handle : Handle) (call : Call) (view : View) → Raises s (change_at (name_space s) s.clock handle call view)
+change_raises : (s : MasterState) (handle : Handle) (call : Call) (view : Node) → Raises s (change_at (name_space s) s.clock handle call view)
 change_raises s handle (calls.Open opening) view = tt
 change_raises s handle (calls.Close bytes) view = tt
 change_raises s handle (calls.Read bytes) view = tt

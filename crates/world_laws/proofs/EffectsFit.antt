@@ -15,16 +15,16 @@ use Rattle.node_core.specs.declared.kinds.Kind.TheVariants.{File, Directory}
 use Rattle.node_core.specs.declared.kinds.Life.{Life}
 use Rattle.node_core.specs.declared.kinds.Right.{Right}
 use Rattle.node_core.specs.declared.kinds.Right.TheVariants as rights
-use Rattle.node_core.specs.declared.views.View.{View}
+use Rattle.node_core.specs.declared.nodes.Node.{Node}
 use Rattle.node_core.specs.declared.views.Mod.{Mod}
 use Rattle.node_core.specs.declared.views.Mod.TheVariants.{Put, Gone}
 use Rattle.node_core.specs.Limits.{content_limit, number_limit}
 use Rattle.node_core.specs.Nodes.{Nodes, get_node, has_children, or_else, parent_kind_misfit, directory_misfit, parent_misfit, limit_misfit, kind_misfit, present_misfit, misfit}
-use Rattle.rows_cell.specs.declared.tables.Node.{Node}
+use Rattle.rows_cell.specs.declared.tables.StoredNode.{StoredNode}
 use Rattle.rows_cell.specs.declared.tables.Rows.{Rows}
 use Rattle.rows_cell.specs.Rows.{stored_node, map_of}
 use Rattle.rows_cell.specs.Sound.{is_number, is_directory, is_directory_at, numbers_fit, content_fits, parent_fits}
-use Rattle.rows_cell.proofs.RowViews.{views_get}
+use Rattle.rows_cell.proofs.RowNodes.{nodes_get}
 use Rattle.rows_cell.proofs.SoundChanges.{found_fits, sound_numbers}
 use Rattle.rows_cell.proofs.SoundParts.{five_parts}
 use Rattle.tags_cell.specs.Modes.{has_right}
@@ -57,7 +57,7 @@ use Rattle.cell_state.specs.State.{MasterState}
 use Rattle.cell_state.specs.Lookups.{missing_right, node_of_handle, new_handle, sequencer_fault, lock_under, answer_on_node, answer_under, is_of_cell, may}
 use Rattle.cell_parts.specs.Calls.{node_fault, delay_fault, create_fault, write_fault, needing, bytes_of}
 use Rattle.cell_apply.specs.declared.effects.Effect.{Effect}
-use Rattle.cell_apply.specs.Effect.{answered, refused, changes_to, deleted, create_made, create_numbered, create_permitted, create_in, create_under, create_new, create_over, create_effect, create_under_sequencer, open_effect, generation_fits, is_last, put_at, acquire_by, try_by, release_by, delete_at, change_at, change_on, effect_on, handle_effect, effect, new_view, acls_of, with_content, with_acls}
+use Rattle.cell_apply.specs.Effect.{answered, refused, changes_to, deleted, create_made, create_numbered, create_permitted, create_in, create_under, create_new, create_over, create_effect, create_under_sequencer, open_effect, generation_fits, is_last, put_at, acquire_by, try_by, release_by, delete_at, change_at, change_on, effect_on, handle_effect, effect, new_node, acls_of, with_content, with_acls}
 use Rattle.sweep_laws.specs.Kept.{IsKept}
 use Rattle.world_laws.specs.Runs.{change_of}
 
@@ -105,12 +105,12 @@ given_not_above n next limit given most = grind (arith, nat_tests)
 none_not_above : (n limit : ℕ) → (n == 0) ≡ true → nat_lt limit n ≡ false
 none_not_above n limit h = grind (arith, nat_tests)
 
-limits_fit : (view : View) → nat_lt content_limit (length view.content) ≡ false → nat_lt number_limit view.instance ≡ false → nat_lt number_limit view.content_generation ≡ false → nat_lt number_limit view.acl_generation ≡ false → limit_misfit view ≡ None
+limits_fit : (view : Node) → nat_lt content_limit (length view.content) ≡ false → nat_lt number_limit view.instance ≡ false → nat_lt number_limit view.content_generation ≡ false → nat_lt number_limit view.acl_generation ≡ false → limit_misfit view ≡ None
 limits_fit view content instance written acl =
     within_limits (nat_lt content_limit (length view.content)) (nat_lt number_limit view.instance) (nat_lt number_limit view.content_generation) (nat_lt number_limit view.acl_generation) content instance written acl
 
 -- a content that fits its kind
-content_within : (kind : Kind) (view : View) → content_fits kind view ≡ true → nat_lt content_limit (length view.content) ≡ false
+content_within : (kind : Kind) (view : Node) → content_fits kind view ≡ true → nat_lt content_limit (length view.content) ≡ false
 content_within File view h = not_above (length view.content) content_limit h
 content_within Directory view h = none_not_above (length view.content) content_limit (and_parts (view.content_generation == 0) (length view.content == 0) h).1
 
@@ -120,11 +120,11 @@ written_within File content h = no_refusal (nat_lt content_limit (length content
 written_within Directory content h = cc
 
 -- and that of a new node
-new_content_within : (node : NewNode) (instance : ℕ) (life : Life) (acls : AclNames) → node_fault node ≡ None → nat_lt content_limit (length (new_view instance node life acls).content) ≡ false
+new_content_within : (node : NewNode) (instance : ℕ) (life : Life) (acls : AclNames) → node_fault node ≡ None → nat_lt content_limit (length (new_node instance node life acls).content) ≡ false
 new_content_within (made.File content) instance life acls h = no_refusal (nat_lt content_limit (length content)) (results.Refused faults.TooLarge) h
 new_content_within made.Directory instance life acls h = refl
 
-new_number_within : (node : NewNode) (instance : ℕ) (life : Life) (acls : AclNames) → nat_lt number_limit (new_view instance node life acls).content_generation ≡ false
+new_number_within : (node : NewNode) (instance : ℕ) (life : Life) (acls : AclNames) → nat_lt number_limit (new_node instance node life acls).content_generation ≡ false
 new_number_within (made.File content) instance life acls = refl
 new_number_within made.Directory instance life acls = refl
 
@@ -134,18 +134,18 @@ all_fit : (parent limit present : Option NodeFault) → parent ≡ None → limi
 all_fit None None present h i j = j
 all_fit _ _ present h i j = cc
 
-put_fits : (nodes : Nodes) (name : List ℕ) (view : View) → parent_misfit nodes name ≡ None → limit_misfit view ≡ None → present_misfit (get_node nodes name) view ≡ None → misfit nodes (Put name view) ≡ None
+put_fits : (nodes : Nodes) (name : List ℕ) (view : Node) → parent_misfit nodes name ≡ None → limit_misfit view ≡ None → present_misfit (get_node nodes name) view ≡ None → misfit nodes (Put name view) ≡ None
 put_fits nodes name view parent limit present = all_fit (parent_misfit nodes name) (limit_misfit view) (present_misfit (get_node nodes name) view) parent limit present
 
 neither : (absent stays : Bool) → absent ≡ false → stays ≡ false → cond absent (Some NotFound) (cond stays (Some NotEmpty) None) ≡ None
 neither false false h k = refl
 neither _ _ h k = cc
 
-gone_fits : (nodes : Nodes) (name : List ℕ) (view : View) → get_node nodes name ≡ Some view → (has_children nodes name || is_none (parent_of name)) ≡ false → misfit nodes (Gone name) ≡ None
-gone_fits nodes name view found free = neither (is_none (get_node nodes name)) (has_children nodes name || is_none (parent_of name)) (ap (λ (o : Option View). is_none o) found) free
+gone_fits : (nodes : Nodes) (name : List ℕ) (view : Node) → get_node nodes name ≡ Some view → (has_children nodes name || is_none (parent_of name)) ≡ false → misfit nodes (Gone name) ≡ None
+gone_fits nodes name view found free = neither (is_none (get_node nodes name)) (has_children nodes name || is_none (parent_of name)) (ap (λ (o : Option Node). is_none o) found) free
 
 -- an ephemeral node goes that nobody holds open
-pub idle_fits : (s : MasterState) (name : List ℕ) (view : View) → get_node s.nodes name ≡ Some view → is_idle_node s name view ≡ true → misfit s.nodes (Gone name) ≡ None
+pub idle_fits : (s : MasterState) (name : List ℕ) (view : Node) → get_node s.nodes name ≡ Some view → is_idle_node s name view ≡ true → misfit s.nodes (Gone name) ≡ None
 idle_fits s name view found idle =
     let stays : Bool = has_to_stay s name in
     gone_fits s.nodes name view found (not-true stays (and_parts (is_ephemeral view.life && not (has_open s view.instance)) (not stays) idle).1)
@@ -167,24 +167,24 @@ is_directory_kind : (kind : Kind) → is_directory kind ≡ true → parent_kind
 is_directory_kind File h = cc
 is_directory_kind Directory h = refl
 
-is_directory_node : (o : Option Node) → option_map_or (λ (node : Node). is_directory node.view.kind) o false ≡ true → directory_misfit (option_map (λ (node : Node). node.view) o) ≡ None
+is_directory_node : (o : Option StoredNode) → option_map_or (λ (node : StoredNode). is_directory node.node.kind) o false ≡ true → directory_misfit (option_map (λ (node : StoredNode). node.node) o) ≡ None
 is_directory_node None h = cc
-is_directory_node (Some node) h = is_directory_kind node.view.kind h
+is_directory_node (Some node) h = is_directory_kind node.node.kind h
 
 stored_parent_fits : (rows : Rows) (o : Option (List ℕ)) → option_map_or (λ parent. is_directory_at rows.nodes parent) o true ≡ true → option_map_or (λ parent. directory_misfit (get_node (map_of rows) parent)) o None ≡ None
 stored_parent_fits rows None h = refl
-stored_parent_fits rows (Some parent) h = ap (λ (o : Option View). directory_misfit o) (views_get rows.nodes parent) ∙ is_directory_node (stored_node rows.nodes parent) h
+stored_parent_fits rows (Some parent) h = ap (λ (o : Option Node). directory_misfit o) (nodes_get rows.nodes parent) ∙ is_directory_node (stored_node rows.nodes parent) h
 
-some_node : (o : Option Node) (view : View) → option_map (λ (node : Node). node.view) o ≡ Some view → (node : Node) × (o ≡ Some node) × (node.view ≡ view)
+some_node : (o : Option StoredNode) (view : Node) → option_map (λ (node : StoredNode). node.node) o ≡ Some view → (node : StoredNode) × (o ≡ Some node) × (node.node ≡ view)
 some_node None view h = cc
-some_node (Some node) view h = let same : node.view ≡ view = cc in (node, refl, same)
+some_node (Some node) view h = let same : node.node ≡ view = cc in (node, refl, same)
 
 four_parts : (a b c d : Bool) → (a && b && c && d) ≡ true → (a ≡ true) × (b ≡ true) × (c ≡ true) × (d ≡ true)
 four_parts true true true true h = (refl, refl, refl, refl)
 four_parts _ _ _ _ h = cc
 
 -- its parent is a directory, its content and its numbers are within their limits
-record Standing (nodes : Nodes) (name : List ℕ) (view : View) : Type 0 where
+record Standing (nodes : Nodes) (name : List ℕ) (view : Node) : Type 0 where
   parent : parent_misfit nodes name ≡ None
   instance : nat_lt number_limit view.instance ≡ false
   written : nat_lt number_limit view.content_generation ≡ false
@@ -192,23 +192,23 @@ record Standing (nodes : Nodes) (name : List ℕ) (view : View) : Type 0 where
   content : nat_lt content_limit (length view.content) ≡ false
 
 module _ (cell : List ℕ) (rows : Rows) (s : MasterState) (k : IsKept cell rows s) where
-  stored_stands : (name : List ℕ) (node : Node) → stored_node rows.nodes name ≡ Some node → Standing s.nodes name node.view
+  stored_stands : (name : List ℕ) (node : StoredNode) → stored_node rows.nodes name ≡ Some node → Standing s.nodes name node.node
   stored_stands name node found =
       let next = rows.next_instance in
-      let t = four_parts (bytes_eq (cell_of name) cell) (parent_fits rows.nodes name) (numbers_fit next node) (content_fits node.view.kind node.view) (found_fits cell rows name node k.sound_rows found) in
-      let n = five_parts (nat_le 1 node.view.instance) (nat_lt node.view.instance next) (is_number node.view.content_generation) (is_number node.view.acl_generation) (is_number node.lock_generation) t.2 in
+      let t = four_parts (bytes_eq (cell_of name) cell) (parent_fits rows.nodes name) (numbers_fit next node) (content_fits node.node.kind node.node) (found_fits cell rows name node k.sound_rows found) in
+      let n = five_parts (nat_le 1 node.node.instance) (nat_lt node.node.instance next) (is_number node.node.content_generation) (is_number node.node.acl_generation) (is_number node.lock_generation) t.2 in
       record {
         parent = subst (λ (nodes : Nodes). parent_misfit nodes name ≡ None) (sym k.nodes) (stored_parent_fits rows (parent_of name) t.1);
-        instance = given_not_above node.view.instance next number_limit n.1 (sound_numbers cell rows k.sound_rows).2;
-        written = not_above node.view.content_generation number_limit n.2;
-        acl = not_above node.view.acl_generation number_limit n.3;
-        content = content_within node.view.kind node.view t.3;
+        instance = given_not_above node.node.instance next number_limit n.1 (sound_numbers cell rows k.sound_rows).2;
+        written = not_above node.node.content_generation number_limit n.2;
+        acl = not_above node.node.acl_generation number_limit n.3;
+        content = content_within node.node.kind node.node t.3;
       }
 
-  stands : (name : List ℕ) (view : View) → get_node s.nodes name ≡ Some view → Standing s.nodes name view
+  stands : (name : List ℕ) (view : Node) → get_node s.nodes name ≡ Some view → Standing s.nodes name view
   stands name view found =
-      let t = some_node (stored_node rows.nodes name) view (sym (views_get rows.nodes name) ∙ (sym (ap (λ (nodes : Nodes). get_node nodes name) k.nodes) ∙ found)) in
-      subst (λ (v : View). Standing s.nodes name v) t.2 (stored_stands name t.0 t.1)
+      let t = some_node (stored_node rows.nodes name) view (sym (nodes_get rows.nodes name) ∙ (sym (ap (λ (nodes : Nodes). get_node nodes name) k.nodes) ∙ found)) in
+      subst (λ (v : Node). Standing s.nodes name v) t.2 (stored_stands name t.0 t.1)
 
   -- ---- what an effect changes
 
@@ -221,38 +221,38 @@ module _ (cell : List ℕ) (rows : Rows) (s : MasterState) (k : IsKept cell rows
 
   -- a node is made
 
-  made_fits : (opening : Open) (view : View) (r : Result Handle Fault) → misfit s.nodes (Put opening.name view) ≡ None → Fits (create_made (name_space s) opening view r)
+  made_fits : (opening : Open) (view : Node) (r : Result Handle Fault) → misfit s.nodes (Put opening.name view) ≡ None → Fits (create_made (name_space s) opening view r)
   made_fits opening view (Ok handle) h = h
   made_fits opening view (Err fault) h = tt
 
-  node_fits : (name parent : List ℕ) (above : View) (node : NewNode) (life : Life) (acls : AclNames) → node_fault node ≡ None → get_node s.nodes name ≡ None → parent_of name ≡ Some parent → get_node s.nodes parent ≡ Some above → above.kind ≡ Directory → is_last s.next_instance ≡ false → misfit s.nodes (Put name (new_view s.next_instance node life acls)) ≡ None
+  node_fits : (name parent : List ℕ) (above : Node) (node : NewNode) (life : Life) (acls : AclNames) → node_fault node ≡ None → get_node s.nodes name ≡ None → parent_of name ≡ Some parent → get_node s.nodes parent ≡ Some above → above.kind ≡ Directory → is_last s.next_instance ≡ false → misfit s.nodes (Put name (new_node s.next_instance node life acls)) ≡ None
   node_fits name parent above node life acls short absent p found kind room =
-      let view : View = new_view s.next_instance node life acls in
+      let view : Node = new_node s.next_instance node life acls in
       put_fits s.nodes name view
-      (ap (λ (o : Option (List ℕ)). option_map_or (λ x. directory_misfit (get_node s.nodes x)) o None) p ∙ (ap (λ (o : Option View). directory_misfit o) found ∙ ap parent_kind_misfit kind))
+      (ap (λ (o : Option (List ℕ)). option_map_or (λ x. directory_misfit (get_node s.nodes x)) o None) p ∙ (ap (λ (o : Option Node). directory_misfit o) found ∙ ap parent_kind_misfit kind))
       (limits_fit view (new_content_within node s.next_instance life acls short) (itself_not_above s.next_instance number_limit room) (new_number_within node s.next_instance life acls) refl)
-      (ap (λ (o : Option View). present_misfit o view) absent)
+      (ap (λ (o : Option Node). present_misfit o view) absent)
 
   module _ (client number : ℕ) (opening : Open) where
-    permitted_fits : (view : View) → (is_last s.next_instance ≡ false → misfit s.nodes (Put opening.name view) ≡ None) → Fits (create_permitted (name_space s) (caller s client) number opening view)
+    permitted_fits : (view : Node) → (is_last s.next_instance ≡ false → misfit s.nodes (Put opening.name view) ≡ None) → Fits (create_permitted (name_space s) (caller s client) number opening view)
     permitted_fits view h =
         by_option Fits (λ (right : Right). refused (faults.Denied right)) (missing_right (name_space s) (caller s client) opening.mode view) (create_numbered (name_space s) (caller s client) number opening view) (λ right is. tt)
         (λ none. by_test Fits (is_last s.next_instance) (refused faults.Exhausted) (create_made (name_space s) opening view (new_handle (name_space s) (caller s client) number opening view)) (λ last. tt)
         (λ room. made_fits opening view (new_handle (name_space s) (caller s client) number opening view) (h room)))
 
-    in_fits : (create : Create) (parent : List ℕ) (above : View) (kind : Kind) → node_fault create.node ≡ None → get_node s.nodes opening.name ≡ None → parent_of opening.name ≡ Some parent → get_node s.nodes parent ≡ Some above → above.kind ≡ kind → Fits (create_in (name_space s) (caller s client) number opening create above kind)
+    in_fits : (create : Create) (parent : List ℕ) (above : Node) (kind : Kind) → node_fault create.node ≡ None → get_node s.nodes opening.name ≡ None → parent_of opening.name ≡ Some parent → get_node s.nodes parent ≡ Some above → above.kind ≡ kind → Fits (create_in (name_space s) (caller s client) number opening create above kind)
     in_fits create parent above File short absent p found kind = tt
     in_fits create parent above Directory short absent p found kind =
         let acls = acls_of above create.acls in
-        let view : View = new_view s.next_instance create.node create.life acls in
+        let view : Node = new_node s.next_instance create.node create.life acls in
         by_test Fits (may (name_space s) (caller s client) above rights.Write) (create_permitted (name_space s) (caller s client) number opening view) (refused (faults.Denied rights.Write))
         (λ allowed. permitted_fits view (node_fits opening.name parent above create.node create.life acls short absent p found kind)) (λ denied. tt)
 
-    under_fits : (create : Create) (parent : List ℕ) (o : Option View) → node_fault create.node ≡ None → get_node s.nodes opening.name ≡ None → parent_of opening.name ≡ Some parent → get_node s.nodes parent ≡ o → Fits (create_under (name_space s) (caller s client) number opening create o)
+    under_fits : (create : Create) (parent : List ℕ) (o : Option Node) → node_fault create.node ≡ None → get_node s.nodes opening.name ≡ None → parent_of opening.name ≡ Some parent → get_node s.nodes parent ≡ o → Fits (create_under (name_space s) (caller s client) number opening create o)
     under_fits create parent None short absent p found = tt
     under_fits create parent (Some above) short absent p found = in_fits create parent above above.kind short absent p found refl
 
-    over_fits : (disposition : Disposition) (view : View) → Fits (create_over (name_space s) (caller s client) number opening disposition view)
+    over_fits : (disposition : Disposition) (view : Node) → Fits (create_over (name_space s) (caller s client) number opening disposition view)
     over_fits Must view = tt
     over_fits May view = tt
 
@@ -276,17 +276,17 @@ module _ (cell : List ℕ) (rows : Rows) (s : MasterState) (k : IsKept cell rows
 
   -- a node that stands
 
-  again_fits : (name : List ℕ) (former view : View) → get_node s.nodes name ≡ Some former → limit_misfit view ≡ None → present_misfit (Some former) view ≡ None → misfit s.nodes (Put name view) ≡ None
+  again_fits : (name : List ℕ) (former view : Node) → get_node s.nodes name ≡ Some former → limit_misfit view ≡ None → present_misfit (Some former) view ≡ None → misfit s.nodes (Put name view) ≡ None
   again_fits name former view found limit present =
-      put_fits s.nodes name view (stands name former found).parent limit (ap (λ (o : Option View). present_misfit o view) found ∙ present)
+      put_fits s.nodes name view (stands name former found).parent limit (ap (λ (o : Option Node). present_misfit o view) found ∙ present)
 
-  put_at_fits : (handle : Handle) (present : ℕ) (wanted : Option ℕ) (view : View) → (is_last present ≡ false → misfit s.nodes (Put handle.name view) ≡ None) → Fits (put_at (name_space s) handle present wanted view)
+  put_at_fits : (handle : Handle) (present : ℕ) (wanted : Option ℕ) (view : Node) → (is_last present ≡ false → misfit s.nodes (Put handle.name view) ≡ None) → Fits (put_at (name_space s) handle present wanted view)
   put_at_fits handle present wanted view h =
       let put : Effect = changes_to (Put handle.name view) s.next_instance results.Done in
       by_test Fits (generation_fits wanted present) (cond (is_last present) (refused faults.Exhausted) put) (refused (faults.WrongGeneration present))
       (λ fits. by_test Fits (is_last present) (refused faults.Exhausted) put (λ last. tt) h) (λ other. tt)
 
-  set_fits : (handle : Handle) (content : List ℕ) (generation : Option ℕ) (view : View) → get_node s.nodes handle.name ≡ Some view → write_fault view.kind content ≡ None → Fits (put_at (name_space s) handle view.content_generation generation (with_content view content))
+  set_fits : (handle : Handle) (content : List ℕ) (generation : Option ℕ) (view : Node) → get_node s.nodes handle.name ≡ Some view → write_fault view.kind content ≡ None → Fits (put_at (name_space s) handle view.content_generation generation (with_content view content))
   set_fits handle content generation view found short =
       let t = stands handle.name view found in
       put_at_fits handle view.content_generation generation (with_content view content)
@@ -294,7 +294,7 @@ module _ (cell : List ℕ) (rows : Rows) (s : MasterState) (k : IsKept cell rows
       (limits_fit (with_content view content) (written_within view.kind content short) t.instance (next_not_above view.content_generation number_limit room) t.acl)
       (stays_itself view.instance view.kind))
 
-  set_acl_fits : (handle : Handle) (acls : AclNames) (generation : Option ℕ) (view : View) → get_node s.nodes handle.name ≡ Some view → Fits (put_at (name_space s) handle view.acl_generation generation (with_acls view acls))
+  set_acl_fits : (handle : Handle) (acls : AclNames) (generation : Option ℕ) (view : Node) → get_node s.nodes handle.name ≡ Some view → Fits (put_at (name_space s) handle view.acl_generation generation (with_acls view acls))
   set_acl_fits handle acls generation view found =
       let t = stands handle.name view found in
       put_at_fits handle view.acl_generation generation (with_acls view acls)
@@ -302,7 +302,7 @@ module _ (cell : List ℕ) (rows : Rows) (s : MasterState) (k : IsKept cell rows
       (limits_fit (with_acls view acls) t.content t.instance t.written (next_not_above view.acl_generation number_limit room))
       (stays_itself view.instance view.kind))
 
-  delete_fits : (handle : Handle) (view : View) → get_node s.nodes handle.name ≡ Some view → Fits (delete_at (name_space s) handle)
+  delete_fits : (handle : Handle) (view : Node) → get_node s.nodes handle.name ≡ Some view → Fits (delete_at (name_space s) handle)
   delete_fits handle view found =
       by_test Fits (has_children s.nodes handle.name || is_none (parent_of handle.name)) (refused faults.NotEmpty) (deleted (name_space s) handle) (λ stays. tt) (gone_fits s.nodes handle.name view found)
 
@@ -327,7 +327,7 @@ module _ (cell : List ℕ) (rows : Rows) (s : MasterState) (k : IsKept cell rows
   permitted handle right answer h =
       (elim (has_right handle.mode right) as (λ b. cond b answer (Some (results.Refused (faults.Denied right))) ≡ None → answer ≡ None) [ true ↦ (λ e. e) | false ↦ (λ e. cc) ]) h
 
-  change_fits : (handle : Handle) (call : Call) (view : View) → get_node s.nodes handle.name ≡ Some view → answer_on_node (name_space s) handle call view ≡ None → Fits (change_at (name_space s) s.clock handle call view)
+  change_fits : (handle : Handle) (call : Call) (view : Node) → get_node s.nodes handle.name ≡ Some view → answer_on_node (name_space s) handle call view ≡ None → Fits (change_at (name_space s) s.clock handle call view)
   change_fits handle (calls.Set bytes content generation) view found none = set_fits handle content generation view found (permitted handle rights.Write (write_fault view.kind content) none)
   change_fits handle (calls.SetAcl bytes acls generation) view found none = set_acl_fits handle acls generation view found
   change_fits handle (calls.Delete bytes) view found none = delete_fits handle view found
@@ -337,15 +337,15 @@ module _ (cell : List ℕ) (rows : Rows) (s : MasterState) (k : IsKept cell rows
   change_fits handle _ view found none = tt
 
   -- the node that a handle shows
-  node_shown : (handle : Handle) (o : Option View) (view : View) → get_node s.nodes handle.name ≡ o → option_map_or (λ (v : View). cond (v.instance == handle.instance) (Some v) None) o None ≡ Some view → get_node s.nodes handle.name ≡ Some view
+  node_shown : (handle : Handle) (o : Option Node) (view : Node) → get_node s.nodes handle.name ≡ o → option_map_or (λ (v : Node). cond (v.instance == handle.instance) (Some v) None) o None ≡ Some view → get_node s.nodes handle.name ≡ Some view
   node_shown handle None view found is = cc
   node_shown handle (Some v) view found is =
-      (elim (v.instance == handle.instance) as (λ b. ◌≡◌ {A = Option View} (cond b (Some v) None) (Some view) → get_node s.nodes handle.name ≡ Some view) [
+      (elim (v.instance == handle.instance) as (λ b. ◌≡◌ {A = Option Node} (cond b (Some v) None) (Some view) → get_node s.nodes handle.name ≡ Some view) [
         | true ↦ (λ k. found ∙ k)
         | false ↦ (λ k. cc)
       ]) is
 
-  unanswered : (handle : Handle) (call : Call) (view : View) (o : Option Fault) → answer_under (name_space s) handle call view o ≡ None → answer_on_node (name_space s) handle call view ≡ None
+  unanswered : (handle : Handle) (call : Call) (view : Node) (o : Option Fault) → answer_under (name_space s) handle call view o ≡ None → answer_on_node (name_space s) handle call view ≡ None
   unanswered handle call view None none = none
   unanswered handle call view (Some fault) none = cc
 

@@ -69,11 +69,11 @@ module _ (w : WorldState) (h : IsConsistent w) (number : ℕ) (member : WorldCli
   ask_holds ask (AskedTooLate late) = tt
   ask_holds ask (Unsafe fault early is) = ask_stays ask (Unsafe fault early is) (grips_stay w.messages s _ held (note_grips s s.session then))
   ask_holds ask (Refused fault safe is) = ask_stays ask (Refused fault safe is) (grips_stay w.messages s _ held (record { number = refl; opened = refl; handles = refl; kept = refl; outstanding = refl }))
-  ask_holds ask (ReadServed handle mine entry safe is readable) = ask_stays ask (ReadServed handle mine entry safe is readable) (grips_stay w.messages s _ held (record { number = refl; opened = refl; handles = refl; kept = refl; outstanding = refl }))
+  ask_holds ask (ReadServed handle mine call entry given safe is readable) = ask_stays ask (ReadServed handle mine call entry given safe is readable) (grips_stay w.messages s _ held (record { number = refl; opened = refl; handles = refl; kept = refl; outstanding = refl }))
   ask_holds ask (AbsenceServed opening safe is plain cached) = ask_stays ask (AbsenceServed opening safe is plain cached) (grips_stay w.messages s _ held (record { number = refl; opened = refl; handles = refl; kept = refl; outstanding = refl }))
   ask_holds ask (Shared opening view handle safe is shared room) =
       ask_stays ask (Shared opening view handle safe is shared room)
-      (grips_shared w.messages s then (kept_handle handle opening true) held (serves_name s.kept opening.name view.instance handle own.kept shared.kept))
+      (grips_shared w.messages s then (kept_handle handle opening true) held (serves_name s.kept opening.name view.node.instance handle own.kept shared.kept))
   ask_holds ask (OutOfHandles opening view handle safe is shared last) = tt
   ask_holds ask (Released handle mine safe is there shared) = ask_stays ask (Released handle mine safe is there shared) (grips_released w.messages s then handle held)
   ask_holds ask (OutOfCalls call sequencer target sendable last) = tt

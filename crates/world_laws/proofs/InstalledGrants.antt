@@ -44,7 +44,7 @@ record Learned (name x : List ℕ) (shown entry : Option View) : Type 0 where
 pair_is : (a : List ℕ) (b : Option View) (x : List ℕ) (entry : Option View) → (let t : Option Lesson = Some (a, b) in t) ≡ Some (x, entry) → (a ≡ x) × (b ≡ entry)
 pair_is a b x entry h = let e : ◌≡◌ {A = Lesson} (a, b) (x, entry) = cc in (ap (λ (t : Lesson). t.0) e, ap (λ (t : Lesson). t.1) e)
 
--- ---- by a read
+-- ---- by a read, or a ReadDir
 
 read_by : (b : Bool) (bytes name : List ℕ) → option_map (λ handle. handle.name) (cond b (Some (fields_of bytes)) None) ≡ Some name → name ≡ name_in bytes
 unfolding fields_of
@@ -58,7 +58,7 @@ read_name secret bytes name h = read_by (is_handle (fields_of bytes) && bytes_eq
 node_asked : (secret bytes name : List ℕ) (node : NodeCall) → name_asked secret (call_on bytes node) ≡ Some name → name ≡ name_in bytes
 node_asked secret bytes name node_calls.Read h = read_name secret bytes name h
 node_asked secret bytes name node_calls.Stat h = cc
-node_asked secret bytes name node_calls.List h = cc
+node_asked secret bytes name node_calls.List h = read_name secret bytes name h
 node_asked secret bytes name (node_calls.Set content generation) h = cc
 node_asked secret bytes name (node_calls.SetAcl acls generation) h = cc
 node_asked secret bytes name node_calls.Delete h = cc
@@ -130,7 +130,7 @@ module _ (sent : List Message) (secret : List ℕ) (s : ClientState) (message : 
   by_result results.Closed h = cc
   by_result (results.Viewed view) h = by_view view call.target refl h
   by_result (results.Stated stat) h = cc
-  by_result (results.Names names) h = cc
+  by_result (results.Listed view) h = by_view view call.target refl h
   by_result (results.Sequencer bytes) h = cc
   by_result results.Done h = cc
   by_result (results.Refused fault) h = by_refusal fault h

@@ -7,11 +7,11 @@ use Rattle.std.specs.BTreeMap.{is_at}
 use Rattle.std.specs.Cmp.{nat_cmp_total, tied_itself}
 use Rattle.std.proofs.lemmas.Bool.{and_parts, and_from, or_left, or_right, eqb-true}
 use Rattle.std.proofs.lemmas.Bool.Decides.{nat_tests}
-use Rattle.rows_cell.specs.declared.tables.Node.{Node}
+use Rattle.rows_cell.specs.declared.tables.StoredNode.{StoredNode}
 use Rattle.rows_cell.specs.declared.tables.LockRow.{LockRow}
 use Rattle.rows_cell.specs.declared.keys.LockKey.{LockKey}
 use Rattle.rows_cell.specs.Keys.{lock_order}
-use Rattle.rows_cell.specs.Rows.{StoredNodes, StoredLocks, views_of, without_locks_of}
+use Rattle.rows_cell.specs.Rows.{StoredNodes, StoredLocks, nodes_of, without_locks_of}
 use Rattle.rows_cell.specs.Sound.{node_fits, are_distinct}
 use Rattle.rows_cell.specs.Indexes.{lock_generation_in, locks_at}
 use Rattle.rows_cell.specs.LockRows.{is_holding, has_holder}
@@ -22,15 +22,15 @@ use Rattle.world_laws.specs.Locks.{holds_by}
 
 -- ---- an instance that is there
 
-pub there_by_rows : (nodes : StoredNodes) (n : ℕ) → is_there (views_of nodes) n ≡ has_instance nodes n
+pub there_by_rows : (nodes : StoredNodes) (n : ℕ) → is_there (nodes_of nodes) n ≡ has_instance nodes n
 there_by_rows [] n = refl
-there_by_rows (e ∷ es) n = ap (λ b. e.1.view.instance == n || b) (there_by_rows es n)
+there_by_rows (e ∷ es) n = ap (λ b. e.1.node.instance == n || b) (there_by_rows es n)
 
 -- it has a lock's generation, and none other has
 pub has_of : (nodes : StoredNodes) (n generation : ℕ) → lock_generation_in nodes n ≡ Some generation → has_instance nodes n ≡ true
 has_of [] n generation h = absurd cc
 has_of (e ∷ es) n generation h =
-    (elim (e.1.view.instance == n) as (λ b. cond b (Some e.1.lock_generation) (lock_generation_in es n) ≡ Some generation → (b || has_instance es n) ≡ true) [
+    (elim (e.1.node.instance == n) as (λ b. cond b (Some e.1.lock_generation) (lock_generation_in es n) ≡ Some generation → (b || has_instance es n) ≡ true) [
       | true ↦ (λ k. refl)
       | false ↦ (λ k. has_of es n generation k)
     ]) h
@@ -38,7 +38,7 @@ has_of (e ∷ es) n generation h =
 has_none : (nodes : StoredNodes) (n : ℕ) → lock_generation_in nodes n ≡ None → has_instance nodes n ≡ false
 has_none [] n h = refl
 has_none (e ∷ es) n h =
-    (elim (e.1.view.instance == n) as (λ b. cond b (Some e.1.lock_generation) (lock_generation_in es n) ≡ None → (b || has_instance es n) ≡ false) [
+    (elim (e.1.node.instance == n) as (λ b. cond b (Some e.1.lock_generation) (lock_generation_in es n) ≡ None → (b || has_instance es n) ≡ false) [
       | true ↦ (λ k. absurd cc)
       | false ↦ (λ k. has_none es n k)
     ]) h
@@ -58,10 +58,10 @@ pub was_given : (cell : List ℕ) (next : ℕ) (all nodes : StoredNodes) (n : �
 was_given cell next all [] n h there = absurd cc
 was_given cell next all (e ∷ es) n h there =
     let t = and_parts (node_fits cell next all e) (list_all (node_fits cell next all) es) h in
-    (elim (e.1.view.instance == n) as (λ b. (e.1.view.instance == n) ≡ b → (b || has_instance es n) ≡ true → n < next) [
+    (elim (e.1.node.instance == n) as (λ b. (e.1.node.instance == n) ≡ b → (b || has_instance es n) ≡ true → n < next) [
       | true ↦ (λ c k.
           let P : ℕ → Type 0 = λ m. m < next in
-          subst P (eqb-true e.1.view.instance n c) (below e.1.view.instance next (numbers_of cell next all e t.0).0))
+          subst P (eqb-true e.1.node.instance n c) (below e.1.node.instance next (numbers_of cell next all e t.0).0))
       | false ↦ (λ c k. was_given cell next all es n t.1 k)
     ]) refl there
 
@@ -70,10 +70,10 @@ was_given cell next all (e ∷ es) n h there =
 pub has_left : (test : List ℕ → Bool) (nodes : StoredNodes) (n : ℕ) → has_instance (remove_entry test nodes) n ≡ true → has_instance nodes n ≡ true
 has_left test [] n h = h
 has_left test (e ∷ es) n h =
-    (elim (test e.0) as (λ b. has_instance (cond b es (e ∷ remove_entry test es)) n ≡ true → (e.1.view.instance == n || has_instance es n) ≡ true) [
-      | true ↦ (λ k. or_right (e.1.view.instance == n) (has_instance es n) k)
+    (elim (test e.0) as (λ b. has_instance (cond b es (e ∷ remove_entry test es)) n ≡ true → (e.1.node.instance == n || has_instance es n) ≡ true) [
+      | true ↦ (λ k. or_right (e.1.node.instance == n) (has_instance es n) k)
       | false ↦ (λ k.
-          (elim (e.1.view.instance == n) as (λ b. (b || has_instance (remove_entry test es) n) ≡ true → (b || has_instance es n) ≡ true) [
+          (elim (e.1.node.instance == n) as (λ b. (b || has_instance (remove_entry test es) n) ≡ true → (b || has_instance es n) ≡ true) [
             | true ↦ (λ l. refl)
             | false ↦ (λ l. has_left test es n l)
           ]) k)
@@ -81,7 +81,7 @@ has_left test (e ∷ es) n h =
 
 has_by : (nodes : StoredNodes) (n : ℕ) → has_instance nodes n ≡ list_any (λ m. m == n) (instances nodes)
 has_by [] n = refl
-has_by (e ∷ es) n = ap (λ b. e.1.view.instance == n || b) (has_by es n)
+has_by (e ∷ es) n = ap (λ b. e.1.node.instance == n || b) (has_by es n)
 
 opposite : (b : Bool) → b ≡ true → not b ≡ true → ⊥
 opposite b h k = absurd cc
@@ -90,19 +90,19 @@ opposite b h k = absurd cc
 pub generation_left : (test : List ℕ → Bool) (nodes : StoredNodes) (n generation : ℕ) → are_distinct (instances nodes) ≡ true → lock_generation_in (remove_entry test nodes) n ≡ Some generation → lock_generation_in nodes n ≡ Some generation
 generation_left test [] n generation distinct h = h
 generation_left test (e ∷ es) n generation distinct h =
-    let any : Bool = list_any (λ m. m == e.1.view.instance) (instances es) in
+    let any : Bool = list_any (λ m. m == e.1.node.instance) (instances es) in
     let t = and_parts (not any) (are_distinct (instances es)) distinct in
-    (elim (test e.0) as (λ b. lock_generation_in (cond b es (e ∷ remove_entry test es)) n ≡ Some generation → cond (e.1.view.instance == n) (Some e.1.lock_generation) (lock_generation_in es n) ≡ Some generation) [
+    (elim (test e.0) as (λ b. lock_generation_in (cond b es (e ∷ remove_entry test es)) n ≡ Some generation → cond (e.1.node.instance == n) (Some e.1.lock_generation) (lock_generation_in es n) ≡ Some generation) [
       | true ↦ (λ k.
-          (elim (e.1.view.instance == n) as (λ b. (e.1.view.instance == n) ≡ b → cond b (Some e.1.lock_generation) (lock_generation_in es n) ≡ Some generation) [
+          (elim (e.1.node.instance == n) as (λ b. (e.1.node.instance == n) ≡ b → cond b (Some e.1.lock_generation) (lock_generation_in es n) ≡ Some generation) [
             | true ↦ (λ c.
                 let P : ℕ → Type 0 = λ m. has_instance es m ≡ true in
-                let twice : P e.1.view.instance = subst P (sym (eqb-true e.1.view.instance n c)) (has_of es n generation k) in
-                absurd (opposite any (sym (has_by es e.1.view.instance) ∙ twice) t.0))
+                let twice : P e.1.node.instance = subst P (sym (eqb-true e.1.node.instance n c)) (has_of es n generation k) in
+                absurd (opposite any (sym (has_by es e.1.node.instance) ∙ twice) t.0))
             | false ↦ (λ c. k)
           ]) refl)
       | false ↦ (λ k.
-          (elim (e.1.view.instance == n) as (λ b. cond b (Some e.1.lock_generation) (lock_generation_in (remove_entry test es) n) ≡ Some generation → cond b (Some e.1.lock_generation) (lock_generation_in es n) ≡ Some generation) [
+          (elim (e.1.node.instance == n) as (λ b. cond b (Some e.1.lock_generation) (lock_generation_in (remove_entry test es) n) ≡ Some generation → cond b (Some e.1.lock_generation) (lock_generation_in es n) ≡ Some generation) [
             | true ↦ (λ l. l)
             | false ↦ (λ l. generation_left test es n generation t.1 l)
           ]) k)
@@ -133,10 +133,10 @@ others_stay (e ∷ es) m n h =
     ]) refl
 
 -- none of a node's, or all
-pub rows_left : (o : Option Node) (locks : StoredLocks) (n : ℕ) → (locks_at (without_locks_of o locks) n ≡ []) ⊎ (locks_at (without_locks_of o locks) n ≡ locks_at locks n)
+pub rows_left : (o : Option StoredNode) (locks : StoredLocks) (n : ℕ) → (locks_at (without_locks_of o locks) n ≡ []) ⊎ (locks_at (without_locks_of o locks) n ≡ locks_at locks n)
 rows_left None locks n = inr refl
 rows_left (Some node) locks n =
-    let m : ℕ = node.view.instance in
+    let m : ℕ = node.node.instance in
     let left : StoredLocks = filter (λ e. not (e.0.instance == m)) locks in
     (elim (m == n) as (λ b. (m == n) ≡ b → (locks_at left n ≡ []) ⊎ (locks_at left n ≡ locks_at locks n)) [
       | true ↦ (λ c.

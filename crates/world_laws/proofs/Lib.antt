@@ -39,6 +39,7 @@ pub mod SliceClients
 pub mod SliceCalls
 pub mod SliceTakes
 pub mod SweptNames
+pub mod ViewsStay
 pub mod LockReplies
 pub mod SliceSweeps
 pub mod SliceCuts

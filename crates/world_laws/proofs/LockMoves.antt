@@ -9,7 +9,7 @@ use Rattle.node_core.specs.declared.kinds.Kind.{Kind}
 use Rattle.node_core.specs.declared.kinds.Kind.TheVariants as kinds
 use Rattle.node_core.specs.declared.kinds.LockMode.{LockMode}
 use Rattle.node_core.specs.declared.kinds.Right.TheVariants as rights
-use Rattle.node_core.specs.declared.views.View.{View}
+use Rattle.node_core.specs.declared.nodes.Node.{Node}
 use Rattle.node_core.specs.declared.views.Mod.TheVariants.{Put}
 use Rattle.node_core.specs.Nodes.{get_node, has_children}
 use Rattle.tags_cell.specs.Handles.{read_handle}
@@ -38,7 +38,7 @@ use Rattle.cell_parts.specs.Calls.{create_fault, bytes_of}
 use Rattle.cell_apply.specs.declared.effects.Effect.{Effect}
 use Rattle.cell_apply.specs.declared.effects.Locking.{Locking}
 use Rattle.cell_apply.specs.declared.effects.Locking.TheVariants as lockings
-use Rattle.cell_apply.specs.Effect.{answered, refused, changes_to, is_last, acls_of, new_view, create_made, create_numbered, create_permitted, create_in, create_under, create_new, create_over, create_effect, create_under_sequencer, open_effect, acquire_by, try_by, release_by, close_by, close_under, generation_fits, with_content, with_acls, put_at, deleted, change_at, change_on, effect_on, handle_effect, effect}
+use Rattle.cell_apply.specs.Effect.{answered, refused, changes_to, is_last, acls_of, new_node, create_made, create_numbered, create_permitted, create_in, create_under, create_new, create_over, create_effect, create_under_sequencer, open_effect, acquire_by, try_by, release_by, close_by, close_under, generation_fits, with_content, with_acls, put_at, deleted, change_at, change_on, effect_on, handle_effect, effect}
 use Rattle.world_laws.proofs.LockWaiters.{ComesFrom, released_comes, closed_comes}
 
 -- who gets a lock at once leaves the waiters; who waits comes behind them; and whoever is granted a lock or turned away where somebody leaves it was among them
@@ -64,26 +64,26 @@ module _ (s : MasterState) (client number : ℕ) where
   -- ---- creates
 
   module _ (opening : Open) where
-    made_by : (view : View) (o : Result Handle Fault) → Moves (create_made (name_space s) opening view o)
+    made_by : (view : Node) (o : Result Handle Fault) → Moves (create_made (name_space s) opening view o)
     made_by view (Err fault) = tt
     made_by view (Ok handle) = tt
 
-    permitted : (view : View) → Moves (create_permitted (name_space s) (caller s client) number opening view)
+    permitted : (view : Node) → Moves (create_permitted (name_space s) (caller s client) number opening view)
     permitted view =
         found_or (λ right. refused (faults.Denied right)) (missing_right (name_space s) (caller s client) opening.mode view) (create_numbered (name_space s) (caller s client) number opening view) (λ right. tt)
         (either (is_last s.next_instance) (refused faults.Exhausted) (create_made (name_space s) opening view (new_handle (name_space s) (caller s client) number opening view)) tt (made_by view (new_handle (name_space s) (caller s client) number opening view)))
 
-    made_in : (create : Create) (above : View) (kind : Kind) → Moves (create_in (name_space s) (caller s client) number opening create above kind)
+    made_in : (create : Create) (above : Node) (kind : Kind) → Moves (create_in (name_space s) (caller s client) number opening create above kind)
     made_in create above kinds.File = tt
     made_in create above kinds.Directory =
-        let view = new_view s.next_instance create.node create.life (acls_of above create.acls) in
+        let view = new_node s.next_instance create.node create.life (acls_of above create.acls) in
         either (may (name_space s) (caller s client) above rights.Write) (create_permitted (name_space s) (caller s client) number opening view) (refused (faults.Denied rights.Write)) (permitted view) tt
 
-    under : (create : Create) (o : Option View) → Moves (create_under (name_space s) (caller s client) number opening create o)
+    under : (create : Create) (o : Option Node) → Moves (create_under (name_space s) (caller s client) number opening create o)
     under create None = tt
     under create (Some above) = made_in create above above.kind
 
-    over : (disposition : Disposition) (view : View) → Moves (create_over (name_space s) (caller s client) number opening disposition view)
+    over : (disposition : Disposition) (view : Node) → Moves (create_over (name_space s) (caller s client) number opening disposition view)
     over Must view = tt
     over May view = tt
 
@@ -141,18 +141,18 @@ module _ (s : MasterState) (client number : ℕ) where
     closed_as None is = tt
     closed_as (Some turn) is = closed_comes (lock_under (name_space s) handle) (owner_of handle) turn is
 
-    closed_under : (o : Option View) → MovesLocks s client (close_under (name_space s) handle o)
+    closed_under : (o : Option Node) → MovesLocks s client (close_under (name_space s) handle o)
     closed_under None = tt
     closed_under (Some view) = closed_as (closed_by (lock_under (name_space s) handle) (owner_of handle)) refl
 
     -- ---- writes
 
-    put_moves : (present : ℕ) (wanted : Option ℕ) (view : View) → Moves (put_at (name_space s) handle present wanted view)
+    put_moves : (present : ℕ) (wanted : Option ℕ) (view : Node) → Moves (put_at (name_space s) handle present wanted view)
     put_moves present wanted view =
         either (generation_fits wanted present) (cond (is_last present) (refused faults.Exhausted) (changes_to (Put handle.name view) s.next_instance results.Done)) (refused (faults.WrongGeneration present))
         (either (is_last present) (refused faults.Exhausted) (changes_to (Put handle.name view) s.next_instance results.Done) tt tt) tt
 
-    change_moves : (call : Call) (view : View) → Moves (change_at (name_space s) s.clock handle call view)
+    change_moves : (call : Call) (view : Node) → Moves (change_at (name_space s) s.clock handle call view)
     change_moves (calls.Set bytes content generation) view = put_moves view.content_generation generation (with_content view content)
     change_moves (calls.SetAcl bytes acls generation) view = put_moves view.acl_generation generation (with_acls view acls)
     change_moves (calls.Delete bytes) view =

@@ -13,10 +13,10 @@ use Rattle.std.proofs.lemmas.Bool.{eqb-true}
 use Rattle.std.proofs.lemmas.Bool.Decides.{nat_tests}
 use Rattle.plain.proofs.Keys.{at_itself, apart}
 use Rattle.plain.proofs.OneKey.{lookup_put, lookup_put_apart}
-use Rattle.node_core.specs.declared.views.View.{View}
+use Rattle.node_core.specs.declared.nodes.Node.{Node}
 use Rattle.node_core.specs.declared.views.Mod.{Mod}
 use Rattle.node_core.specs.declared.views.Mod.TheVariants.{Put, Gone}
-use Rattle.node_core.specs.Nodes.{Nodes, changed}
+use Rattle.node_core.specs.Nodes.{Nodes, changed, with_parent}
 use Rattle.rows_cell.specs.declared.tables.Rows.{Rows}
 use Rattle.rows_cell.specs.declared.tables.Edit.TheVariants.{NextInstance, RemoveNode}
 use Rattle.rows_cell.specs.Rows.{stored_node, changed_rows}
@@ -29,12 +29,15 @@ use Rattle.lock_core.specs.Turns.{lapsed, concerns, reopened}
 use Rattle.lock_core.specs.Locks.{LockTable, lock_at, with_lock}
 use Rattle.cell_update.specs.declared.updates.LockPut.{LockPut}
 use Rattle.cell_parts.specs.Locks.{lock_rows}
+use Rattle.cell_parts.specs.declared.pending.Task.TheVariants as tasks
 use Rattle.cell_state.specs.State.{MasterState}
 use Rattle.cell_update.specs.Updates.{edit_of, with_lock_put}
 use Rattle.cell_apply.specs.declared.effects.Effect.{Effect}
 use Rattle.cell_update.specs.Replies.{name_of, puts_of}
 use Rattle.cell_apply.specs.Outcomes.{left_put}
 use Rattle.cell_update.specs.Lapses.{lapses_of, lapses_puts}
+use Rattle.cell_core.proofs.AskedFor.{asks_only}
+use Rattle.cell_core.specs.Step.{queued}
 use Rattle.sweep_laws.specs.SweepCase.{SweepCase, swept_by, swept_edits}
 use Rattle.sweep_laws.specs.SweepCase.SweepCase.{Quiet, Recovers, Expires, Tidies, Spared, Tidied, AnswersBeat, TurnedAway, StartedAgain, Started, Reopens, OfEnded, Ended, Applied, Deleted, Locked, Awaited, Left}
 use Rattle.cell_state.specs.Lookups.{noted}
@@ -161,7 +164,7 @@ module _ (s : MasterState) (client : ℕ) where
 
 -- ---- a node that is put
 
-put_known : (nodes : Nodes) (name : List ℕ) (view : View) (n : ℕ) → is_there (insert_entry (slice_cmp nat_cmp) nodes name view) n ≡ true → (is_there nodes n ≡ true) ⊎ ((view.instance == n) ≡ true)
+put_known : (nodes : Nodes) (name : List ℕ) (view : Node) (n : ℕ) → is_there (insert_entry (slice_cmp nat_cmp) nodes name view) n ≡ true → (is_there nodes n ≡ true) ⊎ ((view.instance == n) ≡ true)
 put_known [] name view n h =
     (elim (view.instance == n) as (λ b. (b || false) ≡ true → (false ≡ true) ⊎ (b ≡ true)) [ true ↦ (λ k. inr refl) | false ↦ (λ k. inl k) ]) h
 put_known (e ∷ es) name view n h =
@@ -186,7 +189,7 @@ put_known (e ∷ es) name view n h =
     third true b c d k f = inl refl
     third false b c d k f = f k
 
-given_now : (s : MasterState) (view : View) (n : ℕ) → IsGiven s (Put [] view) → (is_there s.nodes n ≡ true) ⊎ ((view.instance == n) ≡ true) → (is_there s.nodes n ≡ true) ⊎ (s.next_instance ≤ n)
+given_now : (s : MasterState) (view : Node) (n : ℕ) → IsGiven s (Put [] view) → (is_there s.nodes n ≡ true) ⊎ ((view.instance == n) ≡ true) → (is_there s.nodes n ≡ true) ⊎ (s.next_instance ≤ n)
 given_now s view n given (inl there) = inl there
 given_now s view n (inl there) (inr is) =
     let P : ℕ → Type 0 = λ i. is_there s.nodes i ≡ true in
@@ -300,7 +303,9 @@ module _ (cell : List ℕ) (rows : Rows) (s : MasterState) (k : IsKept cell rows
   case_grows (Reopens instance due) l =
       put_grown (Reopens instance due) (puts_of s instance (reopened (lock_at s.locks instance)).lock) refl refl refl
       (only_put s.locks (name_of s.nodes instance) instance (reopened (lock_at s.locks instance)).lock (rises_reopened (lock_at s.locks instance))) l
-  case_grows (Tidies idle due) l = same_grown (Tidies idle due) refl refl refl l
+  case_grows (Tidies idle due) l =
+      let only = asks_only (with_parent idle.name) (queued s (with_parent idle.name) (tasks.Tidies idle)) in
+      same_grown (Tidies idle due) (ap (λ (t : MasterState). t.nodes) only) (ap (λ (t : MasterState). t.locks) only) (ap (λ (t : MasterState). t.next_instance) only) l
   case_grows (Spared front back idle turn held) l = same_grown (Spared front back idle turn held) refl refl refl l
   case_grows (Tidied front back idle turn still) l = deleted_grows cell rows s (swept_by s (Tidied front back idle turn still)).0 k (Gone idle.name) s.next_instance tt (not_less s.next_instance s.next_instance refl) l
   case_grows (AnswersBeat client session beat due) l = same_grown (AnswersBeat client session beat due) refl refl refl l

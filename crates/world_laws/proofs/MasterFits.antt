@@ -50,7 +50,9 @@ use Rattle.cell_state.specs.State.{MasterState}
 use Rattle.cell_state.specs.Lookups.{session_of, kept_of, is_live, reply_of, stamped_reply, acknowledgement}
 use Rattle.cell_parts.specs.Calls.{bytes_of}
 use Rattle.cell_parts.specs.Answered.{answered_by}
-use Rattle.cell_core.specs.Step.{recorded, queued, names_of, task_of, with_call, with_right, asking_for, parked, replied, granting, waits}
+use Rattle.node_core.specs.Nodes.{with_parent}
+use Rattle.cell_core.specs.declared.asking.Touched.{Touched}
+use Rattle.cell_core.specs.Step.{recorded, queued, names_of, task_of, with_call, with_right, asking_for, parked, replied, granting, waits, asking}
 use Rattle.cell_update.specs.Updates.{with_note, with_locks, without_lock}
 use Rattle.cell_core.specs.Ephemerals.{tidied}
 use Rattle.cell_core.specs.Cases.{IsBehind, TakeCase, taken_by}
@@ -330,11 +332,11 @@ fits_note sent s None h = h
 fits_note sent s (Some note) h = record { queue = h.queue; kept = h.kept; replies = h.replies; answers = h.answers; turns = h.turns; awaited = h.awaited }
 
 -- who is asked for a name keeps its calls
-asking_fits : (sent : List Message) (s : MasterState) (touched : Option (List ℕ)) → FitsMessages sent s → FitsMessages sent (asking_for s touched)
-asking_fits sent s None h = h
-asking_fits sent s (Some name) h =
+asking_fits : (sent : List Message) (s : MasterState) (names : List (List ℕ)) → FitsMessages sent s → FitsMessages sent (asking_for s names)
+asking_fits sent s [] h = h
+asking_fits sent s (name ∷ names) h =
     let asked = clients_to_ask name s.rights in
-    right_fits sent (record s { sessions = issued_by asked s.sessions }) (asked_back name s.rights) (issued_fits sent s h asked)
+    asking_fits sent (asking s name) names (right_fits sent (record s { sessions = issued_by asked s.sessions }) (asked_back name s.rights) (issued_fits sent s h asked))
 
 pub behind_note : (s : MasterState) (note : Option Note) (client number : ℕ) → IsBehind (kept_of s client) number → IsBehind (kept_of (with_note s note) client) number
 behind_note s None client number h = h
@@ -381,7 +383,7 @@ module _ (sent : List Message) (s : MasterState) (message : CallMessage) (h : Fi
   uncalled : waiting message.client s.gate.waiting ≡ []
   uncalled = none_waits (session_of s message.client) message.number (waiting message.client s.gate.waiting) (h.turns message.client) behind
 
-  called_fits : (touched : Option (List ℕ)) → FitsMessages sent (with_call s message touched)
+  called_fits : (touched : Option Touched) → FitsMessages sent (with_call s message touched)
   called_fits touched =
       let client = message.client in
       let number = message.number in
@@ -401,8 +403,8 @@ module _ (sent : List Message) (s : MasterState) (message : CallMessage) (h : Fi
       (λ waits. absurd (unanswered_behind (kept_of s client) number behind (unanswered client waits)))
       (λ q apart waits. same q apart ∙ h.awaited q waits))
 
-  waits_fits : (touched : Option (List ℕ)) → FitsMessages sent (waits s message touched).0
-  waits_fits touched = asking_fits sent (with_call s message touched) touched (called_fits touched)
+  waits_fits : (touched : Option Touched) → FitsMessages sent (waits s message touched).0
+  waits_fits touched = asking_fits sent (with_call s message touched) (names_of touched) (called_fits touched)
 
 -- the reply is sent, with its grant
 granting_fits : (sent : List Message) (s : MasterState) (client number : ℕ) (result : CallResult) (name : List ℕ) → FitsMessages sent s → is_live s client ≡ true → IsBehind (kept_of s client) number → (was : WasSent sent s.epoch client number) → name_asked s.secret was.call.call ≡ Some name → OpensAs was.call.call result → FitsMessages (sent ++ map ToClient (granting s client number result name).1.outs) (granting s client number result name).0
@@ -428,9 +430,9 @@ start_fits sent s client number principal received h =
 -- the deletion of a node that nobody holds open
 tidies_fits : (sent : List Message) (s : MasterState) (idle : Idle) → FitsMessages sent s → FitsMessages sent (tidied s idle)
 tidies_fits sent s idle h =
-    let w : Waiting Task = waits_as (s.gate.pushed + 1) (idle.name ∷ []) (tasks.Tidies idle) in
+    let w : Waiting Task = waits_as (s.gate.pushed + 1) (with_parent idle.name) (tasks.Tidies idle) in
     let same = λ (q : ℕ). waiting_append q s.gate.waiting (w ∷ []) ∙ append-nil (waiting q s.gate.waiting) in
-    asking_fits sent (queued s (idle.name ∷ []) (tasks.Tidies idle)) (Some idle.name) (record {
+    asking_fits sent (queued s (with_parent idle.name) (tasks.Tidies idle)) (with_parent idle.name) (record {
       queue = queue_push sent s.epoch s.gate.waiting w h.queue tt;
       kept = h.kept;
       replies = h.replies;

@@ -44,7 +44,8 @@ use Rattle.cell_state.specs.State.{MasterState}
 use Rattle.cell_update.specs.Updates.{with_locks, with_note}
 use Rattle.cell_state.specs.Lookups.{kept_of, is_live, reply_of, stamped_reply, granted_lines, acknowledgement, repeated_reply, noted}
 use Rattle.cell_parts.specs.Answered.{answered_by}
-use Rattle.cell_core.specs.Step.{recorded, queued, with_call, asking_for}
+use Rattle.node_core.specs.Nodes.{with_parent}
+use Rattle.cell_core.specs.Step.{recorded, queued, with_call, asking, asking_for, names_of}
 use Rattle.cell_core.specs.Cases.{IsBehind, TakeCase, taken_by}
 use Rattle.cell_update.specs.Replies.{replies_to, turn_replies, locked_lines, puts_of}
 use Rattle.cell_apply.specs.Outcomes.{leave_lines, left_put}
@@ -184,10 +185,10 @@ call_above sent t client last message behind found of h is =
 same_past : (sent : List Message) (epoch client : ℕ) (a b : Option (Kept Reply)) (last : Option ℕ) → b ≡ a → PastKept sent epoch client a last → PastKept sent epoch client b last
 same_past sent epoch client a b last is h = subst (λ o. PastKept sent epoch client o last) (sym is) h
 
-asking_past : (sent : List Message) (s : MasterState) (touched : Option (List ℕ)) (client : ℕ) (last : Option ℕ) → PastMaster sent client s last → PastMaster sent client (asking_for s touched) last
-asking_past sent s None client last h = h
-asking_past sent s (Some name) client last h =
-    same_past sent s.epoch client (kept_of s client) _ last (kept_issued (clients_to_ask name s.rights) s.sessions client) h
+asking_past : (sent : List Message) (s : MasterState) (names : List (List ℕ)) (client : ℕ) (last : Option ℕ) → PastMaster sent client s last → PastMaster sent client (asking_for s names) last
+asking_past sent s [] client last h = h
+asking_past sent s (name ∷ names) client last h =
+    asking_past sent (asking s name) names client last (same_past sent s.epoch client (kept_of s client) _ last (kept_issued (clients_to_ask name s.rights) s.sessions client) h)
 
 take_past : (sent : List Message) (s : MasterState) (request : Request) (c : TakeCase s request) (client : ℕ) (last : Option ℕ) → WasAsked sent request → PastMaster sent client s last → PastMaster sent client (taken_by s request c).0 last
 take_past sent s request (BeatParked beat is epoch taken) client last asked h =
@@ -210,7 +211,7 @@ take_past sent s request (Granted message note answer name new serving may) clie
 take_past sent s request (Waits message note touched new serving admitted) client last asked h =
     let t = with_note s note in
     let past : PastMaster sent client t last = note_past sent s note client last h in
-    asking_past sent (with_call t message touched) touched client last
+    asking_past sent (with_call t message touched) (names_of touched) client last
     (put_past sent t message.client client (record { number = message.number; reply = None }) last (live_note s note message.client new.heard.live)
     (λ is. call_above sent t client last message (behind_note s note message.client message.number new.behind) (asked message new.heard.is_call) (new.heard.epoch ∙ sym (epoch_note s note)) past is)
     past)
@@ -249,7 +250,7 @@ record SweptOn (sent : List Message) (client : ℕ) (last : Option ℕ) (printed
   past : PastMaster sent client new (last_after last (applied client printed))
 
 put_number_more : (client : ℕ) (line : Line) (xs ys : List ℕ) → put_number client line (xs ++ ys) ≡ put_number client line xs ++ ys
-put_number_more client (lines.Applied whose number change) xs ys =
+put_number_more client (lines.Applied whose number change names) xs ys =
     elim (whose == client) as (λ b. cond b (number ∷ (xs ++ ys)) (xs ++ ys) ≡ cond b (number ∷ xs) xs ++ ys) [ true ↦ refl | false ↦ refl ]
 put_number_more client _ xs ys = refl
 
@@ -258,7 +259,7 @@ applied_more client [] ys = refl
 applied_more client (x ∷ xs) ys = ap (put_number client x) (applied_more client xs ys) ∙ put_number_more client x (applied client xs) (applied client ys)
 
 line_silent : (client : ℕ) (line : Line) (numbers : List ℕ) → IsSilentLine line → put_number client line numbers ≡ numbers
-line_silent client (lines.Applied whose number change) numbers h = absurd h
+line_silent client (lines.Applied whose number change names) numbers h = absurd h
 line_silent client _ numbers h = refl
 
 none_applied : (client : ℕ) (printed : List Line) → IsSilent printed → applied client printed ≡ []
@@ -285,8 +286,8 @@ left_applied client whose leave = none_applied client (leave_lines whose leave) 
 not_zero : (client : ℕ) → 1 ≤ client → (0 == client) ≡ false
 not_zero client some = grind (arith, nat_tests)
 
-own_applied : (client : ℕ) (change : Mod) → 1 ≤ client → applied client (lines.Applied 0 0 change ∷ []) ≡ []
-own_applied client change some = ap (λ b. cond b (0 ∷ []) []) (not_zero client some)
+own_applied : (client : ℕ) (change : Mod) (names : List (List ℕ)) → 1 ≤ client → applied client (lines.Applied 0 0 change names ∷ []) ≡ []
+own_applied client change names some = ap (λ b. cond b (0 ∷ []) []) (not_zero client some)
 
 -- ---- who waited for a lock
 
@@ -425,12 +426,12 @@ module _ (sent : List Message) (s : MasterState) (client : ℕ) (last : Option �
       let turn = reopened (lock_at s.locks instance) in
       none_on (swept_by s c).1.lines (swept_by s c).0 (reopened_applied client instance turn)
       (told_past sent (with_locks s (puts_of s instance turn.lock)) client last (turn_replies s turn) (turn_from s client last still_from turn) h)
-  sweep_past (Tidies idle due) = record { rises = tt; past = asking_past sent (queued s (idle.name ∷ []) (tasks.Tidies idle)) (Some idle.name) client last h }
+  sweep_past (Tidies idle due) = record { rises = tt; past = asking_past sent (queued s (with_parent idle.name) (tasks.Tidies idle)) (with_parent idle.name) client last h }
   sweep_past (Spared front back idle turn held) = record { rises = tt; past = h }
   sweep_past (Tidied front back idle turn still) =
       let c : SweepCase s = Tidied front back idle turn still in
       let gone = results.Refused faults.StaleInstance in
-      none_on (swept_by s c).1.lines (swept_by s c).0 (own_applied client (gone_change s idle).change some)
+      none_on (swept_by s c).1.lines (swept_by s c).0 (own_applied client (gone_change s idle).change [] some)
       (told_past sent (mapped (rest s front back) (gone_change s idle)) client last (gone_replies s idle) (claims_from s client last still_from gone (lock_at s.locks idle.instance).waiters) h)
   sweep_past (AnswersBeat whose session beat due) =
       record { rises = tt; past = same_past sent s.epoch client (kept_of s client) _ last (kept_stays s.sessions whose (answered s.sessions.lease s.clock) (λ session. (answered_so s.sessions.lease s.clock session).kept) client) h }
@@ -492,7 +493,7 @@ applied_counted w h s (Expires whose session due) client last some fits counted 
 applied_counted w h s (Reopens instance due) client last some fits counted =
     subst (λ numbers. IsCounted w client (last_after last numbers)) (sym (reopened_applied client instance (reopened (lock_at s.locks instance)))) counted
 applied_counted w h s (Left front back asked call sequencer _ leave answer turn work live made) client last some fits counted = subst (λ numbers. IsCounted w client (last_after last numbers)) (sym (left_applied client asked.client leave)) counted
-applied_counted w h s (Tidied front back idle turn still) client last some fits counted = subst (λ numbers. IsCounted w client (last_after last numbers)) (sym (own_applied client (gone_change s idle).change some)) counted
+applied_counted w h s (Tidied front back idle turn still) client last some fits counted = subst (λ numbers. IsCounted w client (last_after last numbers)) (sym (own_applied client (gone_change s idle).change [] some)) counted
 applied_counted w h s _ client last some fits counted = counted
 
 past_master : (sent : List Message) (client : ℕ) (last : Option ℕ) (m : Option MasterState) (s : MasterState) → m ≡ Some s → PastIn sent client m last → PastMaster sent client s last

@@ -9,9 +9,10 @@ use Rattle.node_core.specs.declared.kinds.Kind.{Kind}
 use Rattle.node_core.specs.declared.kinds.Kind.TheVariants as kinds
 use Rattle.node_core.specs.declared.kinds.Right.{Right}
 use Rattle.node_core.specs.declared.kinds.Right.TheVariants as rights
+use Rattle.node_core.specs.declared.nodes.Node.{Node}
 use Rattle.node_core.specs.declared.views.View.{View}
 use Rattle.node_core.specs.Limits.{content_limit}
-use Rattle.node_core.specs.Nodes.{get_node, has_children}
+use Rattle.node_core.specs.Nodes.{get_node, view_of, has_children}
 use Rattle.tags_cell.specs.Modes.{has_right}
 use Rattle.tags_cell.specs.Handles.{is_ordinal, read_handle}
 use Rattle.tags_cell.specs.declared.handles.Handle.{Handle}
@@ -41,7 +42,7 @@ use Rattle.cell_state.specs.Lookups.{missing_right, node_of_handle, numbered_han
 use Rattle.cell_parts.specs.Calls.{is_too_long, content_fault, node_fault, delay_fault, create_fault, write_fault, needing}
 use Rattle.cell_core.specs.Step.{admission_of_open, answering, admission_under, check_admission, handle_admission, admission_of}
 use Rattle.cell_apply.specs.declared.effects.Effect.{Effect}
-use Rattle.cell_apply.specs.Effect.{answered, refused, create_made, create_numbered, create_permitted, create_in, create_under, create_new, create_over, create_effect, create_under_sequencer, open_effect, acquire_by, try_by, release_by, generation_fits, is_last, put_at, change_at, change_on, effect_on, handle_effect, effect, new_view, acls_of, with_content, with_acls}
+use Rattle.cell_apply.specs.Effect.{answered, refused, create_made, create_numbered, create_permitted, create_in, create_under, create_new, create_over, create_effect, create_under_sequencer, open_effect, acquire_by, try_by, release_by, generation_fits, is_last, put_at, change_at, change_on, effect_on, handle_effect, effect, new_node, acls_of, with_content, with_acls}
 use Rattle.world_laws.specs.Consistent.{OpensAs}
 
 -- a first answer, if there is one
@@ -64,12 +65,12 @@ abbrev IsOfOpen : Open → Result Handle Fault → Type 0
 IsOfOpen opening (Ok handle) = handle.name ≡ opening.name
 IsOfOpen opening (Err fault) = Unit {0}
 
-new_is_of : (s : MasterState) (client number : ℕ) (opening : Open) (view : View) → IsOfOpen opening (new_handle (name_space s) (caller s client) number opening view)
+new_is_of : (s : MasterState) (client number : ℕ) (opening : Open) (view : Node) → IsOfOpen opening (new_handle (name_space s) (caller s client) number opening view)
 new_is_of s client number opening view =
     either (IsOfOpen opening) (is_too_long opening.delay) (Err faults.DelayTooLong) (numbered_handle (name_space s) (caller s client) number opening view) tt
     (either (IsOfOpen opening) (is_ordinal s.epoch && is_ordinal view.instance) _ (Err faults.Exhausted) refl tt)
 
-present_is_of : (s : MasterState) (client number : ℕ) (opening : Open) (view : View) → IsOfOpen opening (open_present (name_space s) (caller s client) number opening view)
+present_is_of : (s : MasterState) (client number : ℕ) (opening : Open) (view : Node) → IsOfOpen opening (open_present (name_space s) (caller s client) number opening view)
 present_is_of s client number opening view =
     found_or (IsOfOpen opening) (λ (right : Right). Err (faults.Denied right)) (missing_right (name_space s) (caller s client) opening.mode view) (new_handle (name_space s) (caller s client) number opening view) (λ right. tt) (new_is_of s client number opening view)
 
@@ -104,9 +105,9 @@ write_opens : (call : Call) (kind : Kind) (content : List ℕ) → OpensIf call 
 write_opens call kinds.Directory content = tt
 write_opens call kinds.File content = content_opens call content
 
-list_opens : (call : Call) (s : MasterState) (name : List ℕ) (kind : Kind) → OpensAs call (list_answer (name_space s) name kind)
-list_opens call s name kinds.Directory = tt
-list_opens call s name kinds.File = tt
+list_opens : (call : Call) (view : View) (kind : Kind) → OpensAs call (list_answer view kind)
+list_opens call view kinds.Directory = tt
+list_opens call view kinds.File = tt
 
 needing_opens : (call : Call) (handle : Handle) (right : Right) (answer : Option CallResult) → OpensIf call answer → OpensIf call (needing handle right answer)
 needing_opens call handle right answer h = either (OpensIf call) (has_right handle.mode right) answer (Some (results.Refused (faults.Denied right))) h tt
@@ -118,12 +119,12 @@ sequencer_opens : (call : Call) (found : Result Sequencer Fault) → OpensAs cal
 sequencer_opens call (Ok sequencer) = tt
 sequencer_opens call (Err fault) = tt
 
-on_node_opens : (s : MasterState) (handle : Handle) (call : Call) (view : View) → OpensIf call (answer_on_node (name_space s) handle call view)
+on_node_opens : (s : MasterState) (handle : Handle) (call : Call) (view : Node) → OpensIf call (answer_on_node (name_space s) handle call view)
 on_node_opens s handle (calls.Open opening) view = tt
 on_node_opens s handle (calls.Close bytes) view = tt
-on_node_opens s handle (calls.Read bytes) view = needing_opens (calls.Read bytes) handle rights.Read (Some (results.Viewed view)) tt
+on_node_opens s handle (calls.Read bytes) view = needing_opens (calls.Read bytes) handle rights.Read (Some (results.Viewed (view_of s.nodes handle.name view))) tt
 on_node_opens s handle (calls.Stat bytes) view = tt
-on_node_opens s handle (calls.List bytes) view = needing_opens (calls.List bytes) handle rights.Read (Some (list_answer (name_space s) handle.name view.kind)) (list_opens (calls.List bytes) s handle.name view.kind)
+on_node_opens s handle (calls.List bytes) view = needing_opens (calls.List bytes) handle rights.Read (Some (list_answer (view_of s.nodes handle.name view) view.kind)) (list_opens (calls.List bytes) (view_of s.nodes handle.name view) view.kind)
 on_node_opens s handle (calls.Set bytes content generation) view = needing_opens (calls.Set bytes content generation) handle rights.Write (write_fault view.kind content) (write_opens (calls.Set bytes content generation) view.kind content)
 on_node_opens s handle (calls.SetAcl bytes acls generation) view = needing_opens (calls.SetAcl bytes acls generation) handle rights.Change None tt
 on_node_opens s handle (calls.Delete bytes) view = needing_opens (calls.Delete bytes) handle rights.Write None tt
@@ -134,7 +135,7 @@ on_node_opens s handle (calls.GetSequencer bytes) view = sequencer_opens (calls.
 on_node_opens s handle (calls.SetSequencer bytes) view = tt
 on_node_opens s handle (calls.CheckSequencer bytes) view = tt
 
-on_node_under_opens : (s : MasterState) (handle : Handle) (call : Call) (view : View) (o : Option Fault) → OpensIf call (answer_under (name_space s) handle call view o)
+on_node_under_opens : (s : MasterState) (handle : Handle) (call : Call) (view : Node) (o : Option Fault) → OpensIf call (answer_under (name_space s) handle call view o)
 on_node_under_opens s handle call view (Some fault) = tt
 on_node_under_opens s handle call view None = on_node_opens s handle call view
 
@@ -202,27 +203,27 @@ answer_opens s client number call sequencer answer is = subst (OpensIf call) is 
 abbrev EffectOpens : Call → Effect → Type 0
 EffectOpens call effected = OpensIf call effected.answer
 
-made_opens : (s : MasterState) (opening : Open) (view : View) (made : Result Handle Fault) → IsOfOpen opening made → EffectOpens (calls.Open opening) (create_made (name_space s) opening view made)
+made_opens : (s : MasterState) (opening : Open) (view : Node) (made : Result Handle Fault) → IsOfOpen opening made → EffectOpens (calls.Open opening) (create_made (name_space s) opening view made)
 made_opens s opening view (Ok handle) h = opened_opens s opening (Ok handle) h
 made_opens s opening view (Err fault) h = tt
 
 module _ (s : MasterState) (client number : ℕ) (opening : Open) where
-  numbered_opens : (view : View) → EffectOpens (calls.Open opening) (create_numbered (name_space s) (caller s client) number opening view)
+  numbered_opens : (view : Node) → EffectOpens (calls.Open opening) (create_numbered (name_space s) (caller s client) number opening view)
   numbered_opens view = either (EffectOpens (calls.Open opening)) (is_last s.next_instance) (refused faults.Exhausted) (create_made (name_space s) opening view (new_handle (name_space s) (caller s client) number opening view)) tt
       (made_opens s opening view (new_handle (name_space s) (caller s client) number opening view) (new_is_of s client number opening view))
 
-  permitted_opens : (view : View) → EffectOpens (calls.Open opening) (create_permitted (name_space s) (caller s client) number opening view)
+  permitted_opens : (view : Node) → EffectOpens (calls.Open opening) (create_permitted (name_space s) (caller s client) number opening view)
   permitted_opens view = found_or (EffectOpens (calls.Open opening)) (λ (right : Right). refused (faults.Denied right)) (missing_right (name_space s) (caller s client) opening.mode view) (create_numbered (name_space s) (caller s client) number opening view) (λ right. tt) (numbered_opens view)
 
-  in_opens : (create : Create) (above : View) (kind : Kind) → EffectOpens (calls.Open opening) (create_in (name_space s) (caller s client) number opening create above kind)
+  in_opens : (create : Create) (above : Node) (kind : Kind) → EffectOpens (calls.Open opening) (create_in (name_space s) (caller s client) number opening create above kind)
   in_opens create above kinds.File = tt
-  in_opens create above kinds.Directory = either (EffectOpens (calls.Open opening)) (may (name_space s) (caller s client) above rights.Write) _ (refused (faults.Denied rights.Write)) (permitted_opens (new_view s.next_instance create.node create.life (acls_of above create.acls))) tt
+  in_opens create above kinds.Directory = either (EffectOpens (calls.Open opening)) (may (name_space s) (caller s client) above rights.Write) _ (refused (faults.Denied rights.Write)) (permitted_opens (new_node s.next_instance create.node create.life (acls_of above create.acls))) tt
 
-  under_opens : (create : Create) (o : Option View) → EffectOpens (calls.Open opening) (create_under (name_space s) (caller s client) number opening create o)
+  under_opens : (create : Create) (o : Option Node) → EffectOpens (calls.Open opening) (create_under (name_space s) (caller s client) number opening create o)
   under_opens create None = tt
   under_opens create (Some above) = in_opens create above above.kind
 
-  over_opens : (disposition : Disposition) (view : View) → EffectOpens (calls.Open opening) (create_over (name_space s) (caller s client) number opening disposition view)
+  over_opens : (disposition : Disposition) (view : Node) → EffectOpens (calls.Open opening) (create_over (name_space s) (caller s client) number opening disposition view)
   over_opens Must view = tt
   over_opens May view = opened_opens s opening (open_present (name_space s) (caller s client) number opening view) (present_is_of s client number opening view)
 
@@ -243,7 +244,7 @@ module _ (s : MasterState) (client number : ℕ) (opening : Open) where
   open_effect_opens sequencer (Some create) =
       either (EffectOpens (calls.Open opening)) (is_of_cell (name_space s) opening.name) _ (refused faults.OtherCell) (create_under_opens create (sequencer_fault (name_space s) sequencer)) tt
 
-put_opens : (s : MasterState) (call : Call) (handle : Handle) (present : ℕ) (wanted : Option ℕ) (view : View) → EffectOpens call (put_at (name_space s) handle present wanted view)
+put_opens : (s : MasterState) (call : Call) (handle : Handle) (present : ℕ) (wanted : Option ℕ) (view : Node) → EffectOpens call (put_at (name_space s) handle present wanted view)
 put_opens s call handle present wanted view =
     either (EffectOpens call) (generation_fits wanted present) _ (refused (faults.WrongGeneration present)) (either (EffectOpens call) (is_last present) (refused faults.Exhausted) _ tt tt) tt
 
@@ -260,7 +261,7 @@ released_opens : (call : Call) (handle : Handle) (left : Result Turn Fault) → 
 released_opens call handle (Ok turn) = tt
 released_opens call handle (Err fault) = tt
 
-change_opens : (s : MasterState) (handle : Handle) (call : Call) (view : View) → EffectOpens call (change_at (name_space s) s.clock handle call view)
+change_opens : (s : MasterState) (handle : Handle) (call : Call) (view : Node) → EffectOpens call (change_at (name_space s) s.clock handle call view)
 change_opens s handle (calls.Open opening) view = tt
 change_opens s handle (calls.Close bytes) view = tt
 change_opens s handle (calls.Read bytes) view = tt

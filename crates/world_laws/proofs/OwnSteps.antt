@@ -230,7 +230,7 @@ module _ (w : WorldState) (number : ℕ) (member : WorldClient) (found : member_
   ask_comes ask (AskedTooLate late) = tt
   ask_comes ask (Unsafe fault early is) = notes_only (with_refusal (note_lines member.client then) fault) (refusal_quiet (note_lines member.client then) fault (noted_quiet member.client then))
   ask_comes ask (Refused fault safe is) = stays (at_moment member.client then) (lines.Refused fault ∷ []) (tt, tt, tt) refl refl refl (SameEpoch refl (λ e. e) (λ e. e))
-  ask_comes ask (ReadServed handle mine entry safe is readable) =
+  ask_comes ask (ReadServed handle mine call entry given safe is readable) =
       stays (at_moment member.client then) (lines.Served member.client.number mine.name entry ∷ []) (tt, tt, tt) refl refl refl (SameEpoch refl (λ e. e) (λ e. e))
   ask_comes ask (AbsenceServed opening safe is plain cached) =
       stays (at_moment member.client then) (lines.Served member.client.number opening.name None ∷ []) (tt, tt, tt) refl refl refl (SameEpoch refl (λ e. e) (λ e. e))

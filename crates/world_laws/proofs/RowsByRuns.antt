@@ -10,7 +10,7 @@ use Rattle.rows_cell.specs.declared.tables.Session.{Session}
 use Rattle.rows_cell.specs.declared.tables.Edit.TheVariants.{NextInstance, PutSession}
 use Rattle.rows_cell.specs.LockRows.{LockChange, locks_edits}
 use Rattle.rows_cell.specs.Rows.{changed_rows, map_of}
-use Rattle.rows_cell.proofs.RowViews.{views_put, views_gone}
+use Rattle.rows_cell.proofs.RowNodes.{nodes_put, nodes_gone}
 use Rattle.rights_core.specs.declared.endings.Ending.TheVariants as endings
 use Rattle.rights_core.specs.Rights.{numbers_ending}
 use Rattle.lock_core.specs.Turns.{reopened}
@@ -19,7 +19,7 @@ use Rattle.cell_state.specs.State.{MasterState}
 use Rattle.cell_state.specs.Lookups.{noted}
 use Rattle.cell_update.specs.Updates.{edit_of, lock_changes}
 use Rattle.cell_update.specs.Replies.{locked_line, locked_lines, puts_of}
-use Rattle.cell_apply.specs.Outcomes.{leave_lines, left_put}
+use Rattle.cell_apply.specs.Outcomes.{put_listing, leave_lines, left_put}
 use Rattle.cell_update.specs.Lapses.{lapses_lines, lapses_of, lapses_puts}
 use Rattle.sweep_laws.specs.SweepCase.{SweepCase, swept_by, swept_edits}
 use Rattle.sweep_laws.specs.SweepCase.SweepCase.{Expires, Reopens, Tidied, Applied, Deleted, Locked, Awaited, Left}
@@ -56,7 +56,7 @@ epoch_more epoch (x ∷ xs) ys = epoch_more (epoch_by epoch x) xs ys
 -- ---- silent lines
 
 line_map : (nodes : Nodes) (line : Line) → IsSilentLine line → map_by nodes line ≡ nodes
-line_map nodes (lines.Applied client number change) h = absurd h
+line_map nodes (lines.Applied client number change names) h = absurd h
 line_map nodes _ h = refl
 
 line_epoch : (epoch : ℕ) (line : Line) → IsSilentLine line → epoch_by epoch line ≡ epoch
@@ -88,9 +88,9 @@ silent_tells old new printed silent same = record {
 
 -- ---- a step
 
-mod_tells : (rows : Rows) (client number : ℕ) (change : Mod) (next : ℕ) → Tells rows (changed_rows rows (edit_of change ∷ NextInstance next ∷ [])) (lines.Applied client number change ∷ [])
-mod_tells rows client number (Put name view) next = record { is_map = views_put rows.nodes name view; is_epoch = refl }
-mod_tells rows client number (Gone name) next = record { is_map = views_gone rows.nodes name; is_epoch = refl }
+mod_tells : (rows : Rows) (client number : ℕ) (change : Mod) (names : List (List ℕ)) (next : ℕ) → Tells rows (changed_rows rows (edit_of change ∷ NextInstance next ∷ [])) (lines.Applied client number change names ∷ [])
+mod_tells rows client number (Put name view) names next = record { is_map = nodes_put rows.nodes name view; is_epoch = refl }
+mod_tells rows client number (Gone name) names next = record { is_map = nodes_gone rows.nodes name; is_epoch = refl }
 
 -- of locks no line tells of the map
 relocked_tells : (rows : Rows) (changes : List LockChange) (printed : List Line) → AreOfLocks printed → Tells rows (changed_rows rows (locks_edits changes)) printed
@@ -113,9 +113,9 @@ swept_tells rows s (Expires client session due) =
 swept_tells rows s (Reopens instance due) =
     let turn = reopened (lock_at s.locks instance) in
     relocked_tells rows (lock_changes s (puts_of s instance turn.lock)) (lines.Reopened instance ∷ locked_lines instance turn) (reopened_of_locks instance turn)
-swept_tells rows s (Applied front back asked call sequencer _ change answer turn work live made) = mod_tells rows asked.client asked.number change.change change.next_instance
-swept_tells rows s (Deleted front back asked call sequencer change instance waiters answer turn work live made) = mod_tells rows asked.client asked.number change.change change.next_instance
-swept_tells rows s (Tidied front back idle turn still) = mod_tells rows 0 0 (Gone idle.name) s.next_instance
+swept_tells rows s (Applied front back asked call sequencer _ change answer turn work live made) = mod_tells rows asked.client asked.number change.change (put_listing s.nodes change.change) change.next_instance
+swept_tells rows s (Deleted front back asked call sequencer change instance waiters answer turn work live made) = mod_tells rows asked.client asked.number change.change (put_listing s.nodes change.change) change.next_instance
+swept_tells rows s (Tidied front back idle turn still) = mod_tells rows 0 0 (Gone idle.name) [] s.next_instance
 swept_tells rows s (Locked front back asked call sequencer put claim answer turn work live made) =
     relocked_tells rows (lock_changes s (put ∷ [])) (locked_line put.instance put.lock.generation claim ∷ []) (record { quiet = (tt, tt, tt); others = (tt, tt); kept = refl })
 swept_tells rows s (Awaited front back asked call sequencer put turn work live made) = relocked_tells rows (lock_changes s (put ∷ [])) [] (record { quiet = tt; others = tt; kept = refl })

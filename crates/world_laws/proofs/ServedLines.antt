@@ -11,7 +11,7 @@ use Rattle.node_core.specs.declared.answers.Answer.TheVariants as answers
 use Rattle.node_core.specs.declared.lines.Line.{Line}
 use Rattle.node_core.specs.declared.lines.Line.TheVariants as lines
 use Rattle.node_core.specs.declared.views.View.{View}
-use Rattle.node_core.specs.Nodes.{Nodes, get_node}
+use Rattle.node_core.specs.Nodes.{Nodes, view_at}
 use Rattle.rows_cell.specs.Rows.{map_of}
 use Rattle.cache_core.specs.Caches.{entry_of, is_leased, answer}
 use Rattle.cache_core.specs.Standings.{turn_line}
@@ -75,7 +75,7 @@ use Rattle.world_laws.proofs.WorldCases.WorldCase.{ComesUp, Joins, Asks, Beats, 
 -- ---- lines, one by one
 
 abbrev IsPresentLine : Nodes → Line → Type 0
-IsPresentLine nodes (lines.Served client name entry) = entry ≡ get_node nodes name
+IsPresentLine nodes (lines.Served client name entry) = entry ≡ view_at nodes name
 IsPresentLine nodes _ = Unit {0}
 
 -- each by the map that the lines before it make
@@ -88,14 +88,14 @@ abbrev ServeAt : Nodes → List Line → Type 0
 ServeAt nodes [] = Unit {0}
 ServeAt nodes (line ∷ rest) = IsPresentLine nodes line × ServeAt nodes rest
 
-at_then : (before rest : List Line) (client : ℕ) (name : List ℕ) (entry : Option View) (nodes : Nodes) → Serve nodes (before ++ lines.Served client name entry ∷ rest) → entry ≡ get_node (map_at nodes before) name
+at_then : (before rest : List Line) (client : ℕ) (name : List ℕ) (entry : Option View) (nodes : Nodes) → Serve nodes (before ++ lines.Served client name entry ∷ rest) → entry ≡ view_at (map_at nodes before) name
 at_then [] rest client name entry nodes h = h.0
 at_then (line ∷ before) rest client name entry nodes h = at_then before rest client name entry (map_by nodes line) h.1
 
 present_by_then : (nodes : Nodes) (printed : List Line) → Serve nodes printed → ServesPresentByThen nodes printed
 present_by_then nodes printed h before rest client name entry is = at_then before rest client name entry nodes (subst (Serve nodes) is h)
 
-at_last : (before rest : List Line) (client : ℕ) (name : List ℕ) (entry : Option View) (nodes : Nodes) → ServeAt nodes (before ++ lines.Served client name entry ∷ rest) → entry ≡ get_node nodes name
+at_last : (before rest : List Line) (client : ℕ) (name : List ℕ) (entry : Option View) (nodes : Nodes) → ServeAt nodes (before ++ lines.Served client name entry ∷ rest) → entry ≡ view_at nodes name
 at_last [] rest client name entry nodes h = h.0
 at_last (line ∷ before) rest client name entry nodes h = at_last before rest client name entry nodes h.1
 
@@ -197,7 +197,7 @@ module _ (w : WorldState) (h : IsConsistent w) (number : ℕ) (member : WorldCli
   then = noted_moment s member.clock
 
   -- it is the present view of the name
-  answer_is_present : (name : List ℕ) (entry : Option View) → answer s.cache then name ≡ Some entry → entry ≡ get_node (map_of w.rows) name
+  answer_is_present : (name : List ℕ) (entry : Option View) → answer s.cache then name ≡ Some entry → entry ≡ view_at (map_of w.rows) name
   answer_is_present name entry is =
       let a = answered_by s.cache.enabled (is_leased s.cache.lease then) (entry_of s.cache.entries name) entry is in
       let leased : is_leased s.cache.lease member.clock ≡ true = subst (λ (n : ℕ). is_leased s.cache.lease n ≡ true) (latest s.clock member.clock (h.clients number member found).noted) a.0 in
@@ -214,7 +214,7 @@ module _ (w : WorldState) (h : IsConsistent w) (number : ℕ) (member : WorldCli
   ask_serves ask (AskedTooLate late) = tt
   ask_serves ask (Unsafe fault early is) = others_step w _ (with_refusal (note_lines s then) fault) (refusal_other (note_lines s then) fault (noted_other s s.session then))
   ask_serves ask (Refused fault safe is) = others_step w _ (lines.Refused fault ∷ []) (tt, tt)
-  ask_serves ask (ReadServed handle mine entry safe is readable) = served_step _ s.number mine.name entry [] readable.cached tt
+  ask_serves ask (ReadServed handle mine call entry given safe is readable) = served_step _ s.number mine.name entry [] readable.cached tt
   ask_serves ask (AbsenceServed opening safe is plain cached) = served_step _ s.number opening.name None [] cached tt
   ask_serves ask (Shared opening view handle safe is shared room) = served_step _ s.number opening.name (Some view) (lines.Done s.number 0 (answers.Opened (s.opened + 1)) ∷ []) shared.cached (tt, tt)
   ask_serves ask (OutOfHandles opening view handle safe is shared last) = tt

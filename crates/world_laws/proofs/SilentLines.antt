@@ -6,7 +6,7 @@ use Rattle.rights_core.proofs.ToldLines.{IsOfNoRight, AreOfNoRight}
 
 abbrev pub IsSilentLine : Line → Type 0
 IsSilentLine (lines.Up epoch) = ⊥
-IsSilentLine (lines.Applied client number change) = ⊥
+IsSilentLine (lines.Applied client number change names) = ⊥
 IsSilentLine (lines.Started client) = ⊥
 IsSilentLine (lines.Ended client) = ⊥
 IsSilentLine _ = Unit {0}

@@ -10,7 +10,7 @@ use Rattle.coherence.proofs.Reached.{leads_both}
 use Rattle.node_core.specs.declared.refusals.Fault.{Fault}
 use Rattle.node_core.specs.declared.refusals.Fault.TheVariants as faults
 use Rattle.node_core.specs.Limits.{number_limit}
-use Rattle.node_core.specs.Nodes.{get_node}
+use Rattle.node_core.specs.Nodes.{view_at, with_parent}
 use Rattle.rows_cell.specs.Rows.{map_of}
 use Rattle.plain.proofs.Keys.{same_number, bytes_self, bytes_same, bytes_swap}
 use Rattle.messages_cell.specs.declared.requests.CallMessage.{CallMessage}
@@ -26,8 +26,9 @@ use Rattle.session_core.proofs.IssuedBy.{lease_stays_issued}
 use Rattle.rights_core.specs.declared.cache_rights.CacheRight.{CacheRight}
 use Rattle.rights_core.specs.declared.grants.Grant.{Grant}
 use Rattle.rights_core.specs.declared.grants.Grant.TheVariants as grants
-use Rattle.rights_core.specs.Rights.{holds, held_limit, count_held, answer_beside, grant_answer, is_held_at, invalidations_of, next_invalidation, clients_to_ask, asked_back}
+use Rattle.rights_core.specs.Rights.{holds, held_limit, count_held, answer_beside, grant_answer, is_held_at, invalidations_of, next_invalidation, clients_to_ask, asked_back, IsRecorded}
 use Rattle.rights_core.specs.Laws.{asked_for, number_or_0}
+use Rattle.rights_core.proofs.Called.{recorded_asked}
 use Rattle.gate_core.specs.declared.pending.Waiting.{Waiting}
 use Rattle.gate_core.specs.Gate.{GateState, uncachable}
 use Rattle.gate_core.specs.Laws.{touching}
@@ -41,7 +42,8 @@ use Rattle.cell_state.specs.State.{MasterState}
 use Rattle.cell_parts.specs.StoredSessions.{row_of}
 use Rattle.cell_state.specs.Lookups.{session_of, is_live, reply_of, issued_to, stamped_reply, is_spent}
 use Rattle.cell_parts.specs.Answered.{answered_by}
-use Rattle.cell_core.specs.Step.{replied, is_cachable, granting, names_of, task_of, with_call, waits}
+use Rattle.cell_core.specs.declared.asking.Touched.{Touched}
+use Rattle.cell_core.specs.Step.{queued, replied, is_cachable, granting, asking, asking_for, names_of, task_of, with_call, waits}
 use Rattle.cell_core.specs.Names.{name_asked, shown_by}
 use Rattle.cell_core.specs.Ephemerals.{tidied}
 use Rattle.sweep_laws.specs.Kept.{AreIssued, AreOwned}
@@ -157,18 +159,49 @@ none_is_0 (Some number) h = cc
 plus_none : (n : ℕ) → n ≡ n + 0
 plus_none n = omega arith
 
-or_none : (b : Bool) → (b || false) ≡ b
-or_none true = refl
-or_none false = refl
-
--- one change more, if it is of that name
-pushed_touches : (x : List ℕ) (gate : GateState Task) (name : List ℕ) (waiting : Waiting Task) → waiting.number ≡ gate.pushed + 1 → waiting.change.touched ≡ name ∷ [] → touching x (gate.waiting ++ waiting ∷ []) ≡ touching x gate.waiting + cond (bytes_eq x name) 1 0
-pushed_touches x gate name waiting is_next is_touched =
+-- one change more, if it touches that name
+pushed_touches : (x : List ℕ) (gate : GateState Task) (names : List (List ℕ)) (waiting : Waiting Task) → waiting.number ≡ gate.pushed + 1 → waiting.change.touched ≡ names → touching x (gate.waiting ++ waiting ∷ []) ≡ touching x gate.waiting + cond (list_any (bytes_eq x) names) 1 0
+pushed_touches x gate names waiting is_next is_touched =
     ap (λ number. touching x (gate.waiting ++ record waiting { number = number } ∷ [])) is_next ∙ (push_touches x waiting.change gate).1
-    ∙ ap (λ (touched : List (List ℕ)). touching x gate.waiting + cond (list_any (bytes_eq x) touched) 1 0) is_touched ∙ ap (λ (b : Bool). touching x gate.waiting + cond b 1 0) (or_none (bytes_eq x name))
+    ∙ ap (λ (touched : List (List ℕ)). touching x gate.waiting + cond (list_any (bytes_eq x) touched) 1 0) is_touched
 
 above_none : (n : ℕ) (b : Bool) → b ≡ true → 0 < n + cond b 1 0
 above_none n b h = rw h (omega arith)
+
+first_any : (a b : Bool) → a ≡ true → (a || b) ≡ true
+first_any true b h = refl
+first_any false b h = cc
+
+later_any : (a b : Bool) → b ≡ true → (a || b) ≡ true
+later_any true b h = refl
+later_any false b h = h
+
+-- ---- who is asked for names, one after the other
+
+-- the rights then
+abbrev asked_for_all : List (List ℕ) → List CacheRight → List CacheRight
+asked_for_all [] rights = rights
+asked_for_all (name ∷ names) rights = asked_for_all names (asked_back name rights)
+
+asking_rights : (names : List (List ℕ)) (s : MasterState) → (asking_for s names).rights ≡ asked_for_all names s.rights
+asking_rights [] s = refl
+asking_rights (name ∷ names) s = asking_rights names (asking s name)
+
+asking_recovering : (names : List (List ℕ)) (s : MasterState) → (asking_for s names).recovering ≡ s.recovering
+asking_recovering [] s = refl
+asking_recovering (name ∷ names) s = asking_recovering names (asking s name)
+
+asking_waiting : (names : List (List ℕ)) (s : MasterState) → (asking_for s names).gate.waiting ≡ s.gate.waiting
+asking_waiting [] s = refl
+asking_waiting (name ∷ names) s = asking_waiting names (asking s name)
+
+asking_lease : (names : List (List ℕ)) (s : MasterState) → (asking_for s names).sessions.lease ≡ s.sessions.lease
+asking_lease [] s = refl
+asking_lease (name ∷ names) s = asking_lease names (asking s name) ∙ lease_stays_issued s.sessions (clients_to_ask name s.rights)
+
+asking_seen : (names : List (List ℕ)) (s : MasterState) (c : ℕ) → seen_of (session_of (asking_for s names) c) ≡ seen_of (session_of s c)
+asking_seen [] s c = refl
+asking_seen (name ∷ names) s c = asking_seen names (asking s name) c ∙ issued_seen (clients_to_ask name s.rights) s.sessions c
 
 module _ (c : ℕ) (x : List ℕ) (w : WorldState) (s : MasterState) (knows : IsKnown w s) where
   -- with so many changes that touch the name
@@ -180,51 +213,64 @@ module _ (c : ℕ) (x : List ℕ) (w : WorldState) (s : MasterState) (knows : Is
   queue_leads true serving = (QueueChange ∷ [], record { allowed = record { first = record { up = refl; serving = serving }; rest = tt }; leads_there = refl })
   queue_leads false serving = led_nowhere _ _ (ap (λ n. shown c x w (with_pending n)) (plus_none (touching x s.gate.waiting)))
 
-  module _ (name : List ℕ) (n : ℕ) where
+  -- and with these rights
+  abbrev with_rights : ℕ → List CacheRight → UpParts
+  with_rights n rights = record (with_pending n) { right = right_of c x rights }
+
+  module _ (n : ℕ) (name : List ℕ) (rights : List CacheRight) (recorded : IsRecorded rights) where
     abbrev asked_parts : SeenRight → UpParts
     asked_parts right = record (with_pending n) { right = right }
 
     abbrev AsksLeads : Type 0
-    AsksLeads = Led (shown c x w (with_pending n)) (shown c x w (asked_parts (right_of c x (asked_back name s.rights))))
+    AsksLeads = Led (shown c x w (with_rights n rights)) (shown c x w (with_rights n (asked_back name rights)))
 
-    by_right : (events : List (Event Shown)) (right : SeenRight) → right_of c x (asked_back name s.rights) ≡ right → Leads (shown c x w (with_pending n)) events (shown c x w (asked_parts right)) → AsksLeads
-    by_right events right is led = (events, subst (λ r. Leads (shown c x w (with_pending n)) events (shown c x w (asked_parts r))) (sym is) led)
+    by_right : (events : List (Event Shown)) (right : SeenRight) → right_of c x (asked_back name rights) ≡ right → Leads (shown c x w (with_rights n rights)) events (shown c x w (asked_parts right)) → AsksLeads
+    by_right events right is led = (events, subst (λ r. Leads (shown c x w (with_rights n rights)) events (shown c x w (asked_parts r))) (sym is) led)
 
-    is_own : bytes_eq x name ≡ true → is_asked_now c name s.rights ≡ true → right_of c x (asked_back name s.rights) ≡ record (right_of c x s.rights) { issued = next_invalidation c s.rights; asked_back = next_invalidation c s.rights }
-    is_own e t = subst (λ (z : List ℕ). right_of c z (asked_back name s.rights) ≡ record (right_of c z s.rights) { issued = next_invalidation c s.rights; asked_back = next_invalidation c s.rights }) (sym (bytes_same x name e)) (own_is_asked c name s.rights knows.recorded t)
+    is_own : bytes_eq x name ≡ true → is_asked_now c name rights ≡ true → right_of c x (asked_back name rights) ≡ record (right_of c x rights) { issued = next_invalidation c rights; asked_back = next_invalidation c rights }
+    is_own e t = subst (λ (z : List ℕ). right_of c z (asked_back name rights) ≡ record (right_of c z rights) { issued = next_invalidation c rights; asked_back = next_invalidation c rights }) (sym (bytes_same x name e)) (own_is_asked c name rights recorded t)
 
-    is_own_still : bytes_eq x name ≡ true → is_asked_now c name s.rights ≡ false → right_of c x (asked_back name s.rights) ≡ right_of c x s.rights
-    is_own_still e t = subst (λ (z : List ℕ). right_of c z (asked_back name s.rights) ≡ right_of c z s.rights) (sym (bytes_same x name e)) (own_stays c name s.rights knows.recorded t)
+    is_own_still : bytes_eq x name ≡ true → is_asked_now c name rights ≡ false → right_of c x (asked_back name rights) ≡ right_of c x rights
+    is_own_still e t = subst (λ (z : List ℕ). right_of c z (asked_back name rights) ≡ right_of c z rights) (sym (bytes_same x name e)) (own_stays c name rights recorded t)
 
-    asks_own : 0 < n → bytes_eq x name ≡ true → is_asked_now c name s.rights ≡ true → AsksLeads
+    asks_own : 0 < n → bytes_eq x name ≡ true → is_asked_now c name rights ≡ true → AsksLeads
     asks_own awaited e t =
-        let now : is_asked_now c x s.rights ≡ true = ap (λ z. is_asked_now c z s.rights) (bytes_same x name e) ∙ t in
-        let p = both (holds c x s.rights) _ now in
-        by_right (AskBack (next_invalidation c s.rights) ∷ []) (record (right_of c x s.rights) { issued = next_invalidation c s.rights; asked_back = next_invalidation c s.rights }) (is_own e t) (record {
-          allowed = record { first = record { up = refl; pending = awaited; held = p.0; once = none_is_0 (asked_for c x s.rights) p.1; new = omega arith }; rest = tt };
+        let now : is_asked_now c x rights ≡ true = ap (λ z. is_asked_now c z rights) (bytes_same x name e) ∙ t in
+        let p = both (holds c x rights) _ now in
+        by_right (AskBack (next_invalidation c rights) ∷ []) (record (right_of c x rights) { issued = next_invalidation c rights; asked_back = next_invalidation c rights }) (is_own e t) (record {
+          allowed = record { first = record { up = refl; pending = awaited; held = p.0; once = none_is_0 (asked_for c x rights) p.1; new = omega arith }; rest = tt };
           leads_there = refl;
         })
 
-    asks_other : bytes_eq x name ≡ false → is_asked_now c name s.rights ≡ true → AsksLeads
-    asks_other e t = by_right (IssueOthers (next_invalidation c s.rights) ∷ []) (record (right_of c x s.rights) { issued = next_invalidation c s.rights }) (other_is_issued c x name s.rights knows.recorded t e) (record {
+    asks_other : bytes_eq x name ≡ false → is_asked_now c name rights ≡ true → AsksLeads
+    asks_other e t = by_right (IssueOthers (next_invalidation c rights) ∷ []) (record (right_of c x rights) { issued = next_invalidation c rights }) (other_is_issued c x name rights recorded t e) (record {
       allowed = record { first = record { up = refl; more = omega arith }; rest = tt };
       leads_there = refl;
     })
 
-    asks_nobody : is_asked_now c name s.rights ≡ false → AsksLeads
-    asks_nobody t = by_right [] (right_of c x s.rights) (by_test (bytes_eq x name) (λ e. is_own_still e t) (λ e. other_stays c x name s.rights knows.recorded t e)) (record { allowed = tt; leads_there = refl })
+    asks_nobody : is_asked_now c name rights ≡ false → AsksLeads
+    asks_nobody t = by_right [] (right_of c x rights) (by_test (bytes_eq x name) (λ e. is_own_still e t) (λ e. other_stays c x name rights recorded t e)) (record { allowed = tt; leads_there = refl })
 
     asking_leads : (bytes_eq x name ≡ true → 0 < n) → AsksLeads
-    asking_leads awaited = by_test (is_asked_now c name s.rights) (λ t. by_test (bytes_eq x name) (λ e. asks_own (awaited e) e t) (λ e. asks_other e t)) asks_nobody
+    asking_leads awaited = by_test (is_asked_now c name rights) (λ t. by_test (bytes_eq x name) (λ e. asks_own (awaited e) e t) (λ e. asks_other e t)) asks_nobody
 
-  -- a change of one name waits behind all others, and who holds the name is asked for it
-  change_waits : (name : List ℕ) (waiting : Waiting Task) (t : MasterState) → s.recovering ≡ false → waiting.number ≡ s.gate.pushed + 1 → waiting.change.touched ≡ name ∷ [] → start_of c waiting.change.body ≡ [] → t.recovering ≡ s.recovering → t.gate.waiting ≡ s.gate.waiting ++ waiting ∷ [] → t.rights ≡ asked_back name s.rights
+  -- each of these names is touched by a change that waits
+  all_lead : (n : ℕ) (names : List (List ℕ)) (rights : List CacheRight) → IsRecorded rights → (list_any (bytes_eq x) names ≡ true → 0 < n) → Led (shown c x w (with_rights n rights)) (shown c x w (with_rights n (asked_for_all names rights)))
+  all_lead n [] rights recorded awaited = led_nowhere _ _ refl
+  all_lead n (name ∷ names) rights recorded awaited =
+      led_both (shown c x w (with_rights n rights)) (shown c x w (with_rights n (asked_back name rights))) (shown c x w (with_rights n (asked_for_all names (asked_back name rights))))
+      (asking_leads n name rights recorded (λ e. awaited (first_any (bytes_eq x name) (list_any (bytes_eq x) names) e)))
+      (all_lead n names (asked_back name rights) (recorded_asked name rights recorded) (λ e. awaited (later_any (bytes_eq x name) (list_any (bytes_eq x) names) e)))
+
+  -- a change waits behind all others, and who holds a name that it touches is asked for it
+  change_waits : (names : List (List ℕ)) (waiting : Waiting Task) (t : MasterState) → s.recovering ≡ false → waiting.number ≡ s.gate.pushed + 1 → waiting.change.touched ≡ names → start_of c waiting.change.body ≡ [] → t.recovering ≡ s.recovering → t.gate.waiting ≡ s.gate.waiting ++ waiting ∷ [] → t.rights ≡ asked_for_all names s.rights
       → t.sessions.lease ≡ s.sessions.lease → seen_of (session_of t c) ≡ seen_of (session_of s c) → Comes c x w s t []
-  change_waits name waiting t serving is_next is_touched is_no_start is_recovering is_waiting is_rights is_lease is_seen =
-      let led = led_both (shown c x w (here c x w s)) (shown c x w (with_pending (touching x s.gate.waiting + cond (bytes_eq x name) 1 0))) (shown c x w (asked_parts name (touching x s.gate.waiting + cond (bytes_eq x name) 1 0) (right_of c x (asked_back name s.rights))))
-      (queue_leads (bytes_eq x name) serving)
-      (asking_leads name (touching x s.gate.waiting + cond (bytes_eq x name) 1 0) (above_none (touching x s.gate.waiting) (bytes_eq x name))) in
-      goes c x w s w.rows t [] led.0 (here c x w s) (asked_parts name (touching x s.gate.waiting + cond (bytes_eq x name) 1 0) (right_of c x (asked_back name s.rights))) (alike (here c x w s))
+  change_waits names waiting t serving is_next is_touched is_no_start is_recovering is_waiting is_rights is_lease is_seen =
+      let n : ℕ = touching x s.gate.waiting + cond (list_any (bytes_eq x) names) 1 0 in
+      let led = led_both (shown c x w (here c x w s)) (shown c x w (with_pending n)) (shown c x w (with_rights n (asked_for_all names s.rights)))
+      (queue_leads (list_any (bytes_eq x) names) serving)
+      (all_lead n names s.rights knows.recorded (above_none (touching x s.gate.waiting) (list_any (bytes_eq x) names))) in
+      goes c x w s w.rows t [] led.0 (here c x w s) (with_rights n (asked_for_all names s.rights)) (alike (here c x w s))
       (record {
         present = refl;
         session = refl;
@@ -235,49 +281,39 @@ module _ (c : ℕ) (x : List ℕ) (w : WorldState) (s : MasterState) (knows : Is
         starts = ap (starts_of c) is_waiting ∙ no_start c s.gate.waiting waiting is_no_start;
         heard = two_same heard_from t.recovering s.recovering (seen_of (session_of t c)) (seen_of (session_of s c)) is_recovering is_seen;
         right = ap (right_of c x) is_rights;
-        pending = ap (touching x) is_waiting ∙ pushed_touches x s.gate name waiting is_next is_touched;
+        pending = ap (touching x) is_waiting ∙ pushed_touches x s.gate names waiting is_next is_touched;
         beats = beats_stay c w.messages [];
         offers = offers_more c x w.messages [];
         grants = grants_more c x w.rows.secret w.messages [];
       })
       led.1
 
+  -- what waits, and asks for all that it touches
+  queued_asks : (names : List (List ℕ)) (waiting : Waiting Task) (t : MasterState) → s.recovering ≡ false → waiting.number ≡ s.gate.pushed + 1 → waiting.change.touched ≡ names → start_of c waiting.change.body ≡ [] → t.recovering ≡ s.recovering → t.gate.waiting ≡ s.gate.waiting ++ waiting ∷ [] → t.rights ≡ s.rights
+      → t.sessions.lease ≡ s.sessions.lease → seen_of (session_of t c) ≡ seen_of (session_of s c) → Comes c x w s (asking_for t names) []
+  queued_asks names waiting t serving is_next is_touched is_no_start is_recovering is_waiting is_rights is_lease is_seen =
+      change_waits names waiting (asking_for t names) serving is_next is_touched is_no_start
+      (asking_recovering names t ∙ is_recovering) (asking_waiting names t ∙ is_waiting) (asking_rights names t ∙ ap (asked_for_all names) is_rights)
+      (asking_lease names t ∙ is_lease) (asking_seen names t c ∙ is_seen)
+
   -- the deletion of a node that nobody holds open
   pub tidy_asks : (idle : Idle) → s.recovering ≡ false → Comes c x w s (tidied s idle) []
   tidy_asks idle serving =
-      change_waits idle.name (record { number = s.gate.pushed + 1; change = record { touched = idle.name ∷ []; body = tasks.Tidies idle } }) (tidied s idle) serving refl refl refl refl refl refl
-      (lease_stays_issued s.sessions (clients_to_ask idle.name s.rights)) (issued_seen (clients_to_ask idle.name s.rights) s.sessions c)
+      queued_asks (with_parent idle.name) (record { number = s.gate.pushed + 1; change = record { touched = with_parent idle.name; body = tasks.Tidies idle } }) (queued s (with_parent idle.name) (tasks.Tidies idle)) serving refl refl refl refl refl refl refl refl
 
   module _ (handles : List (HandleKey × HandleState)) (message : CallMessage) where
-    abbrev call_waiting : Option (List ℕ) → Waiting Task
+    abbrev call_waiting : Option Touched → Waiting Task
     call_waiting touched = record { number = s.gate.pushed + 1; change = record { touched = names_of touched; body = tasks.Asked (task_of message) } }
 
     abbrev kept_call : Kept Reply
     kept_call = record { number = message.number; reply = None }
 
-    abbrev with_kept_call : SessionTable Reply
-    with_kept_call = (with_call s message None).sessions
-
-    -- who holds the name that it touches is asked for it
-    call_touches : (name : List ℕ) → s.recovering ≡ false → Comes c x w s (waits (record s { handles = handles }) message (Some name)).0 []
-    call_touches name serving =
-        change_waits name (call_waiting (Some name)) (waits (record s { handles = handles }) message (Some name)).0 serving refl refl refl refl refl refl
-        (lease_stays_issued with_kept_call (clients_to_ask name s.rights) ∙ lease_stays s.sessions message.client (keeping kept_call))
-        (issued_seen (clients_to_ask name s.rights) with_kept_call c ∙ seen_stays (keeping kept_call) (λ session. refl) s.sessions message.client c)
-
-    call_touches_none : Comes c x w s (waits (record s { handles = handles }) message None).0 []
-    call_touches_none = comes_unseen c x w s (waits (record s { handles = handles }) message None).0 []
+    -- who holds a name that it touches is asked for it
+    pub call_waits : (touched : Option Touched) → s.recovering ≡ false → Comes c x w s (waits (record s { handles = handles }) message touched).0 []
+    call_waits touched serving =
+        queued_asks (names_of touched) (call_waiting touched) (with_call (record s { handles = handles }) message touched) serving refl refl refl refl refl refl
         (lease_stays s.sessions message.client (keeping kept_call))
-        refl
         (seen_stays (keeping kept_call) (λ session. refl) s.sessions message.client c)
-        (no_start c s.gate.waiting (call_waiting None) refl)
-        refl
-        ((push_touches x (call_waiting None).change s.gate).1 ∙ sym (plus_none (touching x s.gate.waiting)))
-        refl refl
-
-    pub call_waits : (touched : Option (List ℕ)) → s.recovering ≡ false → Comes c x w s (waits (record s { handles = handles }) message touched).0 []
-    call_waits None serving = call_touches_none
-    call_waits (Some name) serving = call_touches name serving
 
 -- ---- a right is granted
 
@@ -289,7 +325,7 @@ pub record IsGranting (w : WorldState) (s : MasterState) (client number : ℕ) (
   pub room : is_spent s ≡ false
   pub found : call_of w.messages client number ≡ Some message
   pub asks : name_asked s.secret message.call ≡ Some name
-  pub shows : shown_by result ≡ get_node s.nodes name
+  pub shows : shown_by result ≡ view_at s.nodes name
 
 live_standing : (o : Option (Session Reply)) → option_map_or (λ session. session.live) o false ≡ true → standing_of (option_map row_of o) ≡ Live
 live_standing None h = absurd (let e : false ≡ true = h in cc)
@@ -352,7 +388,7 @@ module _ (w : WorldState) (s : MasterState) (knows : IsKnown w s) (handles : Lis
 
   -- the grant that is sent
   abbrev grant_sent : one.Grant Shown
-  grant_sent = record { epoch = w.rows.epoch; stamp = invalidations_of client s.rights; view = get_node (map_of w.rows) name }
+  grant_sent = record { epoch = w.rows.epoch; stamp = invalidations_of client s.rights; view = view_at (map_of w.rows) name }
 
   -- it asks for that name
   asks_name : (x : List ℕ) → asks_for w.rows.secret x (call_of w.messages client number) ≡ bytes_eq name x
@@ -369,8 +405,8 @@ module _ (w : WorldState) (s : MasterState) (knows : IsKnown w s) (handles : Lis
       first_of (client == client && asks_for w.rows.secret name (call_of w.messages client number)) (record { epoch = s.epoch; stamp = issued_to s client; view = shown_by result }) (grants_of client name w.rows.secret w.messages)
       (yes_both (client == client) (asks_for w.rows.secret name (call_of w.messages client number)) (same_number client) (asks_name name ∙ bytes_self name))
       ∙ ap (λ z. z ∷ grants_of client name w.rows.secret w.messages)
-      (grant_is s.epoch w.rows.epoch (issued_to s client) (invalidations_of client s.rights) (shown_by result) (get_node (map_of w.rows) name)
-      knows.epoch (issued_is client s knows.issued knows.owned (session_of s client) refl) (g.shows ∙ ap (λ nodes. get_node nodes name) knows.nodes))
+      (grant_is s.epoch w.rows.epoch (issued_to s client) (invalidations_of client s.rights) (shown_by result) (view_at (map_of w.rows) name)
+      knows.epoch (issued_is client s knows.issued knows.owned (session_of s client) refl) (g.shows ∙ ap (λ nodes. view_at nodes name) knows.nodes))
 
   own_grant : Comes client name w s granted_then sent_then
   own_grant = goes client name w s w.rows granted_then sent_then (SendGrant ∷ []) (here client name w s) (record (here client name w s) { right = record (right_of client name s.rights) { held = true }; grants = grant_sent ∷ grants_of client name w.rows.secret w.messages }) (alike (here client name w s))

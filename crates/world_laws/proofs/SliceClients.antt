@@ -153,7 +153,7 @@ module _ (c : ℕ) (x : List ℕ) (w : WorldState) (number : ℕ) (member : Worl
   ask_leads ask (AskedTooLate late) = tt
   ask_leads ask (Unsafe fault early is) = asked_leads ask (Unsafe fault early is)
   ask_leads ask (Refused fault safe is) = asked_leads ask (Refused fault safe is)
-  ask_leads ask (ReadServed handle mine entry safe is readable) = asked_leads ask (ReadServed handle mine entry safe is readable)
+  ask_leads ask (ReadServed handle mine call entry given safe is readable) = asked_leads ask (ReadServed handle mine call entry given safe is readable)
   ask_leads ask (AbsenceServed opening safe is plain cached) = asked_leads ask (AbsenceServed opening safe is plain cached)
   ask_leads ask (Shared opening view handle safe is shared room) = asked_leads ask (Shared opening view handle safe is shared room)
   ask_leads ask (OutOfHandles opening view handle safe is shared last) = tt

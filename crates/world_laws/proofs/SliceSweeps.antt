@@ -13,13 +13,13 @@ use Rattle.coherence.specs.Slice.{IsIn, Event, KeepReceipts, Admit, SendOffer, A
 use Rattle.node_core.specs.declared.refusals.Fault.TheVariants as faults
 use Rattle.node_core.specs.declared.views.Mod.{Mod}
 use Rattle.node_core.specs.declared.views.Mod.TheVariants.{Put, Gone}
-use Rattle.node_core.specs.Nodes.{get_node, changed, name_of}
+use Rattle.node_core.specs.Nodes.{view_at, changed, touched}
 use Rattle.rows_cell.specs.declared.tables.Session as of_rows
 use Rattle.rows_cell.specs.declared.tables.Rows.{Rows}
 use Rattle.rows_cell.specs.declared.tables.Edit.TheVariants.{NextInstance, PutSession}
 use Rattle.rows_cell.specs.Rows.{changed_rows, map_of}
 use Rattle.rows_cell.specs.LockRows.{LockChange, locks_edits}
-use Rattle.rows_cell.proofs.RowViews.{views_put, views_gone}
+use Rattle.rows_cell.proofs.RowNodes.{nodes_put, nodes_gone}
 use Rattle.messages_cell.specs.declared.outs.Out.{Out}
 use Rattle.messages_cell.specs.declared.outs.CallResult.{CallResult}
 use Rattle.messages_cell.specs.declared.outs.CallResult.TheVariants as results
@@ -54,7 +54,7 @@ use Rattle.cell_parts.specs.StoredSessions.{row_of}
 use Rattle.cell_state.specs.Lookups.{session_of, noted, reply_of, turned_away}
 use Rattle.cell_parts.specs.Answered.{answered_by}
 use Rattle.cell_core.specs.Step.{names_of}
-use Rattle.cell_core.specs.Names.{name_changed, names_touched}
+use Rattle.cell_core.specs.Names.{call_touched, names_touched}
 use Rattle.cell_core.specs.Ephemerals.{is_ok, spared_for}
 use Rattle.cell_update.specs.Updates.{edit_of, with_kept_put, with_locks, without_lock, lock_changes}
 use Rattle.client_parts.specs.Invalidations.{last_number}
@@ -67,7 +67,7 @@ use Rattle.sweep_laws.specs.SweepCase.{IsNextApplied, IsDueToEnd, IsDue, SweepCa
 use Rattle.sweep_laws.specs.SweepCase.SweepCase.{Quiet, Recovers, Expires, Reopens, Tidies, Spared, Tidied, AnswersBeat, TurnedAway, StartedAgain, Started, OfEnded, Ended, Applied, Deleted, Locked, Awaited, Left}
 use Rattle.sweep_laws.specs.Kept.{IsKept}
 use Rattle.sweep_laws.proofs.SweepCases.{first_tellings}
-use Rattle.sweep_laws.proofs.Touching.{change_is_named}
+use Rattle.sweep_laws.proofs.Touching.{change_is_touched}
 use Rattle.sweep_plan.proofs.Unacknowledged.{IsAskedFor, each_is_asked, asked_is_named}
 use Rattle.world_clients.specs.declared.mail.Message.TheVariants.{ToClient}
 use Rattle.world_core.specs.World.{WorldState}
@@ -78,7 +78,8 @@ use Rattle.world_laws.proofs.SliceCalls.{tidy_asks}
 use Rattle.world_laws.proofs.SliceRights.{no_right, unowned_right, right_of_another, freed_right, expiry_frees}
 use Rattle.world_laws.proofs.WorldCases.{swept_master}
 use Rattle.world_laws.proofs.ToldSweeps.{told_goes}
-use Rattle.world_laws.proofs.SweptNames.{touching_less, free_of_holders, all_at, other_node, last_is_issued, named_number}
+use Rattle.world_laws.proofs.ViewsStay.{view_stays}
+use Rattle.world_laws.proofs.SweptNames.{touching_less, free_of_holders, all_at, last_is_issued, named_number}
 use Rattle.world_laws.proofs.Slices.{LeadsTo, reached_stays, by_test, is_same, is_other, same_test, in_front, in_back, in_either, all_found, beats_stay, grants_then, grants_more, offers_more, UpParts, AreSame, here, there, Goes, goes, goes_unseen, standing_kept, with_found, is_found, with_master, lease_stays, seen_stays, own_found, IsKnown, known, first_of, none_more}
 
 -- ---- what leaves the gate
@@ -108,8 +109,8 @@ record IsMapped (rows new : Rows) (change : Mod) : Type 0 where
   map : map_of new ≡ changed (map_of rows) change
 
 mapped_rows : (rows : Rows) (change : Mod) (next : ℕ) → IsMapped rows (changed_rows rows (edit_of change ∷ NextInstance next ∷ [])) change
-mapped_rows rows (Put name view) next = record { sessions = refl; secret = refl; epoch = refl; map = views_put rows.nodes name view }
-mapped_rows rows (Gone name) next = record { sessions = refl; secret = refl; epoch = refl; map = views_gone rows.nodes name }
+mapped_rows rows (Put name view) next = record { sessions = refl; secret = refl; epoch = refl; map = nodes_put rows.nodes name view }
+mapped_rows rows (Gone name) next = record { sessions = refl; secret = refl; epoch = refl; map = nodes_gone rows.nodes name }
 
 standing_by : (c : ℕ) (rows : Rows) (sessions : List (ℕ × of_rows.Session)) → rows.sessions ≡ sessions → standing_in rows c ≡ standing_of (lookup (is_at (nat_cmp c)) sessions)
 standing_by c rows sessions is = ap (λ es. standing_of (lookup (is_at (nat_cmp c)) es)) is
@@ -160,10 +161,6 @@ no_more n = omega arith
 not_touched : (touched : List (List ℕ)) (x : List ℕ) → touched ≡ [] → list_any (bytes_eq x) touched ≡ false
 not_touched touched x none = ap (list_any (bytes_eq x)) none
 
-one_name : (b : Bool) → (b || false) ≡ b
-one_name true = refl
-one_name false = refl
-
 module _ (x : List ℕ) (w : WorldState) (s : MasterState) (knows : IsKnown w s) where
   -- of the messages that are sent, none offers a lease, and none grants the name
   record IsSilent (c : ℕ) (sent : List Out) : Type 0 where
@@ -181,7 +178,7 @@ module _ (x : List ℕ) (w : WorldState) (s : MasterState) (knows : IsKnown w s)
 
   -- the master behind a sweep, by what is seen of each part
   behind : (c : ℕ) (rows : Rows) (t : MasterState) (sent : List Out) (q : UpParts)
-      → get_node (map_of rows) x ≡ q.present → standing_in rows c ≡ q.session → rows.epoch ≡ q.epoch → rows.secret ≡ w.rows.secret → t.sessions.lease ≡ q.lease → t.recovering ≡ q.recovering → seen_of (session_of t c) ≡ q.seen → starts_of c t.gate.waiting ≡ q.starts → heard_from q.recovering q.seen ≡ q.heard → right_of c x t.rights ≡ q.right → touching x t.gate.waiting ≡ q.pending
+      → view_at (map_of rows) x ≡ q.present → standing_in rows c ≡ q.session → rows.epoch ≡ q.epoch → rows.secret ≡ w.rows.secret → t.sessions.lease ≡ q.lease → t.recovering ≡ q.recovering → seen_of (session_of t c) ≡ q.seen → starts_of c t.gate.waiting ≡ q.starts → heard_from q.recovering q.seen ≡ q.heard → right_of c x t.rights ≡ q.right → touching x t.gate.waiting ≡ q.pending
       → beats_of c w.messages ≡ q.beats → fold (put_offer c x) (offers_of c x w.messages) (map ToClient sent) ≡ q.offers → grants_then c x w.rows.secret w.messages sent ≡ q.grants → AreSame (there c x w rows t sent) q
   behind c rows t sent q is_present is_session is_epoch is_secret is_lease is_recovering is_seen is_starts is_heard is_right is_pending is_beats is_offers is_grants = record {
     present = is_present;
@@ -204,7 +201,7 @@ module _ (x : List ℕ) (w : WorldState) (s : MasterState) (knows : IsKnown w s)
   unseen_behind : (c : ℕ) (rows : Rows) (t : MasterState) (sent : List Out) → IsBeside w.rows rows → standing_in rows c ≡ standing_in w.rows c → t.sessions.lease ≡ s.sessions.lease → t.recovering ≡ s.recovering → seen_of (session_of t c) ≡ seen_of (session_of s c) → t.gate.waiting ≡ s.gate.waiting → right_of c x t.rights ≡ right_of c x s.rights
       → fold (put_offer c x) (offers_of c x w.messages) (map ToClient sent) ≡ offers_of c x w.messages → grants_then c x w.rows.secret w.messages sent ≡ grants_of c x w.rows.secret w.messages → Goes c x w s rows t sent
   unseen_behind c rows t sent beside is_session is_lease is_recovering is_seen is_waiting is_right is_offers is_grants = goes_unseen c x w s rows t sent
-      (behind c rows t sent (here c x w s) (ap (λ m. get_node m x) beside.map) is_session beside.epoch beside.secret is_lease is_recovering is_seen (ap (starts_of c) is_waiting) refl is_right (ap (touching x) is_waiting) refl is_offers is_grants)
+      (behind c rows t sent (here c x w s) (ap (λ m. view_at m x) beside.map) is_session beside.epoch beside.secret is_lease is_recovering is_seen (ap (starts_of c) is_waiting) refl is_right (ap (touching x) is_waiting) refl is_offers is_grants)
 
   same_rows : IsBeside w.rows w.rows
   same_rows = record { map = refl; secret = refl; epoch = refl }
@@ -259,7 +256,7 @@ module _ (x : List ℕ) (w : WorldState) (s : MasterState) (knows : IsKnown w s)
         let q : UpParts = record p { session = one.Ended; seen = seen_of (Some (of_session.ended session)); heard = false; right = freed_right (right_of client x s.rights) } in
         goes client x w s ended_rows without_session (sent answers) (Expire ∷ []) p q (is_found client x w s (Some session) knows.sessions knows.epoch due.found)
         (behind client ended_rows without_session (sent answers) q
-        (ap (λ m. get_node m x) has_row.beside.map)
+        (ap (λ m. view_at m x) has_row.beside.map)
         (standing_by client ended_rows (insert_entry nat_cmp w.rows.sessions client ended_row) has_row.sessions ∙ ap standing_of (lookup_put client w.rows.sessions ended_row))
         (has_row.beside.epoch ∙ sym knows.epoch)
         has_row.beside.secret
@@ -392,9 +389,9 @@ module _ (x : List ℕ) (w : WorldState) (s : MasterState) (knows : IsKnown w s)
     touched_is : turn.touched ≡ names_touched s.secret task
     touched_is = all_at (λ (w : Waiting Task). w.change.touched ≡ names_touched s.secret w.change.body) front at_application back (subst (All (λ (w : Waiting Task). w.change.touched ≡ names_touched s.secret w.change.body)) turn.waited knows.touching)
 
-    -- a change of another name leaves this one
-    untouched : (name : List ℕ) → turn.touched ≡ name ∷ [] → touches x at_application ≡ false → bytes_eq x name ≡ false
-    untouched name touched apart = sym (one_name (bytes_eq x name)) ∙ ap (list_any (bytes_eq x)) (sym touched) ∙ apart
+    -- it touches all that a change touches which it names
+    untouched : (change : Mod) → turn.touched ≡ touched (map_of w.rows) change → touches x at_application ≡ false → list_any (bytes_eq x) (touched (map_of w.rows) change) ≡ false
+    untouched change named apart = ap (list_any (bytes_eq x)) (sym named) ∙ apart
 
     pending_by : (b : Bool) → touches x at_application ≡ b → touching x s.gate.waiting ≡ touching x (front ++ back) + cond b 1 0
     pending_by b t = ap (touching x) turn.waited ∙ touching_less x front at_application back ∙ ap (λ (z : Bool). touching x (front ++ back) + cond z 1 0) t
@@ -411,7 +408,7 @@ module _ (x : List ℕ) (w : WorldState) (s : MasterState) (knows : IsKnown w s)
 
     -- what is behind a turn that begins no session
     record IsRest (c : ℕ) (rows : Rows) (t : MasterState) (sent : List Out) : Type 0 where
-      present : touches x at_application ≡ false → get_node (map_of rows) x ≡ get_node (map_of w.rows) x
+      present : touches x at_application ≡ false → view_at (map_of rows) x ≡ view_at (map_of w.rows) x
       session : standing_in rows c ≡ standing_in w.rows c
       secret : rows.secret ≡ w.rows.secret
       epoch : rows.epoch ≡ w.rows.epoch
@@ -440,9 +437,9 @@ module _ (x : List ℕ) (w : WorldState) (s : MasterState) (knows : IsKnown w s)
     applies c rows t sent r touched =
         let none : holds c x s.rights ≡ false = free_of_holders s.rights at_application c x turn.free touched in
         let p : UpParts = record (here c x w s) { right = record (right_of c x s.rights) { held = false }; pending = touching x (front ++ back) + 1 } in
-        let q : UpParts = record p { present = get_node (map_of rows) x; starts = starts_of c (front ++ back); pending = touching x (front ++ back) + 1 - 1 } in
+        let q : UpParts = record p { present = view_at (map_of rows) x; starts = starts_of c (front ++ back); pending = touching x (front ++ back) + 1 - 1 } in
         let right : right_of c x s.rights ≡ record (right_of c x s.rights) { held = false } = ap (λ (held : Bool). record (right_of c x s.rights) { held = held }) none in
-        goes c x w s rows t sent (KeepReceipts (own_parked c ++ starts_of c (front ++ back)) ∷ Apply (get_node (map_of rows) x) ∷ []) p q
+        goes c x w s rows t sent (KeepReceipts (own_parked c ++ starts_of c (front ++ back)) ∷ Apply (view_at (map_of rows) x) ∷ []) p q
         (record { present = refl; session = refl; epoch = refl; lease = refl; recovering = refl; seen = refl; starts = refl; heard = refl; right = right; pending = pending_by true touched; beats = refl; offers = refl; grants = refl })
         (behind c rows t sent q refl r.session r.epoch r.secret r.lease r.recovering r.seen (ap (starts_of c) r.waiting) refl (ap (right_of c x) r.right ∙ right) (ap (touching x) r.waiting ∙ one_less (touching x (front ++ back))) refl r.silent.offers r.silent.grants)
         (record { allowed = record { first = rest_kept c (own_parked c); rest = record { first = record { up = refl; pending = any_positive (touching x (front ++ back)); free = refl }; rest = tt } }; leads_there = refl })
@@ -452,7 +449,7 @@ module _ (x : List ℕ) (w : WorldState) (s : MasterState) (knows : IsKnown w s)
 
     -- the rows of a turn
     record HasRows (c : ℕ) (rows : Rows) : Type 0 where
-      present : touches x at_application ≡ false → get_node (map_of rows) x ≡ get_node (map_of w.rows) x
+      present : touches x at_application ≡ false → view_at (map_of rows) x ≡ view_at (map_of w.rows) x
       session : standing_in rows c ≡ standing_in w.rows c
       secret : rows.secret ≡ w.rows.secret
       epoch : rows.epoch ≡ w.rows.epoch
@@ -465,12 +462,12 @@ module _ (x : List ℕ) (w : WorldState) (s : MasterState) (knows : IsKnown w s)
     plain_rows : (c : ℕ) → HasRows c w.rows
     plain_rows c = record { present = λ apart. refl; session = refl; secret = refl; epoch = refl }
 
-    mapped_rows_of : (c : ℕ) (change : Change) → (touches x at_application ≡ false → bytes_eq x (name_of change.change) ≡ false) → HasRows c (changed_rows w.rows (edit_of change.change ∷ NextInstance change.next_instance ∷ []))
+    mapped_rows_of : (c : ℕ) (change : Change) → (touches x at_application ≡ false → list_any (bytes_eq x) (touched (map_of w.rows) change.change) ≡ false) → HasRows c (changed_rows w.rows (edit_of change.change ∷ NextInstance change.next_instance ∷ []))
     mapped_rows_of c change other =
         let rows = changed_rows w.rows (edit_of change.change ∷ NextInstance change.next_instance ∷ []) in
         let m = mapped_rows w.rows change.change change.next_instance in
         record {
-          present = λ apart. ap (λ nodes. get_node nodes x) m.map ∙ other_node (map_of w.rows) change.change x (other apart);
+          present = λ apart. ap (λ nodes. view_at nodes x) m.map ∙ view_stays (map_of w.rows) change.change x knows.in_order (other apart);
           session = standing_by c rows w.rows.sessions m.sessions;
           secret = m.secret;
           epoch = m.epoch;
@@ -481,7 +478,7 @@ module _ (x : List ℕ) (w : WorldState) (s : MasterState) (knows : IsKnown w s)
         let rows = changed_rows w.rows (relocking s puts) in
         let r = relocked_rows w.rows (lock_changes s puts) in
         record {
-          present = λ apart. ap (λ nodes. get_node nodes x) r.beside.map;
+          present = λ apart. ap (λ nodes. view_at nodes x) r.beside.map;
           session = standing_by c rows w.rows.sessions r.sessions;
           secret = r.beside.secret;
           epoch = r.beside.epoch;
@@ -508,7 +505,7 @@ module _ (x : List ℕ) (w : WorldState) (s : MasterState) (knows : IsKnown w s)
 
     tidied_so : (c : ℕ) → Goes c x w s gone_rows without_node (sent (gone_replies s idle))
     tidied_so c =
-        let r = mapped_rows_of front back (tasks.Tidies idle) turn c (gone_change s idle) (untouched front back (tasks.Tidies idle) turn idle.name (touched_is front back (tasks.Tidies idle) turn)) in
+        let r = mapped_rows_of front back (tasks.Tidies idle) turn c (gone_change s idle) (untouched front back (tasks.Tidies idle) turn (Gone idle.name) (touched_is front back (tasks.Tidies idle) turn)) in
         leaves front back (tasks.Tidies idle) turn c gone_rows without_node (sent (gone_replies s idle)) (record {
           present = r.present;
           session = r.session;
@@ -740,9 +737,10 @@ module _ (x : List ℕ) (w : WorldState) (s : MasterState) (knows : IsKnown w s)
     -- the rows of a call that changes the map
     changed_rows_of : (c : ℕ) (call : Call) (sequencer : Option (List ℕ)) (change : Change) → asked.work ≡ works.Calls call sequencer → (effect (name_space s) (caller s asked.client) s.clock asked.number call sequencer).change ≡ Some change → HasRows front back (tasks.Asked asked) turn c (changed_rows w.rows (edit_of change.change ∷ NextInstance change.next_instance ∷ []))
     changed_rows_of c call sequencer change work made =
-        let named : name_changed s.secret call ≡ Some (name_of change.change) = change_is_named s asked.client asked.number call sequencer change made in
-        let touched : turn.touched ≡ name_of change.change ∷ [] = touched_is front back (tasks.Asked asked) turn ∙ ap (λ z. names_touched s.secret (tasks.Asked (record asked { work = z }))) work ∙ ap names_of named in
-        mapped_rows_of front back (tasks.Asked asked) turn c change (untouched front back (tasks.Asked asked) turn (name_of change.change) touched)
+        let named : names_of (call_touched s.secret call) ≡ touched s.nodes change.change = change_is_touched s asked.client asked.number call sequencer change made in
+        let touches_it : turn.touched ≡ touched (map_of w.rows) change.change =
+        touched_is front back (tasks.Asked asked) turn ∙ ap (λ z. names_touched s.secret (tasks.Asked (record asked { work = z }))) work ∙ named ∙ ap (λ nodes. touched nodes change.change) knows.nodes in
+        mapped_rows_of front back (tasks.Asked asked) turn c change (untouched front back (tasks.Asked asked) turn change.change touches_it)
 
   sweep_by : (c : ℕ) (case : SweepCase s) → Goes c x w s (changed_rows w.rows (swept_edits s case)) (swept_by s case).0 (swept_by s case).1.outs
   sweep_by c (Quiet none) = unseen_behind c w.rows s [] same_rows refl refl refl refl refl refl refl refl

@@ -7,7 +7,7 @@ use Rattle.coherence.specs.Slice as one
 use Rattle.coherence.specs.Slice.{IsIn, Event, Receive, KeepReceipts, Acknowledge, GiveBack, Reached, Leads}
 use Rattle.node_core.specs.declared.refusals.Fault.{Fault}
 use Rattle.node_core.specs.declared.refusals.Fault.TheVariants as faults
-use Rattle.node_core.specs.Nodes.{get_node}
+use Rattle.node_core.specs.Nodes.{view_at}
 use Rattle.messages_cell.specs.declared.beats.Beat.{Beat}
 use Rattle.messages_cell.specs.declared.requests.Start.{Start}
 use Rattle.messages_cell.specs.declared.requests.CallMessage.{CallMessage}
@@ -31,6 +31,7 @@ use Rattle.cell_parts.specs.Keys.{handle_order}
 use Rattle.cell_state.specs.State.{MasterState}
 use Rattle.cell_state.specs.Lookups.{session_of, kept_of, noted, acknowledgement, repeated_reply, is_spent}
 use Rattle.cell_update.specs.Updates.{with_note}
+use Rattle.cell_core.specs.declared.asking.Touched.{Touched}
 use Rattle.cell_core.specs.Step.{replied, granting, queued, waits, parked, is_cachable}
 use Rattle.cell_core.specs.Names.{name_asked, shown_by}
 use Rattle.cell_core.specs.Cases.{IsHeard, IsGranted, TakeCase, taken_by}
@@ -262,7 +263,7 @@ module _ (c : ℕ) (x : List ℕ) (w : WorldState) (s : MasterState) (knows : Is
   replies None client number result = call_replied c x w s s.handles client number result
   replies (Some note) client number result = call_replied c x w s (insert_entry handle_order s.handles note.key note.state) client number result
 
-  queues : (note : Option Note) (message : CallMessage) (touched : Option (List ℕ)) → s.recovering ≡ false → Comes c x w s (waits (with_note s note) message touched).0 []
+  queues : (note : Option Note) (message : CallMessage) (touched : Option Touched) → s.recovering ≡ false → Comes c x w s (waits (with_note s note) message touched).0 []
   queues None message touched serving = call_waits c x w s knows s.handles message touched serving
   queues (Some note) message touched serving = call_waits c x w s knows (insert_entry handle_order s.handles note.key note.state) message touched serving
 
@@ -274,7 +275,7 @@ module _ (c : ℕ) (x : List ℕ) (w : WorldState) (s : MasterState) (knows : Is
       → Comes c x w s (granting (with_note s note) message.client message.number answer name).0 (granting (with_note s note) message.client message.number answer name).1.outs
   grants at request note message answer name sent heard serving granted = by_note note is_granting
     where
-      tells : (name_asked s.secret message.call ≡ Some name) × (shown_by answer ≡ get_node s.nodes name)
+      tells : (name_asked s.secret message.call ≡ Some name) × (shown_by answer ≡ view_at s.nodes name)
       tells = told_is_shown s message.client message.number message.call message.sequencer name answer granted.is_told granted.is_answer
 
       is_granting : IsGranting w s message.client message.number message answer name

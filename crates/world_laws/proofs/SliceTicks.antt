@@ -9,7 +9,7 @@ use Rattle.std.proofs.lemmas.Bool.Decides.{nat_tests}
 use Rattle.lease_core.specs.Lease.{longest_lease, recovery_timeout}
 use Rattle.coherence.specs.Slice as one
 use Rattle.coherence.specs.Slice.{Slice, Event, TickBeforeJoin, TickAboveLeast, TickToLeast, TickWithoutMaster, ComeUp, GoDown, Reached, Leads, nobody}
-use Rattle.node_core.specs.Nodes.{get_node}
+use Rattle.node_core.specs.Nodes.{view_at}
 use Rattle.rows_cell.specs.declared.tables.Session as of_rows
 use Rattle.rows_cell.specs.Rows.{changed_rows, map_of}
 use Rattle.messages_cell.specs.declared.outs.Reply.{Reply}
@@ -44,7 +44,7 @@ module _ (c : ℕ) (x : List ℕ) (w : WorldState) (ticks : Ticks) where
   -- with the master's clock and the client's member as they are then
   abbrev at_clocks : Option MasterState → ℕ → Option WorldClient → Slice Shown
   at_clocks m now member = record {
-    present = get_node (map_of w.rows) x;
+    present = view_at (map_of w.rows) x;
     session = standing_in w.rows c;
     epoch = w.rows.epoch;
     master = master_of c x now member m;
@@ -128,7 +128,7 @@ module _ (c : ℕ) (x : List ℕ) (w : WorldState) (now : ℕ) where
 
   abbrev down_slice : Option of_rows.Session → Option WorldClient → Slice Shown
   down_slice row member = record {
-    present = get_node (map_of w.rows) x;
+    present = view_at (map_of w.rows) x;
     session = standing_of row;
     epoch = w.rows.epoch;
     master = nobody;
@@ -141,7 +141,7 @@ module _ (c : ℕ) (x : List ℕ) (w : WorldState) (now : ℕ) where
   -- with the session that the master found, and the member at its coming up
   abbrev up_slice : Option of_rows.Session → Bool → Option (Session Reply) → Option WorldClient → Bool → Slice Shown
   up_slice row recovering found member heard = seen_up now (clocks_of now member) (client_of x member) (record {
-    present = get_node (map_of w.rows) x;
+    present = view_at (map_of w.rows) x;
     session = standing_of row;
     epoch = w.rows.epoch + 1;
     lease = w.lease;
@@ -225,7 +225,7 @@ behind_join w number principal = record w { clients = insert_entry nat_cmp w.cli
 module _ (x : List ℕ) (w : WorldState) (number : ℕ) (principal : List ℕ) where
   abbrev member_with : Option MasterState → Option WorldClient → Slice Shown
   member_with m member = record {
-    present = get_node (map_of w.rows) x;
+    present = view_at (map_of w.rows) x;
     session = standing_in w.rows number;
     epoch = w.rows.epoch;
     master = master_of number x w.clock member m;

@@ -3,17 +3,20 @@ use Rattle.std.proofs.Common.{◌≡◌, ◌≢◌, ℕ, ◌-◌, ◌<◌, ◌�
 use Rattle.std.specs.Prelude.{◌⊎◌, ◌==◌, ◌&&◌, fold}
 use Rattle.std.specs.Option.{option_map, option_map_or}
 use Rattle.std.specs.List.{slice_get, list_all}
-use Rattle.std.specs.Map.{lookup, set_value}
+use Rattle.std.specs.Map.{lookup, set_value, keys_of}
 use Rattle.std.specs.BTreeMap.{is_at}
 use Rattle.std.specs.Ordering.{nat_cmp}
+use Rattle.std.specs.Cmp.Lexicographic.{slice_cmp}
+use Rattle.std.specs.List.Sorted.{IsStrictlySortedBy}
 use Rattle.std.proofs.lemmas.Bool.Decides.{nat_tests}
 use Rattle.coherence.specs.Slice as one
 use Rattle.coherence.specs.Slice.{IsIn, Slice, Event, Reached, Leads}
 use Rattle.coherence.proofs.Reached.{reached_led}
 use Rattle.coherence.proofs.Runs.{always}
-use Rattle.node_core.specs.Nodes.{get_node}
+use Rattle.node_core.specs.Nodes.{view_at}
 use Rattle.rows_cell.specs.declared.tables.Rows.{Rows}
 use Rattle.rows_cell.specs.Rows.{map_of}
+use Rattle.rows_cell.proofs.RowNodes.{keys_of_nodes}
 use Rattle.messages_cell.specs.declared.requests.Request.{Request}
 use Rattle.messages_cell.specs.declared.requests.Request.TheVariants as requests
 use Rattle.messages_cell.specs.declared.outs.Out.{Out}
@@ -311,7 +314,7 @@ module _ (c : ℕ) (x : List ℕ) (w : WorldState) where
 
   abbrev pub parts_of : Rows → MasterState → List Message → UpParts
   parts_of rows t messages = record {
-    present = get_node (map_of rows) x;
+    present = view_at (map_of rows) x;
     session = standing_in rows c;
     epoch = rows.epoch;
     lease = t.sessions.lease;
@@ -385,7 +388,7 @@ module _ (c : ℕ) (x : List ℕ) (w : WorldState) where
 
   abbrev pub stepped_as : Option WorldClient → List one.Beat → List one.Offer → Grants → Slice Shown
   stepped_as member beats offers grants = record {
-    present = get_node (map_of w.rows) x;
+    present = view_at (map_of w.rows) x;
     session = standing_in w.rows c;
     epoch = w.rows.epoch;
     master = master_of c x w.clock member w.master;
@@ -423,6 +426,7 @@ own_found step s c session found = own_session s c step ∙ ap (option_map step)
 -- what it knows of the rows is what they hold, and the moment is noted
 pub record IsKnown (w : WorldState) (s : MasterState) : Type 0 where
   pub nodes : s.nodes ≡ map_of w.rows
+  pub in_order : IsStrictlySortedBy (slice_cmp nat_cmp) (keys_of (map_of w.rows))
   pub secret : s.secret ≡ w.rows.secret
   pub sessions : session_rows s.sessions ≡ w.rows.sessions
   pub epoch : s.epoch ≡ w.rows.epoch
@@ -440,6 +444,7 @@ latest a b h = omega (arith, h)
 pub known : (w : WorldState) (s : MasterState) → IsKept w.cell w.rows s → s.clock ≤ w.clock → IsKnown w (noted s w.clock)
 known w s kept early = record {
   nodes = kept.nodes;
+  in_order = subst (IsStrictlySortedBy (slice_cmp nat_cmp)) (sym (keys_of_nodes w.rows.nodes)) kept.names_in_order;
   secret = kept.secret;
   sessions = kept.sessions;
   epoch = kept.epoch;

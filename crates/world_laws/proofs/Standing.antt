@@ -18,14 +18,14 @@ use Rattle.plain.proofs.Entries.{lookup_put, eq_at}
 use Rattle.names_cell.specs.Text.{parent_of}
 use Rattle.node_core.specs.declared.events.Event.{Event}
 use Rattle.node_core.specs.declared.events.Event.TheVariants as events
-use Rattle.node_core.specs.declared.views.View.{View}
+use Rattle.node_core.specs.declared.nodes.Node.{Node}
 use Rattle.node_core.specs.declared.views.Mod.{Mod}
 use Rattle.node_core.specs.declared.views.Mod.TheVariants.{Put, Gone}
-use Rattle.node_core.specs.Nodes.{Nodes, get_node, changed}
+use Rattle.node_core.specs.Nodes.{Nodes, get_node, changed, with_parent}
 use Rattle.rows_cell.specs.declared.tables.Rows.{Rows}
-use Rattle.rows_cell.specs.Rows.{StoredNodes, views_of, map_of, changed_rows}
+use Rattle.rows_cell.specs.Rows.{StoredNodes, nodes_of, map_of, changed_rows}
 use Rattle.rows_cell.specs.Sound.{sound, are_distinct}
-use Rattle.rows_cell.proofs.RowViews.{keys_of_views}
+use Rattle.rows_cell.proofs.RowNodes.{keys_of_nodes}
 use Rattle.rows_cell.proofs.SoundParts.{instances, has_instance, parts_of}
 use Rattle.tags_cell.specs.declared.handles.Handle.{Handle}
 use Rattle.cell_update.specs.declared.updates.Change.{Change}
@@ -41,6 +41,7 @@ use Rattle.cell_parts.specs.declared.notices.Notice.{Notice}
 use Rattle.cell_parts.specs.declared.notices.Notice.TheVariants as notices
 use Rattle.cell_parts.specs.declared.notices.Telling.{Telling}
 use Rattle.cell_parts.specs.Events.{instance_of}
+use Rattle.cell_parts.specs.declared.pending.Task.TheVariants as tasks
 use Rattle.cell_state.specs.NameSpace.{name_space}
 use Rattle.cell_state.specs.Notices.{event_if, event_here, event_on, event_for, is_noted, telling_as, telling_by}
 use Rattle.cell_state.specs.State.{MasterState}
@@ -49,6 +50,8 @@ use Rattle.cell_state.specs.Lookups.{holds_lock}
 use Rattle.lock_core.specs.Locks.{LockTable, lock_at}
 use Rattle.cell_apply.specs.declared.effects.Effect.{Effect}
 use Rattle.sweep_plan.specs.declared.plans.Plan.{Plan}
+use Rattle.cell_core.proofs.AskedFor.{asks_only}
+use Rattle.cell_core.specs.Step.{queued}
 use Rattle.sweep_laws.specs.Kept.{IsKept}
 use Rattle.cell_apply.specs.Notices.{above, put_notices, gone_notices, mod_notices, change_notices, lock_notices, locks_notices, contest_notices}
 use Rattle.sweep_plan.specs.Plans.{notices_of, tellings_of}
@@ -67,20 +70,20 @@ itself n = grind (arith, nat_tests)
 
 -- ---- the node of an instance
 
-found_has : (nodes : StoredNodes) (name : List ℕ) (view : View) → get_node (views_of nodes) name ≡ Some view → has_instance nodes view.instance ≡ true
+found_has : (nodes : StoredNodes) (name : List ℕ) (view : Node) → get_node (nodes_of nodes) name ≡ Some view → has_instance nodes view.instance ≡ true
 found_has [] name view h = cc
 found_has (e ∷ es) name view h =
-    (elim (is_at (slice_cmp nat_cmp name) e.0) as (λ b. cond b (Some e.1.view) (get_node (views_of es) name) ≡ Some view → has_instance (e ∷ es) view.instance ≡ true) [
+    (elim (is_at (slice_cmp nat_cmp name) e.0) as (λ b. cond b (Some e.1.node) (get_node (nodes_of es) name) ≡ Some view → has_instance (e ∷ es) view.instance ≡ true) [
       | true ↦ (λ k.
-          let same : e.1.view ≡ view = cc in
-          let P : View → Type 0 = λ v. has_instance (e ∷ es) v.instance ≡ true in
-          subst P same (or_left (e.1.view.instance == e.1.view.instance) (has_instance es e.1.view.instance) (itself e.1.view.instance)))
-      | false ↦ (λ k. or_right (e.1.view.instance == view.instance) (has_instance es view.instance) (found_has es name view k))
+          let same : e.1.node ≡ view = cc in
+          let P : Node → Type 0 = λ v. has_instance (e ∷ es) v.instance ≡ true in
+          subst P same (or_left (e.1.node.instance == e.1.node.instance) (has_instance es e.1.node.instance) (itself e.1.node.instance)))
+      | false ↦ (λ k. or_right (e.1.node.instance == view.instance) (has_instance es view.instance) (found_has es name view k))
     ]) h
 
 has_by : (nodes : StoredNodes) (n : ℕ) → has_instance nodes n ≡ list_any (λ m. m == n) (instances nodes)
 has_by [] n = refl
-has_by (e ∷ es) n = ap (λ b. e.1.view.instance == n || b) (has_by es n)
+has_by (e ∷ es) n = ap (λ b. e.1.node.instance == n || b) (has_by es n)
 
 opposite : (b : Bool) → b ≡ true → not b ≡ true → ⊥
 opposite b h k = absurd cc
@@ -89,32 +92,32 @@ opposite b h k = absurd cc
 not_twice : (nodes : StoredNodes) (n : ℕ) → not (list_any (λ m. m == n) (instances nodes)) ≡ true → has_instance nodes n ≡ true → ⊥
 not_twice nodes n none has = opposite (list_any (λ m. m == n) (instances nodes)) (sym (has_by nodes n) ∙ has) none
 
-one_node : (nodes : StoredNodes) (name other : List ℕ) (view seen : View) → are_distinct (instances nodes) ≡ true → get_node (views_of nodes) name ≡ Some view → get_node (views_of nodes) other ≡ Some seen → seen.instance ≡ view.instance → seen ≡ view
+one_node : (nodes : StoredNodes) (name other : List ℕ) (view seen : Node) → are_distinct (instances nodes) ≡ true → get_node (nodes_of nodes) name ≡ Some view → get_node (nodes_of nodes) other ≡ Some seen → seen.instance ≡ view.instance → seen ≡ view
 one_node [] name other view seen distinct h k same = cc
 one_node (e ∷ es) name other view seen distinct h k same =
-    let t = and_parts (not (list_any (λ m. m == e.1.view.instance) (instances es))) (are_distinct (instances es)) distinct in
+    let t = and_parts (not (list_any (λ m. m == e.1.node.instance) (instances es))) (are_distinct (instances es)) distinct in
     let P : ℕ → Type 0 = λ n. has_instance es n ≡ true in
-    (elim (is_at (slice_cmp nat_cmp name) e.0) as (λ b. cond b (Some e.1.view) (get_node (views_of es) name) ≡ Some view → seen ≡ view) [
+    (elim (is_at (slice_cmp nat_cmp name) e.0) as (λ b. cond b (Some e.1.node) (get_node (nodes_of es) name) ≡ Some view → seen ≡ view) [
       | true ↦ (λ at_name.
-          let own : e.1.view ≡ view = cc in
-          (elim (is_at (slice_cmp nat_cmp other) e.0) as (λ b. cond b (Some e.1.view) (get_node (views_of es) other) ≡ Some seen → seen ≡ view) [
-            | true ↦ (λ at_other. let here : e.1.view ≡ seen = cc in sym here ∙ own)
-            | false ↦ (λ at_other. absurd (not_twice es e.1.view.instance t.0 (subst P (same ∙ ap (λ (v : View). v.instance) (sym own)) (found_has es other seen at_other))))
+          let own : e.1.node ≡ view = cc in
+          (elim (is_at (slice_cmp nat_cmp other) e.0) as (λ b. cond b (Some e.1.node) (get_node (nodes_of es) other) ≡ Some seen → seen ≡ view) [
+            | true ↦ (λ at_other. let here : e.1.node ≡ seen = cc in sym here ∙ own)
+            | false ↦ (λ at_other. absurd (not_twice es e.1.node.instance t.0 (subst P (same ∙ ap (λ (v : Node). v.instance) (sym own)) (found_has es other seen at_other))))
           ]) k)
       | false ↦ (λ at_name.
-          (elim (is_at (slice_cmp nat_cmp other) e.0) as (λ b. cond b (Some e.1.view) (get_node (views_of es) other) ≡ Some seen → seen ≡ view) [
+          (elim (is_at (slice_cmp nat_cmp other) e.0) as (λ b. cond b (Some e.1.node) (get_node (nodes_of es) other) ≡ Some seen → seen ≡ view) [
             | true ↦ (λ at_other.
-                let here : e.1.view ≡ seen = cc in
-                absurd (not_twice es e.1.view.instance t.0 (subst P (sym same ∙ ap (λ (v : View). v.instance) (sym here)) (found_has es name view at_name))))
+                let here : e.1.node ≡ seen = cc in
+                absurd (not_twice es e.1.node.instance t.0 (subst P (sym same ∙ ap (λ (v : Node). v.instance) (sym here)) (found_has es name view at_name))))
             | false ↦ (λ at_other. one_node es name other view seen t.1 at_name at_other same)
           ]) k)
     ]) h
 
-no_older_same : (view seen : View) → seen ≡ view → view.content_generation ≤ seen.content_generation
-no_older_same view seen same = let P : View → Type 0 = λ v. view.content_generation ≤ v.content_generation in subst P (sym same) (least view.content_generation)
+no_older_same : (view seen : Node) → seen ≡ view → view.content_generation ≤ seen.content_generation
+no_older_same view seen same = let P : Node → Type 0 = λ v. view.content_generation ≤ v.content_generation in subst P (sym same) (least view.content_generation)
 
 -- what the rows hold stands
-pub present_stands : (cell : List ℕ) (rows : Rows) (name : List ℕ) (view : View) → sound cell rows ≡ true → get_node (map_of rows) name ≡ Some view → Stands rows view.instance view.content_generation
+pub present_stands : (cell : List ℕ) (rows : Rows) (name : List ℕ) (view : Node) → sound cell rows ≡ true → get_node (map_of rows) name ≡ Some view → Stands rows view.instance view.content_generation
 present_stands cell rows name view fit found =
     let p = parts_of cell rows fit in
     record {
@@ -127,20 +130,20 @@ present_stands cell rows name view fit found =
 name_itself : (name : List ℕ) → slice_cmp nat_cmp name name ≡ Equal
 name_itself name = tied_itself nat_list_cmp_total name
 
-put_at_name : (nodes : Nodes) (name other : List ℕ) (view : View) → get_node (insert_entry (slice_cmp nat_cmp) nodes name view) other ≡ cond (is_at (slice_cmp nat_cmp other) name) (Some view) (get_node nodes other)
+put_at_name : (nodes : Nodes) (name other : List ℕ) (view : Node) → get_node (insert_entry (slice_cmp nat_cmp) nodes name view) other ≡ cond (is_at (slice_cmp nat_cmp other) name) (Some view) (get_node nodes other)
 put_at_name nodes name other view = lookup_put (slice_cmp nat_cmp) exact_bytes name_itself nodes name view other
 
-put_there : (nodes : Nodes) (name : List ℕ) (view : View) → get_node (insert_entry (slice_cmp nat_cmp) nodes name view) name ≡ Some view
+put_there : (nodes : Nodes) (name : List ℕ) (view : Node) → get_node (insert_entry (slice_cmp nat_cmp) nodes name view) name ≡ Some view
 put_there nodes name view = put_at_name nodes name name view ∙ rw (name_itself name) refl
 
-put_found : (nodes : Nodes) (name other : List ℕ) (view seen : View) → get_node (insert_entry (slice_cmp nat_cmp) nodes name view) other ≡ Some seen → (seen ≡ view) ⊎ (get_node nodes other ≡ Some seen)
+put_found : (nodes : Nodes) (name other : List ℕ) (view seen : Node) → get_node (insert_entry (slice_cmp nat_cmp) nodes name view) other ≡ Some seen → (seen ≡ view) ⊎ (get_node nodes other ≡ Some seen)
 put_found nodes name other view seen h =
     (elim (is_at (slice_cmp nat_cmp other) name) as (λ b. cond b (Some view) (get_node nodes other) ≡ Some seen → (seen ≡ view) ⊎ (get_node nodes other ≡ Some seen)) [
       | true ↦ (λ k. let same : view ≡ seen = cc in inl (sym same))
       | false ↦ (λ k. inr k)
     ]) (sym (put_at_name nodes name other view) ∙ h)
 
-gone_found : (nodes : Nodes) (name other : List ℕ) (seen : View) → IsStrictlySortedBy (slice_cmp nat_cmp) (keys_of nodes) → get_node (remove_entry (is_at (slice_cmp nat_cmp name)) nodes) other ≡ Some seen → get_node nodes other ≡ Some seen
+gone_found : (nodes : Nodes) (name other : List ℕ) (seen : Node) → IsStrictlySortedBy (slice_cmp nat_cmp) (keys_of nodes) → get_node (remove_entry (is_at (slice_cmp nat_cmp name)) nodes) other ≡ Some seen → get_node nodes other ≡ Some seen
 gone_found nodes name other seen sorted h =
     let left : get_node (remove_entry (is_at (slice_cmp nat_cmp name)) nodes) other ≡ cond (is_at (slice_cmp nat_cmp name) other) None (get_node nodes other) =
     lookup-remove_entry (eq_by_cmp_equiv nat_list_cmp_total) (is_at (slice_cmp nat_cmp name))
@@ -151,10 +154,10 @@ gone_found nodes name other seen sorted h =
       | false ↦ (λ k. k)
     ]) (sym left ∙ h)
 
-still_renewed : (s : MasterState) (name : List ℕ) (view : View) → get_node s.nodes name ≡ Some view → IsRenewed s view
+still_renewed : (s : MasterState) (name : List ℕ) (view : Node) → get_node s.nodes name ≡ Some view → IsRenewed s view
 still_renewed s name view found = inr (name, view, found, refl, least view.content_generation)
 
-change_renews : (s : MasterState) (change : Mod) → IsStrictlySortedBy (slice_cmp nat_cmp) (keys_of s.nodes) → Renews s change → (name : List ℕ) (view : View) → get_node (changed s.nodes change) name ≡ Some view → IsRenewed s view
+change_renews : (s : MasterState) (change : Mod) → IsStrictlySortedBy (slice_cmp nat_cmp) (keys_of s.nodes) → Renews s change → (name : List ℕ) (view : Node) → get_node (changed s.nodes change) name ≡ Some view → IsRenewed s view
 change_renews s (Put at new) sorted renews name view found =
     elim (put_found s.nodes at name new view found) [
       | inl same ↦ subst (IsRenewed s) (sym same) renews
@@ -165,7 +168,7 @@ change_renews s (Gone at) sorted renews name view found = still_renewed s name v
 -- ---- from rows to later ones
 
 module _ (cell : List ℕ) (old new : Rows) (s t : MasterState) (k : IsKept cell old s) (l : IsKept cell new t) (instance generation : ℕ) (h : Stands old instance generation) where
-  renewed_later : (view : View) → s.next_instance ≤ t.next_instance → IsRenewed s view → IsNoOlder instance generation view
+  renewed_later : (view : Node) → s.next_instance ≤ t.next_instance → IsRenewed s view → IsNoOlder instance generation view
   renewed_later view more (inl above) = λ same. let a = h.given in let b = k.next_instance in absurd (omega arith)
   renewed_later view more (inr r) = λ same.
       let found : get_node (map_of old) r.0 ≡ Some r.1 = ap (λ (ns : Nodes). get_node ns r.0) (sym k.nodes) ∙ r.2 in
@@ -173,7 +176,7 @@ module _ (cell : List ℕ) (old new : Rows) (s t : MasterState) (k : IsKept cell
       let no_less = r.4 in
       omega arith
 
-  stands_later : s.next_instance ≤ t.next_instance → ((name : List ℕ) (view : View) → get_node t.nodes name ≡ Some view → IsRenewed s view) → Stands new instance generation
+  stands_later : s.next_instance ≤ t.next_instance → ((name : List ℕ) (view : Node) → get_node t.nodes name ≡ Some view → IsRenewed s view) → Stands new instance generation
   stands_later more renewed = record {
     given = let a = h.given in let b = k.next_instance in let c = l.next_instance in omega arith;
     present = λ name view is. renewed_later view more (renewed name view (ap (λ (ns : Nodes). get_node ns name) l.nodes ∙ is));
@@ -182,7 +185,7 @@ module _ (cell : List ℕ) (old new : Rows) (s t : MasterState) (k : IsKept cell
 in_order_of : (cell : List ℕ) (rows : Rows) (s : MasterState) → IsKept cell rows s → IsStrictlySortedBy (slice_cmp nat_cmp) (keys_of s.nodes)
 in_order_of cell rows s k =
     let P : List (List ℕ) → Type 0 = IsStrictlySortedBy (slice_cmp nat_cmp) in
-    subst P (sym (ap (λ (ns : Nodes). keys_of ns) k.nodes ∙ keys_of_views rows.nodes)) k.names_in_order
+    subst P (sym (ap (λ (ns : Nodes). keys_of ns) k.nodes ∙ keys_of_nodes rows.nodes)) k.names_in_order
 
 module _ (cell : List ℕ) (rows : Rows) (s : MasterState) (k : IsKept cell rows s) (instance generation : ℕ) where
   abbrev IsStanding : SweepCase s → Type 0
@@ -203,7 +206,9 @@ module _ (cell : List ℕ) (rows : Rows) (s : MasterState) (k : IsKept cell rows
   case_stands (Recovers recovering heard) = same_stands (Recovers recovering heard) refl refl
   case_stands (Expires client session due) = same_stands (Expires client session due) refl refl
   case_stands (Reopens at due) = same_stands (Reopens at due) refl refl
-  case_stands (Tidies idle due) = same_stands (Tidies idle due) refl refl
+  case_stands (Tidies idle due) =
+      let only = asks_only (with_parent idle.name) (queued s (with_parent idle.name) (tasks.Tidies idle)) in
+      same_stands (Tidies idle due) (ap (λ (t : MasterState). t.nodes) only) (ap (λ (t : MasterState). t.next_instance) only)
   case_stands (Spared front back idle turn held) = same_stands (Spared front back idle turn held) refl refl
   case_stands (Tidied front back idle turn still) = changed_stands (Tidied front back idle turn still) (gone_change s idle) refl refl tt (least s.next_instance)
   case_stands (AnswersBeat client session beat due) = same_stands (AnswersBeat client session beat due) refl refl
@@ -263,7 +268,7 @@ module _ (s : MasterState) (update : Update) where
   done_by change next =
       left (recovered (without_lock (with_map (with_kept (with_session_rest (with_locks (with_put (with_note (with_begun s update.session) update.note) change) update.locks) (session_rest update.session)) update.kept) (Some (record { gone = gone_of change; next_instance = next }))) update.ends_lock) update.recovers) update.leaves
 
-  put_stays : (name : List ℕ) (view : View) (next : ℕ) → get_node (done_by (Put name view) next).nodes name ≡ Some view
+  put_stays : (name : List ℕ) (view : Node) (next : ℕ) → get_node (done_by (Put name view) next).nodes name ≡ Some view
   put_stays name view next =
       let begun : MasterState = with_note (with_begun s update.session) update.note in
       let placed : MasterState = with_locks (with_put begun (Put name view)) update.locks in
@@ -277,7 +282,7 @@ module _ (s : MasterState) (update : Update) where
   whole : (o : Option Change) → update.change ≡ o → (change : Change) → o ≡ Some change → done s update ≡ done_by change.change change.next_instance
   whole o is change some = rw (is ∙ some) refl
 
-  pub put_is_there : (change : Change) (name : List ℕ) (view : View) → update.change ≡ Some change → change.change ≡ Put name view → get_node (done s update).nodes name ≡ Some view
+  pub put_is_there : (change : Change) (name : List ℕ) (view : Node) → update.change ≡ Some change → change.change ≡ Put name view → get_node (done s update).nodes name ≡ Some view
   put_is_there change name view is puts =
       let P : Mod → Type 0 = λ m. get_node (done_by m change.next_instance).nodes name ≡ Some view in
       ap (λ (m : MasterState). get_node m.nodes name) (whole update.change refl change is) ∙ subst P (sym puts) (put_stays name view change.next_instance)
@@ -345,11 +350,11 @@ module _ (rows : Rows) where
   both_true [] ys h k = k
   both_true (x ∷ xs) ys h k = (h.0, both_true xs ys h.1 k)
 
-  above_true : (notice : ℕ → Notice) (o : Option View) → ((n : ℕ) → IsTrueNotice rows (notice n)) → AllByRecursion (IsTrueNotice rows) (option_map_or (λ directory. notice directory.instance ∷ []) o [])
+  above_true : (notice : ℕ → Notice) (o : Option Node) → ((n : ℕ) → IsTrueNotice rows (notice n)) → AllByRecursion (IsTrueNotice rows) (option_map_or (λ directory. notice directory.instance ∷ []) o [])
   above_true notice None h = tt
   above_true notice (Some directory) h = (h directory.instance, tt)
 
-  put_true : (s : MasterState) (name : List ℕ) (view : View) (former : Option View) → Stands rows view.instance view.content_generation → AllByRecursion (IsTrueNotice rows) (put_notices s name view former)
+  put_true : (s : MasterState) (name : List ℕ) (view : Node) (former : Option Node) → Stands rows view.instance view.content_generation → AllByRecursion (IsTrueNotice rows) (put_notices s name view former)
   put_true s name view None h = above_true (λ directory. notices.ChildAdded directory name) (option_and_then (get_node s.nodes) (parent_of name)) (λ n. tt)
   put_true s name view (Some former) h =
       elim (former.content_generation == view.content_generation) as (λ b. AllByRecursion (IsTrueNotice rows) (cond b [] (notices.Contents view.instance view.content_generation ∷ above s name (λ directory. notices.ChildModified directory name)))) [
@@ -357,7 +362,7 @@ module _ (rows : Rows) where
         | false ↦ (h, above_true (λ directory. notices.ChildModified directory name) (option_and_then (get_node s.nodes) (parent_of name)) (λ n. tt))
       ]
 
-  gone_true : (s : MasterState) (name : List ℕ) (former : Option View) → AllByRecursion (IsTrueNotice rows) (gone_notices s name former)
+  gone_true : (s : MasterState) (name : List ℕ) (former : Option Node) → AllByRecursion (IsTrueNotice rows) (gone_notices s name former)
   gone_true s name None = tt
   gone_true s name (Some former) = (tt, above_true (λ directory. notices.ChildRemoved directory name) (option_and_then (get_node s.nodes) (parent_of name)) (λ n. tt))
 
@@ -373,7 +378,7 @@ module _ (rows : Rows) where
   contest_true (Some instance) = (tt, tt)
 
   -- by what is planned, where what it puts stands in the rows
-  module _ (s : MasterState) (plan : Plan) (stands : (name : List ℕ) (view : View) → get_node (done s plan.update).nodes name ≡ Some view → Stands rows view.instance view.content_generation) where
+  module _ (s : MasterState) (plan : Plan) (stands : (name : List ℕ) (view : Node) → get_node (done s plan.update).nodes name ≡ Some view → Stands rows view.instance view.content_generation) where
     mod_true : (m : Mod) (change : Change) → plan.update.change ≡ Some change → change.change ≡ m → AllByRecursion (IsTrueNotice rows) (mod_notices s m)
     mod_true (Put name view) change is puts = put_true s name view (get_node s.nodes name) (stands name view (put_is_there s plan.update change name view is puts))
     mod_true (Gone name) change is puts = gone_true s name (get_node s.nodes name)

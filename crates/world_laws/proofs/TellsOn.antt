@@ -4,7 +4,7 @@ use Rattle.std.specs.List.{AllByRecursion}
 use Rattle.node_core.specs.declared.events.Event.{Event}
 use Rattle.node_core.specs.declared.events.Event.TheVariants as events
 use Rattle.node_core.specs.declared.lines.Line.{Line}
-use Rattle.node_core.specs.Nodes.{Nodes, get_node}
+use Rattle.node_core.specs.Nodes.{Nodes, get_node, with_parent}
 use Rattle.rows_cell.specs.declared.tables.Rows.{Rows}
 use Rattle.rows_cell.specs.Rows.{changed_rows}
 use Rattle.messages_cell.specs.declared.beats.Alive.{Alive}
@@ -22,6 +22,9 @@ use Rattle.cell_update.specs.Updates.{done}
 use Rattle.cell_state.specs.State.{MasterState}
 use Rattle.cell_state.specs.Lookups.{noted}
 use Rattle.cell_core.specs.Cases.{taken_by}
+use Rattle.cell_parts.specs.declared.pending.Task.TheVariants as tasks
+use Rattle.cell_core.specs.Step.{queued}
+use Rattle.cell_core.proofs.AskedFor.{asks_only}
 use Rattle.sweep_laws.specs.Kept.{IsKept}
 use Rattle.sweep_plan.specs.declared.actions.Action.{Action}
 use Rattle.sweep_plan.specs.declared.actions.Action.TheVariants.{Tidy}
@@ -154,7 +157,7 @@ event_stays old step new printed agrees case _ h = tt
 
 -- what is queued alone leaves the map
 acted_nodes : (s : MasterState) (action : Action) → (acted s action).0.nodes ≡ (done s (plan_of s action).update).nodes
-acted_nodes s (Tidy idle) = refl
+acted_nodes s (Tidy idle) = ap (λ (t : MasterState). t.nodes) (asks_only (with_parent idle.name) (queued s (with_parent idle.name) (tasks.Tidies idle)))
 acted_nodes s _ = refl
 
 swept_true : (old : WorldState) (step : Step) (new : WorldState) (printed : List Line) → Agrees old old.master → (t : IsSweep old step new printed) → AllByRecursion (λ (telling : Telling). IsTrue new.rows telling.event) (first_tellings (noted t.master old.clock))

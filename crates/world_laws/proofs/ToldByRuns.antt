@@ -1,6 +1,6 @@
 -- Why from any point of a run on no content is shown that is older than one that somebody was told of before.
 use Rattle.std.proofs.Common.{◌≡◌, ℕ, ◌≤◌, ◌<◌, List, [], ◌∷◌, ◌++◌, Option, Some, None, refl, sym, ap, subst, ◌∙◌, inl, inr, arith}
-use Rattle.std.specs.Option.{option_map_or}
+use Rattle.std.specs.Option.{option_map, option_map_or}
 use Rattle.std.specs.List.{AllByRecursion}
 use Rattle.node_core.specs.declared.answers.Answer.{Answer}
 use Rattle.node_core.specs.declared.answers.Answer.TheVariants as answers
@@ -8,8 +8,9 @@ use Rattle.node_core.specs.declared.events.Event.{Event}
 use Rattle.node_core.specs.declared.events.Event.TheVariants as events
 use Rattle.node_core.specs.declared.lines.Line.{Line}
 use Rattle.node_core.specs.declared.lines.Line.TheVariants as lines
+use Rattle.node_core.specs.declared.nodes.Node.{Node}
 use Rattle.node_core.specs.declared.views.View.{View}
-use Rattle.node_core.specs.Nodes.{Nodes, get_node}
+use Rattle.node_core.specs.Nodes.{Nodes, get_node, view_of}
 use Rattle.rows_cell.specs.declared.tables.Rows.{Rows}
 use Rattle.rows_cell.specs.Rows.{map_of}
 use Rattle.messages_cell.specs.declared.beats.NumberedEvent.{NumberedEvent}
@@ -93,18 +94,23 @@ abbrev NoEvent : Event → Type 0
 NoEvent event = Unit {0}
 
 abbrev ShowsNoneOlder : ℕ → ℕ → CallResult → Type 0
-ShowsNoneOlder instance generation (results.Viewed view) = IsNoOlder instance generation view
+ShowsNoneOlder instance generation (results.Viewed view) = IsNoOlder instance generation view.node
 ShowsNoneOlder instance generation (results.Stated stat) = stat.instance ≡ instance → generation ≤ stat.content_generation
 ShowsNoneOlder instance generation _ = Unit {0}
 
 -- what the map shows
 result_stands : (rows : Rows) (nodes : Nodes) (instance generation : ℕ) (result : CallResult) → Stands rows instance generation → nodes ≡ map_of rows → IsShown nodes result → ShowsNoneOlder instance generation result
-result_stands rows nodes instance generation (results.Viewed view) h same shown = h.present shown.0 view (ap (λ (ns : Nodes). get_node ns shown.0) (sym same) ∙ shown.1)
+result_stands rows nodes instance generation (results.Viewed view) h same shown = h.present shown.0 view.node (ap (λ (ns : Nodes). get_node ns shown.0) (sym same) ∙ shown.1)
 result_stands rows nodes instance generation (results.Stated stat) h same shown = λ of.
     let before = h.present shown.0 shown.1 (ap (λ (ns : Nodes). get_node ns shown.0) (sym same) ∙ shown.2) (sym shown.3 ∙ of) in
     let tells = shown.4 in
     omega (arith, tells)
 result_stands rows nodes instance generation _ h same shown = tt
+
+-- a view is that of its node
+node_seen : (nodes : Nodes) (name : List ℕ) (view : View) (o : Option Node) → option_map (view_of nodes name) o ≡ Some view → o ≡ Some view.node
+node_seen nodes name view None h = cc
+node_seen nodes name view (Some node) h = let e : view_of nodes name node ≡ view = cc in ap (λ (v : View). Some v.node) e
 
 module _ (client calls instance generation : ℕ) where
   -- a reply to a call above this number
@@ -187,7 +193,7 @@ module _ (client calls instance generation : ℕ) where
   -- ---- what is served
 
   abbrev IsServedLine : Line → Type 0
-  IsServedLine (lines.Served whose name (Some view)) = IsNoOlder instance generation view
+  IsServedLine (lines.Served whose name (Some view)) = IsNoOlder instance generation view.node
   IsServedLine _ = Unit {0}
 
   abbrev AreServedLines : List Line → Type 0
@@ -202,14 +208,14 @@ module _ (client calls instance generation : ℕ) where
   at_served [] rest line h = h.0
   at_served (other ∷ before) rest line h = at_served before rest line h.1
 
-  one_served : (line : Line) → ((whose : ℕ) (name : List ℕ) (view : View) → line ≡ lines.Served whose name (Some view) → IsNoOlder instance generation view) → IsServedLine line
+  one_served : (line : Line) → ((whose : ℕ) (name : List ℕ) (view : View) → line ≡ lines.Served whose name (Some view) → IsNoOlder instance generation view.node) → IsServedLine line
   one_served (lines.Served whose name (Some view)) h = h whose name view refl
   one_served _ h = tt
 
   present_served : (rows : Rows) (printed : List Line) → Stands rows instance generation → ServesPresent (map_of rows) printed → AreServedLines printed
   present_served rows [] stands h = tt
   present_served rows (line ∷ rest) stands h = (
-    one_served line (λ whose name view is. stands.present name view (sym (h [] rest whose name (Some view) (ap (λ (l : Line). l ∷ rest) is)))),
+    one_served line (λ whose name view is. stands.present name view.node (node_seen (map_of rows) name view (get_node (map_of rows) name) (sym (h [] rest whose name (Some view) (ap (λ (l : Line). l ∷ rest) is))))),
     present_served rows rest stands (λ before more whose name entry is. h (line ∷ before) more whose name entry (ap (λ (ls : List Line). line ∷ ls) is)),
   )
 

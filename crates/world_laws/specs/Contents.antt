@@ -3,7 +3,7 @@ use Rattle.std.specs.Prelude.{◌≡◌, ℕ, ◌<◌, ◌≤◌, List, Option, 
 use Rattle.std.specs.List.{AllByRecursion}
 use Rattle.node_core.specs.declared.events.Event.{Event}
 use Rattle.node_core.specs.declared.events.Event.TheVariants as events
-use Rattle.node_core.specs.declared.views.View.{View}
+use Rattle.node_core.specs.declared.nodes.Node.{Node}
 use Rattle.node_core.specs.Nodes.{get_node}
 use Rattle.rows_cell.specs.declared.tables.Rows.{Rows}
 use Rattle.rows_cell.specs.Rows.{map_of}
@@ -18,13 +18,13 @@ use Rattle.world_clients.specs.Messages.{out_at}
 use Rattle.world_core.specs.World.{WorldState}
 
 -- the view of another node, or of this one with no older content
-abbrev pub IsNoOlder : ℕ → ℕ → View → Type 0
+abbrev pub IsNoOlder : ℕ → ℕ → Node → Type 0
 IsNoOlder instance generation view = view.instance ≡ instance → generation ≤ view.content_generation
 
 -- the instance was given out, and the node that has it, if one is there, has no older content
 pub record Stands (rows : Rows) (instance generation : ℕ) : Type 0 where
   pub given : instance < rows.next_instance
-  pub present : (name : List ℕ) (view : View) → get_node (map_of rows) name ≡ Some view → IsNoOlder instance generation view
+  pub present : (name : List ℕ) (view : Node) → get_node (map_of rows) name ≡ Some view → IsNoOlder instance generation view
 
 -- what an event tells of a content stands
 abbrev pub IsTrue : Rows → Event → Type 0

@@ -18,9 +18,9 @@ pub record HoldsOfRun (old : WorldView) (steps : List Step) (printed : List Line
   pub fits : after_lines (map_of old.world.rows) printed ≡ Some (map_of new.world.rows)
   pub epoch : new.world.rows.epoch ≡ epoch_at old.world.rows.epoch printed
   pub once : (client : ℕ) → 1 ≤ client → Rises (applied client printed)
-  pub calls : (before rest : List Line) (client number : ℕ) (change : Mod) → printed ≡ before ++ lines.Applied client number change ∷ rest → 1 ≤ client
-      → IsOfCall old steps before client number change rest new
-  pub own : (before rest : List Line) (number : ℕ) (change : Mod) → printed ≡ before ++ lines.Applied 0 number change ∷ rest → IsOfIdle old steps before number change rest new
+  pub calls : (before rest : List Line) (client number : ℕ) (change : Mod) (names : List (List ℕ)) → printed ≡ before ++ lines.Applied client number change names ∷ rest → 1 ≤ client
+      → IsOfCall old steps before client number change names rest new
+  pub own : (before rest : List Line) (number : ℕ) (change : Mod) (names : List (List ℕ)) → printed ≡ before ++ lines.Applied 0 number change names ∷ rest → IsOfIdle old steps before number change names rest new
   pub sessions : (client : ℕ) → is_live_in new.world.rows client ≡ live_at client (is_live_in old.world.rows client) printed
   pub rights : AreRecordedOnce old.world printed new.world
   pub served : ServesPresentByThen (map_of old.world.rows) printed

@@ -5,7 +5,7 @@ use Rattle.node_core.specs.declared.lines.Line.{Line}
 use Rattle.node_core.specs.declared.lines.Line.TheVariants as lines
 use Rattle.node_core.specs.declared.views.Mod.{Mod}
 use Rattle.node_core.specs.declared.views.Mod.TheVariants.{Gone}
-use Rattle.node_core.specs.declared.views.View.{View}
+use Rattle.node_core.specs.declared.nodes.Node.{Node}
 use Rattle.node_core.specs.Nodes.{Nodes, changed, after, get_node}
 use Rattle.messages_cell.specs.declared.calls.Call.{Call}
 use Rattle.messages_cell.specs.declared.requests.Request.TheVariants as requests
@@ -21,6 +21,7 @@ use Rattle.cell_state.specs.NameSpace.{name_space, caller}
 use Rattle.cell_state.specs.State.{MasterState}
 use Rattle.cell_core.specs.Ephemerals.{is_idle_node}
 use Rattle.cell_apply.specs.Effect.{effect}
+use Rattle.cell_apply.specs.Outcomes.{put_listing}
 use Rattle.world_clients.specs.declared.steps.Step.{Step}
 use Rattle.world_clients.specs.declared.steps.Step.TheVariants.{Take, Sweep, CutSweep}
 use Rattle.world_clients.specs.declared.steps.Commit.TheVariants.{Kept}
@@ -54,7 +55,7 @@ Run old (step ∷ steps) printed new =
 -- ---- what lines tell
 
 abbrev pub map_by : Nodes → Line → Nodes
-map_by nodes (lines.Applied client number change) = changed nodes change
+map_by nodes (lines.Applied client number change names) = changed nodes change
 map_by nodes _ = nodes
 
 -- the map that lines make of an opening map: the changes that they show, in order
@@ -64,7 +65,7 @@ map_at nodes (line ∷ rest) = map_at (map_by nodes line) rest
 
 -- a change that a line shows has to fit the map
 abbrev pub after_line : Nodes → Line → Option Nodes
-after_line nodes (lines.Applied client number change) = after nodes change
+after_line nodes (lines.Applied client number change names) = after nodes change
 after_line nodes _ = Some nodes
 
 -- the map after the lines, where each change that they show fits the map just before it; and else none
@@ -137,7 +138,7 @@ pub record AreRecordedOnce (old : WorldState) (printed : List Line) (new : World
 -- ---- each call at most once
 
 abbrev pub put_number : ℕ → Line → List ℕ → List ℕ
-put_number client (lines.Applied whose number change) numbers = if whose == client then number ∷ numbers else numbers
+put_number client (lines.Applied whose number change names) numbers = if whose == client then number ∷ numbers else numbers
 put_number client _ numbers = numbers
 
 -- the numbers of a client's applied calls
@@ -192,9 +193,9 @@ pub record HasWaited (before : Option MasterState) (epoch client number : ℕ) (
   pub touched : List (List ℕ)
   pub waits : master.gate.waiting ≡ front ++ record { number = turn; change = record { touched = touched; body = tasks.Asked (record { client = client; number = number; work = works.Calls call sequencer }) } } ∷ back
 
--- a change that a line shows: behind a first part of the steps, with the lines before it, the master was up with the map and the epoch that these lines tell; the next
+-- a change that a line shows, with what is listed of the node that it puts: behind a first part of the steps, with the lines before it, the master was up with the map and the epoch that these lines tell; the next
 -- step was a sweep, or one that a crash cut behind its commit, and was made
-pub record IsApplied (old : WorldView) (steps : List Step) (before : List Line) (client number : ℕ) (change : Mod) (rest : List Line) (new : WorldView) : Type 0 where
+pub record IsApplied (old : WorldView) (steps : List Step) (before : List Line) (client number : ℕ) (change : Mod) (names : List (List ℕ)) (rest : List Line) (new : WorldView) : Type 0 where
   pub front : List Step
   pub at : Step
   pub sweeps : (at ≡ Sweep) ⊎ (at ≡ CutSweep Kept)
@@ -206,16 +207,17 @@ pub record IsApplied (old : WorldView) (steps : List Step) (before : List Line) 
   pub here : WorldView
   pub next : WorldView
   pub first : Run old front before here
-  pub is_made : IsMade here at next (lines.Applied client number change ∷ told)
+  pub is_made : IsMade here at next (lines.Applied client number change names ∷ told)
   pub last : Run next back after new
   pub master : MasterState
   pub is_up : here.world.master ≡ Some master
   pub nodes : master.nodes ≡ map_at (map_of old.world.rows) before
   pub epoch : master.epoch ≡ epoch_at old.world.rows.epoch before
+  pub listed : names ≡ put_listing master.nodes change
 
 -- and the change is what a call does there, which its client had sent in that epoch, and which that master had taken
-pub record IsOfCall (old : WorldView) (steps : List Step) (before : List Line) (client number : ℕ) (change : Mod) (rest : List Line) (new : WorldView) : Type 0 where
-  pub made : IsApplied old steps before client number change rest new
+pub record IsOfCall (old : WorldView) (steps : List Step) (before : List Line) (client number : ℕ) (change : Mod) (names : List (List ℕ)) (rest : List Line) (new : WorldView) : Type 0 where
+  pub made : IsApplied old steps before client number change names rest new
   pub call : Call
   pub sequencer : Option (List ℕ)
   pub sent : call_of made.here.world.messages client number ≡ Some (record { client = client; epoch = made.master.epoch; number = number; call = call; sequencer = sequencer })
@@ -223,11 +225,11 @@ pub record IsOfCall (old : WorldView) (steps : List Step) (before : List Line) (
   pub is_effect : change_of (effect (name_space made.master) (caller made.master client) made.master.clock number call sequencer) ≡ Some change
 
 -- and an ephemeral node goes that nobody held open there
-pub record IsOfIdle (old : WorldView) (steps : List Step) (before : List Line) (number : ℕ) (change : Mod) (rest : List Line) (new : WorldView) : Type 0 where
-  pub made : IsApplied old steps before 0 number change rest new
+pub record IsOfIdle (old : WorldView) (steps : List Step) (before : List Line) (number : ℕ) (change : Mod) (names : List (List ℕ)) (rest : List Line) (new : WorldView) : Type 0 where
+  pub made : IsApplied old steps before 0 number change names rest new
   pub unnumbered : number ≡ 0
   pub name : List ℕ
   pub goes : change ≡ Gone name
-  pub view : View
+  pub view : Node
   pub found : get_node made.master.nodes name ≡ Some view
   pub idle : is_idle_node made.master name view ≡ true

@@ -9,7 +9,7 @@ use Rattle.coherence.specs.Slice as one
 use Rattle.coherence.specs.Slice.{Slice, nobody}
 use Rattle.rows_cell.specs.declared.tables.Session as of_rows
 use Rattle.node_core.specs.declared.views.View.{View}
-use Rattle.node_core.specs.Nodes.{get_node}
+use Rattle.node_core.specs.Nodes.{view_at}
 use Rattle.rows_cell.specs.declared.tables.Rows.{Rows}
 use Rattle.rows_cell.specs.Rows.{map_of}
 use Rattle.messages_cell.specs.declared.requests.Request.{Request}
@@ -260,7 +260,7 @@ client_of name (Some member) = record {
 
 abbrev pub slice : ℕ → List ℕ → WorldState → Slice Shown
 slice client name w = record {
-  present = get_node (map_of w.rows) name;
+  present = view_at (map_of w.rows) name;
   session = standing_in w.rows client;
   epoch = w.rows.epoch;
   master = master_of client name w.clock (member_of w client) w.master;

@@ -21,7 +21,7 @@ pub record TellsOf (printed : List Line) (client instance generation : ℕ) : Ty
 
 -- what an answer shows of a node is of another one, or no older content of this one
 abbrev pub IsNoOlderAnswer : ℕ → ℕ → Answer → Type 0
-IsNoOlderAnswer instance generation (answers.Viewed view) = IsNoOlder instance generation view
+IsNoOlderAnswer instance generation (answers.Viewed view) = IsNoOlder instance generation view.node
 IsNoOlderAnswer instance generation (answers.Stated stat) = stat.instance ≡ instance → generation ≤ stat.content_generation
 IsNoOlderAnswer instance generation _ = Unit {0}
 
@@ -33,7 +33,7 @@ AnswersNoOlder client calls instance generation printed =
 -- what any client serves from its cache
 abbrev pub ServesNoOlder : ℕ → ℕ → List Line → Type 0
 ServesNoOlder instance generation printed =
-    (before rest : List Line) (client : ℕ) (name : List ℕ) (view : View) → printed ≡ before ++ lines.Served client name (Some view) ∷ rest → IsNoOlder instance generation view
+    (before rest : List Line) (client : ℕ) (name : List ℕ) (view : View) → printed ≡ before ++ lines.Served client name (Some view) ∷ rest → IsNoOlder instance generation view.node
 
 -- how many calls a client has asked; none before it joins
 abbrev pub calls_of : WorldState → ℕ → ℕ

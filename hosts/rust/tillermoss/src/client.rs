@@ -6,7 +6,7 @@ use crate::errors::Error;
 use crate::events::{Event, Events};
 use crate::keeper::{Keeper, greet};
 use crate::library::Library;
-use crate::lines::Answer;
+use crate::lines::{Answer, Shown};
 use crate::nodes::{LockMode, Mode, Stat, View};
 use crate::refusals::Refusal;
 use host_wire::{Hello, Welcome};
@@ -261,7 +261,7 @@ impl Client {
     pub fn read(&self, handle: Handle) -> Result<View, Error> {
         let reply = self.call(&Call::Read(self.own(handle)?), None)?;
         match reply.answer {
-            Answer::Viewed(stat) => Ok(View { stat, content: reply.content, is_served: reply.is_own }),
+            Answer::Viewed(Shown { stat, children }) => Ok(View { stat, content: reply.content, children, is_served: reply.is_own }),
             other => Err(unfit(&other)),
         }
     }
@@ -295,14 +295,14 @@ impl Client {
         }
     }
 
-    /// The last components of the names of a directory's children, in order of bytes.
+    /// The last components of the names of a directory's children, in order of bytes: out of the cache as `read`.
     ///
     /// # Errors
     ///
     /// As the master refuses it: `WrongKind` for a file, and others.
     pub fn list(&self, handle: Handle) -> Result<Vec<String>, Error> {
         match self.call(&Call::List(self.own(handle)?), None)?.answer {
-            Answer::Names(names) => Ok(names),
+            Answer::Names(names) | Answer::Viewed(Shown { children: names, .. }) => Ok(names),
             other => Err(unfit(&other)),
         }
     }

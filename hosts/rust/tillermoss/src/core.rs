@@ -5,8 +5,7 @@ use crate::clock;
 use crate::errors::Error;
 use crate::events::Event;
 use crate::library::{Library, Status};
-use crate::lines::{Answer, Line};
-use crate::nodes::Stat;
+use crate::lines::{Answer, Line, Shown};
 use crate::refusals::Refusal;
 use host_wire::{TurnedAway, write_parting};
 use std::net::{Shutdown, TcpStream};
@@ -311,7 +310,7 @@ impl State {
         for line in lines.lines().filter_map(Line::read) {
             match line {
                 Line::Done(0, answer) => own = Some(Reply::bare(answer, true)),
-                Line::Served(Some(stat)) => own = Some(self.viewed(stat, true)),
+                Line::Served(Some(shown)) => own = Some(self.viewed(shown, true)),
                 Line::Served(None) => own = Some(Reply::bare(Answer::Refused(Refusal::NotFound), true)),
                 Line::Done(number, answer) => self.finish(number, answer),
                 Line::Event(opened, event) => self.publish(opened, &event),
@@ -323,9 +322,9 @@ impl State {
         own
     }
 
-    fn viewed(&mut self, stat: Stat, is_own: bool) -> Reply {
+    fn viewed(&mut self, shown: Shown, is_own: bool) -> Reply {
         let content = self.library.content();
-        Reply { answer: Answer::Viewed(stat), content, is_own }
+        Reply { answer: Answer::Viewed(shown), content, is_own }
     }
 
     // The outstanding call ended.
@@ -336,7 +335,7 @@ impl State {
         }
         let result = match answer {
             Answer::Refused(refusal) => Err(refusal.into()),
-            Answer::Viewed(stat) => Ok(self.viewed(stat, false)),
+            Answer::Viewed(shown) => Ok(self.viewed(shown, false)),
             answer => Ok(Reply::bare(answer, false)),
         };
         self.answer(result);

@@ -227,7 +227,8 @@ mod tests {
         let call = [words(&[1, 2], &[CLIENT, 1, 2]), vec![2], b"\0\0\0\x04abcd".to_vec(), vec![0]].concat();
         assert_eq!(library.message(), Some(call));
         let names = b"\0\0\0\x04base".repeat(3);
-        let view = [words(&[1, 2], &[CLIENT, 1, 2]), words(&[1], &[0]), words(&[2, 0], &[4, 1, 1]), names, b"\0\0\0\0\x05hello".to_vec()];
+        let view =
+            [words(&[1, 2], &[CLIENT, 1, 2]), words(&[1], &[0]), words(&[2, 0], &[4, 1, 1]), names, b"\0\0\0\0\x05hello\0\0\0\0".to_vec()];
         assert_eq!(library.give(1100, &view.concat()), Status::Done);
         library
     }

@@ -4,6 +4,14 @@ use crate::events::Event;
 use crate::nodes::{Kind, Stat};
 use crate::refusals::Refusal;
 
+/// What a view shows; its content the library has.
+#[derive(Clone, Debug, PartialEq, Eq)]
+pub struct Shown {
+    pub stat: Stat,
+    /// The last components of the children's names.
+    pub children: Vec<String>,
+}
+
 /// How a call ended.
 #[derive(Clone, Debug, PartialEq, Eq)]
 pub enum Answer {
@@ -11,8 +19,7 @@ pub enum Answer {
     Opened(u64),
     Closed,
     Poisoned,
-    /// The numbers of a view, whose content the library has.
-    Viewed(Stat),
+    Viewed(Shown),
     Stated(Stat),
     /// The last components of the children's names.
     Names(Vec<String>),
@@ -26,8 +33,8 @@ pub enum Answer {
 pub enum Line {
     /// The call of this number ended, 0 where the client answered by itself.
     Done(u64, Answer),
-    /// Answered out of the cache: the view's numbers, None where there is no such node.
-    Served(Option<Stat>),
+    /// Answered out of the cache: what it shows, None where there is no such node.
+    Served(Option<Shown>),
     /// An event, of the handle whose Open had this number, where it is of one.
     Event(Option<u64>, Event),
     Jeopardy,
@@ -47,7 +54,7 @@ impl Line {
             }
             "served" => {
                 let (_name, words) = rest.split_once(' ')?;
-                if words == "absent" { Some(Line::Served(None)) } else { view(words).map(|stat| Line::Served(Some(stat))) }
+                if words == "absent" { Some(Line::Served(None)) } else { view(words).map(|shown| Line::Served(Some(shown))) }
             }
             "event" => Event::read(rest).map(|(opened, event)| Line::Event(opened, event)),
             "jeopardy" => Some(Line::Jeopardy),
@@ -74,19 +81,27 @@ fn answer(words: &str) -> Option<Answer> {
     })
 }
 
-// KIND INSTANCE CONTENTGEN ACLGEN READ WRITE CHANGE LIFE, and for a file LENGTH HEX.
-fn view(text: &str) -> Option<Stat> {
+// KIND INSTANCE CONTENTGEN ACLGEN READ WRITE CHANGE LIFE, and then for a file LENGTH HEX, for a directory COUNT CHILDREN.
+fn view(text: &str) -> Option<Shown> {
     let mut words = text.split(' ');
     let kind = Kind::read(words.next()?)?;
     let mut number = || words.next()?.parse().ok();
     let (instance, content_generation, acl_generation) = (number()?, number()?, number()?);
     let acl = names(&mut words)?;
     let is_ephemeral = life(words.next()?)?;
-    let length = match kind {
-        Kind::File => words.next()?.parse().ok()?,
-        Kind::Directory => 0,
+    let count: u64 = words.next()?.parse().ok()?;
+    let (length, children) = match kind {
+        Kind::File => (count, vec![]),
+        Kind::Directory => (0, listed(words, count)?),
     };
-    Some(Stat { kind, instance, content_generation, acl_generation, lock_generation: None, acl, is_ephemeral, length })
+    let stat = Stat { kind, instance, content_generation, acl_generation, lock_generation: None, acl, is_ephemeral, length };
+    Some(Shown { stat, children })
+}
+
+// All words, so many.
+fn listed<'a>(words: impl Iterator<Item = &'a str>, count: u64) -> Option<Vec<String>> {
+    let names: Vec<String> = words.map(str::to_owned).collect();
+    (names.len() as u64 == count).then_some(names)
 }
 
 // KIND INSTANCE CONTENTGEN ACLGEN LOCKGEN READ WRITE CHANGE LIFE LENGTH.
@@ -131,16 +146,22 @@ mod tests {
         Stat { kind, instance: 4, content_generation: 2, acl_generation: 1, lock_generation, acl, is_ephemeral, length }
     }
 
+    fn shown(stat: Stat, children: &[&str]) -> Shown {
+        Shown { stat, children: children.iter().map(|name| (*name).to_owned()).collect() }
+    }
+
     #[test]
     fn the_ends_of_calls_are_read() {
-        let file = seen(None, Kind::File, false, 1);
-        let directory = seen(None, Kind::Directory, true, 0);
+        let file = shown(seen(None, Kind::File, false, 1), &[]);
+        let empty = shown(seen(None, Kind::Directory, true, 0), &[]);
+        let directory = shown(seen(None, Kind::Directory, true, 0), &["a", "b"]);
         let rows = [
             ("done 1 2 opened 3", Some((2, Answer::Opened(3)))),
             ("done 1 0 closed", Some((0, Answer::Closed))),
             ("done 1 0 poisoned", Some((0, Answer::Poisoned))),
             ("done 1 2 view file 4 2 1 base base own permanent 1 61", Some((2, Answer::Viewed(file)))),
-            ("done 1 2 view dir 4 2 1 base base own ephemeral", Some((2, Answer::Viewed(directory)))),
+            ("done 1 2 view dir 4 2 1 base base own ephemeral 0", Some((2, Answer::Viewed(empty)))),
+            ("done 1 2 view dir 4 2 1 base base own ephemeral 2 a b", Some((2, Answer::Viewed(directory)))),
             ("done 1 2 stat file 4 2 1 7 base base own permanent 1", Some((2, Answer::Stated(seen(Some(7), Kind::File, false, 1))))),
             ("done 1 2 names", Some((2, Answer::Names(vec![])))),
             ("done 1 2 names a b", Some((2, Answer::Names(vec!["a".to_owned(), "b".to_owned()])))),
@@ -149,6 +170,9 @@ mod tests {
             ("done 1 2 refused 6 NotFound", Some((2, Answer::Refused(Refusal::NotFound)))),
             ("done 1 2 sequencer 01f", None),
             ("done 1 2 view file 4 2 1 base base own permanent", None),
+            ("done 1 2 view dir 4 2 1 base base own permanent", None),
+            ("done 1 2 view dir 4 2 1 base base own permanent 2 a", None),
+            ("done 1 2 view dir 4 2 1 base base own permanent 0 a", None),
             ("done 1 2 other", None),
         ];
         for (text, wanted) in rows {
@@ -158,9 +182,11 @@ mod tests {
 
     #[test]
     fn other_lines_are_read() {
-        let file = seen(None, Kind::File, false, 0);
+        let file = shown(seen(None, Kind::File, false, 0), &[]);
+        let directory = shown(seen(None, Kind::Directory, false, 0), &["acl"]);
         let rows = [
             ("served 1 /ls/c/f file 4 2 1 base base own permanent 0 -", Some(Line::Served(Some(file)))),
+            ("served 1 /ls/c dir 4 2 1 base base own permanent 1 acl", Some(Line::Served(Some(directory)))),
             ("served 1 /ls/c/f absent", Some(Line::Served(None))),
             ("event 1 failover", Some(Line::Event(None, Event::Failover))),
             ("event 1 invalid 2", Some(Line::Event(Some(2), Event::Invalid))),

@@ -78,6 +78,8 @@ pub struct View {
     pub stat: Stat,
     /// Its whole content; empty for a directory.
     pub content: Vec<u8>,
+    /// The last components of the names of its children, in order of bytes; none of a file.
+    pub children: Vec<String>,
     /// Whether the cache served it, so that the master wasn't asked.
     pub is_served: bool,
 }

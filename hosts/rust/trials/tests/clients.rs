@@ -115,6 +115,25 @@ fn a_read_is_served_until_another_writes() {
     assert_eq!(refusal(client.read(file)), Some(Refusal::BadHandle));
 }
 
+#[test]
+fn a_listing_is_served_until_a_node_comes_or_goes() {
+    let cell = Cell::new("listed");
+    let (client, other) = (cell.client("ann"), cell.client("bob"));
+    let directory = make_directory(&client, "/ls/c/d");
+    assert_eq!(client.list(directory).unwrap(), [""; 0]);
+    assert!(client.read(directory).unwrap().is_served);
+    let file = other.create("/ls/c/d/f", b"old").unwrap();
+    let view = client.read(directory).unwrap();
+    assert_eq!((view.children, view.is_served), (vec!["f".to_owned()], false));
+    other.set(file, b"new", None).unwrap();
+    assert!(client.read(directory).unwrap().is_served);
+    assert_eq!(client.list(directory).unwrap(), ["f"]);
+    other.delete(file).unwrap();
+    assert_eq!(client.list(directory).unwrap(), [""; 0]);
+    let view = client.read(directory).unwrap();
+    assert_eq!((view.children, view.is_served), (vec![], true));
+}
+
 // (a session ends 12 s after its last Beat was answered)
 #[test]
 fn a_closed_client_lets_no_write_wait() {

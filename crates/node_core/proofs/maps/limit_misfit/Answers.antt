@@ -1,8 +1,8 @@
 use Rattle.std.proofs.Common.{rules}
 use Rattle.node_core.proofs.maps.limit_misfit.Goals as goal
 
-pub returns-then-view-gt-NUMBER_LIMIT : goal.returns-then-view-gt-NUMBER_LIMIT
-returns-then-view-gt-NUMBER_LIMIT c = search rules
+pub returns-then-node-gt-NUMBER_LIMIT : goal.returns-then-node-gt-NUMBER_LIMIT
+returns-then-node-gt-NUMBER_LIMIT c = search rules
 
 pub returns : goal.returns
 returns c = search rules

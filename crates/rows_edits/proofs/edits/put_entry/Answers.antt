@@ -9,7 +9,7 @@ use Rattle.rows_edits.proofs.edits.put_entry.Goals as goal
 pub returns-clause-ok : goal.returns-clause-ok
 returns-clause-ok g c clean =
     ok_then c.run.result
-    (node_there c.args.name.now c.args.view.now (given.Text c.as_bytes.result) c.in_ok-instance.instance c.kind_as.result c.life_as.result c.in_ok-content_generation.content_generation c.in_ok-acl_generation.acl_generation
+    (node_there c.args.name.now c.args.node.now (given.Text c.as_bytes.result) c.in_ok-instance.instance c.kind_as.result c.life_as.result c.in_ok-content_generation.content_generation c.in_ok-acl_generation.acl_generation
     (given.Text c.as_bytes-2.result) (given.Text c.as_bytes-3.result) (given.Text c.as_bytes-4.result) (given.Blob c.as_slice.result)
     (record {
       name_is = ap Text (c.as_bytes.ensures.value ∙ c.as_str.ensures.text);

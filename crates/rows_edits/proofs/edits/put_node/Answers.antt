@@ -12,7 +12,7 @@ returns-in-Some-clause-ok g c clean =
     let mid = state g.S.Store c.put_entry.new.tx.conn.now in
     let last = state g.S.Store c.put_child.new.tx.conn.now in
     let then : StaysInside mid last = record { kept = c.put_child.ensures.kept; survives = c.put_child.ensures.survives } in
-    ok_then c.put_child.result (node_under c.args.name.now c.in-Some.parent c.args.view.now old mid last (sym c.in_ok-parent.ensures ∙ c.in-Some.is) (c.in_ok-put_entry.ensures.ok (clean_before mid last then clean))) (c.put_child.ensures.ok clean)
+    ok_then c.put_child.result (node_under c.args.name.now c.in-Some.parent c.args.node.now old mid last (sym c.in_ok-parent.ensures ∙ c.in-Some.is) (c.in_ok-put_entry.ensures.ok (clean_before mid last then clean))) (c.put_child.ensures.ok clean)
 
 pub returns-in-Some-clause-kept : goal.returns-in-Some-clause-kept
 returns-in-Some-clause-kept g c =
@@ -36,4 +36,4 @@ pub returns-in-None-clause-ok : goal.returns-in-None-clause-ok
 returns-in-None-clause-ok g c clean =
     let old = state g.S.Store c.args.tx.now.conn.now in
     let mid = state g.S.Store c.put_entry.new.tx.conn.now in
-    node_alone c.args.name.now c.args.view.now old mid (sym c.in_ok-parent.ensures ∙ c.in-None.is) (c.in_ok-put_entry.ensures.ok clean)
+    node_alone c.args.name.now c.args.node.now old mid (sym c.in_ok-parent.ensures ∙ c.in-None.is) (c.in_ok-put_entry.ensures.ok clean)

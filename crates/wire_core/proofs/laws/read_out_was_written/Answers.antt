@@ -1,6 +1,5 @@
-use Rattle.wire_core.proofs.FormLaws.{read_was_written}
-use Rattle.wire_core.proofs.OutLaws.{out_message_form}
+use Rattle.wire_core.proofs.OutLaws.{read_out_was_written}
 use Rattle.wire_core.proofs.laws.read_out_was_written.Goals as goal
 
 pub returns : goal.returns
-returns c = λ bytes message fits e. read_was_written out_message_form bytes message fits e
+returns c = λ bytes message fits e. read_out_was_written bytes message fits e

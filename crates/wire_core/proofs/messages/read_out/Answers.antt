@@ -1,10 +1,10 @@
 use Rattle.std.proofs.Common.{sym, ◌∙◌, arith}
 use Rattle.wire_core.specs.Outs.{out_message}
-use Rattle.wire_core.proofs.Wholes.{all_read, writes_back}
-use Rattle.wire_core.proofs.OutLaws.{out_message_form}
+use Rattle.wire_core.proofs.Wholes.{all_read}
+use Rattle.wire_core.proofs.OutLaws.{read_out_was_written}
 use Rattle.wire_core.proofs.messages.read_out.Goals as goal
 
 pub returns-clause-back : goal.returns-clause-back
 returns-clause-back c =
-    writes_back out_message_form c.args.bytes.now _ (λ i. omega (arith, c.type_inv.bytes i))
-    (all_read out_message c.args.bytes.now _ _ _ c.in_ok-fields.ensures c.in_ok-message.ensures (sym c.is_empty.ensures ∙ c.if-not-is_empty.false))
+    (read_out_was_written c.args.bytes.now _ (λ i. omega (arith, c.type_inv.bytes i))
+    (all_read out_message c.args.bytes.now _ _ _ c.in_ok-fields.ensures c.in_ok-message.ensures (sym c.is_empty.ensures ∙ c.if-not-is_empty.false))).1

@@ -50,12 +50,12 @@ returns-clause-once g c = λ none.
 pub returns-clause-calls : goal.returns-clause-calls
 returns-clause-calls g c = λ none.
     let run = whole_sure c.args.self.now c.loop-step.self c.args.steps.now c.loop-step.step-index c.loop-step.lines (omega arith) c.consistent.ensures c.loop-step.invariant none in
-    λ before rest client number change is some. run_calls c.args.self.now c.args.steps.now c.loop-step.lines c.loop-step.self run.1 run.0 before rest client number change is some
+    λ before rest client number change names is some. run_calls c.args.self.now c.args.steps.now c.loop-step.lines c.loop-step.self run.1 run.0 before rest client number change names is some
 
 pub returns-clause-own : goal.returns-clause-own
 returns-clause-own g c = λ none.
     let run = whole_sure c.args.self.now c.loop-step.self c.args.steps.now c.loop-step.step-index c.loop-step.lines (omega arith) c.consistent.ensures c.loop-step.invariant none in
-    λ before rest number change is. run_own c.args.self.now c.args.steps.now c.loop-step.lines c.loop-step.self run.1 run.0 before rest number change is
+    λ before rest number change names is. run_own c.args.self.now c.args.steps.now c.loop-step.lines c.loop-step.self run.1 run.0 before rest number change names is
 
 pub returns-clause-sessions : goal.returns-clause-sessions
 returns-clause-sessions g c = λ none.

@@ -1,11 +1,11 @@
 use Rattle.wire_core.specs.Forms.{◌⊗◌}
 use Rattle.wire_core.specs.Fields.{word, block, component, kind, life}
-use Rattle.wire_core.specs.Outs.{view}
+use Rattle.wire_core.specs.Outs.{node}
 use Rattle.wire_core.proofs.Appending.{both_behind, of_same, at_last}
-use Rattle.wire_core.proofs.results.put_view.Goals as goal
+use Rattle.wire_core.proofs.results.put_node.Goals as goal
 
 pub returns : goal.returns
-unfolding view
+unfolding node
 returns c =
     at_last c.put_block.result (λ last.
     both_behind kind (word ⊗ word ⊗ word ⊗ component ⊗ component ⊗ component ⊗ life ⊗ block) _ _ _ _ _ c.in_ok-put_kind.ensures

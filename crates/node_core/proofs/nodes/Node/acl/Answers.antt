@@ -1,5 +1,5 @@
 use Rattle.std.proofs.Common.{rules}
-use Rattle.node_core.proofs.views.View.acl.Goals as goal
+use Rattle.node_core.proofs.nodes.Node.acl.Goals as goal
 
 pub returns-in-Write : goal.returns-in-Write
 returns-in-Write c = search rules
