@@ -8,6 +8,8 @@ mod meetings;
 #[cfg(test)]
 mod readers;
 #[cfg(test)]
+mod rows;
+#[cfg(test)]
 mod stages;
 #[cfg(test)]
 mod watches;
