@@ -9,7 +9,6 @@ use crate::rule::{Known, Published, Sees};
 use crate::side::Side;
 use cache_core::Shared;
 use core::mem::replace_with;
-use crossbeam_utils::CachePadded;
 use lease_core::Clock;
 use left_right::reader::Reader;
 use names_cell::Name;
@@ -17,41 +16,23 @@ use node_core::View;
 use std::alloc::AllocError;
 use std::marker::Model;
 
-// A reader, and the number of published views that it knows of.
+/// Who asks what was published. Its front is the number of published views that it knows of.
 #[derive(Drop)]
-struct Place {
+pub struct Viewer {
     reader: Reader<Side, Known, Published>,
     front: u64,
 }
 
-impl Model for Place {
+impl Model for Viewer {
     ghost use Rattle.std.specs.Prelude.{◌≡◌, List, length};
     ghost use Rattle.left_right.specs.Sides.{view as view_of};
     ghost use Rattle.cache_core.specs.Caches.{CacheState};
 
     ghost Value = { List CacheState };
 
-    ghost view = { λ p. view_of p.reader.place };
+    ghost view = { λ v. view_of v.reader.place };
 
-    ghost invariant = { λ p. p.front ≡ length (view_of p.reader.place) };
-}
-
-/// Who asks what was published. Its front is the number of published views that it knows of.
-///
-/// A hit writes it, so no other viewer stands on its cache lines, wherever both are kept.
-#[derive(Drop)]
-pub struct Viewer {
-    place: CachePadded<Place>,
-}
-
-impl Model for Viewer {
-    ghost use Rattle.std.specs.Prelude.{List};
-    ghost use Rattle.crossbeam_utils.specs.Padded.{padded_value};
-    ghost use Rattle.cache_core.specs.Caches.{CacheState};
-
-    ghost Value = { List CacheState };
-
-    ghost view = { λ v. padded_value v.place };
+    ghost invariant = { λ v. v.front ≡ length (view_of v.reader.place) };
 }
 
 /// What the keeper told a viewer: so many views were published.
@@ -94,16 +75,14 @@ impl Viewer {
         requires { front ≡ length (view reader.place) }
         ensures { result ≡ view reader.place }
     {
-        Viewer {
-            place: CachePadded::new(Place { reader, front }),
-        }
+        Viewer { reader, front }
     }
 
     /// How many published views it knows of.
     pub fn front(&self) -> u64
         ensures { result ≡ length (self.now) }
     {
-        self.place.front()
+        self.front
     }
 
     /// What the last published view answers. The view is no older than any that this viewer knew of.
@@ -113,40 +92,20 @@ impl Viewer {
             (λ _. StartsWith (self.new) (self.old)) }
     {
         replace_with(
-            &mut *self.place,
+            self,
             (name, clock),
-            |place, asked| place.ask(asked.0, asked.1),
+            |viewer, asked| viewer.ask(asked.0, asked.1),
         )
     }
 
-    /// From now on the viewer knows of so many views at least.
-    pub fn learn(&mut self, told: Told)
-        ensures front { length (self.new) ≡ max (length (self.old)) (length told) }
-        ensures known { self.new ≡ (if nat_lt (length (self.old)) (length told) then told else self.old) }
-    {
-        replace_with(
-            &mut *self.place,
-            told,
-            |place, told| (place.taught(told), ()),
-        )
-    }
-}
-
-impl Place {
-    fn front(&self) -> u64
-        ensures { result ≡ length (self.now) }
-    {
-        self.front
-    }
-
-    fn ask<C: Clock>(self, name: &Name, clock: &C) -> (Place, Result<Hit, AllocError>)
+    fn ask<C: Clock>(self, name: &Name, clock: &C) -> (Viewer, Result<Hit, AllocError>)
         ensures { MatchResult result.1
             (Hits (C.is_reading clock.now) name.now (self) (result.0))
             (λ _. StartsWith (result.0) (self)) }
     {
-        let Place { reader, front } = self;
+        let Viewer { reader, front } = self;
         match reader.enter_as::<Sees>() {
-            Err(reader) => (Place { reader, front }, Ok(Hit::Gone)),
+            Err(reader) => (Viewer { reader, front }, Ok(Hit::Gone)),
             Ok(reading) => {
                 let side = reading.get();
                 let front = side.place;
@@ -157,18 +116,26 @@ impl Place {
                     Some(Some(found)) => shared(found),
                 };
                 let reader = reading.leave();
-                (Place { reader, front }, hit)
+                (Viewer { reader, front }, hit)
             }
         }
     }
 
-    fn taught(self, told: Told) -> Place
+    /// From now on the viewer knows of so many views at least.
+    pub fn learn(&mut self, told: Told)
+        ensures front { length (self.new) ≡ max (length (self.old)) (length told) }
+        ensures known { self.new ≡ (if nat_lt (length (self.old)) (length told) then told else self.old) }
+    {
+        replace_with(self, told, |viewer, told| (viewer.taught(told), ()))
+    }
+
+    fn taught(self, told: Told) -> Viewer
         ensures front { length (result) ≡ max (length (self)) (length told) }
         ensures known { result ≡ (if nat_lt (length (self)) (length told) then told else self) }
     {
         if self.front < told.count {
             let Told { reader, count } = told;
-            Place {
+            Viewer {
                 reader,
                 front: count,
             }
