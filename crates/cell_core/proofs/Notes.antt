@@ -1,13 +1,16 @@
 -- A master that has noted something of a handle.
-use Rattle.std.proofs.Common.{◌≡◌, List, Option, Some, refl}
+use Rattle.std.proofs.Common.{◌≡◌, Option, Some, refl}
 use Rattle.std.specs.BTreeMap.{insert_entry}
-use Rattle.cell_parts.specs.declared.handles.HandleKey.{HandleKey}
-use Rattle.cell_parts.specs.declared.handles.HandleState.{HandleState}
 use Rattle.cell_parts.specs.declared.handles.Note.{Note}
 use Rattle.cell_parts.specs.Keys.{handle_order}
-use Rattle.cell_state.specs.State.{MasterState}
+use Rattle.cell_tables.specs.State.{TableState}
+use Rattle.cell_state.specs.State.{MasterState, tables_of}
 use Rattle.cell_update.specs.Updates.{with_note}
 
+-- a master with these tables
+abbrev pub over : MasterState → TableState → MasterState
+over s tables = record s { nodes = tables.nodes; sessions = tables.sessions; handles = tables.handles; rights = tables.queue.rights; gate = tables.queue.gate }
+
 -- with one more of its handles' states it is the master with the note
-pub noted : (before s : MasterState) (handles : List (HandleKey × HandleState)) (note : Option Note) (known : Note) → before ≡ s → note ≡ Some known → handles ≡ insert_entry handle_order before.handles known.key known.state → record before { handles = handles } ≡ with_note s note
-noted before s handles noting known same some put = rw (← same, some, put) refl
+pub noted : (before s : MasterState) (tables : TableState) (note : Option Note) (known : Note) → before ≡ s → note ≡ Some known → tables ≡ record (tables_of before) { handles = insert_entry handle_order before.handles known.key known.state } → over before tables ≡ with_note s note
+noted before s tables noting known same some put = rw (← same, some, put) refl

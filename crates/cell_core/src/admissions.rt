@@ -104,7 +104,7 @@ fn shown_note(master: &Master, handle: &Handle, bytes: &[u8]) -> Result<Option<N
     requires { read_handle master.now.secret bytes.now ≡ Some handle.now }
     ensures { IfOk result (λ note. note ≡ shown_note master.now handle.now bytes.now) }
 {
-    if master.handles.get(&HandleKey::of(handle)).is_some() {
+    if master.handles().get(&HandleKey::of(handle)).is_some() {
         return Ok(None);
     }
     let noted = OpenHandle::shown(master.alloc, handle, bytes, &master.secret)?;

@@ -36,6 +36,13 @@ pub(crate) struct ToAsk {
 }
 
 impl Touched {
+    /// The name of the node that changes, comes or goes.
+    pub(crate) fn name(&self) -> &Name {
+        match self {
+            Touched::Alone(name) | Touched::WithParent(name) => name,
+        }
+    }
+
     pub(crate) fn names(&self, alloc: Global) -> Result<Items<Name>, AllocError>
         ensures { IfOk result (λ names. names ≡ names_of (Some self.now)) }
     {
@@ -96,7 +103,7 @@ fn to_ask_above(master: &Master, name: &Name) -> Result<Option<Asked>, AllocErro
 fn to_ask_for(master: &Master, name: &Name) -> Result<Asked, AllocError>
     ensures { IfOk result (λ asked. asked ≡ record { name = name.now; clients = clients_to_ask name.now master.now.rights }) }
 {
-    let clients = master.rights.to_ask(name)?;
+    let clients = master.rights().to_ask(name)?;
     Ok(Asked {
         name: name.clone()?,
         clients,
@@ -121,8 +128,8 @@ fn ask_one(master: &mut Master, asked: Asked)
     ensures { master.new ≡ asking master.old asked.name }
 {
     let Asked { name, clients } = asked;
-    master.rights.mark(&name, &clients);
-    master.sessions.issue_all(&clients);
+    master.tables.mark(&name, &clients);
+    master.tables.issue_all(&clients);
 }
 
 // Who is asked for both names is asked for this one by the invalidation behind the first.
@@ -131,6 +138,6 @@ fn ask_above(master: &mut Master, asked: Asked)
     ensures { master.new ≡ asking master.old asked.name }
 {
     let Asked { name, mut clients } = asked;
-    master.rights.renumber(&mut clients);
+    master.rights().renumber(&mut clients);
     ask_one(master, Asked { name, clients });
 }

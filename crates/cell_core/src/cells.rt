@@ -7,12 +7,11 @@ ghost use Rattle.cell_state.specs.Notices.{with_tellings};
 ghost use Rattle.cell_update.specs.Updates.{BeginsNew, grown, undone, rest_of, with_rest};
 
 use crate::stored::{locks_of, sessions_of};
-use cell_parts::{Handles, Nodes, Telling};
+use cell_parts::{Nodes, Telling};
 use cell_state::Master;
+use cell_tables::Tables;
 use cell_update::{Former, Grown, Rest, Update, finish, grow, settle, undo};
-use gate_core::Gate;
 use plain::Items;
-use rights_core::Rights;
 use rows_cell::Rows;
 use std::alloc::{AllocError, Global};
 use std::marker::Model;
@@ -58,13 +57,9 @@ impl Cell {
             secret,
             epoch,
             next_instance,
-            nodes,
+            tables: Tables::of_parts(alloc, nodes, sessions),
             locks,
-            sessions,
             recovering,
-            handles: Handles::new(alloc),
-            rights: Rights::new(alloc),
-            gate: Gate::new(alloc),
             clock: now,
             serving_from: now,
         };
@@ -96,8 +91,8 @@ impl Cell {
         self.master.restore_moment(before);
     }
 
-    /// Notes until when no lock reopens, and a client that wasn't heard from, so that until then nobody looks for one. To
-    /// be called where nothing is to be done; elsewhere it does no harm. Takes no memory.
+    /// Notes what isn't ready, to go or heard from, so that nobody looks at it again before something changes. To be called
+    /// where nothing is to be done; elsewhere it does no harm. Takes no memory that it can't do without.
     pub fn note_quiet(&mut self)
         ensures { self.new ≡ self.old }
     {

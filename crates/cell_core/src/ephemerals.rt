@@ -1,18 +1,16 @@
 //! The ephemeral nodes that go by themselves.
-ghost use Rattle.std.specs.Prelude.{◌≡◌, ◌&&◌, ◌==◌, true, Some, find, IfOk, OnOk, OnErr};
+ghost use Rattle.std.specs.Prelude.{◌≡◌, true, Some, find, IfOk, OnOk, OnErr};
 ghost use Rattle.std.specs.Option.{option_map};
 ghost use Rattle.gate_core.specs.Gate.{push_answer};
+ghost use Rattle.cell_tables.specs.Ephemerals.{idle_of};
 ghost use Rattle.cell_core.specs.Step.{queued, names_of};
-ghost use Rattle.cell_core.specs.Ephemerals.{is_idle_node, tidies, is_going, is_to_go, idle_of, is_ok, may_tidy, next_idle, tidied, is_still_idle, idle_at, first_idle};
+ghost use Rattle.cell_core.specs.Ephemerals.{is_to_go, is_ok, may_tidy, next_idle, tidied, is_still_idle};
 
 use crate::asking::{Touched, ask};
 use crate::cells::Cell;
 use crate::takes::queue;
-use cell_parts::{Idle, Task, is_ephemeral};
+use cell_parts::{Idle, Task};
 use cell_state::Master;
-use names_cell::Name;
-use node_core::Node;
-use plain::Table;
 use std::alloc::AllocError;
 
 /// How long ephemeral nodes stay at least once a recovery has ended, in milliseconds: by then who holds one open has
@@ -45,7 +43,7 @@ impl Cell {
         if node.instance != idle.instance {
             return Ok(false);
         }
-        is_idle_node(master, &idle.name, node)
+        master.tables.is_left(&idle.name, node)
     }
 
     /// The deletion of an ephemeral node waits behind all other changes, and who may keep its name in a cache, or the
@@ -61,6 +59,7 @@ impl Cell {
         match queue_idle(master, &touched, idle) {
             Ok(()) => {
                 ask(master, asks);
+                master.tables.pass(touched.name());
                 Ok(())
             }
             Err(error) => {
@@ -90,108 +89,12 @@ fn may_tidy(master: &Master) -> bool
     if master.clock.saturating_sub(master.serving_from) < SPARED_FOR {
         return false;
     }
-    master.gate.next_number().is_ok()
+    master.gate().next_number().is_ok()
 }
 
 // The first node by name that is to go.
 fn first_to_go(master: &Master) -> Result<Option<Idle>, AllocError>
     ensures { IfOk result (λ idle. idle ≡ option_map idle_of (find (is_to_go master.now) master.now.nodes)) }
 {
-    match master.nodes.ephemerals() {
-        Some(names) => {
-            let _nodes = master.map().as_map();
-            let _count = names.as_map().len();
-            first_among(master, names)
-        }
-        None => first_of_all(master),
-    }
-}
-
-fn first_among(master: &Master, names: &Table<Name, ()>) -> Result<Option<Idle>, AllocError>
-    ensures { IfOk result (λ idle. idle ≡ first_idle master.now names.now) }
-{
-    for (name, _) in names.as_map() {
-        if let Some(idle) = idle_at(master, name)? {
-            return Ok(Some(idle));
-        }
-    }
-    Ok(None)
-}
-
-fn first_of_all(master: &Master) -> Result<Option<Idle>, AllocError>
-    ensures { IfOk result (λ idle. idle ≡ option_map idle_of (find (is_to_go master.now) master.now.nodes)) }
-{
-    for (name, node) in master.map().as_map() {
-        if is_to_go(master, name, node)? {
-            return Ok(Some(idle_of(name, node)?));
-        }
-    }
-    Ok(None)
-}
-
-// The node of a name, where it is to go.
-fn idle_at(master: &Master, name: &Name) -> Result<Option<Idle>, AllocError>
-    ensures { IfOk result (λ idle. idle ≡ idle_at master.now name.now) }
-{
-    let Some(node) = master.map().get(name) else {
-        return Ok(None);
-    };
-    if is_to_go(master, name, node)? {
-        Ok(Some(idle_of(name, node)?))
-    } else {
-        Ok(None)
-    }
-}
-
-fn is_to_go(master: &Master, name: &Name, node: &Node) -> Result<bool, AllocError>
-    ensures { IfOk result (λ goes. goes ≡ is_to_go master.now (name.now, node.now)) }
-{
-    if is_idle_node(master, name, node)? {
-        Ok(!is_going(master, node.instance))
-    } else {
-        Ok(false)
-    }
-}
-
-// Whether it is an ephemeral node that nobody holds open.
-fn is_idle_node(master: &Master, name: &Name, node: &Node) -> Result<bool, AllocError>
-    ensures { IfOk result (λ idle. idle ≡ is_idle_node master.now name.now node.now) }
-{
-    if !is_ephemeral(node.life) {
-        return Ok(false);
-    }
-    if master.has_open(node.instance) {
-        return Ok(false);
-    }
-    Ok(!master.has_to_stay(name)?)
-}
-
-// Whether the cell waits to delete the node already.
-fn is_going(master: &Master, instance: u64) -> bool
-    ensures { result ≡ is_going master.now instance }
-{
-    master
-        .gate
-        .changes()
-        .as_map()
-        .values()
-        .any(|waiting| tidies(instance, &waiting.change.body))
-}
-
-fn tidies(instance: u64, task: &Task) -> bool
-    ensures { result ≡ tidies instance task.now }
-{
-    match task {
-        Task::Asked(_) => false,
-        Task::Tidies(idle) => idle.instance == instance,
-    }
-}
-
-fn idle_of(name: &Name, node: &Node) -> Result<Idle, AllocError>
-    ensures { IfOk result (λ idle. idle ≡ idle_of (name.now, node.now)) }
-{
-    Ok(Idle {
-        name: name.clone()?,
-        instance: node.instance,
-    })
+    master.tables.first_to_go()
 }

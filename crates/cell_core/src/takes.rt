@@ -117,10 +117,10 @@ fn take_beat<A: Answers>(master: &mut Master, beat: &Beat) -> Result<A, AllocErr
         lines,
         outs: Items::new(master.alloc),
     })?;
-    match master.sessions.beat(beat, master.clock) {
+    match master.tables.beat(beat, master.clock) {
         Ok(()) => {
             let ending = Ending::Acknowledgement(beat.invalidations);
-            master.rights.end(beat.client.get(), ending);
+            master.tables.end(beat.client.get(), ending);
             Ok(answers)
         }
         Err(fault) => {
@@ -155,7 +155,7 @@ fn by_kept<A: Answers>(master: &mut Master, message: &CallMessage) -> Result<A, 
 {
     let client = message.client;
     let number = message.number;
-    match master.sessions.kept(client, number) {
+    match master.sessions().kept(client, number) {
         Err(fault) => A::of(master.refusal(client, number, fault)?),
         Ok(Some(kept)) => A::of(master.repeated(kept)?),
         Ok(None) => new_call(master, message),
@@ -200,14 +200,14 @@ fn admit_noted<A: Answers>(
     ensures err { OnErr result (master.new ≡ master.old) }
 {
     let Note { key, state } = note;
-    let former = master.handles.put(key, state)?;
+    let former = master.tables.put_handle(key, state)?;
     match admit(master, message, touched, told, answer) {
         Ok(taken) => {
             settle_note(master, &key, former);
             Ok(taken)
         }
         Err(error) => {
-            master.handles.restore(&key, former);
+            master.tables.restore_handle(&key, former);
             Err(error)
         }
     }
@@ -253,7 +253,7 @@ fn answer_telling<A: Answers>(
     let Some(name) = told else {
         return reply(master, client, number, answer);
     };
-    if master.gate.cachable(&master.rights, client.get(), &name) {
+    if master.gate().cachable(master.rights(), client.get(), &name) {
         grant(master, client, number, answer, &name)
     } else {
         reply(master, client, number, answer)
@@ -279,7 +279,7 @@ fn grant<A: Answers>(
     let answers = A::of(Taken { lines, outs })?;
     match hold(master, client, name) {
         Ok(()) => {
-            master.sessions.keep(client, answered_by(reply));
+            master.tables.keep(client, answered_by(reply));
             Ok(answers)
         }
         Err(error) => {
@@ -297,7 +297,7 @@ fn hold(master: &mut Master, client: ClientNumber, name: &Name) -> Result<(), Al
     ensures ok { OnOk result (master.new ≡ with_right master.old client name.now) }
     ensures err { OnErr result (master.new ≡ master.old) }
 {
-    match master.rights.grant(client.get(), name) {
+    match master.tables.grant(client.get(), name) {
         Ok(_) => Ok(()),
         Err(_) => Err(AllocError),
     }
@@ -389,7 +389,7 @@ fn queue_call(
         number,
         reply: None,
     };
-    master.sessions.keep(client, kept);
+    master.tables.keep(client, kept);
     Ok(())
 }
 
@@ -399,7 +399,7 @@ pub(crate) fn queue(master: &mut Master, touched: Items<Name>, task: Task) -> Re
     ensures ok { OnOk result (master.new ≡ queued master.old touched task) }
     ensures err { OnErr result (master.new ≡ master.old) }
 {
-    match master.gate.push(Pending {
+    match master.tables.push(Pending {
         touched,
         body: task,
     }) {
@@ -441,7 +441,7 @@ fn reply<A: Answers>(
 {
     let reply = master.reply_of(client, number, answer);
     let answers = A::of(master.sends(&reply)?)?;
-    master.sessions.keep(client, answered_by(reply));
+    master.tables.keep(client, answered_by(reply));
     Ok(answers)
 }
 

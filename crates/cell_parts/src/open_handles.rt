@@ -91,6 +91,13 @@ impl Handles {
         self.states.as_map().len()
     }
 
+    /// How each stands, for loops and chains.
+    pub fn states(&self) -> &Table<HandleKey, HandleState>
+        ensures { result.now ≡ self.now }
+    {
+        &self.states
+    }
+
     /// How a handle stands: one look-up in a tree.
     pub fn get(&self, key: &HandleKey) -> Option<&HandleState>
         ensures { option_copied result ≡ state_at self.now key.now }

@@ -1,11 +1,10 @@
 -- What is looked up in a master, and in its name space.
 use Rattle.std.specs.Prelude.{ℕ, Bool, false, not, ◌&&◌, ◌||◌, ◌==◌, nat_lt, nat_le, max, List, [], ◌∷◌, length, Option, Some, None, Result, Ok, Err, if◌then◌else◌, is_none, is_some}
-use Rattle.std.specs.List.{list_any}
 use Rattle.std.specs.Option.{option_map, option_map_or}
 use Rattle.std.specs.Map.{lookup}
 use Rattle.std.specs.BTreeMap.{is_at}
 use Rattle.std.specs.Str.{bytes_eq}
-use Rattle.names_cell.specs.Text.{cell_of, parent_of}
+use Rattle.names_cell.specs.Text.{cell_of}
 use Rattle.node_core.specs.declared.refusals.Fault.{Fault}
 use Rattle.node_core.specs.declared.lines.Line.{Line}
 use Rattle.node_core.specs.declared.nodes.Node.{Node}
@@ -14,7 +13,7 @@ use Rattle.node_core.specs.declared.kinds.Kind.{Kind}
 use Rattle.node_core.specs.declared.kinds.Right.{Right}
 use Rattle.node_core.specs.declared.stats.Stat.{Stat}
 use Rattle.node_core.specs.Limits.{number_limit}
-use Rattle.node_core.specs.Nodes.{get_node, view_of, has_children}
+use Rattle.node_core.specs.Nodes.{get_node, view_of}
 use Rattle.node_core.specs.Access.{permitted}
 use Rattle.rights_core.specs.declared.endings.Ending.{Ending}
 use Rattle.rights_core.specs.declared.grants.Grant.{Grant}
@@ -40,7 +39,8 @@ use Rattle.cell_parts.specs.declared.handles.HandleKey.{HandleKey}
 use Rattle.cell_parts.specs.declared.handles.Note.{Note}
 use Rattle.cell_parts.specs.Keys.{handle_order, key_of}
 use Rattle.cell_parts.specs.Claims.{owner_of}
-use Rattle.cell_state.specs.State.{MasterState}
+use Rattle.cell_tables.specs.Ephemerals.{is_held_open, must_stay}
+use Rattle.cell_state.specs.State.{MasterState, tables_of}
 use Rattle.cell_state.specs.NameSpace.{NameSpace, Caller}
 use Rattle.cell_parts.specs.Notes.{open_note}
 use Rattle.cell_parts.specs.Calls.{is_too_long, write_fault, needing}
@@ -309,17 +309,13 @@ answer_on space handle call sequencer =
 
 -- ---- who holds a node open
 
--- a session that has ended holds nothing open
-abbrev pub is_open_as : MasterState → ℕ → HandleKey → HandleState → Bool
-is_open_as s instance key (states.Open noted) = noted.handle.instance == instance && is_live s key.client
-is_open_as s instance key states.Closed = false
-
+-- a handle of a live session is open on the instance
 abbrev pub has_open : MasterState → ℕ → Bool
-has_open s instance = list_any (λ entry. is_open_as s instance entry.0 entry.1) s.handles
+has_open s instance = is_held_open (tables_of s) instance
 
 -- the root and a directory with children stay
 abbrev pub has_to_stay : MasterState → List ℕ → Bool
-has_to_stay s name = has_children s.nodes name || is_none (parent_of name)
+has_to_stay s name = must_stay s.nodes name
 
 -- ---- moments
 

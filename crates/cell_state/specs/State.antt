@@ -14,6 +14,7 @@ use Rattle.cell_parts.specs.declared.pending.Task.{Task}
 use Rattle.cell_parts.specs.declared.handles.HandleKey.{HandleKey}
 use Rattle.cell_parts.specs.declared.handles.HandleState.{HandleState}
 use Rattle.cell_parts.specs.Locks.{locks_of}
+use Rattle.cell_tables.specs.State.{TableState}
 use Rattle.cell_parts.specs.StoredSessions.{sessions_of}
 
 -- name: the cell's. secret: what check digits are made over. nodes: the map. locks: by instance. sessions: also those
@@ -33,6 +34,10 @@ pub record MasterState : Type 0 where
   pub gate : GateState Task
   pub clock : ℕ
   pub serving_from : ℕ
+
+-- its tables
+abbrev pub tables_of : MasterState → TableState
+tables_of s = record { nodes = s.nodes; handles = s.handles; sessions = s.sessions; queue = record { rights = s.rights; gate = s.gate } }
 
 -- ---- the changes that wait
 

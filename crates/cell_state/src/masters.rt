@@ -2,7 +2,8 @@
 ghost use Rattle.std.specs.Prelude.{◌≡◌};
 ghost use Rattle.lease_core.specs.Lease.{IsMoment};
 
-use cell_parts::{Handles, Nodes, Task};
+use cell_parts::{Handles, Task};
+use cell_tables::Tables;
 use gate_core::Gate;
 use lock_core::Locks;
 use messages_cell::Reply;
@@ -24,13 +25,10 @@ pub struct Master {
     pub secret: Secret,
     pub epoch: u64,
     pub next_instance: u64,
-    pub nodes: Nodes,
+    /// Its nodes, handles, sessions and rights, and the changes that wait.
+    pub tables: Tables,
     pub locks: Locks,
-    pub sessions: Sessions<Reply>,
     pub recovering: bool,
-    pub handles: Handles,
-    pub rights: Rights,
-    pub gate: Gate<Task>,
     pub clock: u64,
     // When its recovery ended, or when it came up without one.
     pub serving_from: u64,
@@ -47,13 +45,13 @@ impl Model for Master {
       secret = c.secret;
       epoch = c.epoch;
       next_instance = c.next_instance;
-      nodes = c.nodes;
+      nodes = c.tables.nodes;
       locks = c.locks;
-      sessions = c.sessions;
+      sessions = c.tables.sessions;
       recovering = c.recovering;
-      handles = c.handles;
-      rights = c.rights;
-      gate = c.gate;
+      handles = c.tables.handles;
+      rights = c.tables.queue.rights;
+      gate = c.tables.queue.gate;
       clock = c.clock;
       serving_from = c.serving_from;
     } };
@@ -84,7 +82,7 @@ impl Master {
     pub fn sessions(&self) -> &Sessions<Reply>
         ensures { result.now ≡ self.now.sessions }
     {
-        &self.sessions
+        self.tables.sessions()
     }
 
     /// Whether some session of an earlier master has neither acknowledged its first event nor expired.
@@ -109,21 +107,35 @@ impl Master {
     pub fn rights(&self) -> &Rights
         ensures { result.now ≡ self.now.rights }
     {
-        &self.rights
+        self.tables.queue().rights()
+    }
+
+    /// The handles that were opened, shown or closed in this epoch.
+    pub fn handles(&self) -> &Handles
+        ensures { result.now ≡ self.now.handles }
+    {
+        self.tables.handles()
+    }
+
+    /// The changes that wait.
+    pub fn gate(&self) -> &Gate<Task>
+        ensures { result.now ≡ self.now.gate }
+    {
+        self.tables.queue().gate()
     }
 
     /// The number of the lowest change that waits and that no right holds up. Takes no memory.
     pub fn next_change(&self) -> Option<u64>
         ensures { result ≡ next_change self.now }
     {
-        self.gate.ready(&self.rights)
+        self.tables.queue().ready()
     }
 
     /// What the change of a number does, while it waits.
     pub fn task(&self, number: u64) -> Option<&Task>
         ensures { option_copied result ≡ task_at number self.now.gate.waiting }
     {
-        let change = self.gate.get(number)?;
+        let change = self.gate().get(number)?;
         Some(&change.body)
     }
 
@@ -144,18 +156,20 @@ impl Master {
     {
         let before = self.clock;
         self.clock = before.max(now);
-        self.sessions.note_moment(self.clock);
+        self.tables.note_moment(self.clock);
+        self.locks.note_moment(self.clock);
         before
     }
 
-    /// Notes until when no lock reopens, and a client that wasn't heard from, so that until then nobody looks for one. To
-    /// be called where nothing is to be done; elsewhere it does no harm. Takes no memory.
+    /// Notes what isn't ready, to go or heard from, so that nobody looks at it again before something changes. To be called
+    /// where nothing is to be done; elsewhere it does no harm. Takes no memory that it can't do without.
     pub fn note_quiet(&mut self)
         ensures { self.new ≡ self.old }
     {
         self.locks.note_quiet(self.clock);
+        self.tables.note_quiet();
         if self.recovering {
-            self.sessions.note_unheard();
+            self.tables.note_unheard();
         }
     }
 
@@ -171,6 +185,6 @@ impl Master {
     pub fn map(&self) -> &Map
         ensures { result.now ≡ self.now.nodes }
     {
-        self.nodes.map()
+        self.tables.nodes().map()
     }
 }

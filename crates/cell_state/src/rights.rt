@@ -13,7 +13,7 @@ impl Master {
     pub fn may(&self, client: ClientNumber, node: &Node, right: Right) -> Result<bool, AllocError>
         ensures { IfOk result (λ allowed. allowed ≡ may (name_space self.now) (caller self.now client) node.now right) }
     {
-        match self.sessions.get(client.get()) {
+        match self.sessions().get(client.get()) {
             None => Ok(false),
             Some(session) => permitted(self.map(), &session.principal, node, right),
         }

@@ -84,7 +84,7 @@ impl Master {
     fn issued_to(&self, client: ClientNumber) -> u64
         ensures { result ≡ issued_to self.now client }
     {
-        match self.sessions.get(client.get()) {
+        match self.sessions().get(client.get()) {
             None => 0,
             Some(session) => session.invalidations.issued,
         }
@@ -99,7 +99,7 @@ impl Master {
         ensures { IfOk result (λ lines. lines ≡ granted_lines client name.now (grant_answer client name.now self.now.rights)) }
     {
         let mut lines = Items::new(self.alloc);
-        if let Ok(Grant::Granted(number)) = self.rights.answer(client.get(), name) {
+        if let Ok(Grant::Granted(number)) = self.rights().answer(client.get(), name) {
             lines.push(Line::Granted(number, client.get(), name.clone()?))?;
         }
         Ok(lines)
@@ -110,7 +110,7 @@ impl Master {
         ensures { IfOk result (λ lines. lines ≡ map Line.Acked (numbers_ending beat.now.client (acknowledgement beat.now) self.now.rights)) }
     {
         let ending = Ending::Acknowledgement(beat.invalidations);
-        let numbers = self.rights.ending(beat.client.get(), ending)?;
+        let numbers = self.rights().ending(beat.client.get(), ending)?;
         let mut lines = Items::new(self.alloc);
         for number in numbers.as_slice() {
             lines.push(Line::Acked(*number))?;
@@ -157,19 +157,19 @@ impl Master {
     pub fn may_start(&self, client: ClientNumber, principal: &Principal) -> bool
         ensures { result ≡ may_start self.now client principal.now }
     {
-        self.sessions.may_start(client, principal)
+        self.sessions().may_start(client, principal)
     }
 
     pub fn is_live(&self, client: ClientNumber) -> bool
         ensures { result ≡ is_live self.now client }
     {
-        self.sessions.is_live(client.get())
+        self.sessions().is_live(client.get())
     }
 
     pub fn is_full(&self) -> bool
         ensures { result ≡ is_full self.now }
     {
-        self.gate.len() >= PENDING_LIMIT
+        self.gate().len() >= PENDING_LIMIT
     }
 
     /// Whether a count is at its end: of the changes that ever waited, of the rights that were ever granted, or of a
@@ -177,8 +177,8 @@ impl Master {
     pub fn is_spent(&self) -> bool
         ensures { result ≡ is_spent self.now }
     {
-        self.gate.pushed() >= NUMBER_LIMIT
-            || self.rights.totals().issued >= NUMBER_LIMIT
-            || self.sessions.has_spent_events()
+        self.gate().pushed() >= NUMBER_LIMIT
+            || self.rights().totals().issued >= NUMBER_LIMIT
+            || self.sessions().has_spent_events()
     }
 }

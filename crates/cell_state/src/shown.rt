@@ -44,7 +44,7 @@ impl Master {
     fn noted_handle(&self, client: ClientNumber, bytes: &[u8]) -> Option<&Handle>
         ensures { (handle : HandleValue) → option_copied result ≡ Some handle → read_handle self.now.secret bytes.now ≡ Some handle }
     {
-        match self.handles.get(&shown_key(client, bytes)?)? {
+        match self.handles().get(&shown_key(client, bytes)?)? {
             HandleState::Open(noted) => noted.handle_of(bytes, &self.secret),
             HandleState::Closed => None,
         }
@@ -88,7 +88,7 @@ impl Master {
     fn is_usable(&self, handle: &Handle) -> bool
         ensures { result ≡ is_usable self.now handle.now (handle_state_of self.now (key_of handle.now)) }
     {
-        self.is_usable_as(handle, self.handles.get(&HandleKey::of(handle)))
+        self.is_usable_as(handle, self.handles().get(&HandleKey::of(handle)))
     }
 
     // By what is noted of it, if anything.
@@ -107,17 +107,14 @@ impl Master {
     pub fn has_open(&self, instance: u64) -> bool
         ensures { result ≡ has_open self.now instance }
     {
-        self.handles.is_open_in(instance, &self.sessions)
+        self.tables.is_held_open(instance)
     }
 
     /// Whether the node of a name stays whoever holds it open: the root, and a directory with children.
     pub fn has_to_stay(&self, name: &Name) -> Result<bool, AllocError>
         ensures { IfOk result (λ stays. stays ≡ has_to_stay self.now name.now) }
     {
-        if name.is_root() {
-            return Ok(true);
-        }
-        self.map().has_children(name)
+        self.tables.must_stay(name)
     }
 
     /// The node of a handle, where its instance is there.

@@ -37,7 +37,7 @@ impl Master {
         requires { HasConcerned self.now notices.now keys.now }
         ensures { IfOk result (λ tellings. tellings ≡ tellings_to self.now note.now notices.now) }
     {
-        let _count = self.handles.len();
+        let _count = self.handles().len();
         let mut tellings = Items::new(self.alloc);
         for (key, _) in keys.as_map() {
             if let Some(telling) = self.telling_at(note, notices, key)? {
@@ -61,7 +61,7 @@ impl Master {
         ensures { self.new ≡ record self.old { sessions = with_telling self.old.sessions telling } }
     {
         let Telling { client, event } = telling;
-        self.sessions.tell(client, event);
+        self.tables.tell(client, event);
     }
 
     // The keys of the handles that are open on a node of the notices, and maybe others.
@@ -70,7 +70,7 @@ impl Master {
     {
         let mut keys = Table::new(self.alloc);
         for notice in notices {
-            self.handles.add_open_on(instance_of(notice), &mut keys)?;
+            self.handles().add_open_on(instance_of(notice), &mut keys)?;
         }
         Ok(keys)
     }
@@ -83,7 +83,7 @@ impl Master {
     ) -> Result<Option<Telling>, AllocError>
         ensures { IfOk result (λ telling. telling ≡ telling_at self.now note.now notices.now key.now) }
     {
-        match self.handles.get(key) {
+        match self.handles().get(key) {
             Some(state) => self.telling_by(note, notices, key, state),
             None => Ok(None),
         }

@@ -212,7 +212,7 @@ pub fn finish(master: &mut Master, rest: Rest)
         master.serving_from = master.clock;
     }
     if let Some(number) = leaves {
-        drop(master.gate.take(number));
+        drop(master.tables.take(number));
     }
 }
 
@@ -220,7 +220,7 @@ pub fn finish(master: &mut Master, rest: Rest)
 pub fn settle_note(master: &mut Master, key: &HandleKey, former: Option<HandleState>)
     ensures { master.new ≡ master.old }
 {
-    master.handles.settle(key, former);
+    master.tables.settle_handle(key, former);
 }
 
 // A session that begins; any other update is left for the rest.
@@ -240,7 +240,7 @@ fn begin_session(
     match update {
         SessionUpdate::Begins(client, principal) => {
             let now = master.clock;
-            master.sessions.begin(client, principal, now)?;
+            master.tables.begin(client, principal, now)?;
             Ok((Some(client), None))
         }
         SessionUpdate::Prolongs(client) => Ok((None, Some(SessionUpdate::Prolongs(client)))),
@@ -256,7 +256,7 @@ fn take_back(master: &mut Master, begun: Option<ClientNumber>)
     ensures { master.new ≡ without_begun master.old begun }
 {
     if let Some(client) = begun {
-        master.sessions.take_back(client);
+        master.tables.take_back(client);
     }
 }
 
@@ -267,15 +267,14 @@ fn finish_session(master: &mut Master, update: Option<SessionUpdate>)
     let now = master.clock;
     match &update {
         Some(SessionUpdate::Prolongs(client)) => {
-            master
-                .sessions
-                .prolong(*client, now + master.sessions.lease());
+            let until = now + master.sessions().lease();
+            master.tables.prolong(*client, until);
         }
         Some(SessionUpdate::Ends(client, ..)) => {
-            master.sessions.expire(*client);
-            master.rights.end(*client, Ending::Expiry);
+            master.tables.expire(*client);
+            master.tables.end(*client, Ending::Expiry);
         }
-        Some(SessionUpdate::Answers(client)) => master.sessions.answer(*client, now),
+        Some(SessionUpdate::Answers(client)) => master.tables.answer(*client, now),
         _ => {}
     }
 }
@@ -292,7 +291,7 @@ fn keep_one(master: &mut Master, put: KeptPut)
     ensures { master.new ≡ record master.old { sessions = with_kept_put master.old.sessions put } }
 {
     let KeptPut { client, kept } = put;
-    master.sessions.keep(client, kept);
+    master.tables.keep(client, kept);
 }
 
 fn finish_map(master: &mut Master, rest: Option<MapRest>)
@@ -304,7 +303,7 @@ fn finish_map(master: &mut Master, rest: Option<MapRest>)
             next_instance,
         } = rest;
         if let Some(name) = gone {
-            drop(master.nodes.unset(&name));
+            drop(master.tables.unset_node(&name));
         }
         master.next_instance = next_instance;
     }
@@ -433,7 +432,7 @@ fn put_note(
         Some(note) => {
             let Note { key, state } = note;
             let HandleKey { client, number } = key;
-            let former = master.handles.put(key, state)?;
+            let former = master.tables.put_handle(key, state)?;
             Ok(Some((HandleKey { client, number }, former)))
         }
     }
@@ -485,7 +484,7 @@ fn set_node(master: &mut Master, name: Name, node: Node) -> Result<(Name, Option
     ensures err { OnErr result (master.new ≡ master.old) }
 {
     let key = name.clone()?;
-    let former = master.nodes.set(name, node)?;
+    let former = master.tables.set_node(name, node)?;
     Ok((key, former))
 }
 
@@ -493,7 +492,7 @@ fn restore_note(master: &mut Master, former: Option<(HandleKey, Option<HandleSta
     ensures { master.new ≡ without_note master.old former }
 {
     if let Some((key, state)) = former {
-        master.handles.restore(&key, state);
+        master.tables.restore_handle(&key, state);
     }
 }
 
@@ -501,7 +500,7 @@ fn restore_node(master: &mut Master, former: Option<(Name, Option<Node>)>)
     ensures { master.new ≡ without_node master.old former }
 {
     if let Some((name, node)) = former {
-        master.nodes.restore(&name, node);
+        master.tables.restore_node(&name, node);
     }
 }
 

@@ -18,7 +18,8 @@ use Rattle.tags_cell.specs.Numbers.{is_client_number}
 use Rattle.cell_parts.specs.declared.pending.Idle.{Idle}
 use Rattle.cell_state.specs.State.{MasterState, next_change}
 use Rattle.cell_state.specs.Lookups.{noted}
-use Rattle.cell_core.specs.Ephemerals.{next_idle, may_tidy, is_to_go, idle_of, spared_for}
+use Rattle.cell_tables.specs.Ephemerals.{idle_of}
+use Rattle.cell_core.specs.Ephemerals.{next_idle, may_tidy, is_to_go, spared_for}
 use Rattle.sweep_plan.specs.declared.actions.Action.{Action}
 use Rattle.sweep_plan.specs.declared.actions.Action.TheVariants.{Recover, Expire, Apply, Reopen, Tidy, Answer, Quiet}
 use Rattle.sweep_plan.specs.Plans.{first_action}

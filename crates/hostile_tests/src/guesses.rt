@@ -404,7 +404,7 @@ const JOINED: &[u64] = &[1, 2];
 // What a master knows of a client.
 fn known_to_master(stage: &Stage, client: u64) -> Known {
     let epoch = stage.cast.cell.epoch();
-    let Some(session) = stage.cast.cell.master().sessions.get(client) else {
+    let Some(session) = stage.cast.cell.master().sessions().get(client) else {
         return [client, epoch, 0, 0, 0, 0, 1];
     };
     let call = match &session.kept {

@@ -109,7 +109,7 @@ fn show_node(sheet: &mut Sheet, node: &Node) {
 // Each node with its lock.
 fn show_nodes(sheet: &mut Sheet, master: &Master) {
     sheet.begin("nodes", 0);
-    for (name, node) in master.nodes.map().as_map() {
+    for (name, node) in master.map().as_map() {
         sheet.block(name.as_str().as_bytes());
         show_node(sheet, node);
         sheet.word(master.locks.generation(node.instance));
@@ -232,8 +232,8 @@ fn show_waiting(sheet: &mut Sheet, waiting: &Waiting<Task>) {
 
 fn show_gate(sheet: &mut Sheet, master: &Master) {
     sheet.begin("gate", 0);
-    sheet.word(master.gate.pushed());
-    for (_, waiting) in master.gate.changes().as_map() {
+    sheet.word(master.gate().pushed());
+    for (_, waiting) in master.gate().changes().as_map() {
         show_waiting(sheet, waiting);
     }
 }
@@ -250,10 +250,10 @@ pub(crate) fn show_master(sheet: &mut Sheet, master: &Master, names: &[Name]) {
     sheet.block(master.name.as_str().as_bytes());
     sheet.bytes(master.secret.as_bytes());
     show_nodes(sheet, master);
-    show_handles(sheet, &master.handles);
-    show_rights(sheet, &master.rights, names);
+    show_handles(sheet, master.handles());
+    show_rights(sheet, master.rights(), names);
     show_gate(sheet, master);
-    for (client, session) in master.sessions.as_map() {
+    for (client, session) in master.sessions().as_map() {
         show_session(sheet, *client, session);
     }
 }

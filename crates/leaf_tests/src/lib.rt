@@ -13,6 +13,8 @@ mod locks;
 #[cfg(test)]
 mod messages;
 #[cfg(test)]
+mod queues;
+#[cfg(test)]
 mod rights;
 #[cfg(test)]
 mod sequencers;

@@ -33,6 +33,9 @@ enum Step {
     Generation(u64),
     Holder(u64, LockMode, u64),
     Closing(u64, u64),
+    // A moment is noted; that nothing was due at one.
+    Moment(u64),
+    Quiet(u64),
 }
 
 #[derive(Clone, Copy, PartialEq)]
@@ -181,6 +184,16 @@ fn tells(locks: &mut Locks, step: Step) -> Result<Answer, Fault> {
     Ok(Answer::Number(locks.generation(NODE)))
 }
 
+// What changes no lock.
+fn notes(locks: &mut Locks, step: Step) -> Answer {
+    match step {
+        Step::Moment(now) => locks.note_moment(now),
+        Step::Quiet(now) => locks.note_quiet(now),
+        _ => {}
+    }
+    Answer::Nothing
+}
+
 fn does(alloc: Global, locks: &mut Locks, step: Step) -> Result<Answer, Fault> {
     match step {
         Step::Try(client, mode, now) => tries(locks, claim(client, mode, 0), now),
@@ -191,6 +204,7 @@ fn does(alloc: Global, locks: &mut Locks, step: Step) -> Result<Answer, Fault> {
         Step::Reopen => reopens(locks),
         Step::NodeEnds => Ok(node_ends(locks)),
         Step::Generation(_) | Step::Holder(_, _, _) | Step::Closing(_, _) => tells(locks, step),
+        Step::Moment(_) | Step::Quiet(_) => Ok(notes(locks, step)),
         _ => reads(alloc, locks, step),
     }
 }
@@ -273,6 +287,34 @@ const TABLES: &[(&str, &[(Step, Answer)])] = &[
             (Step::Acquire(3, Shared, 0), Answer::Waits),
             (Step::Reopen, Answer::Turn(1, 0)),
             (Step::Try(2, Shared, 120_000), Answer::Number(2)),
+        ],
+    ),
+    // The clock goes back by a millisecond; a lock that closes while it is to be looked at; one whose node goes.
+    (
+        "lock_delay_noted",
+        &[
+            (Step::Acquire(1, Exclusive, 60_000), Answer::Number(1)),
+            (Step::Expire(1, 60_000), Answer::Number(1)),
+            (Step::Moment(119_999), Answer::Nothing),
+            (Step::Due(119_999), Answer::Nothing),
+            (Step::Quiet(119_999), Answer::Nothing),
+            (Step::Moment(120_000), Answer::Nothing),
+            (Step::Due(120_000), Answer::Number(NODE)),
+            (Step::Due(119_999), Answer::Nothing),
+            (Step::Quiet(119_999), Answer::Nothing),
+            (Step::Due(120_000), Answer::Number(NODE)),
+            (Step::Moment(120_000), Answer::Nothing),
+            (Step::Due(120_000), Answer::Number(NODE)),
+            (Step::Closing(120_000, 10), Answer::Number(1)),
+            (Step::Due(120_000), Answer::Nothing),
+            (Step::Moment(120_010), Answer::Nothing),
+            (Step::Due(120_010), Answer::Number(NODE)),
+            (Step::Reopen, Answer::Turn(0, 0)),
+            (Step::Due(120_010), Answer::Nothing),
+            (Step::Closing(120_010, 10), Answer::Number(1)),
+            (Step::NodeEnds, Answer::Number(0)),
+            (Step::Moment(120_020), Answer::Nothing),
+            (Step::Due(120_020), Answer::Nothing),
         ],
     ),
     // With no delay the next waiter gets the lock at once. A session that leaves others there gives no delay.

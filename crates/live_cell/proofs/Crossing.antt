@@ -20,9 +20,17 @@ use Rattle.rights_core.proofs.totals.Totals.TheSendSync as totals
 use Rattle.lock_core.proofs.tables.Locks.TheSendSync as locks
 use Rattle.session_core.proofs.sessions.Sessions.TheSendSync as sessions
 use Rattle.gate_core.proofs.gate.Gate.TheSendSync as gate
+use Rattle.gate_core.proofs.leads.Leads.TheSendSync as leads
+use Rattle.gate_core.specs.contracts.queue.Queue as Queue
+use Rattle.gate_core.specs.contracts.queue.Queue.TheInside as queue_in
+use Rattle.plain.proofs.tables.Table.TheSendSync as table
 use Rattle.cell_parts.proofs.nodes.Nodes.TheSendSync as nodes
 use Rattle.cell_parts.proofs.open_handles.Handles.TheSendSync as handles
+use Rattle.cell_parts.specs.contracts.pending.Task as Task
 use Rattle.cell_parts.proofs.pending.Task.TheSendSync as task
+use Rattle.cell_tables.specs.contracts.tables.Tables as Tables
+use Rattle.cell_tables.specs.contracts.tables.Tables.TheInside as tables_in
+use Rattle.cell_tables.proofs.candidates.Candidates.TheSendSync as candidates
 use Rattle.cell_state.specs.contracts.masters.Master as Master
 use Rattle.cell_state.specs.contracts.masters.Master.TheInside as master_in
 use Rattle.cell_core.specs.contracts.cells.Cell as Cell
@@ -52,11 +60,29 @@ rights_inside =
 rights_send : IsSend Rights.the_row
 rights_send = view_send rights_in.the_row _ _ _ _ rights_inside
 
+queue_inside : IsSend (queue_in.the_row Task.the_row)
+queue_inside =
+    recorded_send (queue_in.the_field Task.the_row).row _ _ (queue_in.the_type Task.the_row).to_one
+    (struct_send (shape (queue_in.the_type Task.the_row))
+    (search (rights_send, gate.the_send, task.the_send, leads.the_send, table.the_send, both, sendable) depth 40))
+
+queue_send : IsSend (Queue.the_row Task.the_row)
+queue_send = view_send (queue_in.the_row Task.the_row) _ _ _ _ queue_inside
+
+tables_inside : IsSend tables_in.the_row
+tables_inside =
+    recorded_send (tables_in.the_field).row _ _ (tables_in.the_type).to_one
+    (struct_send (shape tables_in.the_type)
+    (search (nodes.the_send, handles.the_send, sessions.the_send, reply.the_send, queue_send, candidates.the_send, both, sendable) depth 40))
+
+tables_send : IsSend Tables.the_row
+tables_send = view_send tables_in.the_row _ _ _ _ tables_inside
+
 master_inside : IsSend master_in.the_row
 master_inside =
     recorded_send (master_in.the_field).row _ _ (master_in.the_type).to_one
     (struct_send (shape master_in.the_type)
-    (search (heap.the_field_send, component.the_send, secret.the_send, nodes.the_send, locks.the_send, sessions.the_send, reply.the_send, handles.the_send, rights_send, gate.the_send, task.the_send, both, sendable) depth 40))
+    (search (heap.the_field_send, component.the_send, secret.the_send, tables_send, locks.the_send, both, sendable) depth 40))
 
 master_send : IsSend Master.the_row
 master_send = view_send master_in.the_row _ _ _ _ master_inside

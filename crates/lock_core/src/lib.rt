@@ -4,6 +4,7 @@
 mod claims;
 mod laws;
 mod leavers;
+mod moments;
 mod states;
 mod stored;
 mod tables;

@@ -9,9 +9,10 @@ ghost use Rattle.plain.specs.Results.{Gives};
 ghost use Rattle.plain.specs.Tables.{with_former};
 ghost use Rattle.lock_core.specs.State.{lock_of};
 ghost use Rattle.lock_core.specs.Turns.{tried, acquired, released, closed_by, reopened};
-ghost use Rattle.lock_core.specs.Locks.{AreLegal, AreShutUntil, lock_at, lapses, after_lapses, due, sequencer_of, checked, with_lock, with_holder, with_closing};
+ghost use Rattle.lock_core.specs.Locks.{AreLegal, lock_at, lapses, after_lapses, sequencer_of, checked, with_lock, with_holder, with_closing};
 
 use crate::claims::{Claim, Owner};
+use crate::moments::opening;
 use crate::states::Lock;
 use crate::turns::{Acquired, Lapse, Turn};
 use names_cell::Name;
@@ -20,6 +21,7 @@ use plain::{Items, Table};
 use std::alloc::{AllocError, Global};
 use std::marker::Model;
 use tags_cell::{Ordinal, Sequencer};
+use timer_core::Timers;
 
 /// The locks of a cell's nodes, by instance, in order. A lock that was never held may be absent.
 ///
@@ -27,20 +29,20 @@ use tags_cell::{Ordinal, Sequencer};
 /// that the master can commit first. `set`, or for an expiry `carry_out`, then carries it out.
 #[derive(Drop)]
 pub struct Locks {
-    alloc: Global,
-    locks: Table<u64, Lock>,
-    // Before this moment no lock is due.
-    quiet: u64,
+    pub(crate) alloc: Global,
+    pub(crate) locks: Table<u64, Lock>,
+    // From when on each is due.
+    pub(crate) openings: Timers,
 }
 
 impl Model for Locks {
-    ghost use Rattle.lock_core.specs.Locks.{LockTable, AreLegal, AreShutUntil};
+    ghost use Rattle.lock_core.specs.Locks.{LockTable, AreLegal, AreNoted};
 
     ghost Value = { LockTable };
 
     ghost view = { λ l. l.locks };
 
-    ghost invariant = { λ l. AreLegal l.locks × AreShutUntil l.quiet l.locks };
+    ghost invariant = { λ l. AreLegal l.locks × AreNoted l.openings l.locks };
 }
 
 impl Locks {
@@ -51,7 +53,7 @@ impl Locks {
         Locks {
             alloc,
             locks: Table::new(alloc),
-            quiet: u64::MAX,
+            openings: Timers::new(alloc),
         }
     }
 
@@ -142,33 +144,6 @@ impl Locks {
         Ok(ended)
     }
 
-    /// The lowest instance whose lock was closed long enough. It looks at no lock where it is known that none was; else it
-    /// walks over the locks up to that one.
-    pub fn due(&self, now: u64) -> Option<u64>
-        ensures { result ≡ due self.now now }
-    {
-        if now < self.quiet {
-            return None;
-        }
-        for (instance, lock) in self.locks.as_map() {
-            if lock.is_due(now) {
-                return Some(*instance);
-            }
-        }
-        None
-    }
-
-    /// Notes until when no lock is due, so that until then `due` looks at none. To be called where none was due;
-    /// elsewhere it does no harm. Takes no memory.
-    pub fn note_quiet(&mut self, now: u64)
-        ensures { self.new ≡ self.old }
-    {
-        if now < self.quiet {
-            return;
-        }
-        self.quiet = first_opening(&self.locks);
-    }
-
     /// GetSequencer: of the lock of this instance, whose node has this name. Refused where the handle holds no lock.
     pub fn sequencer(
         &self,
@@ -208,8 +183,10 @@ impl Locks {
     {
         // That the lock is legal is told by this call.
         let _generation = lock.generation();
-        self.quiet = self.quiet.min(lock.opens_at());
-        self.locks.put(instance, lock)
+        let after = lock.opens_at();
+        let former = self.locks.put(instance, lock)?;
+        self.openings.change(instance, opening(&former), after);
+        Ok(former)
     }
 
     /// Gives an instance the lock that it had before a `set`, or none where it had none. Takes no memory.
@@ -228,8 +205,14 @@ impl Locks {
     {
         // That the lock is legal is told by this call.
         let _generation = lock.generation();
-        self.quiet = self.quiet.min(lock.opens_at());
-        self.locks.restore(&instance, Some(lock));
+        let after = lock.opens_at();
+        match self.locks.replace(&instance, lock) {
+            Ok(former) => {
+                self.openings.change(instance, former.opens_at(), after);
+                drop(former);
+            }
+            Err(back) => drop(back),
+        }
     }
 
     /// Puts what becomes of the locks of a session that expired. Takes no memory.
@@ -258,7 +241,11 @@ impl Locks {
         ensures after { self.new ≡ remove_entry (is_at (nat_cmp instance)) self.old }
         ensures former { result ≡ lookup (is_at (nat_cmp instance)) self.old }
     {
-        self.locks.remove(&instance)
+        // The order of the instances is told by this call.
+        let _ordered = self.locks.as_map().len();
+        let former = self.locks.remove(&instance);
+        self.openings.change(instance, opening(&former), u64::MAX);
+        former
     }
 
     /// What the row of a node tells a master that comes up: the generation that its lock had last.
@@ -299,15 +286,4 @@ impl Locks {
         drop(self.set(instance, lock)?);
         Ok(())
     }
-}
-
-// Before this moment none of these locks is due.
-fn first_opening(locks: &Table<u64, Lock>) -> u64
-    ensures { AreShutUntil result locks.now }
-{
-    let mut least = u64::MAX;
-    for lock in locks.as_map().values() {
-        least = least.min(lock.opens_at());
-    }
-    least
 }

@@ -1,5 +1,5 @@
 -- What is known of all sessions at once, as each step leaves them.
-use Rattle.std.proofs.Common.{◌≡◌, ◌≢◌, ℕ, nat_eq, ◌<◌, ◌≤◌, ◌+◌, ◌-◌, ◌/◌, ◌^◌, List, [], ◌∷◌, Bool, true, false, cond, Option, Some, None, refl, sym, ap, ◌∙◌, arith, subst}
+use Rattle.std.proofs.Common.{◌≡◌, ◌≢◌, ℕ, nat_eq, ◌<◌, ◌≤◌, ◌+◌, ◌-◌, ◌/◌, List, [], ◌∷◌, Bool, true, false, cond, Option, Some, None, refl, sym, ap, ◌∙◌, arith, subst}
 use Rattle.std.specs.Prelude.{not, ◌&&◌, ◌||◌, nat_le, max, All, is_some}
 use Rattle.std.specs.Option.{option_map, option_map_or}
 use Rattle.std.specs.List.{list_all, list_any}
@@ -7,8 +7,8 @@ use Rattle.std.specs.Ordering.{nat_cmp}
 use Rattle.std.specs.Map.{values_of, lookup, set_value, remove_entry}
 use Rattle.std.specs.BTreeMap.{is_at, insert_entry}
 use Rattle.std.proofs.lemmas.Bool.Decides.{nat_tests}
-use Rattle.std.proofs.lemmas.List.Elements.{All-nil, All-cons, All-head, All-tail, All-weaker}
-use Rattle.std.proofs.lemmas.Map.Views.{All-values-insert_entry, All-values-set_value, All-map-remove_entry, IfSome-lookup_from_All}
+use Rattle.std.proofs.lemmas.List.Elements.{All-nil, All-head, All-tail, All-weaker}
+use Rattle.std.proofs.lemmas.Map.Views.{All-values-insert_entry, All-values-set_value, All-map-remove_entry}
 use Rattle.lease_core.specs.Lease.{least_lease, longest_lease}
 use Rattle.session_core.specs.declared.records.Session.{Session}
 use Rattle.node_core.specs.Limits.{number_limit}

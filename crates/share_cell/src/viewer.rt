@@ -9,6 +9,7 @@ use crate::rule::{Known, Published, Sees};
 use crate::side::Side;
 use cache_core::Shared;
 use core::mem::replace_with;
+use crossbeam_utils::CachePadded;
 use lease_core::Clock;
 use left_right::reader::Reader;
 use names_cell::Name;
@@ -16,23 +17,41 @@ use node_core::View;
 use std::alloc::AllocError;
 use std::marker::Model;
 
-/// Who asks what was published. Its front is the number of published views that it knows of.
+// A reader, and the number of published views that it knows of.
 #[derive(Drop)]
-pub struct Viewer {
+struct Place {
     reader: Reader<Side, Known, Published>,
     front: u64,
 }
 
-impl Model for Viewer {
+impl Model for Place {
     ghost use Rattle.std.specs.Prelude.{◌≡◌, List, length};
     ghost use Rattle.left_right.specs.Sides.{view as view_of};
     ghost use Rattle.cache_core.specs.Caches.{CacheState};
 
     ghost Value = { List CacheState };
 
-    ghost view = { λ v. view_of v.reader.place };
+    ghost view = { λ p. view_of p.reader.place };
 
-    ghost invariant = { λ v. v.front ≡ length (view_of v.reader.place) };
+    ghost invariant = { λ p. p.front ≡ length (view_of p.reader.place) };
+}
+
+/// Who asks what was published. Its front is the number of published views that it knows of.
+///
+/// A hit writes it, so no other viewer stands on its cache lines, wherever both are kept.
+#[derive(Drop)]
+pub struct Viewer {
+    place: CachePadded<Place>,
+}
+
+impl Model for Viewer {
+    ghost use Rattle.std.specs.Prelude.{List};
+    ghost use Rattle.crossbeam_utils.specs.Padded.{padded_value};
+    ghost use Rattle.cache_core.specs.Caches.{CacheState};
+
+    ghost Value = { List CacheState };
+
+    ghost view = { λ v. padded_value v.place };
 }
 
 /// What the keeper told a viewer: so many views were published.
@@ -75,14 +94,16 @@ impl Viewer {
         requires { front ≡ length (view reader.place) }
         ensures { result ≡ view reader.place }
     {
-        Viewer { reader, front }
+        Viewer {
+            place: CachePadded::new(Place { reader, front }),
+        }
     }
 
     /// How many published views it knows of.
     pub fn front(&self) -> u64
         ensures { result ≡ length (self.now) }
     {
-        self.front
+        self.place.front()
     }
 
     /// What the last published view answers. The view is no older than any that this viewer knew of.
@@ -92,20 +113,40 @@ impl Viewer {
             (λ _. StartsWith (self.new) (self.old)) }
     {
         replace_with(
-            self,
+            &mut *self.place,
             (name, clock),
-            |viewer, asked| viewer.ask(asked.0, asked.1),
+            |place, asked| place.ask(asked.0, asked.1),
         )
     }
 
-    fn ask<C: Clock>(self, name: &Name, clock: &C) -> (Viewer, Result<Hit, AllocError>)
+    /// From now on the viewer knows of so many views at least.
+    pub fn learn(&mut self, told: Told)
+        ensures front { length (self.new) ≡ max (length (self.old)) (length told) }
+        ensures known { self.new ≡ (if nat_lt (length (self.old)) (length told) then told else self.old) }
+    {
+        replace_with(
+            &mut *self.place,
+            told,
+            |place, told| (place.taught(told), ()),
+        )
+    }
+}
+
+impl Place {
+    fn front(&self) -> u64
+        ensures { result ≡ length (self.now) }
+    {
+        self.front
+    }
+
+    fn ask<C: Clock>(self, name: &Name, clock: &C) -> (Place, Result<Hit, AllocError>)
         ensures { MatchResult result.1
             (Hits (C.is_reading clock.now) name.now (self) (result.0))
             (λ _. StartsWith (result.0) (self)) }
     {
-        let Viewer { reader, front } = self;
+        let Place { reader, front } = self;
         match reader.enter_as::<Sees>() {
-            Err(reader) => (Viewer { reader, front }, Ok(Hit::Gone)),
+            Err(reader) => (Place { reader, front }, Ok(Hit::Gone)),
             Ok(reading) => {
                 let side = reading.get();
                 let front = side.place;
@@ -116,26 +157,18 @@ impl Viewer {
                     Some(Some(found)) => shared(found),
                 };
                 let reader = reading.leave();
-                (Viewer { reader, front }, hit)
+                (Place { reader, front }, hit)
             }
         }
     }
 
-    /// From now on the viewer knows of so many views at least.
-    pub fn learn(&mut self, told: Told)
-        ensures front { length (self.new) ≡ max (length (self.old)) (length told) }
-        ensures known { self.new ≡ (if nat_lt (length (self.old)) (length told) then told else self.old) }
-    {
-        replace_with(self, told, |viewer, told| (viewer.taught(told), ()))
-    }
-
-    fn taught(self, told: Told) -> Viewer
+    fn taught(self, told: Told) -> Place
         ensures front { length (result) ≡ max (length (self)) (length told) }
         ensures known { result ≡ (if nat_lt (length (self)) (length told) then told else self) }
     {
         if self.front < told.count {
             let Told { reader, count } = told;
-            Viewer {
+            Place {
                 reader,
                 front: count,
             }

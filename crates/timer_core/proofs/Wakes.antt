@@ -1,11 +1,13 @@
 -- What each step of the two sets does to when a key is looked at.
-use Rattle.std.proofs.Common.{◌≡◌, ◌≢◌, ℕ, ◌<◌, ◌≤◌, List, [], Bool, true, false, cond, refl, sym, ap, ◌∙◌, arith, subst, nat_eq}
-use Rattle.std.specs.Prelude.{◌||◌, ◌&&◌, ◌^◌, nat_le}
-use Rattle.std.specs.Ordering.{nat_cmp, ordering_then, is_eq, is_gt}
+use Rattle.std.proofs.Common.{◌≡◌, ◌≢◌, ℕ, ◌<◌, ◌≤◌, List, [], ◌∷◌, Bool, true, false, cond, Some, refl, sym, ap, ◌∙◌, arith, nat_eq}
+use Rattle.std.specs.Prelude.{◌||◌, ◌&&◌, ◌^◌, ◌+◌, nat_le, All, length, slice_get, if◌then◌else◌}
+use Rattle.std.specs.Ordering.{nat_cmp, is_eq, is_gt}
 use Rattle.std.specs.Cmp.{unsigned_tied, tied_then}
 use Rattle.std.specs.BTreeMap.{is_at}
+use Rattle.std.specs.BTreeMap.Range.{IsLeBy}
 use Rattle.std.proofs.lemmas.Bool.Decides.{nat_tests}
-use Rattle.timer_core.specs.Timers.{TimerState, by_moment, never, has_key, has_moment, wakes}
+use Rattle.std.proofs.lemmas.List.Elements.{All-head, All-tail}
+use Rattle.timer_core.specs.Timers.{TimerState, by_moment, never, has_key, has_moment, wakes, has_come}
 
 -- ---- keys and moments
 
@@ -108,6 +110,12 @@ kept_woken lost soon soon' later later' now found same h g k m old =
     woken lost (nat_le never m) (has_key soon k) (has_moment later k m) (has_moment later' k m) (has_key soon' k) (is_at (by_moment found) (m, k)) (is_at (nat_cmp found.1) k)
     (moment_same k m found.1 found.0) (h k) (g (m, k)) (of_view (record { soon = soon; later = later; lost = lost }) now k m same old)
 
+pub fewer : (later later' : List (ℕ × ℕ)) (timers : TimerState) (view : TimerState) (moment key : ℕ) (was : Bool) → view ≡ timers → view.later ≡ later → has_moment timers.later key moment ≡ true → was ≡ has_moment later key moment → length later' + (if was then 1 else 0) ≡ length later → length later' + 1 ≡ length timers.later
+fewer later later' timers view moment key was same is there found len =
+    let all : later ≡ timers.later = sym is ∙ ap (λ (t : TimerState). t.later) same in
+    let yes : was ≡ true = found ∙ (ap (λ l. has_moment l key moment) all ∙ there) in
+    sym (ap (λ (b : Bool). length later' + (if b then 1 else 0)) yes) ∙ (len ∙ ap length all)
+
 -- ---- which keys there are to look at
 
 nothing : (none late a b : Bool) → late ≡ false → b ≡ false → (false || (late || (a || b))) ≡ true → a ≡ true
@@ -132,3 +140,21 @@ among lost soon later timers now same known fits early h k m old le =
 
 pub not_above : (first_moment first_key m k now : ℕ) → now < first_moment → is_gt (by_moment (first_moment, first_key) (m, k)) ≡ false → now < m
 not_above first_moment first_key m k now lt h = grind (arith, nat_tests)
+
+-- ---- whether all keys to look at are known
+
+pub first_come : (later : List (ℕ × ℕ)) (first : ℕ × ℕ) (now : ℕ) → slice_get later 0 ≡ Some first → first.0 ≤ now → has_come later now ≡ true
+first_come [] first now is le = absurd (cc)
+first_come (e ∷ es) first now is le =
+    let same : e ≡ first = cc in
+    left (nat_le e.0 now) (has_come es now) (ap (λ (x : ℕ × ℕ). nat_le x.0 now) same ∙ grind (arith, nat_tests))
+
+later_than : (first e : ℕ × ℕ) (now : ℕ) → now < first.0 → is_gt (by_moment first e) ≡ false → nat_le e.0 now ≡ false
+later_than first e now lt h =
+    let over : now < e.0 = not_above first.0 first.1 e.0 e.1 now lt h in
+    grind (arith, nat_tests)
+
+pub none_come : (later : List (ℕ × ℕ)) (first : ℕ × ℕ) (now : ℕ) → now < first.0 → All (IsLeBy by_moment first) later → has_come later now ≡ false
+none_come [] first now lt h = refl
+none_come (e ∷ es) first now lt h =
+    rw (later_than first e now lt (All-head (IsLeBy by_moment first) e es h)) (none_come es first now lt (All-tail (IsLeBy by_moment first) e es h))

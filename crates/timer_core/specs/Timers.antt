@@ -1,5 +1,5 @@
 -- Which keys may be due. Moments are whole milliseconds.
-use Rattle.std.specs.Prelude.{ℕ, Bool, ◌||◌, ◌^◌, ◌-◌, nat_le, List}
+use Rattle.std.specs.Prelude.{ℕ, Bool, not, ◌||◌, ◌^◌, ◌-◌, nat_le, List}
 use Rattle.std.specs.declared.cmp.Ordering.{Ordering}
 use Rattle.std.specs.Ordering.{nat_cmp, ordering_then}
 use Rattle.std.specs.List.{list_any}
@@ -28,3 +28,11 @@ has_moment later key moment = list_any (is_at (by_moment (moment, key))) later
 -- the key is looked at from this moment on at the latest
 abbrev pub wakes : TimerState → ℕ → ℕ → Bool
 wakes timers key moment = timers.lost || (nat_le never moment || (has_key timers.soon key || has_moment timers.later key moment))
+
+-- some key that isn't to be looked at yet may be due by now
+abbrev pub has_come : List (ℕ × ℕ) → ℕ → Bool
+has_come later now = list_any (λ entry. nat_le entry.0 now) later
+
+-- all keys that may be due by now are known
+abbrev pub are_known : TimerState → ℕ → Bool
+are_known timers now = not (timers.lost || (nat_le never now || has_come timers.later now))

@@ -1,6 +1,6 @@
 //! Keys, each with the moment from which it may be due.
-ghost use Rattle.std.specs.Prelude.{◌≡◌, ◌<◌, ◌≤◌, ℕ, [], true, false, nat_eq, IfSome, IfNone};
-ghost use Rattle.timer_core.specs.Timers.{wakes, has_key, has_moment};
+ghost use Rattle.std.specs.Prelude.{◌≡◌, ◌+◌, ◌<◌, ◌≤◌, ℕ, [], length, true, false, nat_eq, is_some, IfSome, IfNone};
+ghost use Rattle.timer_core.specs.Timers.{wakes, has_key, has_moment, has_come, are_known};
 
 use std::alloc::Global;
 use std::collections::BTreeSet;
@@ -10,7 +10,7 @@ use std::marker::Model;
 /// each change of a key's moment, and asks which keys it has to look at. Each call costs the logarithm of how many there are.
 ///
 /// What a call can't note for want of memory makes `soon` answer None from then on, and nothing else: the owner looks at
-/// all keys then.
+/// all keys then, and may begin anew with new `Timers`, to which it tells each key.
 #[derive(Drop)]
 pub struct Timers {
     // Keys that may be due.
@@ -63,7 +63,7 @@ impl Timers {
         if before == after {
             return;
         }
-        self.later.remove(&(before, key));
+        self.forget(key, before);
         self.set(key, after);
     }
 
@@ -76,9 +76,11 @@ impl Timers {
     }
 
     /// The keys to look at now: each that may be due is among them, in order. None where that isn't known: before `turn` was
-    /// called with this moment, or where memory was wanting.
+    /// called with this moment, where memory was wanting, and at a moment that stands for never.
     pub fn soon(&self, now: u64) -> Option<&BTreeSet<u64>>
-        ensures { IfSome result (λ keys. (k m : ℕ) → wakes self.now k m ≡ true → m ≤ now → has_key keys.now.keys k ≡ true) }
+        ensures due { IfSome result (λ keys. (k m : ℕ) → wakes self.now k m ≡ true → m ≤ now → has_key keys.now.keys k ≡ true) }
+        ensures keys { IfSome result (λ keys. keys.now.keys ≡ self.now.soon) }
+        ensures known { is_some result ≡ are_known self.now now }
     {
         if self.lost || now == u64::MAX {
             return None;
@@ -91,7 +93,9 @@ impl Timers {
 
     // The key that may be due first, by this moment.
     fn first_until(&self, now: u64) -> Option<(u64, u64)>
-        ensures { IfNone result ((k m : ℕ) → has_moment self.now.later k m ≡ true → now < m) }
+        ensures later { IfNone result ((k m : ℕ) → has_moment self.now.later k m ≡ true → now < m) }
+        ensures come { is_some result ≡ has_come self.now.later now }
+        ensures member { IfSome result (λ found. has_moment self.now.later found.1 found.0 ≡ true) }
     {
         match self.later.first() {
             None => None,
@@ -101,7 +105,8 @@ impl Timers {
 
     /// Finds the keys that may be due by this moment. Each is found once.
     pub fn turn(&mut self, now: u64)
-        ensures { (k m : ℕ) → wakes self.old k m ≡ true → wakes self.new k m ≡ true }
+        ensures kept { (k m : ℕ) → wakes self.old k m ≡ true → wakes self.new k m ≡ true }
+        ensures found { has_come self.new.later now ≡ false }
     {
         for _ in 0..self.later.len() {
             let Some(found) = self.first_until(now) else {
@@ -112,7 +117,9 @@ impl Timers {
     }
 
     fn wake(&mut self, found: (u64, u64))
-        ensures { (k m : ℕ) → wakes self.old k m ≡ true → wakes self.new k m ≡ true }
+        requires { has_moment self.old.later found.1 found.0 ≡ true }
+        ensures kept { (k m : ℕ) → wakes self.old k m ≡ true → wakes self.new k m ≡ true }
+        ensures fewer { length self.new.later + 1 ≡ length self.old.later }
     {
         self.later.remove(&found);
         match self.soon.insert(found.1) {

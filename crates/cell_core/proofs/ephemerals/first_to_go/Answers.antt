@@ -1,19 +1,8 @@
-use Rattle.std.proofs.Common.{rules, ap, subst, ◌∙◌}
-use Rattle.std.specs.List.Sorted.{IsStrictlySortedBy}
-use Rattle.std.specs.Map.{keys_of}
-use Rattle.std.specs.Cmp.Lexicographic.{slice_cmp}
-use Rattle.std.specs.Ordering.{nat_cmp}
-use Rattle.node_core.specs.Nodes.{Nodes, HasNamesInOrder}
-use Rattle.cell_parts.specs.EphemeralNames.{NameTable, AreNamed}
+use Rattle.std.proofs.Common.{ap, ◌∙◌}
+use Rattle.cell_tables.specs.Ephemerals.{first_to_go}
+use Rattle.cell_state.specs.State.{tables_of}
 use Rattle.cell_state.proofs.MissingRights.{by_value}
-use Rattle.cell_core.proofs.FirstIdle.{first_named}
 use Rattle.cell_core.proofs.ephemerals.first_to_go.Goals as goal
 
-pub returns-in-Some : goal.returns-in-Some
-returns-in-Some c =
-    let P : NameTable → Type 0 = λ l. IsStrictlySortedBy (slice_cmp nat_cmp) (keys_of l) in
-    let Q : Nodes → Type 0 = λ l. AreNamed l c.in-Some.names.now in
-    let ordered : HasNamesInOrder c.args.master.now.nodes = search rules in
-    let in_order : P c.in-Some.names.now = search rules in
-    let named : AreNamed c.args.master.now.nodes c.in-Some.names.now = subst Q (ap (λ s. s.nodes) c.master.view_is) (c.ephemerals.ensures c.in-Some.names.now (search rules)) in
-    by_value _ _ c.first_among.result _ _ c.first_among.ensures (λ idle is. is ∙ first_named c.args.master.now c.in-Some.names.now ordered.in_order in_order named)
+pub returns : goal.returns
+returns c = by_value _ _ c.first_to_go.result _ _ c.first_to_go.ensures (λ idle is. is ∙ ap (λ s. first_to_go (tables_of s)) c.master.view_is)

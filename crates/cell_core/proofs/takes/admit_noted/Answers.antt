@@ -5,7 +5,7 @@ use Rattle.cell_core.proofs.takes.admit_noted.Goals as goal
 
 pub returns-in-Ok-clause-ok : goal.returns-in-Ok-clause-ok
 returns-in-Ok-clause-ok g c =
-    sym (ap (λ s. admit_step s c.args.message.now c.args.touched c.args.told c.args.answer) (noted _ c.args.master.now c.put.new.self (Some c.args.note) c.args.note c.master.view_is refl c.in_ok-former.ensures.ok))
+    sym (ap (λ s. admit_step s c.args.message.now c.args.touched c.args.told c.args.answer) (noted _ c.args.master.now c.put_handle.new.self (Some c.args.note) c.args.note c.master.view_is refl c.in_ok-former.ensures.ok))
     ∙ c.in-Ok.ensures.ok
     ∙ ap (λ s. (s, g.A.Answers.answer c.in-Ok.taken)) (sym c.settle_note.ensures)
 

@@ -1,4 +1,4 @@
-use Rattle.std.proofs.Common.{List, ap, subst}
+use Rattle.std.proofs.Common.{List, subst}
 use Rattle.std.specs.List.Sorted.{IsStrictlySortedBy}
 use Rattle.std.specs.Map.{keys_of}
 use Rattle.cell_parts.specs.declared.handles.HandleKey.{HandleKey}
@@ -12,4 +12,4 @@ returns c =
     let P : List (HandleKey × Unit {0}) → Type 0 = λ l. IsStrictlySortedBy handle_order (keys_of l) in
     let Q : List (HandleKey × HandleState) → Type 0 = λ l. IsStrictlySortedBy handle_order (keys_of l) in
     let sorted : P c.args.keys.now = subst P c.as_map-key-items.ensures c.into_iter-key-iterator.ensures.into_iter_gives.5 in
-    told_all c.args.self.now c.args.note.now c.args.notices.now c.args.keys.now c.loop-key.key-iterator c.loop-key.tellings (subst Q (ap (λ s. s.handles) c.self.view_is) c.len-count.ensures.ordered) sorted c.requires c.in-None.ensures.steps.0 c.loop-key.invariant
+    told_all c.args.self.now c.args.note.now c.args.notices.now c.args.keys.now c.loop-key.key-iterator c.loop-key.tellings (subst Q c.handles.ensures c.len-count.ensures.ordered) sorted c.requires c.in-None.ensures.steps.0 c.loop-key.invariant

@@ -1,4 +1,4 @@
-use Rattle.std.proofs.Common.{◌≡◌, [], take}
+use Rattle.std.proofs.Common.{[], take}
 use Rattle.std.specs.Prelude.{fold}
 use Rattle.std.specs.VecDeque.Iter.{deque_iter_rest}
 use Rattle.rights_core.specs.Holds.{with_number}

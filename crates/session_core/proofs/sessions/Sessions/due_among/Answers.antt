@@ -1,6 +1,6 @@
 use Rattle.std.proofs.Common.{Some, None}
 use Rattle.session_core.specs.Session.{is_client_due}
-use Rattle.session_core.proofs.Among.{found_first, first_passed, none_left_of, lowest_from, chosen_first, passed_by}
+use Rattle.session_core.proofs.Among.{none_left_of, lowest_from, chosen_first, passed_by}
 use Rattle.session_core.proofs.sessions.Sessions.due_among.Goals as goal
 
 pub returns-in-Some-due_at-clause-value : goal.returns-in-Some-due_at-clause-value

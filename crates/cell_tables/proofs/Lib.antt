@@ -1,0 +1,5 @@
+mod Noted
+mod Kept
+mod Looked
+mod Moved
+mod FirstIdle

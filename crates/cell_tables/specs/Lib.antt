@@ -1,0 +1,4 @@
+pub use Rattle.plain.specs.Tables
+pub mod State
+pub mod Ephemerals
+pub mod Candidates

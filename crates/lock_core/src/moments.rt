@@ -1,0 +1,107 @@
+//! Which lock reopens next.
+ghost use Rattle.std.specs.Prelude.{◌≡◌, unwrap_or};
+ghost use Rattle.lock_core.specs.State.{lock_of};
+ghost use Rattle.lock_core.specs.Locks.{AreNoted, lock_at, is_due, due, first_due, opens_at};
+
+use crate::states::Lock;
+use crate::tables::Locks;
+use plain::Table;
+use std::collections::BTreeSet;
+use timer_core::Timers;
+
+impl Locks {
+    /// Finds the locks that are due by `now`, so that from then on `due` looks at these alone. To be called with each moment;
+    /// elsewhere it does no harm. Takes no memory that it can't do without: where there is none `due` looks at all locks.
+    pub fn note_moment(&mut self, now: u64)
+        ensures { self.new ≡ self.old }
+    {
+        self.openings.turn(now);
+    }
+
+    /// Where `due` looked at locks though none was due, notes anew from when on each is, which walks over all: memory was
+    /// wanting before, or the clock went back. To be called where none was due; elsewhere it does no harm. Takes no memory
+    /// that it can't do without.
+    pub fn note_quiet(&mut self, now: u64)
+        ensures { self.new ≡ self.old }
+    {
+        if self.looks_at_none(now) {
+            return;
+        }
+        self.openings = Timers::new(self.alloc);
+        note_all(&mut self.openings, &self.locks);
+    }
+
+    fn looks_at_none(&self, now: u64) -> bool {
+        match self.openings.soon(now) {
+            Some(instances) => instances.is_empty(),
+            None => false,
+        }
+    }
+
+    /// The lowest instance whose lock was closed long enough. Behind `note_moment` with this moment it looks at the locks alone
+    /// that were due by then or by a later moment, up to that one; else, and where memory was wanting, at all up to that one.
+    pub fn due(&self, now: u64) -> Option<u64>
+        ensures { result ≡ due self.now now }
+    {
+        match self.openings.soon(now) {
+            Some(instances) => {
+                // The order of the instances is told by these calls.
+                let _ordered = self.locks.as_map().len();
+                let _sorted = instances.len();
+                self.due_among(instances, now)
+            }
+            None => self.due_of_all(now),
+        }
+    }
+
+    // The first of these whose lock is due.
+    fn due_among(&self, instances: &BTreeSet<u64>, now: u64) -> Option<u64>
+        ensures { result ≡ first_due self.now now instances.now.keys }
+    {
+        for instance in instances.iter() {
+            if self.is_due(*instance, now) {
+                return Some(*instance);
+            }
+        }
+        None
+    }
+
+    fn is_due(&self, instance: u64, now: u64) -> bool
+        ensures { result ≡ is_due now (lock_at self.now instance) }
+    {
+        match self.locks.get(&instance) {
+            Some(lock) => lock.is_due(now),
+            None => false,
+        }
+    }
+
+    fn due_of_all(&self, now: u64) -> Option<u64>
+        ensures { result ≡ due self.now now }
+    {
+        for (instance, lock) in self.locks.as_map() {
+            if lock.is_due(now) {
+                return Some(*instance);
+            }
+        }
+        None
+    }
+}
+
+// From this moment on a lock is due; one that isn't there never is.
+pub(crate) fn opening(lock: &Option<Lock>) -> u64
+    ensures { result ≡ opens_at (unwrap_or lock.now (lock_of 0)).closed }
+{
+    match lock {
+        Some(lock) => lock.opens_at(),
+        None => u64::MAX,
+    }
+}
+
+// Notes from when on each lock is due.
+fn note_all(openings: &mut Timers, locks: &Table<u64, Lock>)
+    ensures { AreNoted openings.new locks.now }
+{
+    for (instance, lock) in locks.as_map() {
+        openings.set(*instance, lock.opens_at());
+    }
+}
