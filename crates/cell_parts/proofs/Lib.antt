@@ -1,5 +1,6 @@
 pub mod Found
 pub mod PlacedHandles
 mod OpenOn
+mod OwnedHandles
 mod NamedNodes
 pub mod Appended

@@ -24,7 +24,7 @@ use Rattle.cell_parts.specs.OpenHandles.{place_order, place_of, state_at, with_p
 
 -- ---- the orders tell keys and places apart
 
-both_equal : (a b : Ordering) → ordering_then a b ≡ Equal → (a ≡ Equal) × (b ≡ Equal)
+pub both_equal : (a b : Ordering) → ordering_then a b ≡ Equal → (a ≡ Equal) × (b ≡ Equal)
 both_equal Less b e = absurd cc
 both_equal Equal b e = (refl, e)
 both_equal Greater b e = absurd cc
@@ -62,7 +62,7 @@ same_place p = rw (same_number p.instance, same_number p.client, same_number p.n
 
 -- ---- a state is noted
 
-abbrev At : HandleKey → HandleKey → Bool
+abbrev pub At : HandleKey → HandleKey → Bool
 At q = is_at (handle_order q)
 
 abbrev There : Place → Place → Bool
@@ -114,7 +114,7 @@ placed_put entries places key state placed = λ q noted h.
 -- ---- a state is noted again
 
 -- what is found once the value of a key was set
-found_set : (entries : List (HandleKey × HandleState)) (key : HandleKey) (state w : HandleState) (q : HandleKey) → lookup (At q) (set_value (At key) entries state) ≡ Some w → (lookup (At q) entries ≡ Some w) ⊎ ((q ≡ key) × (state ≡ w))
+pub found_set : (entries : List (HandleKey × HandleState)) (key : HandleKey) (state w : HandleState) (q : HandleKey) → lookup (At q) (set_value (At key) entries state) ≡ Some w → (lookup (At q) entries ≡ Some w) ⊎ ((q ≡ key) × (state ≡ w))
 found_set [] key state w q h = inl h
 found_set (e ∷ es) key state w q h =
     (elim (At key e.0) as (λ b. At key e.0 ≡ b → lookup (At q) (cond b ((e.0, state) ∷ es) (e ∷ set_value (At key) es state)) ≡ Some w → (lookup (At q) (e ∷ es) ≡ Some w) ⊎ ((q ≡ key) × (state ≡ w))) [
@@ -160,12 +160,12 @@ placed_less entries places key instance sorted other placed = λ q noted h.
 
 -- ---- keys are collected
 
-among_more : (keys : List (HandleKey × Unit {0})) (key : HandleKey) (u : Unit {0}) (q : HandleKey) → is_among keys q ≡ true → is_among (insert_entry handle_order keys key u) q ≡ true
+pub among_more : (keys : List (HandleKey × Unit {0})) (key : HandleKey) (u : Unit {0}) (q : HandleKey) → is_among keys q ≡ true → is_among (insert_entry handle_order keys key u) q ≡ true
 among_more keys key u q h =
     ap is_some (lookup_put handle_order exact_handle same_handle keys key u q) ∙
     elim (At q key) as (λ b. is_some (cond b (Some u) (lookup (At q) keys)) ≡ true) [ true ↦ refl | false ↦ h ]
 
-among_put : (keys : List (HandleKey × Unit {0})) (key : HandleKey) (u : Unit {0}) → is_among (insert_entry handle_order keys key u) key ≡ true
+pub among_put : (keys : List (HandleKey × Unit {0})) (key : HandleKey) (u : Unit {0}) → is_among (insert_entry handle_order keys key u) key ≡ true
 among_put keys key u = ap is_some (found_put handle_order exact_handle same_handle keys key u)
 
 -- `left` of `all` are still to be looked at

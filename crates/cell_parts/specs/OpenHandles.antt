@@ -6,12 +6,18 @@ use Rattle.std.specs.Map.{lookup}
 use Rattle.std.specs.Option.{option_map_or}
 use Rattle.std.specs.BTreeMap.{is_at, insert_entry}
 use Rattle.session_core.specs.Sessions.{SessionTable, is_live}
+use Rattle.tags_cell.specs.Numbers.{IsOrdinal}
+use Rattle.tags_cell.specs.declared.handles.Handle.{Handle}
+use Rattle.lock_core.specs.declared.claims.Owner.{Owner}
+use Rattle.lock_core.specs.declared.claims.Hold.{Hold}
+use Rattle.lock_core.specs.State.{LockState, Holders, owner_order, hold_of}
 use Rattle.messages_cell.specs.declared.outs.Reply.{Reply}
 use Rattle.cell_parts.specs.declared.handles.HandleKey.{HandleKey}
 use Rattle.cell_parts.specs.declared.handles.HandleState.{HandleState}
 use Rattle.cell_parts.specs.declared.open_handles.Place.{Place}
 use Rattle.cell_parts.specs.Handles.{NotedHandle}
-use Rattle.cell_parts.specs.Keys.{handle_order}
+use Rattle.cell_parts.specs.Keys.{handle_order, key_of}
+use Rattle.cell_parts.specs.Claims.{owner_of}
 use Rattle.cell_parts.specs.declared.handles.HandleState.TheVariants as states
 
 -- by instance, then client, then number
@@ -76,3 +82,36 @@ is_open_in sessions instance key states.Closed = false
 -- what is known of the handle of a key says so
 abbrev pub is_known_open : List (HandleKey × HandleState) → SessionTable Reply → ℕ → HandleKey → Bool
 is_known_open entries sessions instance key = option_map_or (is_open_in sessions instance key) (state_at entries key) false
+
+-- ---- the handles of owners
+
+-- the key is the handle's own, and its numbers are those of a client and a call
+pub record IsOwnKey (key : HandleKey) (handle : Handle) : Type 0 where
+  pub same : key_of handle ≡ key
+  pub client : IsOrdinal key.client
+  pub number : IsOrdinal key.number
+
+-- a handle in this state has this key as its own, where it is open
+abbrev pub IsOwn : HandleKey → Option HandleState → Type 0
+IsOwn key state = (noted : NotedHandle) → state ≡ Some (states.Open noted) → IsOwnKey key noted.handle
+
+-- each open handle is noted under its own key
+abbrev pub AreOwn : List (HandleKey × HandleState) → Type 0
+AreOwn entries = (key : HandleKey) → IsOwn key (state_at entries key)
+
+-- the key of the handle that is this owner
+abbrev pub key_owned : Owner → HandleKey
+key_owned owner = record { client = owner.client; number = owner.handle }
+
+-- the key of the handle that is this owner is among these, where a handle has such numbers
+abbrev pub HasOwner : Owner → List (HandleKey × Unit {0}) → Type 0
+HasOwner owner keys = IsOrdinal owner.client → IsOrdinal owner.handle → is_among keys (key_owned owner) ≡ true
+
+-- that of each of these owners
+abbrev pub HasOwners : Holders → List (HandleKey × Unit {0}) → Type 0
+HasOwners holders keys = (owner : Owner) (hold : Hold) → lookup (is_at (owner_order owner)) holders ≡ Some hold → HasOwner owner keys
+
+-- the key of each handle that is open on an instance and holds the lock is among these
+abbrev pub HasHoldersOn : List (HandleKey × HandleState) → ℕ → LockState → List (HandleKey × Unit {0}) → Type 0
+HasHoldersOn entries instance lock keys =
+    (key : HandleKey) (noted : NotedHandle) → state_at entries key ≡ Some (states.Open noted) → noted.handle.instance ≡ instance → is_some (hold_of lock (owner_of noted.handle)) ≡ true → is_among keys key ≡ true

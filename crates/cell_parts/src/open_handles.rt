@@ -7,14 +7,16 @@ ghost use Rattle.std.specs.Map.{keys_of};
 ghost use Rattle.std.specs.BTreeMap.{insert_entry};
 ghost use Rattle.plain.specs.Tables.{with_former};
 ghost use Rattle.cell_parts.specs.Keys.{handle_order};
-ghost use Rattle.cell_parts.specs.OpenHandles.{place_of, with_place, state_at, ArePlaced, IsPlaced, IsNotOpenOn, AreAmong, HasPlaced, HasAll, HasOpenOn, is_open_in, is_known_open};
+ghost use Rattle.cell_parts.specs.OpenHandles.{place_of, with_place, state_at, ArePlaced, IsPlaced, IsNotOpenOn, AreAmong, HasPlaced, HasAll, HasOpenOn, HasHoldersOn, HasOwner, HasOwners, IsOwn, is_open_in, is_known_open};
 
 use crate::handles::{HandleKey, HandleState};
+use lock_core::{Hold, Lock, Owner};
 use messages_cell::Reply;
 use plain::Table;
 use session_core::Sessions;
 use std::alloc::{AllocError, Global};
 use std::marker::Model;
+use tags_cell::Ordinal;
 
 /// Where a handle stands: its node's instance first, so that all handles on a node stand next to each other.
 #[derive(Clone, Copy, PartialEq, Eq, PartialOrd, Ord)]
@@ -56,19 +58,21 @@ pub struct Handles {
     places: Table<Place, HandleKey>,
     // Whether each open handle has its place.
     complete: bool,
+    // Whether each open handle is noted under its own key.
+    own_keys: bool,
 }
 
 impl Model for Handles {
     ghost use Rattle.std.specs.Prelude.{◌≡◌, List, true};
     ghost use Rattle.cell_parts.specs.declared.handles.HandleKey.{HandleKey};
     ghost use Rattle.cell_parts.specs.declared.handles.HandleState.{HandleState};
-    ghost use Rattle.cell_parts.specs.OpenHandles.{ArePlaced};
+    ghost use Rattle.cell_parts.specs.OpenHandles.{ArePlaced, AreOwn};
 
     ghost Value = { List (HandleKey × HandleState) };
 
     ghost view = { λ h. h.states };
 
-    ghost invariant = { λ h. h.complete ≡ true → ArePlaced h.states h.places };
+    ghost invariant = { λ h. (h.complete ≡ true → ArePlaced h.states h.places) × (h.own_keys ≡ true → AreOwn h.states) };
 }
 
 impl Handles {
@@ -80,6 +84,7 @@ impl Handles {
             states: Table::new(alloc),
             places: Table::new(alloc),
             complete: true,
+            own_keys: true,
         }
     }
 
@@ -117,6 +122,7 @@ impl Handles {
         ensures err { OnErr result (self.new ≡ self.old) }
     {
         add_place(&mut self.places, &key, &state)?;
+        self.own_keys = stays_own(self.own_keys, &key, &state);
         self.states.put(key, state)
     }
 
@@ -128,6 +134,7 @@ impl Handles {
         if !is_placed(&self.places, key, &former) {
             self.complete = false;
         }
+        self.own_keys = stays_own_again(self.own_keys, key, &former);
         self.states.restore(key, former);
     }
 
@@ -176,6 +183,25 @@ impl Handles {
             add_placed(&self.places, instance, next, keys)
         } else {
             add_all(&self.states, keys)
+        }
+    }
+
+    /// Adds the keys of the handles that are open on an instance and hold this lock, and maybe of others, whose states
+    /// are looked up. Costs one look-up for each holder; once a handle was noted under another's key, what
+    /// `add_open_on` costs.
+    pub fn add_holders(
+        &self,
+        instance: u64,
+        lock: &Lock,
+        keys: &mut Table<HandleKey, ()>,
+    ) -> Result<(), AllocError>
+        ensures kept { OnOk result (AreAmong keys.old keys.new) }
+        ensures found { OnOk result (HasHoldersOn self.now instance lock.now keys.new) }
+    {
+        if self.own_keys {
+            add_owners(lock.holders(), keys)
+        } else {
+            self.add_open_on(instance, keys)
         }
     }
 }
@@ -317,5 +343,63 @@ fn add_all(
     for (key, _) in states.as_map() {
         keys.put(*key, ())?;
     }
+    Ok(())
+}
+
+// Whether a handle has this key as its own, where it is open.
+fn is_own(key: &HandleKey, state: &HandleState) -> bool
+    ensures { result ≡ true → IsOwn key.now (Some state.now) }
+{
+    match state {
+        HandleState::Open(noted) => {
+            let handle = noted.handle();
+            handle.client.get() == key.client.get() && handle.number.get() == key.number.get()
+        }
+        HandleState::Closed => true,
+    }
+}
+
+// The same, where all others have theirs.
+fn stays_own(own_keys: bool, key: &HandleKey, state: &HandleState) -> bool
+    ensures { result ≡ true → (own_keys ≡ true) × IsOwn key.now (Some state.now) }
+{
+    own_keys && is_own(key, state)
+}
+
+fn stays_own_again(own_keys: bool, key: &HandleKey, former: &Option<HandleState>) -> bool
+    ensures { result ≡ true → (own_keys ≡ true) × IsOwn key.now former.now }
+{
+    match former {
+        Some(state) => stays_own(own_keys, key, state),
+        None => own_keys,
+    }
+}
+
+// The keys of the handles that are these owners.
+fn add_owners(
+    holders: &Table<Owner, Hold>,
+    keys: &mut Table<HandleKey, ()>,
+) -> Result<(), AllocError>
+    ensures kept { OnOk result (AreAmong keys.old keys.new) }
+    ensures found { OnOk result (HasOwners holders.now keys.new) }
+{
+    for (owner, _) in holders.as_map() {
+        add_owner(owner, keys)?;
+    }
+    Ok(())
+}
+
+// An owner whose numbers are no handle's is passed over.
+fn add_owner(owner: &Owner, keys: &mut Table<HandleKey, ()>) -> Result<(), AllocError>
+    ensures kept { OnOk result (AreAmong keys.old keys.new) }
+    ensures found { OnOk result (HasOwner owner.now keys.new) }
+{
+    let Some(client) = Ordinal::new(owner.client) else {
+        return Ok(());
+    };
+    let Some(number) = Ordinal::new(owner.handle) else {
+        return Ok(());
+    };
+    keys.put(HandleKey { client, number }, ())?;
     Ok(())
 }

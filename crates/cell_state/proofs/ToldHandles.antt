@@ -1,6 +1,6 @@
 -- What is told by handles that are looked up, and by all.
 use Rattle.std.proofs.Common.{◌≡◌, ◌⊎◌, inl, inr, ⊎_elim, append-nil, List, [], ◌∷◌, ◌++◌, Bool, true, false, cond, Option, Some, None, Ordering, Less, refl, sym, ap, ◌∙◌, append_assoc}
-use Rattle.std.specs.Prelude.{◌||◌, ◌==◌, map, is_some}
+use Rattle.std.specs.Prelude.{map, is_some}
 use Rattle.std.specs.Option.{option_and_then, option_map, option_or}
 use Rattle.std.specs.List.{AllByRecursion, filter_map, cons_option}
 use Rattle.std.specs.List.Sorted.{IsStrictlySortedBy}
@@ -9,21 +9,18 @@ use Rattle.std.specs.Map.{keys_of, lookup}
 use Rattle.std.specs.BTreeMap.{is_at}
 use Rattle.std.proofs.lemmas.Map.Lookups.{CmpEqualImpliesEq}
 use Rattle.plain.proofs.Entries.{eq_at}
-use Rattle.plain.proofs.Keys.{number_same}
 use Rattle.rows_cell.proofs.SortedLookups.{same_lookups, found_none}
-use Rattle.tags_cell.specs.declared.handles.Handle.{Handle}
 use Rattle.cell_parts.specs.declared.handles.HandleKey.{HandleKey}
 use Rattle.cell_parts.specs.declared.handles.HandleState.{HandleState}
 use Rattle.cell_parts.specs.declared.handles.HandleState.TheVariants.{Open, Closed}
 use Rattle.cell_parts.specs.declared.handles.Note.{Note}
 use Rattle.cell_parts.specs.declared.notices.Notice.{Notice}
 use Rattle.cell_parts.specs.declared.notices.Telling.{Telling}
-use Rattle.cell_state.specs.Concerned.{is_concerned, HasConcerned, telling_at}
+use Rattle.cell_state.specs.Concerned.{HasTold, HasConcerned, telling_at}
 use Rattle.cell_parts.specs.Handles.{NotedHandle}
 use Rattle.cell_parts.specs.Keys.{handle_order}
-use Rattle.cell_parts.specs.Events.{instance_of}
-use Rattle.cell_state.specs.Notices.{event_here, event_for, is_noted, telling_by, tellings_to}
-use Rattle.cell_parts.specs.OpenHandles.{state_at, is_among, AreAmong, HasOpenOn}
+use Rattle.cell_state.specs.Notices.{event_on, event_for, is_noted, telling_by, tellings_to}
+use Rattle.cell_parts.specs.OpenHandles.{state_at, is_among, AreAmong}
 use Rattle.cell_state.specs.State.{MasterState}
 use Rattle.cell_parts.proofs.PlacedHandles.{handle_total, exact_handle}
 
@@ -118,14 +115,6 @@ tell_push f left rest e told more whole y step some put h =
 tell_end : {X Y : Type 0} (f : X → Option Y) (left : List X) (told whole : List Y) → left ≡ [] → told ++ filter_map f left ≡ whole → told ≡ whole
 tell_end f left told whole none h = sym (append-nil told) ∙ ap (λ l. told ++ filter_map f l) (sym none) ∙ h
 
-concerned_if : (s : MasterState) (handle : Handle) (notices : List Notice) → is_some (event_for s handle notices) ≡ true → is_concerned notices handle.instance ≡ true
-concerned_if s handle [] h = absurd (cc)
-concerned_if s handle (notice ∷ rest) h =
-    (elim (instance_of notice == handle.instance) as (λ b. is_some (option_or (cond b (event_here s handle notice) None) (event_for s handle rest)) ≡ true → (b || is_concerned rest handle.instance) ≡ true) [
-      | true ↦ (λ k. refl)
-      | false ↦ (λ k. concerned_if s handle rest k)
-    ]) h
-
 some_told : {X Y : Type 0} (f : X → Y) (b : Bool) (o : Option X) → is_some (cond b None (option_map f o)) ≡ true → is_some o ≡ true
 some_told f true o h = absurd (cc)
 some_told f false None h = absurd (cc)
@@ -137,7 +126,7 @@ nobody false h = cc
 
 covered : (s : MasterState) (note : Option Note) (notices : List Notice) (keys : List (HandleKey × Unit {0})) → HasConcerned s notices keys → (q : HandleKey) (state : HandleState) → state_at s.handles q ≡ Some state → is_some (telling_by s note notices (q, state)) ≡ true → is_among keys q ≡ true
 covered s note notices keys has q (Open noted) h told =
-    has q noted h (concerned_if s noted.handle notices (some_told (λ event. record { client = q.client; event = event }) (is_noted note q) (event_for s noted.handle notices) told))
+    has q noted h (some_told (λ event. record { client = q.client; event = event }) (is_noted note q) (event_for s noted.handle notices) told)
 covered s note notices keys has q Closed h told = absurd (nobody (is_noted note q) told)
 
 -- all that is told
@@ -150,23 +139,25 @@ told_all s note notices keys left told sorted keys_sorted has none h =
 
 -- the notices `left` of `all` are still to be looked at
 pub record Concerns (s : MasterState) (all left : List Notice) (keys : List (HandleKey × Unit {0})) : Type 0 where
-  pub found : (key : HandleKey) (noted : NotedHandle) → state_at s.handles key ≡ Some (Open noted) → is_concerned all noted.handle.instance ≡ true → (is_among keys key ≡ true) ⊎ (is_concerned left noted.handle.instance ≡ true)
+  pub found : (key : HandleKey) (noted : NotedHandle) → state_at s.handles key ≡ Some (Open noted) → is_some (event_for s noted.handle all) ≡ true → (is_among keys key ≡ true) ⊎ (is_some (event_for s noted.handle left) ≡ true)
 
 pub concern_first : (s : MasterState) (all left : List Notice) (keys : List (HandleKey × Unit {0})) → left ≡ all → Concerns s all left keys
-concern_first s all left keys e = record { found = λ key noted h on. inr (ap (λ l. is_concerned l noted.handle.instance) e ∙ on) }
+concern_first s all left keys e = record { found = λ key noted h told. inr (ap (λ l. is_some (event_for s noted.handle l)) e ∙ told) }
 
-pub concern_more : (s : MasterState) (all left rest : List Notice) (notice : Notice) (keys more : List (HandleKey × Unit {0})) → left ≡ notice ∷ rest → AreAmong keys more → HasOpenOn s.handles (instance_of notice) more → Concerns s all left keys → Concerns s all rest more
+first_or : {X : Type 0} (a b : Option X) → is_some (option_or a b) ≡ true → (is_some a ≡ true) ⊎ (is_some b ≡ true)
+first_or None b h = inr h
+first_or (Some x) b h = inl refl
+
+pub concern_more : (s : MasterState) (all left rest : List Notice) (notice : Notice) (keys more : List (HandleKey × Unit {0})) → left ≡ notice ∷ rest → AreAmong keys more → HasTold s notice more → Concerns s all left keys → Concerns s all rest more
 concern_more s all left rest notice keys more step among here c = record {
-  found = λ key noted h on.
+  found = λ key noted h told.
       ⊎_elim (λ l. inl (among key l))
       (λ r.
-      (elim (instance_of notice == noted.handle.instance) as (λ b. (instance_of notice == noted.handle.instance) ≡ b → (b || is_concerned rest noted.handle.instance) ≡ true → (is_among more key ≡ true) ⊎ (is_concerned rest noted.handle.instance ≡ true)) [
-        | true ↦ (λ e k. inl (here key noted h (sym (number_same (instance_of notice) noted.handle.instance e))))
-        | false ↦ (λ e k. inr k)
-      ]) refl (ap (λ l. is_concerned l noted.handle.instance) (sym step) ∙ r))
-      (c.found key noted h on);
+      ⊎_elim (λ a. inl (here key noted h a)) (λ b. inr b)
+      (first_or (event_on s noted.handle notice) (event_for s noted.handle rest) (ap (λ l. is_some (event_for s noted.handle l)) (sym step) ∙ r)))
+      (c.found key noted h told);
 }
 
 pub concern_last : (s : MasterState) (all left : List Notice) (keys : List (HandleKey × Unit {0})) → left ≡ [] → Concerns s all left keys → HasConcerned s all keys
-concern_last s all left keys none c = λ key noted h on.
-    ⊎_elim (λ l. l) (λ r. let n : is_concerned left noted.handle.instance ≡ false = ap (λ l. is_concerned l noted.handle.instance) none in absurd (cc)) (c.found key noted h on)
+concern_last s all left keys none c = λ key noted h told.
+    ⊎_elim (λ l. l) (λ r. let n : is_some (event_for s noted.handle left) ≡ false = ap (λ l. is_some (event_for s noted.handle l)) none in absurd (cc)) (c.found key noted h told)

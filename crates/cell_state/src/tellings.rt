@@ -1,9 +1,10 @@
 //! Who is told of a step.
-ghost use Rattle.std.specs.Prelude.{◌≡◌, IfOk, is_some};
+ghost use Rattle.std.specs.Prelude.{◌≡◌, IfOk, OnOk, is_some};
 ghost use Rattle.std.specs.Option.{option_map};
 ghost use Rattle.cell_parts.specs.Events.{instance_of, event_of};
+ghost use Rattle.cell_parts.specs.OpenHandles.{AreAmong};
 ghost use Rattle.cell_state.specs.Notices.{event_here, event_on, event_for, is_noted, telling_by, tellings_to, with_telling, with_tellings};
-ghost use Rattle.cell_state.specs.Concerned.{HasConcerned, telling_at};
+ghost use Rattle.cell_state.specs.Concerned.{HasTold, HasConcerned, telling_at};
 
 use crate::masters::Master;
 use cell_parts::{HandleKey, HandleState, Note, Notice, Telling, event_of, instance_of};
@@ -15,7 +16,7 @@ use tags_cell::Handle;
 impl Master {
     /// The events that a step's notices are to the clients of open handles, in the order of the handles: by what each
     /// was opened for, the first notice that concerns it, and none for the handle that the step itself notes. Only the
-    /// handles on the nodes of the notices are looked at.
+    /// handles on the nodes of the notices are looked at, and of a conflict only those that hold the lock.
     pub fn tellings(
         &self,
         note: &Option<Note>,
@@ -64,15 +65,41 @@ impl Master {
         self.tables.tell(client, event);
     }
 
-    // The keys of the handles that are open on a node of the notices, and maybe others.
+    // The keys of the handles that one of the notices is told to, and maybe others.
     fn concerned(&self, notices: &[Notice]) -> Result<Table<HandleKey, ()>, AllocError>
         ensures { IfOk result (λ keys. HasConcerned self.now notices.now keys) }
     {
         let mut keys = Table::new(self.alloc);
         for notice in notices {
-            self.handles().add_open_on(instance_of(notice), &mut keys)?;
+            self.add_concerned(notice, &mut keys)?;
         }
         Ok(keys)
+    }
+
+    // A conflict is told to holders of the lock alone, whoever else has the node open.
+    fn add_concerned(
+        &self,
+        notice: &Notice,
+        keys: &mut Table<HandleKey, ()>,
+    ) -> Result<(), AllocError>
+        ensures kept { OnOk result (AreAmong keys.old keys.new) }
+        ensures found { OnOk result (HasTold self.now notice.now keys.new) }
+    {
+        match notice {
+            Notice::Conflict(instance) => self.add_holders(*instance, keys),
+            _ => self.handles().add_open_on(instance_of(notice), keys),
+        }
+    }
+
+    // Nobody holds a lock that isn't there.
+    fn add_holders(&self, instance: u64, keys: &mut Table<HandleKey, ()>) -> Result<(), AllocError>
+        ensures kept { OnOk result (AreAmong keys.old keys.new) }
+        ensures found { OnOk result (HasTold self.now (Notice.Conflict instance) keys.new) }
+    {
+        match self.locks.get(instance) {
+            Some(lock) => self.handles().add_holders(instance, lock, keys),
+            None => Ok(()),
+        }
     }
 
     fn telling_at(
