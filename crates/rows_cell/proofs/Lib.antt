@@ -16,3 +16,5 @@ pub mod RowEdits
 pub mod SoundLocks
 pub mod SoundGenerations
 pub mod LockChanges
+pub mod Undoing
+pub mod Settling

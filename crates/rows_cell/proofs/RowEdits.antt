@@ -42,7 +42,7 @@ all_put_sorted : (es locks : StoredLocks) → IsStrictlySortedBy lock_order (key
 all_put_sorted [] locks h = h
 all_put_sorted (e ∷ es) locks h = all_put_sorted es (insert_entry lock_order locks e.0 e.1) (sorted_put lock_order locks_total locks e.0 e.1 h)
 
-abbrev find : LockKey → StoredLocks → Option LockRow
+abbrev pub find : LockKey → StoredLocks → Option LockRow
 find q locks = lookup (is_at (lock_order q)) locks
 
 find_put_all : (es locks : StoredLocks) (q : LockKey) → IsStrictlySortedBy lock_order (keys_of es) → find q (put_all es locks) ≡ option_or (find q es) (find q locks)
@@ -64,7 +64,7 @@ cond_or true true o = refl
 cond_or true false o = refl
 cond_or false b o = refl
 
-find_unlocked : (keys : List LockKey) (locks : StoredLocks) (q : LockKey) → IsStrictlySortedBy lock_order (keys_of locks) → find q (unlocked_by keys locks) ≡ cond (list_any (is_at (lock_order q)) keys) None (find q locks)
+pub find_unlocked : (keys : List LockKey) (locks : StoredLocks) (q : LockKey) → IsStrictlySortedBy lock_order (keys_of locks) → find q (unlocked_by keys locks) ≡ cond (list_any (is_at (lock_order q)) keys) None (find q locks)
 find_unlocked [] locks q sorted = refl
 find_unlocked (key ∷ keys) locks q sorted =
     let any : Bool = list_any (is_at (lock_order q)) keys in

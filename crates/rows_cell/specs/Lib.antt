@@ -3,6 +3,7 @@ pub use Rattle.names_cell.specs.Text
 pub use Rattle.node_core.specs.Nodes
 pub mod Keys
 pub mod Rows
+pub mod Undo
 pub mod Sound
 pub mod LockRows
 pub mod Stores

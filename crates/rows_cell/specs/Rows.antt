@@ -64,10 +64,11 @@ abbrev pub changed_rows : Rows → List Edit → Rows
 changed_rows rows [] = rows
 changed_rows rows (edit ∷ edits) = changed_rows (edited rows edit) edits
 
--- whether an edit takes memory: one that takes something away doesn't, nor does one that sets a number of the cell
+-- whether an edit takes memory: one that takes something away doesn't, nor does one that sets a number
 abbrev pub takes_memory : Edit → Bool
 takes_memory (Epoch epoch) = false
 takes_memory (NextInstance next) = false
+takes_memory (LockGeneration name generation) = false
 takes_memory (RemoveNode name) = false
 takes_memory (RemoveLock key) = false
 takes_memory _ = true

@@ -7,6 +7,7 @@ mod lists;
 mod records;
 mod soundness;
 mod tables;
+mod undo;
 
 pub use counts::Counts;
 pub use keys::LockKey;

@@ -18,6 +18,7 @@ use std::alloc::{AllocError, Global};
 /// Rows in memory, which no crash outlives. No call is refused but for want of memory.
 #[derive(Drop)]
 pub struct ListRecords {
+    alloc: Global,
     rows: Rows,
     ghost sound_rows: { sound rows.cell rows ≡ true },
 }
@@ -30,7 +31,7 @@ impl ListRecords {
         let _cell = settings.cell().as_str();
         let _base = settings.base();
         let rows = opening(alloc, settings)?;
-        Ok(ListRecords { rows })
+        Ok(ListRecords { alloc, rows })
     }
 }
 
@@ -44,7 +45,7 @@ impl Records for ListRecords {
     }
 
     fn commit(&mut self, change: &Items<Edit>) -> Result<(), StoreFault> {
-        self.rows.change(change.as_slice())?;
+        self.rows.change(self.alloc, change.as_slice())?;
         Ok(())
     }
 }

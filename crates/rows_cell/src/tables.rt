@@ -6,7 +6,9 @@ ghost use Rattle.std.specs.Map.{remove_entry};
 ghost use Rattle.std.specs.BTreeMap.{is_at};
 ghost use Rattle.std.specs.Cmp.Lexicographic.{slice_cmp};
 ghost use Rattle.std.specs.Ordering.{nat_cmp};
+ghost use Rattle.plain.specs.Tables.{with_former};
 ghost use Rattle.rows_cell.specs.Rows.{edited, changed_rows, takes_memory, map_of, stored_node, put_stored, at_generation, without_locks_of};
+ghost use Rattle.rows_cell.specs.Undo.{removes_node, is_of_locks};
 
 use crate::keys::LockKey;
 use names_cell::{Component, Name, Principal};
@@ -138,15 +140,28 @@ impl Edit {
     {
         matches!(
             self,
-            Edit::PutNode(..) | Edit::LockGeneration(..) | Edit::PutSession(..) | Edit::PutLock(..)
+            Edit::PutNode(..) | Edit::PutSession(..) | Edit::PutLock(..)
         )
+    }
+
+    fn removes_node(&self) -> bool
+        ensures { result ≡ removes_node self.now }
+    {
+        matches!(self, Edit::RemoveNode(..))
+    }
+
+    // Whether it is of a lock's row.
+    pub(crate) fn is_of_locks(&self) -> bool
+        ensures { result ≡ is_of_locks self.now }
+    {
+        matches!(self, Edit::PutLock(..) | Edit::RemoveLock(..))
     }
 }
 
 impl Rows {
-    /// Does a change, or leaves the rows where memory is refused. It costs what its edits cost where none but the first
-    /// takes memory; any other change costs what copying all rows costs.
-    pub(crate) fn change(&mut self, change: &[Edit]) -> Result<(), AllocError>
+    /// Does a change, or leaves the rows where memory is refused. It costs what its edits cost; where one behind the first
+    /// takes memory and another removes a node, what copying all rows costs.
+    pub(crate) fn change(&mut self, alloc: Global, change: &[Edit]) -> Result<(), AllocError>
         ensures ok { OnOk result (self.new ≡ changed_rows self.old change.now) }
         ensures err { OnErr result (self.new ≡ self.old) }
     {
@@ -154,12 +169,23 @@ impl Rows {
             return Ok(());
         };
         if others.iter().any(Edit::takes_memory) {
-            *self = self.after(change)?;
-            return Ok(());
+            return self.change_many(alloc, change);
         }
         self.edit(first)?;
         self.set_all(others);
         Ok(())
+    }
+
+    // Does edits of which some take memory, or leaves the rows.
+    fn change_many(&mut self, alloc: Global, change: &[Edit]) -> Result<(), AllocError>
+        ensures ok { OnOk result (self.new ≡ changed_rows self.old change.now) }
+        ensures err { OnErr result (self.new ≡ self.old) }
+    {
+        if change.iter().any(Edit::removes_node) {
+            *self = self.after(change)?;
+            return Ok(());
+        }
+        self.edit_all(alloc, change)
     }
 
     // Does one edit, or leaves the rows.
@@ -168,8 +194,9 @@ impl Rows {
         ensures err { OnErr result (self.new ≡ self.old) }
     {
         match edit {
-            Edit::PutNode(name, node) => self.put_node(name, node)?,
-            Edit::LockGeneration(name, generation) => self.set_generation(name, *generation)?,
+            Edit::PutNode(name, node) => {
+                self.put_node(name, node)?;
+            }
             Edit::PutSession(client, session) => {
                 self.sessions.put(*client, session.clone()?)?;
             }
@@ -189,6 +216,7 @@ impl Rows {
         match edit {
             Edit::Epoch(epoch) => self.epoch = *epoch,
             Edit::NextInstance(next) => self.next_instance = *next,
+            Edit::LockGeneration(name, generation) => self.set_generation(name, *generation),
             Edit::RemoveNode(name) => self.remove_node(name),
             Edit::RemoveLock(key) => {
                 self.locks.remove(key);
@@ -220,8 +248,14 @@ impl Rows {
         Ok(map)
     }
 
-    fn put_node(&mut self, name: &Name, node: &Node) -> Result<(), AllocError>
+    // Gives what stood there before.
+    pub(crate) fn put_node(
+        &mut self,
+        name: &Name,
+        node: &Node,
+    ) -> Result<Option<StoredNode>, AllocError>
         ensures ok { OnOk result (self.new ≡ record self.old { nodes = put_stored self.old.nodes name.now node.now }) }
+        ensures back { IfOk result (λ former. with_former (slice_cmp nat_cmp) self.new.nodes name.now former ≡ self.old.nodes) }
         ensures err { OnErr result (self.new ≡ self.old) }
     {
         let lock_generation = generation_at(&self.nodes, name);
@@ -230,23 +264,16 @@ impl Rows {
             node: node.clone()?,
             lock_generation,
         };
-        self.nodes.put(name, stored)?;
-        Ok(())
+        self.nodes.put(name, stored)
     }
 
-    fn set_generation(&mut self, name: &Name, generation: u64) -> Result<(), AllocError>
-        ensures ok { OnOk result (self.new ≡ record self.old { nodes = at_generation self.old.nodes name.now (stored_node self.old.nodes name.now) generation }) }
-        ensures err { OnErr result (self.new ≡ self.old) }
+    // Leaves the rows where no node of this name is there.
+    pub(crate) fn set_generation(&mut self, name: &Name, generation: u64)
+        ensures { self.new ≡ record self.old { nodes = at_generation self.old.nodes name.now (stored_node self.old.nodes name.now) generation } }
     {
-        let Some(node) = self.nodes.get(name) else {
-            return Ok(());
-        };
-        let node = StoredNode {
-            node: node.node.clone()?,
-            lock_generation: generation,
-        };
-        let _ = self.nodes.replace(name, node);
-        Ok(())
+        if let Some(node) = self.nodes.get_mut(name) {
+            node.lock_generation = generation;
+        }
     }
 
     fn remove_node(&mut self, name: &Name)
@@ -270,7 +297,7 @@ impl Rows {
 }
 
 // The generation of the lock of the node at a name; 0 where none is there.
-fn generation_at(nodes: &Table<Name, StoredNode>, name: &Name) -> u64
+pub(crate) fn generation_at(nodes: &Table<Name, StoredNode>, name: &Name) -> u64
     ensures { result ≡ option_map_or (λ node. node.lock_generation) (stored_node nodes.now name.now) 0 }
 {
     match nodes.get(name) {
