@@ -1,9 +1,13 @@
 //! Blocks of bytes in a stream, each behind its length.
 
 use std::io::{self, ErrorKind, Read, Write};
+use tokio::io::{AsyncRead, AsyncReadExt};
 
-/// How many bytes are read at once.
-const READ_SIZE: usize = 0x1_0000;
+/// How many bytes are read at once, at least and at most.
+const READ_SIZES: (usize, usize) = (512, 0x1_0000);
+
+/// So much room is kept while nothing comes.
+const KEPT: usize = 4096;
 
 /// Writes one block, in one write where the stream takes it: its length in four bytes, big-endian, and then its bytes.
 ///
@@ -11,12 +15,21 @@ const READ_SIZE: usize = 0x1_0000;
 ///
 /// What the stream answers; and `InvalidInput` for 2^32 bytes or more, of which nothing is written.
 pub fn write_block(stream: &mut impl Write, block: &[u8]) -> io::Result<()> {
+    stream.write_all(&framed(block)?)?;
+    stream.flush()
+}
+
+/// A block behind its length, as it goes over a stream.
+///
+/// # Errors
+///
+/// `InvalidInput` for 2^32 bytes or more.
+pub fn framed(block: &[u8]) -> io::Result<Vec<u8>> {
     let length = u32::try_from(block.len()).map_err(|_| io::Error::from(ErrorKind::InvalidInput))?;
     let mut bytes = Vec::with_capacity(block.len() + 4);
     bytes.extend_from_slice(&length.to_be_bytes());
     bytes.extend_from_slice(block);
-    stream.write_all(&bytes)?;
-    stream.flush()
+    Ok(bytes)
 }
 
 /// The blocks that come in a stream. What was read of a block stays where a read times out, so that the next call goes on there.
@@ -56,6 +69,33 @@ impl Blocks {
         }
     }
 
+    /// As `next`, of a stream that is waited for. Where that is given up nothing is lost.
+    ///
+    /// # Errors
+    ///
+    /// As of `next`.
+    pub async fn next_of(&mut self, stream: &mut (impl AsyncRead + Unpin)) -> io::Result<Option<Vec<u8>>> {
+        loop {
+            if let Some(block) = self.take_block()? {
+                return Ok(Some(block));
+            }
+            self.make_room();
+            if stream.read_buf(&mut self.bytes).await? == 0 {
+                return self.ended();
+            }
+        }
+    }
+
+    // Lets go of what was taken, and makes room for what is next to come: for more where more came.
+    fn make_room(&mut self) {
+        self.bytes.drain(..self.begin);
+        self.begin = 0;
+        if self.bytes.is_empty() && self.bytes.capacity() > KEPT {
+            self.bytes.shrink_to(READ_SIZES.0);
+        }
+        self.bytes.reserve(self.bytes.len().clamp(READ_SIZES.0, READ_SIZES.1));
+    }
+
     fn ended(&self) -> io::Result<Option<Vec<u8>>> {
         if self.begin == self.bytes.len() {
             return Ok(None);
@@ -85,7 +125,7 @@ impl Blocks {
     fn fill(&mut self, stream: &mut impl Read) -> io::Result<usize> {
         self.bytes.drain(..self.begin);
         self.begin = 0;
-        let mut room = [0; READ_SIZE];
+        let mut room = [0; READ_SIZES.1];
         loop {
             match stream.read(&mut room) {
                 Err(error) if error.kind() == ErrorKind::Interrupted => {}

@@ -13,7 +13,7 @@
 
 use crate::fields::Fields;
 use crate::heads::is_component;
-use std::fmt;
+use thiserror::Error;
 
 const VERSION: u8 = 1;
 
@@ -53,37 +53,47 @@ pub struct Welcome {
 }
 
 /// Why a connection isn't bound, and is closed.
-#[derive(Clone, Copy, Debug, PartialEq, Eq)]
+#[derive(Clone, Copy, Debug, PartialEq, Eq, Error)]
 #[repr(u8)]
 pub enum TurnedAway {
     /// The first block is no hello, or one of another version.
+    #[error("the greeting wasn't understood")]
     NotUnderstood = 0,
     /// The principal isn't 1 to 64 of `a-z 0-9 . _ -`, or is `.` or `..`.
+    #[error("not a principal")]
     BadPrincipal = 1,
     /// The number wasn't given to this principal with this token.
+    #[error("the number was given to another client")]
     WrongToken = 2,
     /// No number is left, or none could be written down.
+    #[error("no number could be given")]
     NoNumber = 3,
     /// As many clients are connected as the server takes.
+    #[error("too many clients")]
     Full = 4,
+    /// The connection is that of another principal, by its certificate or its user.
+    #[error("the connection is that of another principal")]
+    OtherPrincipal = 5,
+    /// As many clients of this principal are connected as the server takes of one.
+    #[error("too many clients of this principal")]
+    FullForPrincipal = 6,
 }
 
 impl TurnedAway {
     fn read(byte: u8) -> Option<TurnedAway> {
-        use TurnedAway::{BadPrincipal, Full, NoNumber, NotUnderstood, WrongToken};
-        [NotUnderstood, BadPrincipal, WrongToken, NoNumber, Full].into_iter().find(|reason| *reason as u8 == byte)
+        TurnedAway::ALL.into_iter().find(|reason| *reason as u8 == byte)
     }
-}
 
-impl fmt::Display for TurnedAway {
-    fn fmt(&self, out: &mut fmt::Formatter<'_>) -> fmt::Result {
-        out.write_str(match self {
-            TurnedAway::NotUnderstood => "the greeting wasn't understood",
-            TurnedAway::BadPrincipal => "not a principal",
-            TurnedAway::WrongToken => "the number was given to another client",
-            TurnedAway::NoNumber => "no number could be given",
-            TurnedAway::Full => "too many clients",
-        })
+    /// Each of them.
+    pub const ALL: [TurnedAway; 7] = {
+        use TurnedAway::{BadPrincipal, Full, FullForPrincipal, NoNumber, NotUnderstood, OtherPrincipal, WrongToken};
+        [NotUnderstood, BadPrincipal, WrongToken, NoNumber, Full, OtherPrincipal, FullForPrincipal]
+    };
+
+    /// Whether it may be otherwise a little later.
+    #[must_use]
+    pub fn is_for_now(self) -> bool {
+        matches!(self, TurnedAway::Full | TurnedAway::FullForPrincipal | TurnedAway::NoNumber)
     }
 }
 
@@ -226,12 +236,14 @@ mod tests {
             (Err(TurnedAway::WrongToken), b"\x01\x01\x02"),
             (Err(TurnedAway::NoNumber), b"\x01\x01\x03"),
             (Err(TurnedAway::Full), b"\x01\x01\x04"),
+            (Err(TurnedAway::OtherPrincipal), b"\x01\x01\x05"),
+            (Err(TurnedAway::FullForPrincipal), b"\x01\x01\x06"),
         ];
         for (answer, bytes) in rows {
             assert_eq!(Welcome::write(answer), *bytes);
             assert_eq!(Welcome::read(bytes).as_ref(), Ok(answer));
         }
-        assert_eq!(Welcome::read(b"\x01\x01\x05"), Err(Malformed));
+        assert_eq!(Welcome::read(b"\x01\x01\x07"), Err(Malformed));
         assert_eq!(Welcome::read(b"\x01\x02"), Err(Malformed));
     }
 }

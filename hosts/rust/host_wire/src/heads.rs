@@ -3,7 +3,7 @@
 use crate::fields::Fields;
 
 /// The version of the bytes of messages.
-const VERSION: u8 = 1;
+const VERSION: u8 = 2;
 
 /// The number of the kind of a Start.
 const START: u8 = 0;
@@ -57,19 +57,19 @@ pub fn is_component(text: &str) -> bool {
 mod tests {
     use super::*;
 
-    const START_OF_ANN: &[u8] = b"\x01\0\0\0\0\0\0\0\0\x07\0\0\0\0\0\0\0\x01\0\0\0\x03ann";
-    const BEAT: &[u8] = b"\x01\x01\0\0\0\0\0\0\0\x07\0\0\0\0\0\0\0\x01";
+    const START_OF_ANN: &[u8] = b"\x02\0\0\0\0\0\0\0\0\x07\0\0\0\0\0\0\0\x01\0\0\0\x03ann";
+    const BEAT: &[u8] = b"\x02\x01\0\0\0\0\0\0\0\x07\0\0\0\0\0\0\0\x01";
 
     #[test]
     fn a_head_names_the_client() {
         let rows: &[(&[u8], Option<(u64, Option<&str>)>)] = &[
             (START_OF_ANN, Some((7, Some("ann")))),
             (BEAT, Some((7, None))),
-            (b"\x01\x02\0\0\0\0\0\0\0\x09", Some((9, None))),
-            (b"\x02\x01\0\0\0\0\0\0\0\x07", None),
-            (b"\x01\x03\0\0\0\0\0\0\0\x07", Some((7, None))),
-            (b"\x01\x04\0\0\0\0\0\0\0\x07", None),
-            (b"\x01\x01\0\0\0\0\0\0\0", None),
+            (b"\x02\x02\0\0\0\0\0\0\0\x09", Some((9, None))),
+            (b"\x01\x01\0\0\0\0\0\0\0\x07", None),
+            (b"\x02\x03\0\0\0\0\0\0\0\x07", Some((7, None))),
+            (b"\x02\x04\0\0\0\0\0\0\0\x07", None),
+            (b"\x02\x01\0\0\0\0\0\0\0", None),
             (&START_OF_ANN[..24], None),
             (b"", None),
         ];

@@ -2,24 +2,35 @@
 //!
 //! A stream is blocks, each behind its length in four bytes, big-endian. The first block each way greets: the client says who it
 //! is ([`Hello`]), the server which number the connection is bound to ([`Welcome`]). Every later block is one message between
-//! client and master, its bytes as `docs/FORMATS.md` lays them out; and the last Beat of a client that is closed is marked
-//! ([`Estate`]).
+//! client and master, its bytes as `docs/FORMATS.md` lays them out; the last Beat of a client that is closed is marked
+//! ([`Estate`]), and a server that doesn't hand a call on says why ([`Notice`]).
 
+mod addresses;
 mod blocks;
+mod deeds;
 mod fields;
 mod greetings;
 mod heads;
+mod names;
+mod notices;
 mod partings;
+mod shown;
 
-pub use blocks::{Blocks, write_block};
+pub use addresses::{Address, NoAddress};
+pub use blocks::{Blocks, framed, write_block};
+pub use deeds::{Act, Deed, ended_call};
 pub use fields::Fields;
 pub use greetings::{GREETING_LIMIT, Hello, Malformed, TurnedAway, Welcome};
 pub use heads::{Head, is_component};
+pub use names::common_name;
+pub use notices::{Notice, write_store_refused};
 pub use partings::{Estate, write_parting};
+pub use shown::{LockShown, NodeShown, SessionShown, Shown, Status, WaitShown};
 
 /// The longest block that a client sends, in bytes: a frame that carries it to the master has at most 1,048,576, ten of them
 /// before the message.
 pub const REQUEST_LIMIT: usize = 1_048_576 - 10;
 
-/// The longest block that a client takes from its server, in bytes: far above a listing of a directory of a million names.
-pub const ANSWER_LIMIT: usize = 1 << 28;
+/// The longest block that a client takes from its server, and a server from its master, in bytes: as many as a length can say,
+/// since a listing grows with its directory. Memory is taken for what came.
+pub const ANSWER_LIMIT: usize = u32::MAX as usize;

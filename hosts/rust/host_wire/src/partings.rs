@@ -4,7 +4,7 @@
 
 use crate::fields::Fields;
 
-const VERSION: u8 = 1;
+const VERSION: u8 = 2;
 
 /// The kinds of messages, as `docs/FORMATS.md` numbers them.
 const BEAT: u8 = 1;
@@ -116,19 +116,19 @@ mod tests {
 
     // An Alive of client 7, whose lists are these bytes.
     fn alive(epoch: u64, lists: &[u8]) -> Vec<u8> {
-        let mut out = words(&[1, 1], &[7, epoch, 5, 12_000]);
+        let mut out = words(&[VERSION, 1], &[7, epoch, 5, 12_000]);
         out.extend_from_slice(lists);
         out
     }
 
     #[test]
     fn a_last_beat_is_read_as_it_was_written() {
-        let beat = words(&[1, 1], &[7, 2, 5, 3, 1]);
+        let beat = words(&[VERSION, 1], &[7, 2, 5, 3, 1]);
         let block = write_parting(&beat).unwrap();
-        assert_eq!(block, words(&[1, 3], &[7, 2, 5, 3, 1]));
+        assert_eq!(block, words(&[VERSION, 3], &[7, 2, 5, 3, 1]));
         assert_eq!(Estate::read(&block), Some(estate()));
         assert_eq!(estate().beat(), beat);
-        for other in [&beat[..41], &words(&[1, 0], &[7, 2, 5, 3, 1]), &words(&[1, 3], &[7, 2, 5, 3])] {
+        for other in [&beat[..41], &words(&[VERSION, 0], &[7, 2, 5, 3, 1]), &words(&[VERSION, 3], &[7, 2, 5, 3])] {
             assert_eq!((write_parting(other), Estate::read(other)), (None, None));
         }
     }
@@ -146,11 +146,11 @@ mod tests {
             (alive(2, two_events), Some([7, 2, 6, 3, 3])),
             (alive(1, fourth), None),
             (alive(2, &fourth[..20]), None),
-            (words(&[1, 3], &[7, 2, 5, 12_000]), None),
+            (words(&[VERSION, 3], &[7, 2, 5, 12_000]), None),
         ];
         for (message, wanted) in rows {
             let answer = estate().answer(message);
-            assert_eq!(answer, wanted.map(|fields| words(&[1, 1], &fields)), "{message:?}");
+            assert_eq!(answer, wanted.map(|fields| words(&[VERSION, 1], &fields)), "{message:?}");
         }
     }
 

@@ -4,12 +4,21 @@
 use crate::events::Events;
 use crate::nodes::{LockMode, Mode};
 
-const VERSION: u8 = 1;
+const VERSION: u8 = 2;
 
 /// The number of the kind of a call's message.
 const CALL: u8 = 2;
 
 /// Whether a new node goes by itself.
+///
+/// ```
+/// # trials::with_client(|client| {
+/// # use tillermoss::*;
+/// let file = Create { content: Some(vec![]), life: Life::Ephemeral, ..Create::default() };
+/// let opened = client.open_with(&Opening { create: Some(file), ..Opening::new("/ls/c/here", Mode::READ) })?;
+/// assert!(client.stat(opened)?.is_ephemeral);
+/// # Ok(()) });
+/// ```
 #[derive(Clone, Copy, Debug, Default, PartialEq, Eq)]
 pub enum Life {
     /// It stays until it is deleted.
@@ -20,6 +29,14 @@ pub enum Life {
 }
 
 /// What an Open makes where there is no node of the name.
+///
+/// ```
+/// use tillermoss::Create;
+///
+/// let directory = Create::default();
+/// let file = Create { must: true, content: Some(b"hello".to_vec()), ..Create::default() };
+/// assert_ne!(directory, file);
+/// ```
 #[derive(Clone, Debug, Default, PartialEq, Eq)]
 pub struct Create {
     /// It is refused where there is a node.
@@ -33,6 +50,16 @@ pub struct Create {
 }
 
 /// What an Open asks for.
+///
+/// ```
+/// # trials::with_client(|client| {
+/// # use tillermoss::*;
+/// // Its lock stays closed for a minute where the session ends while this handle holds it.
+/// let file = Create { content: Some(vec![]), ..Create::default() };
+/// let opening = Opening { create: Some(file), lock_delay: 60_000, ..Opening::new("/ls/c/lock", Mode::WRITE) };
+/// client.acquire(client.open_with(&opening)?, LockMode::Exclusive)?;
+/// # Ok(()) });
+/// ```
 #[derive(Clone, Debug, PartialEq, Eq)]
 pub struct Opening {
     /// The whole name, as `/ls/c/f`.
@@ -49,6 +76,13 @@ pub struct Opening {
 
 impl Opening {
     /// A plain one: nothing is made, and nothing told.
+    ///
+    /// ```
+    /// # trials::with_client(|client| {
+    /// use tillermoss::{Mode, Opening};
+    /// client.open_with(&Opening::new("/ls/c", Mode::READ))?;
+    /// # Ok(()) });
+    /// ```
     #[must_use]
     pub fn new(name: &str, mode: Mode) -> Opening {
         Opening { name: name.to_owned(), mode, create: None, lock_delay: 0, events: Events::NONE }
@@ -208,7 +242,7 @@ impl Call<'_> {
 mod tests {
     use super::*;
 
-    const HEAD: &str = "0102 0000000000000001 0000000000000000 0000000000000001 ";
+    const HEAD: &str = "0202 0000000000000001 0000000000000000 0000000000000001 ";
     const HANDLE_3: &str = " 00000008 0000000000000003 ";
 
     fn bytes_of(hex: &str) -> Vec<u8> {

@@ -8,37 +8,65 @@ use crate::keeper::{Keeper, greet};
 use crate::library::Library;
 use crate::lines::{Answer, Shown};
 use crate::nodes::{LockMode, Mode, Stat, View};
+use crate::reaching::Reach;
 use crate::refusals::Refusal;
 use host_wire::{Hello, Welcome};
+use std::path::PathBuf;
 use std::sync::Arc;
 use std::sync::mpsc::{Receiver, Sender, channel};
 use std::thread;
 use std::time::{Duration, Instant};
+use tokio::runtime::Builder;
 
 /// So long between two tries of a call that was refused for now.
 const PAUSE: Duration = Duration::from_millis(50);
 
 /// How a client is connected.
+///
+/// ```
+/// use std::time::Duration;
+/// use tillermoss::Options;
+///
+/// let options = Options { patience: Duration::from_secs(5), ..Options::new("unix:/run/tillermoss/cell", "ann") };
+/// assert_eq!(options.principal, "ann");
+/// ```
 #[derive(Clone, Debug, PartialEq, Eq)]
 pub struct Options {
-    /// Where the server is, `HOST:PORT`.
+    /// Where the server is: `unix:PATH`, `tls:HOST:PORT`, `tcp:HOST:PORT` or `HOST:PORT`.
     pub server: String,
     /// Whom the client acts for: 1 to 64 of `a-z 0-9 . _ -`.
     pub principal: String,
     /// So long a call that is refused for now is tried again: while the session isn't safe, a recovery lasts, or too many changes
     /// wait. A call that was sent is waited for as long as the session lasts.
     pub patience: Duration,
+    /// At `tls:`, the file of the client's certificate, in PEM, whose common name is the principal; with those of the authorities
+    /// between.
+    pub certificate: Option<PathBuf>,
+    /// The file of its key, in PEM.
+    pub key: Option<PathBuf>,
+    /// The file of the authorities that sign the server's certificate, in PEM.
+    pub authority: Option<PathBuf>,
 }
 
 impl Options {
     /// To this server for this principal, with a patience of 90 s: longer than any recovery.
     #[must_use]
     pub fn new(server: &str, principal: &str) -> Options {
-        Options { server: server.to_owned(), principal: principal.to_owned(), patience: Duration::from_secs(90) }
+        let (server, principal, patience) = (server.to_owned(), principal.to_owned(), Duration::from_secs(90));
+        Options { server, principal, patience, certificate: None, key: None, authority: None }
     }
 }
 
 /// An open node, by its client's own number for it. Where its client is closed, or has lost its session, it is open no more.
+///
+/// ```
+/// # trials::with_client(|client| {
+/// # use tillermoss::*;
+/// let file = client.create("/ls/c/f", b"")?;
+/// client.close(file)?;
+/// assert_eq!(client.read(file).unwrap_err().refusal(), Some(Refusal::BadHandle));
+/// # Ok(()) });
+/// ```
 #[derive(Clone, Copy, Debug, PartialEq, Eq)]
 pub struct Handle {
     client: u64,
@@ -46,6 +74,15 @@ pub struct Handle {
 }
 
 /// A node that is watched: its handle, and its events. They end when the handle is closed or the session is lost.
+///
+/// ```
+/// # trials::with_client(|client| {
+/// # use tillermoss::*;
+/// let watch = client.watch("/ls/c", Events::CHILDREN)?;
+/// client.create("/ls/c/f", b"")?;
+/// assert_eq!(watch.events.recv(), Ok(Event::ChildAdded("/ls/c/f".to_owned())));
+/// # Ok(()) });
+/// ```
 #[derive(Debug)]
 pub struct Watch {
     /// By which it is open.
@@ -58,6 +95,20 @@ pub struct Watch {
 ///
 /// One call at a time waits for the master, others behind it; what the cache answers doesn't wait. A client that is dropped lets
 /// go of what it cached; but its session ends only when its lease has run out, and with it its locks and ephemeral nodes go.
+///
+/// ```
+/// # trials::with_client(|client| {
+/// # use tillermoss::*;
+/// // Threads share a client: what its cache answers waits for nobody.
+/// let file = client.create("/ls/c/f", b"hello")?;
+/// client.read(file)?;
+/// std::thread::scope(|scope| {
+///     for _ in 0..4 {
+///         scope.spawn(|| assert_eq!(client.read(file).unwrap().content, b"hello"));
+///     }
+/// });
+/// # Ok(()) });
+/// ```
 #[derive(Debug)]
 pub struct Client {
     core: Arc<Core>,
@@ -68,20 +119,31 @@ pub struct Client {
 impl Client {
     /// Connects, is given a number, and waits until its session has begun.
     ///
+    /// ```
+    /// # use tillermoss::*;
+    /// # let server = trials::server_of_its_own();
+    /// # let address = server.address.as_str();
+    /// let client = Client::connect(&Options::new(address, "ann"))?;
+    /// client.create("/ls/c/f", b"hello")?;
+    /// # Ok::<(), Error>(())
+    /// ```
+    ///
     /// # Errors
     ///
     /// Where the server can't be reached, turns the client away or gives it no session, and where none began in time.
     pub fn connect(options: &Options) -> Result<Client, Error> {
         let principal = options.principal.clone();
-        let connection = greet(&options.server, &Hello::New { principal: principal.clone() })?;
+        let reach = Reach::new(&options.server, options.certificate.as_ref(), options.key.as_ref(), options.authority.as_ref())?;
+        let runtime = Builder::new_current_thread().enable_all().build()?;
+        let connection = runtime.block_on(greet(&reach, &Hello::New { principal: principal.clone() }))?;
         let Welcome { client, token } = connection.welcome;
         let library =
             Library::open(client, &principal).map_err(|status| Error::Malformed(format!("the client's number, as {status:?}")))?;
         let core = Arc::new(Core::new(library));
         let hello = Hello::Again { principal, client, token };
-        let keeper = Keeper { core: core.clone(), server: options.server.clone(), hello };
+        let keeper = Keeper { core: core.clone(), reach, hello };
         let opened = Client { core, number: client, patience: options.patience };
-        thread::Builder::new().name("tillermoss".to_owned()).spawn(move || keeper.run(connection))?;
+        thread::Builder::new().name("tillermoss".to_owned()).spawn(move || runtime.block_on(keeper.run(connection)))?;
         opened.wait_for_session()?;
         Ok(opened)
     }
@@ -105,12 +167,24 @@ impl Client {
     }
 
     /// The client's number, which no other client of the cell has or had.
+    ///
+    /// ```
+    /// # trials::with_client(|client| {
+    /// assert_eq!(client.number(), 1);
+    /// # Ok(()) });
+    /// ```
     #[must_use]
     pub fn number(&self) -> u64 {
         self.number
     }
 
     /// Whether the session is lost. Then each call but one is refused, for good: connect anew.
+    ///
+    /// ```
+    /// # trials::with_client(|client| {
+    /// assert!(!client.is_lost());
+    /// # Ok(()) });
+    /// ```
     #[must_use]
     pub fn is_lost(&self) -> bool {
         self.core.lock().standing() == Standing::Lost
@@ -186,6 +260,16 @@ impl Client {
 
     /// Opens a node, as it is asked for.
     ///
+    /// ```
+    /// # trials::with_client(|client| {
+    /// # use tillermoss::*;
+    /// // A directory, made where there is none.
+    /// let directory = Opening { create: Some(Create::default()), ..Opening::new("/ls/c/d", Mode::READ) };
+    /// client.open_with(&directory)?;
+    /// assert_eq!(client.list(client.open_with(&directory)?)?, [""; 0]);
+    /// # Ok(()) });
+    /// ```
+    ///
     /// # Errors
     ///
     /// As the master refuses it: `NotFound`, `Exists`, `Denied` and others.
@@ -195,6 +279,14 @@ impl Client {
 
     /// Opens a node that is there. A name that isn't there may be kept in the cache: then the next Open asks nobody.
     ///
+    /// ```
+    /// # trials::with_client(|client| {
+    /// # use tillermoss::*;
+    /// assert_eq!(client.open("/ls/c/f", Mode::READ).unwrap_err().refusal(), Some(Refusal::NotFound));
+    /// client.open("/ls/c/acl/base", Mode::READ)?;
+    /// # Ok(()) });
+    /// ```
+    ///
     /// # Errors
     ///
     /// As the master refuses it: `NotFound`, `Denied` and others.
@@ -203,6 +295,14 @@ impl Client {
     }
 
     /// Makes a permanent file, which isn't there yet, and opens it to read and to write.
+    ///
+    /// ```
+    /// # trials::with_client(|client| {
+    /// # use tillermoss::*;
+    /// client.create("/ls/c/f", b"hello")?;
+    /// assert_eq!(client.create("/ls/c/f", b"").unwrap_err().refusal(), Some(Refusal::Exists));
+    /// # Ok(()) });
+    /// ```
     ///
     /// # Errors
     ///
@@ -214,6 +314,16 @@ impl Client {
 
     /// Opens a node to read it, and tells of its events, and of those of the session.
     ///
+    /// ```
+    /// # trials::with_client(|client| {
+    /// # use tillermoss::*;
+    /// let file = client.create("/ls/c/f", b"a")?;
+    /// let watch = client.watch("/ls/c/f", Events::CONTENTS)?;
+    /// client.set(file, b"b", None)?;
+    /// assert!(matches!(watch.events.recv(), Ok(Event::Contents { generation: 2, .. })));
+    /// # Ok(()) });
+    /// ```
+    ///
     /// # Errors
     ///
     /// As the master refuses it: `NotFound`, `Denied` and others.
@@ -222,6 +332,17 @@ impl Client {
     }
 
     /// Opens a node as it is asked for, and tells of its events, and of those of the session.
+    ///
+    /// ```
+    /// # trials::with_client(|client| {
+    /// # use tillermoss::*;
+    /// let file = Create { content: Some(vec![]), ..Create::default() };
+    /// let opening = Opening { create: Some(file), events: Events::LOCK, ..Opening::new("/ls/c/f", Mode::WRITE) };
+    /// let watch = client.watch_with(&opening)?;
+    /// client.acquire(watch.handle, LockMode::Exclusive)?;
+    /// assert_eq!(watch.events.recv(), Ok(Event::Locked));
+    /// # Ok(()) });
+    /// ```
     ///
     /// # Errors
     ///
@@ -233,6 +354,16 @@ impl Client {
     }
 
     /// Closes a handle. A lock that it holds is free from then on.
+    ///
+    /// ```
+    /// # trials::with_client(|client| {
+    /// # use tillermoss::*;
+    /// let file = client.create("/ls/c/f", b"")?;
+    /// client.acquire(file, LockMode::Exclusive)?;
+    /// client.close(file)?;
+    /// client.try_acquire(client.open("/ls/c/f", Mode::WRITE)?, LockMode::Exclusive)?;
+    /// # Ok(()) });
+    /// ```
     ///
     /// # Errors
     ///
@@ -246,6 +377,16 @@ impl Client {
 
     /// Each later call on the handle is refused as `Poisoned`, but its close; so is one that waits for its reply.
     ///
+    /// ```
+    /// # trials::with_client(|client| {
+    /// # use tillermoss::*;
+    /// let file = client.create("/ls/c/f", b"")?;
+    /// client.poison(file)?;
+    /// assert_eq!(client.read(file).unwrap_err().refusal(), Some(Refusal::Poisoned));
+    /// client.close(file)?;
+    /// # Ok(()) });
+    /// ```
+    ///
     /// # Errors
     ///
     /// `BadHandle` where it isn't open.
@@ -254,6 +395,16 @@ impl Client {
     }
 
     /// Reads a node: out of the cache, without a message, where it holds it under a lease that runs.
+    ///
+    /// ```
+    /// # trials::with_client(|client| {
+    /// let file = client.create("/ls/c/f", b"hello")?;
+    /// assert!(!client.read(file)?.is_served);
+    /// let again = client.read(file)?;
+    /// assert!(again.is_served);
+    /// assert_eq!(again.content, b"hello");
+    /// # Ok(()) });
+    /// ```
     ///
     /// # Errors
     ///
@@ -268,6 +419,16 @@ impl Client {
 
     /// Reads a node's content alone, into the place of what the room held: whether the cache served it. That takes no memory where
     /// the room is large enough.
+    ///
+    /// ```
+    /// # trials::with_client(|client| {
+    /// let file = client.create("/ls/c/f", b"hello")?;
+    /// let mut room = Vec::with_capacity(64);
+    /// assert!(!client.read_into(file, &mut room)?);
+    /// assert!(client.read_into(file, &mut room)?);
+    /// assert_eq!(room, b"hello");
+    /// # Ok(()) });
+    /// ```
     ///
     /// # Errors
     ///
@@ -285,6 +446,13 @@ impl Client {
 
     /// The numbers of a node.
     ///
+    /// ```
+    /// # trials::with_client(|client| {
+    /// let stat = client.stat(client.create("/ls/c/f", b"hello")?)?;
+    /// assert_eq!((stat.length, stat.content_generation), (5, 1));
+    /// # Ok(()) });
+    /// ```
+    ///
     /// # Errors
     ///
     /// As the master refuses it: `StaleInstance` where the node is gone, and others.
@@ -296,6 +464,14 @@ impl Client {
     }
 
     /// The last components of the names of a directory's children, in order of bytes: out of the cache as `read`.
+    ///
+    /// ```
+    /// # trials::with_client(|client| {
+    /// # use tillermoss::*;
+    /// client.create("/ls/c/f", b"")?;
+    /// assert_eq!(client.list(client.open("/ls/c", Mode::READ)?)?, ["acl", "f"]);
+    /// # Ok(()) });
+    /// ```
     ///
     /// # Errors
     ///
@@ -310,6 +486,16 @@ impl Client {
     /// Writes the whole content of a file, at most 262,144 bytes; with a generation only where that is the present one. It waits
     /// until no client has the old content in its cache.
     ///
+    /// ```
+    /// # trials::with_client(|client| {
+    /// # use tillermoss::*;
+    /// let file = client.create("/ls/c/f", b"a")?;
+    /// client.set(file, b"b", None)?;
+    /// client.set(file, b"c", Some(2))?;
+    /// assert_eq!(client.set(file, b"d", Some(2)).unwrap_err().refusal(), Some(Refusal::WrongGeneration(3)));
+    /// # Ok(()) });
+    /// ```
+    ///
     /// # Errors
     ///
     /// As the master refuses it: `WrongGeneration`, `TooLarge` and others. `Unknown` where another master came up meanwhile: then it
@@ -320,6 +506,17 @@ impl Client {
 
     /// Names the ACLs to read, to write, and to change ACLs; with a generation only where that is the present one.
     ///
+    /// ```
+    /// # trials::with_client(|client| {
+    /// # use tillermoss::*;
+    /// client.create("/ls/c/acl/readers", b"ann\nbob\n")?;
+    /// client.create("/ls/c/f", b"")?;
+    /// let file = client.open("/ls/c/f", Mode::READ.and(Mode::CHANGE))?;
+    /// client.set_acl(file, &["readers", "base", "base"].map(str::to_owned), None)?;
+    /// assert_eq!(client.stat(file)?.acl[0], "readers");
+    /// # Ok(()) });
+    /// ```
+    ///
     /// # Errors
     ///
     /// As `set`.
@@ -329,6 +526,15 @@ impl Client {
 
     /// Deletes a node that has no children.
     ///
+    /// ```
+    /// # trials::with_client(|client| {
+    /// # use tillermoss::*;
+    /// let file = client.create("/ls/c/f", b"")?;
+    /// client.delete(file)?;
+    /// assert_eq!(client.read(file).unwrap_err().refusal(), Some(Refusal::StaleInstance));
+    /// # Ok(()) });
+    /// ```
+    ///
     /// # Errors
     ///
     /// As the master refuses it: `NotEmpty` and others; `Unknown` as at `set`.
@@ -337,6 +543,15 @@ impl Client {
     }
 
     /// Takes the node's lock, and waits for it. Meanwhile other calls of this client that the cache doesn't answer wait too.
+    ///
+    /// ```
+    /// # trials::with_client(|client| {
+    /// # use tillermoss::*;
+    /// let file = client.create("/ls/c/f", b"")?;
+    /// client.acquire(file, LockMode::Exclusive)?;
+    /// assert_eq!(client.stat(file)?.lock_generation, Some(1));
+    /// # Ok(()) });
+    /// ```
     ///
     /// # Errors
     ///
@@ -348,6 +563,17 @@ impl Client {
 
     /// Takes the node's lock, if that can be had at once.
     ///
+    /// ```
+    /// # trials::with_client(|client| {
+    /// # use tillermoss::*;
+    /// client.acquire(client.create("/ls/c/f", b"")?, LockMode::Shared)?;
+    /// let other = client.open("/ls/c/f", Mode::WRITE)?;
+    /// let refusal = client.try_acquire(other, LockMode::Exclusive).unwrap_err().refusal();
+    /// assert_eq!(refusal, Some(Refusal::Held(LockMode::Shared)));
+    /// client.try_acquire(other, LockMode::Shared)?;
+    /// # Ok(()) });
+    /// ```
+    ///
     /// # Errors
     ///
     /// `Held` and `Delayed` where it can't; else as `acquire`.
@@ -357,6 +583,16 @@ impl Client {
 
     /// Lets the lock go.
     ///
+    /// ```
+    /// # trials::with_client(|client| {
+    /// # use tillermoss::*;
+    /// let file = client.create("/ls/c/f", b"")?;
+    /// client.acquire(file, LockMode::Exclusive)?;
+    /// client.release(file)?;
+    /// assert_eq!(client.release(file).unwrap_err().refusal(), Some(Refusal::NotHolder));
+    /// # Ok(()) });
+    /// ```
+    ///
     /// # Errors
     ///
     /// `NotHolder` where the handle doesn't hold it, and others.
@@ -365,6 +601,16 @@ impl Client {
     }
 
     /// The bytes of the sequencer of the lock that the handle holds: they show others that it is held (Burrows 2006, section 2.4).
+    ///
+    /// ```
+    /// # trials::with_client(|client| {
+    /// # use tillermoss::*;
+    /// let file = client.create("/ls/c/f", b"")?;
+    /// client.acquire(file, LockMode::Exclusive)?;
+    /// let sequencer = client.sequencer(file)?;
+    /// client.check_sequencer(&sequencer)?;
+    /// # Ok(()) });
+    /// ```
     ///
     /// # Errors
     ///
@@ -378,6 +624,19 @@ impl Client {
 
     /// The handle's later calls stand under the sequencer of these bytes: they are refused once its lock is held no more.
     ///
+    /// ```
+    /// # trials::with_client(|client| {
+    /// # use tillermoss::*;
+    /// let lock = client.create("/ls/c/lock", b"")?;
+    /// client.acquire(lock, LockMode::Exclusive)?;
+    /// let file = client.create("/ls/c/f", b"")?;
+    /// client.set_sequencer(file, &client.sequencer(lock)?)?;
+    /// client.set(file, b"under the lock", None)?;
+    /// client.release(lock)?;
+    /// assert_eq!(client.set(file, b"too late", None).unwrap_err().refusal(), Some(Refusal::SequencerStale));
+    /// # Ok(()) });
+    /// ```
+    ///
     /// # Errors
     ///
     /// `BadSequencer`, `SequencerStale` and others.
@@ -386,6 +645,17 @@ impl Client {
     }
 
     /// Whether the lock of the sequencer of these bytes is held: Ok, or why not.
+    ///
+    /// ```
+    /// # trials::with_client(|client| {
+    /// # use tillermoss::*;
+    /// let file = client.create("/ls/c/f", b"")?;
+    /// client.acquire(file, LockMode::Exclusive)?;
+    /// let sequencer = client.sequencer(file)?;
+    /// client.release(file)?;
+    /// assert_eq!(client.check_sequencer(&sequencer).unwrap_err().refusal(), Some(Refusal::SequencerStale));
+    /// # Ok(()) });
+    /// ```
     ///
     /// # Errors
     ///

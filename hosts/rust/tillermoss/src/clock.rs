@@ -1,30 +1,15 @@
 //! The clock of a client.
 
-use std::ffi::{c_int, c_long};
+use nix::time::{ClockId, clock_gettime};
 
-/// The clock that goes on while the machine sleeps. By one that stands still then a client would trust a lease that has ended.
-const CLOCK_BOOTTIME: c_int = 7;
-
-/// What `clock_gettime` writes, on Linux with 64 bits.
-#[repr(C)]
-struct Time {
-    seconds: i64,
-    nanoseconds: c_long,
-}
-
-unsafe extern "C" {
-    fn clock_gettime(clock: c_int, time: *mut Time) -> c_int;
-}
-
-/// The present moment, in milliseconds since the machine was started. Where there is no such clock it is the end of all moments, at
-/// which no lease runs.
+/// The present moment, in milliseconds since the machine was started, by the clock that goes on while the machine sleeps: by one
+/// that stands still then a client would trust a lease that has ended. Where there is no such clock it is the end of all moments,
+/// at which no lease runs.
 pub fn now() -> u64 {
-    let mut time = Time { seconds: 0, nanoseconds: 0 };
-    // SAFETY: a `&mut` of the form that the call writes.
-    match unsafe { clock_gettime(CLOCK_BOOTTIME, &raw mut time) } {
-        0 => time.seconds.cast_unsigned().saturating_mul(1000).saturating_add(time.nanoseconds.cast_unsigned() / 1_000_000),
-        _ => u64::MAX,
-    }
+    let Ok(time) = clock_gettime(ClockId::CLOCK_BOOTTIME) else {
+        return u64::MAX;
+    };
+    time.tv_sec().cast_unsigned().saturating_mul(1000).saturating_add(time.tv_nsec().cast_unsigned() / 1_000_000)
 }
 
 #[cfg(test)]

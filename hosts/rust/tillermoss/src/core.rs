@@ -7,12 +7,11 @@ use crate::events::Event;
 use crate::library::{Library, Status};
 use crate::lines::{Answer, Line, Shown};
 use crate::refusals::Refusal;
-use host_wire::{TurnedAway, write_parting};
-use std::net::{Shutdown, TcpStream};
+use host_wire::{Notice, TurnedAway, write_parting};
 use std::sync::mpsc::{Receiver, Sender, channel};
 use std::sync::{Condvar, Mutex, MutexGuard, PoisonError};
-use std::thread::{self, JoinHandle};
 use std::time::{Duration, Instant};
+use tokio::sync::mpsc::UnboundedSender;
 
 /// So long at most who waits for a change doesn't look again.
 const LOOK: Duration = Duration::from_millis(50);
@@ -81,9 +80,9 @@ struct Watcher {
 #[derive(Debug)]
 pub struct State {
     library: Library,
-    stream: Option<TcpStream>,
-    outgoing: Option<Sender<Vec<u8>>>,
-    writer: Option<JoinHandle<()>>,
+    outgoing: Option<UnboundedSender<Vec<u8>>>,
+    is_writing: bool,
+    notice: Option<Notice>,
     waiter: Option<Sender<Result<Reply, Error>>>,
     new_watcher: Option<Sender<Event>>,
     watchers: Vec<Watcher>,
@@ -103,9 +102,9 @@ impl Core {
     pub fn new(library: Library) -> Core {
         let state = State {
             library,
-            stream: None,
             outgoing: None,
-            writer: None,
+            is_writing: false,
+            notice: None,
             waiter: None,
             new_watcher: None,
             watchers: Vec::new(),
@@ -143,13 +142,11 @@ impl Core {
         let mut state = self.lock();
         state.part();
         state.end(End::Closed);
-        let writer = state.writer.take();
-        drop(state);
         let begun = Instant::now();
-        while writer.as_ref().is_some_and(|writer| !writer.is_finished()) && begun.elapsed() < PARTING {
-            thread::sleep(Duration::from_millis(1));
+        while state.is_writing && begun.elapsed() < PARTING {
+            state = self.wait(state);
         }
-        self.lock().disconnect();
+        drop(state);
         self.tell();
     }
 }
@@ -173,11 +170,10 @@ impl State {
         })
     }
 
-    /// From here on messages go to this stream, by way of its writer. A Beat goes first, and the outstanding call again.
-    pub fn connect(&mut self, stream: TcpStream, outgoing: Sender<Vec<u8>>, writer: JoinHandle<()>) {
-        self.stream = Some(stream);
+    /// From here on messages go this way. A Beat goes first, and the outstanding call again.
+    pub fn connect(&mut self, outgoing: UnboundedSender<Vec<u8>>) {
         self.outgoing = Some(outgoing);
-        self.writer = Some(writer);
+        self.is_writing = true;
     }
 
     fn end(&mut self, end: End) {
@@ -198,10 +194,7 @@ impl State {
     /// The connection is gone.
     pub fn disconnect(&mut self) {
         self.outgoing = None;
-        if let Some(stream) = self.stream.take() {
-            // (one that is gone already is shut down)
-            let _ = stream.shutdown(Shutdown::Both);
-        }
+        self.is_writing = false;
     }
 
     // Without a connection a message is lost, and goes again with the next one.
@@ -229,8 +222,12 @@ impl State {
         self.send(message);
     }
 
-    /// Gives the client a message of its master.
+    /// Gives the client a message of its master; or what the server says by itself.
     pub fn give(&mut self, message: &[u8]) {
+        if let Some(notice) = Notice::read(message) {
+            self.notice = Some(notice);
+            return;
+        }
         let status = self.library.give(clock::now(), message);
         self.learn(status);
         if self.standing == Standing::Unstarted && self.library.leased_until() > 0 {
@@ -330,11 +327,12 @@ impl State {
     // The outstanding call ended.
     fn finish(&mut self, number: u64, answer: Answer) {
         let watcher = self.new_watcher.take();
+        let notice = self.notice.take().filter(|notice| notice.number == number);
         if let (Answer::Opened(handle), Some(events)) = (&answer, watcher) {
             self.watchers.push(Watcher { opened: number, handle: *handle, events });
         }
         let result = match answer {
-            Answer::Refused(refusal) => Err(refusal.into()),
+            Answer::Refused(refusal) => Err(notice.map_or(refusal.into(), |notice| Error::Limited(notice.reason))),
             Answer::Viewed(shown) => Ok(self.viewed(shown, false)),
             answer => Ok(Reply::bare(answer, false)),
         };

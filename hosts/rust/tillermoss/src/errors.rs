@@ -2,28 +2,51 @@
 
 use crate::refusals::Refusal;
 use host_wire::TurnedAway;
-use std::fmt;
 use std::io;
+use thiserror::Error;
 
 /// Why a call came to nothing.
-#[derive(Debug)]
+///
+/// ```
+/// use tillermoss::{Error, Refusal};
+///
+/// let error = Error::from(Refusal::NotFound);
+/// assert_eq!(error.to_string(), "NotFound: no such node, or no such parent at a create");
+/// ```
+#[derive(Debug, Error)]
 pub enum Error {
     /// The master or the client library refused it.
-    Refused(Refusal),
+    #[error(transparent)]
+    Refused(#[from] Refusal),
+    /// A limit of the server stands against it.
+    #[error("{0}")]
+    Limited(String),
     /// The server doesn't take the client.
+    #[error("turned away: {0}")]
     TurnedAway(TurnedAway),
-    /// The client can't be connected, or its threads can't be started.
-    Io(io::Error),
+    /// The client can't be connected, or its thread can't be started.
+    #[error(transparent)]
+    Io(#[from] io::Error),
     /// No session began, or none was safe, for as long as the client waits for it.
+    #[error("the cell can't be reached")]
     Unavailable,
     /// The client was closed.
+    #[error("the client is closed")]
     Closed,
     /// What came back isn't understood.
+    #[error("not understood: {0}")]
     Malformed(String),
 }
 
 impl Error {
     /// The refusal, where it is one.
+    ///
+    /// ```
+    /// use tillermoss::{Error, Refusal};
+    ///
+    /// assert_eq!(Error::from(Refusal::Exists).refusal(), Some(Refusal::Exists));
+    /// assert_eq!(Error::Closed.refusal(), None);
+    /// ```
     #[must_use]
     pub fn refusal(&self) -> Option<Refusal> {
         match self {
@@ -32,30 +55,3 @@ impl Error {
         }
     }
 }
-
-impl From<Refusal> for Error {
-    fn from(refusal: Refusal) -> Error {
-        Error::Refused(refusal)
-    }
-}
-
-impl From<io::Error> for Error {
-    fn from(error: io::Error) -> Error {
-        Error::Io(error)
-    }
-}
-
-impl fmt::Display for Error {
-    fn fmt(&self, out: &mut fmt::Formatter<'_>) -> fmt::Result {
-        match self {
-            Error::Refused(refusal) => refusal.fmt(out),
-            Error::TurnedAway(reason) => write!(out, "turned away: {reason}"),
-            Error::Io(error) => error.fmt(out),
-            Error::Unavailable => out.write_str("the cell can't be reached"),
-            Error::Closed => out.write_str("the client is closed"),
-            Error::Malformed(what) => write!(out, "not understood: {what}"),
-        }
-    }
-}
-
-impl std::error::Error for Error {}

@@ -1,6 +1,13 @@
 //! What a client is told of a node that it watches.
 
 /// Of which events the client of a handle is told.
+///
+/// ```
+/// use tillermoss::Events;
+///
+/// assert_ne!(Events::CONTENTS.and(Events::CHILDREN), Events::CONTENTS);
+/// assert_eq!(Events::NONE.and(Events::LOCK), Events::LOCK);
+/// ```
 #[derive(Clone, Copy, Debug, Default, PartialEq, Eq)]
 pub struct Events(pub(crate) u8);
 
@@ -24,6 +31,16 @@ impl Events {
 }
 
 /// An event. It tells of a change that was made: what is read afterwards is no older.
+///
+/// ```
+/// # trials::with_client(|client| {
+/// # use tillermoss::*;
+/// let watch = client.watch("/ls/c", Events::CHILDREN)?;
+/// client.delete(client.create("/ls/c/f", b"")?)?;
+/// assert_eq!(watch.events.recv(), Ok(Event::ChildAdded("/ls/c/f".to_owned())));
+/// assert_eq!(watch.events.recv(), Ok(Event::ChildRemoved("/ls/c/f".to_owned())));
+/// # Ok(()) });
+/// ```
 #[derive(Clone, Debug, PartialEq, Eq)]
 pub enum Event {
     /// The content was set: the node's instance, and its content generation from then on.

@@ -3,13 +3,14 @@
 use crate::clock;
 use crate::core::{Core, End};
 use crate::errors::Error;
-use host_wire::{ANSWER_LIMIT, Blocks, Hello, TurnedAway, Welcome, write_block};
+use crate::reaching::{Reach, Stream};
+use host_wire::{ANSWER_LIMIT, Blocks, Hello, Welcome, framed};
 use std::io::{self, ErrorKind};
-use std::net::{Shutdown, TcpStream, ToSocketAddrs};
 use std::sync::Arc;
-use std::sync::mpsc::{Receiver, channel};
-use std::thread;
 use std::time::Duration;
+use tokio::io::{AsyncRead, AsyncWrite, AsyncWriteExt};
+use tokio::sync::mpsc::{UnboundedReceiver, unbounded_channel};
+use tokio::time::{sleep, timeout};
 
 /// So long a connection may take to be made, and a greeting to be answered.
 const CONNECTING: Duration = Duration::from_secs(5);
@@ -35,33 +36,23 @@ const ALIVE: u8 = 1;
 const REFUSED: u8 = 3;
 
 /// A connection that is bound to a client, with what was read of it behind the welcome.
-#[derive(Debug)]
 pub struct Connection {
-    stream: TcpStream,
+    stream: Box<dyn Stream>,
     blocks: Blocks,
     /// What it is bound to.
     pub welcome: Welcome,
 }
 
 /// Connects to a server, and greets it.
-pub fn greet(server: &str, hello: &Hello) -> Result<Connection, Error> {
-    let mut last = io::Error::new(ErrorKind::NotFound, "the server has no address");
-    for address in server.to_socket_addrs()? {
-        match TcpStream::connect_timeout(&address, CONNECTING) {
-            Ok(stream) => return welcomed(stream, hello),
-            Err(error) => last = error,
-        }
-    }
-    Err(last.into())
+pub async fn greet(reach: &Reach, hello: &Hello) -> Result<Connection, Error> {
+    let greeted = timeout(CONNECTING, async { welcomed(reach.connect().await?, hello).await });
+    greeted.await.unwrap_or_else(|_| Err(io::Error::from(ErrorKind::TimedOut).into()))
 }
 
-fn welcomed(stream: TcpStream, hello: &Hello) -> Result<Connection, Error> {
-    stream.set_nodelay(true)?;
-    stream.set_read_timeout(Some(CONNECTING))?;
-    stream.set_write_timeout(Some(WRITING))?;
-    write_block(&mut &stream, &hello.write())?;
+async fn welcomed(mut stream: Box<dyn Stream>, hello: &Hello) -> Result<Connection, Error> {
+    stream.write_all(&framed(&hello.write())?).await?;
     let mut blocks = Blocks::new(ANSWER_LIMIT);
-    let block = blocks.next(&mut &stream)?.ok_or_else(|| io::Error::from(ErrorKind::UnexpectedEof))?;
+    let block = blocks.next_of(&mut stream).await?.ok_or_else(|| io::Error::from(ErrorKind::UnexpectedEof))?;
     match Welcome::read(&block) {
         Ok(Ok(welcome)) => Ok(Connection { stream, blocks, welcome }),
         Ok(Err(reason)) => Err(Error::TurnedAway(reason)),
@@ -102,70 +93,80 @@ impl Schedule {
 pub struct Keeper {
     /// What it shares with those who call.
     pub core: Arc<Core>,
-    /// Where the server is, `HOST:PORT`.
-    pub server: String,
+    /// How the server is reached.
+    pub reach: Reach,
     /// By what it takes its number up again.
     pub hello: Hello,
 }
 
 impl Keeper {
     /// Keeps the session over this connection and later ones, until it is lost, or the client is closed or turned away.
-    pub fn run(&self, connection: Connection) {
+    pub async fn run(&self, connection: Connection) {
         let mut next = Some(connection);
         let mut pause = PAUSES.0;
         while self.core.lock().goes_on() {
-            let found = next.take().map_or_else(|| greet(&self.server, &self.hello), Ok);
+            let found = match next.take() {
+                Some(connection) => Ok(connection),
+                None => greet(&self.reach, &self.hello).await,
+            };
             match found {
-                Ok(Connection { stream, blocks, .. }) => {
+                Ok(connection) => {
                     let mut has_heard = false;
                     // (whatever ends a connection, another is made)
-                    let _ = self.keep(&stream, blocks, &mut has_heard);
+                    let _ = self.keep(connection, &mut has_heard).await;
                     self.core.lock().disconnect();
-                    pause = if has_heard { PAUSES.0 } else { Keeper::rest(pause) };
+                    self.core.tell();
+                    pause = if has_heard { PAUSES.0 } else { Keeper::rest(pause).await };
                 }
-                Err(Error::TurnedAway(reason)) if !matches!(reason, TurnedAway::Full | TurnedAway::NoNumber) => {
+                Err(Error::TurnedAway(reason)) if !reason.is_for_now() => {
                     self.core.end(End::TurnedAway(reason));
                 }
                 Err(_) => {
                     // (a Beat without a connection notes the time)
                     self.core.lock().beat();
                     self.core.tell();
-                    pause = Keeper::rest(pause);
+                    pause = Keeper::rest(pause).await;
                 }
             }
         }
     }
 
     // Waits so many milliseconds; gives how many the next time.
-    fn rest(pause: u64) -> u64 {
-        thread::sleep(Duration::from_millis(pause));
+    async fn rest(pause: u64) -> u64 {
+        sleep(Duration::from_millis(pause)).await;
         (2 * pause).min(PAUSES.1)
     }
 
     // Keeps it over this connection, until that is lost; whether the master was heard of meanwhile.
-    fn keep(&self, stream: &TcpStream, mut blocks: Blocks, has_heard: &mut bool) -> io::Result<()> {
-        let (outgoing, waiting) = channel();
-        let written = stream.try_clone()?;
-        let writer = thread::Builder::new().spawn(move || write_all(&written, &waiting))?;
-        self.core.lock().connect(stream.try_clone()?, outgoing, writer);
+    async fn keep(&self, connection: Connection, has_heard: &mut bool) -> io::Result<()> {
+        let Connection { stream, blocks, .. } = connection;
+        let (outgoing, waiting) = unbounded_channel();
+        let (read, write) = tokio::io::split(stream);
+        self.core.lock().connect(outgoing);
+        tokio::select! {
+            end = self.hear(read, blocks, has_heard) => end,
+            end = write_all(write, waiting) => end,
+        }
+    }
+
+    async fn hear(&self, mut read: impl AsyncRead + Unpin, mut blocks: Blocks, has_heard: &mut bool) -> io::Result<()> {
         let mut schedule = self.beat(true);
-        while self.core.lock().goes_on() {
+        loop {
             let rest = schedule.due.saturating_sub(clock::now()).max(1);
-            stream.set_read_timeout(Some(Duration::from_millis(rest)))?;
-            match blocks.next(&mut &*stream) {
-                Ok(None) => return Ok(()),
-                Ok(Some(message)) => {
+            match timeout(Duration::from_millis(rest), blocks.next_of(&mut read)).await {
+                Ok(Ok(None)) => return Ok(()),
+                Ok(Ok(Some(message))) => {
                     *has_heard = true;
                     self.give(&mut schedule, &message);
                 }
-                Err(error) if matches!(error.kind(), ErrorKind::WouldBlock | ErrorKind::TimedOut) => {}
-                Err(error) => return Err(error),
+                Ok(Err(error)) => return Err(error),
+                Err(_) => {}
             }
-            if clock::now() >= schedule.due {
+            // (of a client that is closed the last Beat is written first)
+            if self.core.lock().goes_on() && clock::now() >= schedule.due {
                 schedule = self.beat(!schedule.is_answered);
             }
         }
-        Ok(())
     }
 
     fn give(&self, schedule: &mut Schedule, message: &[u8]) {
@@ -188,14 +189,14 @@ impl Keeper {
     }
 }
 
-fn write_all(mut stream: &TcpStream, waiting: &Receiver<Vec<u8>>) {
-    for message in waiting {
-        if write_block(&mut stream, &message).is_err() {
-            break;
-        }
+// Writes what is sent, until nothing is to be sent any more.
+async fn write_all(mut write: impl AsyncWrite + Unpin, mut waiting: UnboundedReceiver<Vec<u8>>) -> io::Result<()> {
+    while let Some(message) = waiting.recv().await {
+        let bytes = framed(&message)?;
+        timeout(WRITING, write.write_all(&bytes)).await.unwrap_or_else(|_| Err(ErrorKind::TimedOut.into()))?;
+        write.flush().await?;
     }
-    // (one that is gone already is shut down)
-    let _ = stream.shutdown(Shutdown::Both);
+    write.shutdown().await
 }
 
 #[cfg(test)]
@@ -204,7 +205,7 @@ mod tests {
 
     fn message(kind: u8, length: usize) -> Vec<u8> {
         let mut message = vec![0; length];
-        message[..2].copy_from_slice(&[1, kind]);
+        message[..2].copy_from_slice(&[2, kind]);
         message
     }
 

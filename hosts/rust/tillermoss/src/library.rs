@@ -212,7 +212,7 @@ mod tests {
     fn started() -> Library {
         let mut library = Library::open(CLIENT, "ann").unwrap();
         assert_eq!(library.beat(1000), Status::Send);
-        assert_eq!(library.give(1100, &words(&[1, 0], &[CLIENT, 1, 1, 12_000])), Status::Done);
+        assert_eq!(library.give(1100, &words(&[2, 0], &[CLIENT, 1, 1, 12_000])), Status::Done);
         library
     }
 
@@ -220,15 +220,15 @@ mod tests {
     fn cached() -> Library {
         let mut library = started();
         assert_eq!(library.ask(1100, &Call::Open(&Opening::new("/ls/c/f", Mode::READ)).write()), Status::Send);
-        let opened = [words(&[1, 2], &[CLIENT, 1, 1]), vec![0, 0], b"\0\0\0\x04abcd".to_vec(), words(&[], &[4]), vec![0]].concat();
+        let opened = [words(&[2, 2], &[CLIENT, 1, 1]), vec![0, 0], b"\0\0\0\x04abcd".to_vec(), words(&[], &[4]), vec![0]].concat();
         assert_eq!(library.give(1100, &opened), Status::Done);
         assert_eq!(library.lines().unwrap(), "done 7 1 opened 1\n");
         assert_eq!(library.read(1100, 1, &mut Vec::new()), Status::Send);
-        let call = [words(&[1, 2], &[CLIENT, 1, 2]), vec![2], b"\0\0\0\x04abcd".to_vec(), vec![0]].concat();
+        let call = [words(&[2, 2], &[CLIENT, 1, 2]), vec![2], b"\0\0\0\x04abcd".to_vec(), vec![0]].concat();
         assert_eq!(library.message(), Some(call));
         let names = b"\0\0\0\x04base".repeat(3);
         let view =
-            [words(&[1, 2], &[CLIENT, 1, 2]), words(&[1], &[0]), words(&[2, 0], &[4, 1, 1]), names, b"\0\0\0\0\x05hello\0\0\0\0".to_vec()];
+            [words(&[2, 2], &[CLIENT, 1, 2]), words(&[1], &[0]), words(&[2, 0], &[4, 1, 1]), names, b"\0\0\0\0\x05hello\0\0\0\0".to_vec()];
         assert_eq!(library.give(1100, &view.concat()), Status::Done);
         library
     }
@@ -245,7 +245,7 @@ mod tests {
         let mut library = Library::open(CLIENT, "ann").unwrap();
         assert_eq!((library.leased_until(), library.message(), library.lines().unwrap().as_str()), (0, None, ""));
         assert_eq!(library.beat(1000), Status::Send);
-        let start = [words(&[1, 0], &[CLIENT, 1]), b"\0\0\0\x03ann".to_vec()].concat();
+        let start = [words(&[2, 0], &[CLIENT, 1]), b"\0\0\0\x03ann".to_vec()].concat();
         assert_eq!(library.message(), Some(start));
         let read = Call::Read(1).write();
         assert_eq!(library.ask(1000, &read), Status::Refused(Refusal::NoSession));
@@ -253,7 +253,7 @@ mod tests {
         assert_eq!(library.leased_until(), 12_294);
         assert_eq!(library.ask(1100, &read), Status::Refused(Refusal::BadHandle));
         assert_eq!(library.beat(1100), Status::Send);
-        assert_eq!(library.message(), Some(words(&[1, 1], &[CLIENT, 1, 2, 0, 0])));
+        assert_eq!(library.message(), Some(words(&[2, 1], &[CLIENT, 1, 2, 0, 0])));
     }
 
     #[test]
@@ -263,7 +263,7 @@ mod tests {
         assert_eq!(library.again(), None);
         assert_eq!(library.ask(1100, &call), Status::Send);
         let open = b"\0\0\0\0\x07/ls/c/f\x01\0\0\0\0\0\0\0\0\0\0\0".to_vec();
-        let sent = [words(&[1, 2], &[CLIENT, 1, 1]), open].concat();
+        let sent = [words(&[2, 2], &[CLIENT, 1, 1]), open].concat();
         assert_eq!((library.message(), library.again()), (Some(sent.clone()), Some(sent)));
         assert_eq!(library.ask(1100, &call), Status::Refused(Refusal::CallOutstanding));
     }
@@ -298,11 +298,11 @@ mod tests {
     fn what_is_no_message_changes_nothing() {
         let mut library = cached();
         let lines = library.lines();
-        let rows: &[(&[u8], u32)] = &[(b"", 82), (b"\x02\0", 83), (b"\x01\x09", 84), (&[1, 0, 0], 82)];
+        let rows: &[(&[u8], u32)] = &[(b"", 82), (b"\x01\0", 83), (b"\x02\x09", 84), (&[2, 0, 0], 82)];
         for (message, code) in rows {
             assert_eq!(library.give(9_999_999, message), Status::Bad(*code), "{message:?}");
         }
-        assert_eq!(library.ask(9_999_999, &words(&[1, 1], &[CLIENT, 1, 1, 0, 0])), Status::Bad(88));
+        assert_eq!(library.ask(9_999_999, &words(&[2, 1], &[CLIENT, 1, 1, 0, 0])), Status::Bad(88));
         assert_eq!(library.beat(1 << 53), Status::Refused(Refusal::Exhausted));
         assert_eq!((library.lines(), library.content()), (lines, b"hello".to_vec()));
         assert_eq!(library.read(1100, 1, &mut Vec::new()), Status::Served);

@@ -3,6 +3,15 @@
 use std::fmt;
 
 /// A file or a directory.
+///
+/// ```
+/// # trials::with_client(|client| {
+/// # use tillermoss::*;
+/// let root = client.open("/ls/c", Mode::READ)?;
+/// assert_eq!(client.stat(root)?.kind, Kind::Directory);
+/// assert_eq!(Kind::File.to_string(), "file");
+/// # Ok(()) });
+/// ```
 #[derive(Clone, Copy, Debug, PartialEq, Eq)]
 pub enum Kind {
     /// It has a content.
@@ -12,6 +21,14 @@ pub enum Kind {
 }
 
 /// How a lock is held.
+///
+/// ```
+/// # trials::with_client(|client| {
+/// # use tillermoss::*;
+/// client.acquire(client.create("/ls/c/f", b"")?, LockMode::Shared)?;
+/// client.acquire(client.open("/ls/c/f", Mode::WRITE)?, LockMode::Shared)?;
+/// # Ok(()) });
+/// ```
 #[derive(Clone, Copy, Debug, PartialEq, Eq)]
 pub enum LockMode {
     /// By one handle alone.
@@ -21,6 +38,16 @@ pub enum LockMode {
 }
 
 /// What a principal may be permitted on a node.
+///
+/// ```
+/// # trials::with_client(|client| {
+/// # use tillermoss::*;
+/// let file = client.create("/ls/c/f", b"")?;
+/// let reading = client.open("/ls/c/f", Mode::READ)?;
+/// assert_eq!(client.set(reading, b"", None).unwrap_err().refusal(), Some(Refusal::Denied(Right::Write)));
+/// client.close(file)?;
+/// # Ok(()) });
+/// ```
 #[derive(Clone, Copy, Debug, PartialEq, Eq)]
 pub enum Right {
     /// To read it.
@@ -32,6 +59,14 @@ pub enum Right {
 }
 
 /// What a handle is for: each wants the right of its name when it is opened.
+///
+/// ```
+/// # trials::with_client(|client| {
+/// use tillermoss::Mode;
+/// client.create("/ls/c/f", b"")?;
+/// client.open("/ls/c/f", Mode::READ.and(Mode::WRITE))?;
+/// # Ok(()) });
+/// ```
 #[derive(Clone, Copy, Debug, PartialEq, Eq)]
 pub struct Mode(pub(crate) u8);
 
@@ -51,6 +86,15 @@ impl Mode {
 }
 
 /// The numbers of a node.
+///
+/// ```
+/// # trials::with_client(|client| {
+/// let file = client.create("/ls/c/f", b"a")?;
+/// client.set(file, b"bc", None)?;
+/// let stat = client.stat(file)?;
+/// assert_eq!((stat.length, stat.content_generation, stat.is_ephemeral), (2, 2, false));
+/// # Ok(()) });
+/// ```
 #[derive(Clone, Debug, PartialEq, Eq)]
 pub struct Stat {
     /// A file or a directory.
@@ -72,6 +116,14 @@ pub struct Stat {
 }
 
 /// What a read shows of a node.
+///
+/// ```
+/// # trials::with_client(|client| {
+/// use tillermoss::Mode;
+/// let view = client.read(client.open("/ls/c", Mode::READ)?)?;
+/// assert_eq!(view.children, ["acl"]);
+/// # Ok(()) });
+/// ```
 #[derive(Clone, Debug, PartialEq, Eq)]
 pub struct View {
     /// Its numbers.

@@ -35,6 +35,13 @@ impl Argument for Right {
 macro_rules! refusals {
     ($($number:literal $name:ident $(($argument:ty))? $meaning:literal)*) => {
         /// Why a master or a client refuses a call: nothing was done, unless it says otherwise.
+        ///
+        /// ```
+        /// use tillermoss::Refusal;
+        ///
+        /// let refusal = Refusal::WrongGeneration(3);
+        /// assert_eq!(refusal.to_string(), "WrongGeneration 3: another generation is present");
+        /// ```
         #[derive(Clone, Copy, Debug, PartialEq, Eq)]
         pub enum Refusal {
             $(#[doc = $meaning] $name $(($argument))?,)*
@@ -42,6 +49,11 @@ macro_rules! refusals {
 
         impl Refusal {
             /// Its number, as it is printed.
+            ///
+            /// ```
+            /// # use tillermoss::Refusal;
+            /// assert_eq!(Refusal::WrongGeneration(3).number(), 11);
+            /// ```
             #[must_use]
             pub fn number(&self) -> u32 {
                 match self {
@@ -50,6 +62,11 @@ macro_rules! refusals {
             }
 
             /// Its name, as it is printed.
+            ///
+            /// ```
+            /// # use tillermoss::Refusal;
+            /// assert_eq!(Refusal::WrongGeneration(3).name(), "WrongGeneration");
+            /// ```
             #[must_use]
             pub fn name(&self) -> &'static str {
                 match self {
@@ -58,6 +75,11 @@ macro_rules! refusals {
             }
 
             /// What it means.
+            ///
+            /// ```
+            /// # use tillermoss::Refusal;
+            /// assert_eq!(Refusal::WrongGeneration(3).meaning(), "another generation is present");
+            /// ```
             #[must_use]
             pub fn meaning(&self) -> &'static str {
                 match self {

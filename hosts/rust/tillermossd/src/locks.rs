@@ -1,6 +1,6 @@
 //! A store is served by one server at a time.
 
-use std::ffi::c_int;
+use nix::fcntl::{FcntlArg, FdFlag, fcntl};
 use std::fs::{self, File, TryLockError};
 use std::io::{self, ErrorKind, Write};
 use std::os::fd::AsRawFd;
@@ -17,13 +17,6 @@ const LONG_PATIENCE: Duration = Duration::from_secs(60);
 
 /// So long between two tries.
 const PAUSE: Duration = Duration::from_millis(20);
-
-/// The command that sets the flags of a descriptor.
-const F_SETFD: c_int = 2;
-
-unsafe extern "C" {
-    fn fcntl(descriptor: c_int, command: c_int, ...) -> c_int;
-}
 
 /// Takes the lock of a store, in a file beside it; waits a while where another has it, such as a master whose server was killed.
 /// The lock is held until the file that is given back is closed, in this process and in those that it starts from here on: so it
@@ -56,11 +49,8 @@ fn patience(path: &Path) -> Duration {
 
 // Programs that are started get the descriptor too.
 fn inherit(file: &File) -> io::Result<()> {
-    // SAFETY: the descriptor is open; the call takes an int behind this command, and touches no memory.
-    match unsafe { fcntl(file.as_raw_fd(), F_SETFD, 0 as c_int) } {
-        -1 => Err(io::Error::last_os_error()),
-        _ => Ok(()),
-    }
+    fcntl(file.as_raw_fd(), FcntlArg::F_SETFD(FdFlag::empty()))?;
+    Ok(())
 }
 
 #[cfg(test)]

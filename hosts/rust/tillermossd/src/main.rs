@@ -1,42 +1,58 @@
-//! A cell over TCP: starts the proved master as a child, and carries the messages of its clients to it.
+//! A cell for clients on this machine and others: starts the proved master as a child, and carries the messages of its clients to
+//! it.
 
+mod admin;
 mod connections;
-mod digests;
+mod doors;
+mod lines;
+mod lobby;
 mod locks;
 mod master;
+mod metrics;
 mod numbers;
 mod options;
 mod outgoing;
+mod picture;
 mod pulse;
-mod reports;
+mod rates;
+mod restoring;
 mod routes;
 mod serving;
-mod signals;
+mod settings;
+mod showing;
+mod store;
+mod tls;
 mod told;
 
-use options::Options;
+use clap::Parser;
+use options::{Command, Log, Options};
+use std::io;
 use std::process::ExitCode;
+use tracing::error;
+use tracing_subscriber::EnvFilter;
 
 fn main() -> ExitCode {
-    match Options::read(std::env::args().skip(1)) {
-        Ok(None) => {
-            print!("{}", options::HELP);
-            ExitCode::SUCCESS
-        }
-        Ok(Some(options)) => run(&options),
+    let options = Options::parse();
+    begin_log(&options);
+    let done = match &options.command {
+        Some(Command::Restore { copy, store }) => restoring::restore(copy, store),
+        None => serving::serve(options),
+    };
+    match done {
+        Ok(()) => ExitCode::SUCCESS,
         Err(fault) => {
-            reports::report(fault);
-            ExitCode::from(2)
+            error!("{fault:#}");
+            ExitCode::FAILURE
         }
     }
 }
 
-fn run(options: &Options) -> ExitCode {
-    match serving::serve(options) {
-        Ok(()) => ExitCode::SUCCESS,
-        Err(fault) => {
-            reports::report(fault);
-            ExitCode::FAILURE
-        }
+fn begin_log(options: &Options) {
+    let default = if options.trace { "info,tillermossd::master=trace" } else { "info" };
+    let filter = EnvFilter::try_from_default_env().unwrap_or_else(|_| EnvFilter::new(default));
+    let log = tracing_subscriber::fmt().with_env_filter(filter).with_writer(io::stderr).with_ansi(false);
+    match options.log {
+        Log::Text => log.init(),
+        Log::Json => log.json().flatten_event(true).init(),
     }
 }

@@ -1,217 +1,391 @@
-//! The master, a child of this program, and the two threads that speak with it.
+//! The master, a child of this program, and the task that speaks with it.
 
-use crate::options::Options;
+use crate::connections::Hall;
+use crate::lines::Message;
 use crate::pulse::Pulse;
-use crate::reports::{report, trace};
-use crate::routes::Routes;
+use crate::settings::Settings;
+use crate::store::{self, Identity};
 use crate::told::{Frame, Next, Told};
-use host_wire::{ANSWER_LIMIT, Blocks, write_block};
+use anyhow::{Context, Result, bail};
+use host_wire::{ANSWER_LIMIT, Blocks, Fields, ended_call, framed};
+use std::collections::VecDeque;
 use std::io;
 use std::os::unix::process::CommandExt;
 use std::path::{Path, PathBuf};
-use std::process::{Child, ChildStdin, ChildStdout, Command, ExitStatus, Stdio};
+use std::process::{ExitStatus, Stdio};
 use std::sync::Arc;
-use std::sync::mpsc::{Receiver, RecvTimeoutError, Sender, SyncSender, sync_channel};
-use std::thread;
-use std::time::Instant;
+use std::time::{Duration, Instant};
+use tempfile::TempDir;
+use tokio::io::AsyncWriteExt;
+use tokio::process::{Child, ChildStdin, ChildStdout, Command};
+use tokio::sync::{mpsc, oneshot};
+use tokio::time::{sleep, timeout};
+use tracing::{debug, error, info, trace, warn};
 
-/// So many messages may wait for the master; who brings one more waits.
-const ROOM: usize = 256;
+/// So many frames are at the master at once: it has the next one when it is done, and who waits has the turn after that.
+const AT_ONCE: usize = 2;
 
-/// What the thread that writes to the master is asked for.
+/// So long a master may take for a frame.
+const PATIENCE: Duration = Duration::from_secs(10);
+
+/// So long it may take to come up: it reads the whole store.
+const COMING_UP: Duration = Duration::from_secs(600);
+
+/// The kinds of a master's messages: two that give a lease, and one that has the result of a call.
+const STARTED: u8 = 0;
+const ALIVE: u8 = 1;
+const REPLY: u8 = 2;
+
+/// The kind of the result of a call that was refused.
+const REFUSED: u8 = 7;
+
+/// What is asked of the task.
 #[derive(Debug)]
-pub enum Work {
-    /// A client's message, by its bytes.
-    Message(Vec<u8>),
-    /// A new deadline is known.
-    Wake,
+pub enum Order {
     /// The master is to go.
     Down,
+    /// A copy of the store, between two frames.
+    Copy(oneshot::Sender<io::Result<TempDir>>),
 }
 
-/// Why the server ends.
-#[derive(Clone, Copy, Debug)]
+/// Why a master serves no more.
+#[derive(Debug)]
 pub enum Ending {
-    /// It was told to.
-    Asked,
-    /// The master is gone by itself.
-    MasterGone,
+    /// It was told to go, and went so.
+    Asked(ExitStatus),
+    /// It is gone by itself, or doesn't answer.
+    Gone(String),
+    /// The store isn't the same file any more.
+    StoreGone(String),
 }
 
-/// The moments of one master: milliseconds since it was started. They stand still while the machine sleeps, so that no session
-/// ends because nobody could be heard of.
-#[derive(Clone, Copy, Debug)]
-struct Clock(Instant);
-
-impl Clock {
-    fn now(self) -> u64 {
-        self.0.elapsed().as_millis() as u64
-    }
+/// How a master is started.
+#[derive(Clone, Debug)]
+pub struct Making {
+    /// The program.
+    pub program: PathBuf,
+    /// The file of the store.
+    pub store: PathBuf,
+    /// The settings of the cell.
+    pub settings: Settings,
 }
 
-/// A master that is up.
+/// A frame that the master has.
+#[derive(Debug)]
+struct Sent {
+    at: Instant,
+    client: Option<(u64, Arc<str>)>,
+    has_committed: bool,
+    is_refused: bool,
+}
+
+/// A master that is up. Its moments are milliseconds since it was started; they stand still while the machine sleeps, so that no
+/// session ends because nobody could be heard of.
 #[derive(Debug)]
 pub struct Master {
+    hall: Arc<Hall>,
     child: Child,
-    work: SyncSender<Work>,
-}
-
-/// What the two threads share.
-struct Shared {
-    clock: Clock,
+    output: ChildStdout,
+    blocks: Blocks,
+    frames: mpsc::Sender<Vec<u8>>,
+    identity: Identity,
+    begun: Instant,
     pulse: Pulse,
-    is_traced: bool,
+    sent: VecDeque<Sent>,
+    copying: Option<oneshot::Sender<io::Result<TempDir>>>,
 }
 
-impl Master {
-    /// Starts it, and waits until it is up. What it sends to clients goes by the routes; when it is gone, that is told.
-    pub fn start(options: &Options, store: &Path, routes: Arc<Routes>, ending: Sender<Ending>) -> io::Result<Master> {
-        let mut child = spawn(options, store)?;
-        let (Some(mut input), Some(mut output)) = (child.stdin.take(), child.stdout.take()) else {
-            return Err(io::Error::other("the master has no streams"));
+impl Making {
+    /// Starts a master, and waits until it is up.
+    pub async fn start(&self, hall: &Arc<Hall>) -> Result<Master> {
+        // (it is read before the first answer comes)
+        let settings = self.settings.write()?;
+        let mut child = self.spawn(settings.path())?;
+        let (Some(input), Some(output)) = (child.stdin.take(), child.stdout.take()) else {
+            bail!("the master has no streams");
         };
-        let clock = Clock(Instant::now());
-        let mut blocks = Blocks::new(ANSWER_LIMIT);
-        let next = come_up(clock, &mut input, &mut output, &mut blocks, options.is_traced)?;
-        let shared = Arc::new(Shared { clock, pulse: Pulse::new(clock.now(), next), is_traced: options.is_traced });
-        let (work, works) = sync_channel(ROOM);
-        let (written, answers) = (shared.clone(), work.clone());
-        thread::Builder::new().name("to the master".to_owned()).spawn(move || written.write_all(input, &works))?;
-        thread::Builder::new().name("from the master".to_owned()).spawn(move || {
-            let end = shared.read_all(output, blocks, &routes, &answers);
-            if let Err(error) = end {
-                report(format_args!("reading from the master: {error}"));
-            }
-            // (where nobody waits for it the server is ending already)
-            let _ = ending.send(Ending::MasterGone);
-        })?;
-        Ok(Master { child, work })
+        let (frames, written) = mpsc::channel(AT_ONCE + 1);
+        tokio::spawn(write_all(input, written));
+        frames.send(Frame::Up(0).write()).await?;
+        let (begun, mut output, mut blocks) = (Instant::now(), output, Blocks::new(ANSWER_LIMIT));
+        let coming = come_up(hall, &mut output, &mut blocks);
+        let next = timeout(COMING_UP, coming).await.unwrap_or_else(|_| bail!("it took too long"));
+        let next = next.context("the master didn't come up")?;
+        let identity = Identity::of(&self.store)?;
+        let (hall, pulse) = (hall.clone(), Pulse::new(0, next));
+        Ok(Master { hall, child, output, blocks, frames, identity, begun, pulse, sent: VecDeque::new(), copying: None })
     }
 
-    /// Where the messages of clients go.
-    pub fn work(&self) -> SyncSender<Work> {
-        self.work.clone()
-    }
-
-    /// It goes in order: its store is closed.
-    pub fn stop(mut self) -> io::Result<ExitStatus> {
-        // (where its thread is gone it has been told)
-        let _ = self.work.send(Work::Down);
-        self.child.wait()
-    }
-
-    /// How it ended, where it is gone by itself, or tells what isn't understood: then it is killed.
-    pub fn ended(mut self) -> io::Result<ExitStatus> {
-        // (one that is gone can't be killed)
-        let _ = self.child.kill();
-        self.child.wait()
+    // In a process group of its own, so that what is typed at a terminal doesn't end it before its server.
+    fn spawn(&self, settings: &Path) -> Result<Child> {
+        let mut command = std::process::Command::new(&self.program);
+        command.arg("serve").arg("--store").arg(&self.store).arg("--settings").arg(settings);
+        command.stdin(Stdio::piped()).stdout(Stdio::piped()).process_group(0);
+        Command::from(command).kill_on_drop(true).spawn().with_context(|| format!("starting {}", self.program.display()))
     }
 }
 
-// In a process group of its own, so that what is typed at a terminal doesn't end it before its server.
-fn spawn(options: &Options, store: &Path) -> io::Result<Child> {
-    let program = options.master.clone().unwrap_or_else(beside);
-    let mut command = Command::new(&program);
-    command.arg("serve").arg("--store").arg(store);
-    if let Some(settings) = &options.settings {
-        command.arg("--settings").arg(settings);
+// Writes frames until none comes any more: then the stream ends, too.
+async fn write_all(mut input: ChildStdin, mut frames: mpsc::Receiver<Vec<u8>>) {
+    while let Some(frame) = frames.recv().await {
+        let Ok(bytes) = framed(&frame) else {
+            return;
+        };
+        // (where the master is gone its reader tells it)
+        if input.write_all(&bytes).await.is_err() || input.flush().await.is_err() {
+            return;
+        }
     }
-    command.stdin(Stdio::piped()).stdout(Stdio::piped()).process_group(0);
-    command.spawn().map_err(|error| io::Error::new(error.kind(), format!("starting {}: {error}", program.display())))
 }
 
-// The program beside this one, else the one on the path.
-fn beside() -> PathBuf {
-    let own = std::env::current_exe().ok().and_then(|own| own.parent().map(|folder| folder.join("cellctl")));
-    own.filter(|program| program.exists()).unwrap_or_else(|| PathBuf::from("cellctl"))
-}
-
-// The first frame, and its answer.
-fn come_up(clock: Clock, input: &mut ChildStdin, output: &mut ChildStdout, blocks: &mut Blocks, is_traced: bool) -> io::Result<Next> {
-    let mut epoch = None;
-    write_block(input, &Frame::Up(clock.now()).write())?;
+// The answer to the first frame.
+async fn come_up(hall: &Hall, output: &mut ChildStdout, blocks: &mut Blocks) -> Result<Next> {
+    let mut is_up = false;
     loop {
-        let block = blocks.next(output)?.ok_or(io::Error::other("the master didn't come up"))?;
+        let block = blocks.next_of(output).await?.context("it ended")?;
         match Told::read(&block)? {
-            Told::End(next) if epoch.is_some() => return Ok(next),
-            Told::End(_) => return Err(io::Error::other("the master didn't come up")),
+            Told::End(next) if is_up => return Ok(next),
+            Told::End(_) => bail!("it told nothing"),
             Told::Line(line) => {
-                if is_traced {
-                    trace(&line);
-                }
-                if line.starts_with("up ") {
-                    epoch = Some(line);
-                } else if line.starts_with("refused ") {
-                    return Err(io::Error::other(format!("the master didn't come up: {line}")));
+                follow(hall, &line, None);
+                is_up |= line.starts_with("up ");
+                if line.starts_with("refused ") {
+                    bail!("{line}");
                 }
             }
             Told::Message(..) => {}
-            Told::Bad(reason) => return Err(io::Error::other(format!("the master takes no frames: {reason}"))),
+            Told::Bad(reason) => bail!("it takes no frames: {reason}"),
         }
     }
 }
 
-impl Shared {
-    // Writes frames until there is no more to do, or the master is gone. The clock is read behind the arrival of a message.
-    fn write_all(&self, mut input: ChildStdin, works: &Receiver<Work>) {
+// What a line tells is noted and, where an operator wants to know it, logged.
+fn follow(hall: &Hall, line: &str, from: Option<&(u64, Arc<str>)>) {
+    trace!(target: "tillermossd::master", line);
+    let principal = from.map(|(_, principal)| principal);
+    let mut words = line.split(' ');
+    let (first, second) = (words.next().unwrap_or_default(), words.next().unwrap_or_default());
+    match first {
+        "up" => info!(epoch = second, "a master is up"),
+        "recovered" => info!("the master has recovered"),
+        "refused" => {
+            hall.metrics.refused(second.parse().unwrap_or_default());
+            let client = from.map(|(client, _)| *client);
+            let principal = principal.map(|principal| &**principal);
+            debug!(client, principal, reason = line, "a message or a sweep was refused");
+        }
+        "started" | "ended" => debug!(client = second, principal = principal.map(|principal| &**principal), "a session {first}"),
+        _ => {}
+    }
+    if first == "ended"
+        && let Ok(client) = second.parse()
+    {
+        hall.routes.forget(client);
+    }
+    // (a session may begin later than its Start came, where the store refused meanwhile)
+    let starter = second.parse().ok().filter(|_| first == "started").and_then(|client| hall.routes.principal(client));
+    hall.picture().follow(line, starter.as_ref().or(principal));
+    hall.metrics.follow(first);
+}
+
+impl Master {
+    /// The number of its process.
+    pub fn process(&self) -> Option<u32> {
+        self.child.id()
+    }
+
+    /// Carries messages until it serves no more. It is gone then.
+    pub async fn run(mut self, orders: &mut mpsc::Receiver<Order>) -> Ending {
+        let ending = match self.serve(orders).await {
+            Ok(ending) => ending,
+            Err(error) => Ending::Gone(format!("{error:#}")),
+        };
+        if matches!(ending, Ending::Asked(_)) {
+            return ending;
+        }
+        // (one that is gone can't be killed)
+        let _ = self.child.start_kill();
+        match (ending, self.child.wait().await) {
+            (Ending::Gone(reason), Ok(status)) => Ending::Gone(format!("{reason}; {status}")),
+            (ending, _) => ending,
+        }
+    }
+
+    async fn serve(&mut self, orders: &mut mpsc::Receiver<Order>) -> Result<Ending> {
         loop {
-            let work = match self.pulse.rest(self.clock.now()) {
-                None => works.recv().map_err(|_| RecvTimeoutError::Disconnected),
-                Some(rest) => works.recv_timeout(rest),
-            };
-            let moment = self.clock.now();
-            let frame = match &work {
-                Ok(Work::Wake) => continue,
-                Ok(Work::Message(message)) => Frame::Message(moment, message),
-                Ok(Work::Down) => Frame::Down,
-                Err(RecvTimeoutError::Timeout) => Frame::Tick(moment),
-                Err(RecvTimeoutError::Disconnected) => return,
-            };
-            self.pulse.send(moment);
-            let written = write_block(&mut input, &frame.write());
-            if written.is_err() || matches!(work, Ok(Work::Down)) {
-                return;
+            if let Some(fault) = self.fill()? {
+                return Ok(Ending::StoreGone(fault));
             }
-        }
-    }
-
-    fn tell(&self, line: &str, routes: &Routes) {
-        if self.is_traced {
-            trace(line);
-        }
-        if let Some(client) = line.strip_prefix("ended ").and_then(|client| client.parse().ok()) {
-            routes.forget(client);
-        }
-    }
-
-    // Reads what the master tells, to the end.
-    fn read_all(&self, mut output: ChildStdout, mut blocks: Blocks, routes: &Routes, works: &SyncSender<Work>) -> io::Result<()> {
-        while let Some(block) = blocks.next(&mut output)? {
-            match Told::read(&block)? {
-                Told::Message(client, message) => {
-                    if let Some(beat) = routes.send(client, message) {
-                        // (where there is no room the change that wants it waits until the session has run out)
-                        let _ = works.try_send(Work::Message(beat));
+            let rest = self.rest();
+            tokio::select! {
+                biased;
+                block = self.blocks.next_of(&mut self.output) => self.hear(&block?.context("it ended")?)?,
+                order = orders.recv() => match order {
+                    Some(Order::Copy(reply)) => self.copying = Some(reply),
+                    Some(Order::Down) | None => return self.stop().await,
+                },
+                () = self.hall.lines.filled(), if self.has_room() => {}
+                () = sleep(rest.unwrap_or(PATIENCE)), if rest.is_some() => {
+                    if self.sent.front().is_some_and(|sent| sent.at.elapsed() >= PATIENCE) {
+                        bail!("it doesn't answer");
                     }
                 }
-                Told::Line(line) => self.tell(&line, routes),
-                Told::Bad(reason) => report(format_args!("the master took no frame of what was sent: {reason}")),
-                Told::End(next) => {
-                    if self.pulse.answer(next) {
-                        // (where there is no room the thread has work, and looks at the deadline behind it)
-                        let _ = works.try_send(Work::Wake);
-                    }
+            }
+            self.copy().await;
+        }
+    }
+
+    fn has_room(&self) -> bool {
+        self.copying.is_none() && self.sent.len() < AT_ONCE
+    }
+
+    fn now(&self) -> u64 {
+        self.begun.elapsed().as_millis() as u64
+    }
+
+    // How long there is nothing to do, where nobody comes.
+    fn rest(&self) -> Option<Duration> {
+        match self.sent.front() {
+            Some(sent) => Some(PATIENCE.saturating_sub(sent.at.elapsed())),
+            None => self.pulse.rest(self.now()),
+        }
+    }
+
+    // Sends what there is to send; why nothing more may be sent. The clock is read behind the arrival of a message.
+    fn fill(&mut self) -> Result<Option<String>> {
+        while self.has_room() {
+            let message = self.hall.lines.take();
+            let is_due = self.sent.is_empty() && self.pulse.rest(self.now()).is_some_and(|rest| rest.is_zero());
+            if message.is_none() && !is_due {
+                break;
+            }
+            if let Some(fault) = self.identity.fault() {
+                return Ok(Some(fault));
+            }
+            self.send(message)?;
+        }
+        Ok(None)
+    }
+
+    fn send(&mut self, message: Option<Message>) -> Result<()> {
+        let moment = self.now();
+        let frame = match &message {
+            Some(message) => Frame::Message(moment, &message.bytes),
+            None => Frame::Tick(moment),
+        };
+        self.frames.try_send(frame.write()).context("it takes no frames")?;
+        self.pulse.send(moment);
+        self.hall.metrics.sent(message.is_some());
+        let client = message.map(|Message { client, principal, place, .. }| {
+            drop(place);
+            (client, principal)
+        });
+        self.sent.push_back(Sent { at: Instant::now(), client, has_committed: false, is_refused: false });
+        Ok(())
+    }
+
+    // What the master tells.
+    fn hear(&mut self, block: &[u8]) -> Result<()> {
+        match Told::read(block)? {
+            Told::Message(client, message) => self.pass(client, message),
+            Told::Line(line) => {
+                let front = self.sent.front_mut();
+                let is_commit = ["applied", "started", "ended", "locked", "freed", "lapsed"].iter().any(|word| line.starts_with(word));
+                let is_refused = ["refused 15 ", "refused 16 "].iter().any(|words| line.starts_with(words));
+                let from = front.and_then(|sent| {
+                    sent.has_committed |= is_commit;
+                    sent.is_refused |= is_refused;
+                    sent.client.as_ref()
+                });
+                follow(&self.hall, &line, from);
+                if is_commit || is_refused {
+                    self.hall.note_store(is_refused, &line);
+                }
+            }
+            Told::Bad(reason) => warn!(reason, "the master took no frame of what was sent"),
+            Told::End(next) => {
+                let sent = self.sent.pop_front();
+                self.pulse.answer(next, sent.as_ref().is_some_and(|sent| sent.is_refused));
+                if let Some(sent) = sent {
+                    self.hall.metrics.answered(sent.at.elapsed(), sent.has_committed);
                 }
             }
         }
         Ok(())
     }
+
+    // A message goes to its client.
+    fn pass(&self, client: u64, message: Vec<u8>) {
+        let mut picture = self.hall.picture();
+        if let Some(span) = lease(&message) {
+            picture.lease(client, span);
+        }
+        if let Some((client, number)) = ended_call(&message) {
+            picture.answer(client, Some(number));
+        }
+        if let Some(number) = refusal(&message) {
+            self.hall.metrics.refused(number);
+        }
+        drop(picture);
+        if let Some(bytes) = self.hall.routes.send(client, message) {
+            let principal = self.hall.picture().sessions.get(&client).map_or_else(|| "".into(), |session| session.principal.clone());
+            self.hall.lines.push(Message { client, principal, bytes, place: None });
+        }
+    }
+
+    // A copy is taken once no frame is out: nothing is written meanwhile.
+    async fn copy(&mut self) {
+        if !self.sent.is_empty() {
+            return;
+        }
+        if let Some(reply) = self.copying.take() {
+            let path = self.identity.path().to_owned();
+            let copied = tokio::task::spawn_blocking(move || store::copy(&path)).await.unwrap_or_else(|error| Err(io::Error::other(error)));
+            // (who asked may be gone; then the copy is, too)
+            let _ = reply.send(copied);
+        }
+    }
+
+    // It goes in order: its store is closed.
+    async fn stop(&mut self) -> Result<Ending> {
+        self.frames.send(Frame::Down.write()).await.context("it takes no frames")?;
+        let (closed, _) = mpsc::channel(1);
+        self.frames = closed;
+        while let Some(block) = timeout(PATIENCE, self.blocks.next_of(&mut self.output)).await.context("it doesn't go")?? {
+            self.hear(&block)?;
+        }
+        match timeout(PATIENCE, self.child.wait()).await {
+            Ok(status) => Ok(Ending::Asked(status?)),
+            Err(_) => {
+                error!("the master doesn't go");
+                bail!("it doesn't go")
+            }
+        }
+    }
 }
 
-/// What is wrong with the end of a master that was to go.
-pub fn check_end(status: ExitStatus) -> io::Result<()> {
-    if status.success() {
-        return Ok(());
+// For how long a message gives its client a lease.
+fn lease(message: &[u8]) -> Option<Duration> {
+    let mut fields = Fields(message);
+    if !matches!(fields.take(2)?, [2, STARTED | ALIVE]) {
+        return None;
     }
-    Err(io::Error::other(format!("the master is gone: {status}")))
+    fields.take(24)?;
+    fields.word().map(Duration::from_millis)
+}
+
+// The number of the refusal that is the result of a call.
+fn refusal(message: &[u8]) -> Option<u8> {
+    let mut fields = Fields(message);
+    if fields.take(2)? != [2, REPLY] {
+        return None;
+    }
+    fields.take(24)?;
+    if fields.byte()? == 1 {
+        fields.word()?;
+    }
+    if fields.byte()? != REFUSED {
+        return None;
+    }
+    fields.byte()?.checked_add(1)
 }

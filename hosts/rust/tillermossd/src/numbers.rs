@@ -1,169 +1,244 @@
-//! The numbers of clients: each is given once, also across restarts.
+//! The numbers of clients: each is given once, also across restarts. And the epochs of masters, by which an older copy of the store
+//! is known.
 //!
-//! The next one stands in a small file beside the store, which is written and synced before a number is given. So a number that
-//! was given, and one whose giving was cut by a crash, isn't given again.
+//! They stand in a small file beside the store, which is written and synced before a number is given, a hundred numbers ahead. So
+//! a number that was given, and one whose giving was cut by a crash, isn't given again.
 
-use crate::digests::digest;
+use anyhow::{Context, Result, bail};
+use siphasher::sip::SipHasher24;
 use std::fs::{self, File};
-use std::io::{self, ErrorKind, Read, Write};
+use std::hash::Hasher;
+use std::io::{ErrorKind, Write};
 use std::path::{Path, PathBuf};
+use tempfile::NamedTempFile;
 
 /// Behind the last number of a client.
 const END: u64 = 1 << 53;
 
-const TITLE: &str = "tillermoss-numbers 1";
+/// So many numbers are written down at once.
+const AHEAD: u64 = 100;
+
+/// The first line of the file, and that of files without epochs, which earlier servers wrote.
+const TITLE: &str = "tillermoss-numbers 2";
+const OLD_TITLE: &str = "tillermoss-numbers 1";
+
+/// Between which epochs a store stands that this file goes with: the last that was seen, and the one that a master takes next.
+#[derive(Clone, Copy, Debug, PartialEq, Eq)]
+pub struct Epochs {
+    /// The last one that was seen in the store.
+    pub last: u64,
+    /// The highest that a master which was started since may have taken.
+    pub coming: u64,
+}
 
 /// The numbers that are left, and the key by which a number's token is made.
 #[derive(Debug)]
 pub struct Numbers {
     path: PathBuf,
     next: u64,
+    written: u64,
     key: [u8; 16],
+    epochs: Option<Epochs>,
 }
 
 impl Numbers {
-    /// Those of the file; where there is none they are made anew from `first` on, or from 1 where there is no store either. Over a
-    /// store without the file nobody knows which numbers were used with it: that is refused, unless `first` says it.
-    pub fn open(path: &Path, has_store: bool, first: Option<u64>) -> io::Result<Numbers> {
+    /// Those of the file; where there is none they are made anew from `first` on, or from 1 where there is no store either, and not
+    /// written yet. Over a store without the file nobody knows which numbers were used with it: that is refused, unless `first`
+    /// says it. A file that was used, and no store, is refused too: the store went away.
+    pub fn open(path: &Path, has_store: bool, first: Option<u64>) -> Result<Numbers> {
         match fs::read_to_string(path) {
-            Ok(text) => Numbers::read(path, &text).ok_or_else(|| fault(format!("{} isn't a file of numbers", path.display()))),
-            Err(error) if error.kind() == ErrorKind::NotFound => Numbers::make(path, has_store, first),
-            Err(error) => Err(error),
+            Ok(text) => {
+                let numbers = Numbers::read(path, &text).with_context(|| format!("{} isn't a file of numbers", path.display()))?;
+                if !has_store && !numbers.is_new() {
+                    bail!("{} is there, but not its store: put the store back, or take that file away too", path.display());
+                }
+                Ok(numbers)
+            }
+            Err(error) if error.kind() != ErrorKind::NotFound => Err(error).with_context(|| format!("reading {}", path.display())),
+            Err(_) if has_store && first.is_none() => {
+                bail!("the store has no {}: say by --first N from which number on none was used", path.display())
+            }
+            Err(_) => Ok(Numbers::from(path, first.unwrap_or(1))),
         }
     }
 
-    fn make(path: &Path, has_store: bool, first: Option<u64>) -> io::Result<Numbers> {
-        if has_store && first.is_none() {
-            return Err(fault(format!("the store has no {}: say by --first N above which numbers none was used", path.display())));
-        }
-        let mut key = [0; 16];
-        File::open("/dev/urandom")?.read_exact(&mut key)?;
-        let numbers = Numbers { path: path.to_owned(), next: first.unwrap_or(1), key };
-        numbers.write()?;
-        Ok(numbers)
+    /// New ones from a number on.
+    #[must_use]
+    pub fn from(path: &Path, first: u64) -> Numbers {
+        Numbers { path: path.to_owned(), next: first, written: first, key: rand::random(), epochs: None }
     }
 
     fn read(path: &Path, text: &str) -> Option<Numbers> {
         let mut lines = text.lines();
-        if lines.next()? != TITLE {
-            return None;
-        }
-        let next = lines.next()?.strip_prefix("next ")?.parse().ok()?;
-        let key = lines.next()?.strip_prefix("key ")?;
-        if lines.next().is_some() || key.len() != 32 || !(1..=END).contains(&next) {
-            return None;
-        }
-        let key = u128::from_str_radix(key, 16).ok()?.to_be_bytes();
-        Some(Numbers { path: path.to_owned(), next, key })
+        let title = lines.next()?;
+        let mut value = |name: &str| lines.next()?.strip_prefix(name)?.strip_prefix(' ');
+        let next = value("next")?.parse().ok().filter(|next| (1..=END).contains(next))?;
+        let mut key = [0; 16];
+        hex::decode_to_slice(value("key")?, &mut key).ok()?;
+        let epochs = match title {
+            TITLE => Some(Epochs { last: value("epoch")?.parse().ok()?, coming: value("coming")?.parse().ok()? }),
+            OLD_TITLE => None,
+            _ => return None,
+        };
+        lines.next().is_none().then(|| Numbers { path: path.to_owned(), next, written: next, key, epochs })
+    }
+
+    // No master came up, and no number was given: where the first start ended early.
+    fn is_new(&self) -> bool {
+        self.next == 1 && self.epochs.is_some_and(|epochs| epochs.last == 0)
+    }
+
+    /// The epochs that a store of this file has; None where no server has noted them yet.
+    #[must_use]
+    pub fn epochs(&self) -> Option<Epochs> {
+        self.epochs
+    }
+
+    /// Notes the epochs before a master is started, or once it is up.
+    pub fn note(&mut self, epochs: Epochs) -> Result<()> {
+        self.write(self.written, epochs)
     }
 
     // The file is written anew and then put in place of the old one: a crash leaves the one or the other.
-    fn write(&self) -> io::Result<()> {
-        let text = format!("{TITLE}\nnext {}\nkey {:032x}\n", self.next, u128::from_be_bytes(self.key));
-        let new = self.path.with_added_extension("new");
-        let mut file = File::create(&new)?;
-        file.write_all(text.as_bytes())?;
-        file.sync_all()?;
-        fs::rename(&new, &self.path)?;
-        let folder = self.path.parent().filter(|folder| !folder.as_os_str().is_empty());
-        File::open(folder.unwrap_or(Path::new(".")))?.sync_all()
+    fn write(&mut self, next: u64, epochs: Epochs) -> Result<()> {
+        let folder = self.path.parent().filter(|folder| !folder.as_os_str().is_empty()).unwrap_or(Path::new("."));
+        let mut file = NamedTempFile::new_in(folder)?;
+        writeln!(file, "{TITLE}\nnext {next}\nkey {}\nepoch {}\ncoming {}", hex::encode(self.key), epochs.last, epochs.coming)?;
+        file.as_file().sync_all()?;
+        file.persist(&self.path)?;
+        File::open(folder)?.sync_all()?;
+        (self.written, self.epochs) = (next, Some(epochs));
+        Ok(())
     }
 
     /// The next number. Where none is left, or it can't be written down, none is given.
-    pub fn allot(&mut self) -> io::Result<u64> {
+    pub fn allot(&mut self) -> Result<u64> {
         let number = self.next;
         if number >= END {
-            return Err(fault("no number is left".to_owned()));
+            bail!("no number is left");
+        }
+        if number >= self.written {
+            let epochs = self.epochs.unwrap_or(Epochs { last: 0, coming: 0 });
+            self.write((number + AHEAD).min(END), epochs).with_context(|| format!("writing {}", self.path.display()))?;
         }
         self.next = number + 1;
-        self.write()?;
         Ok(number)
     }
 
     /// What shows that this number was given to a client that acts for this principal.
+    #[must_use]
     pub fn token(&self, number: u64, principal: &str) -> u64 {
-        let mut message = number.to_be_bytes().to_vec();
-        message.extend_from_slice(principal.as_bytes());
-        digest(self.key, &message)
+        digest(&self.key, &[&number.to_be_bytes(), principal.as_bytes()].concat())
     }
 
     /// Whether this number was given, to a client that acts for this principal and got this token.
+    #[must_use]
     pub fn is_token(&self, number: u64, principal: &str, token: u64) -> bool {
         (1..self.next).contains(&number) && self.token(number, principal) == token
     }
 }
 
-fn fault(text: String) -> io::Error {
-    io::Error::new(ErrorKind::InvalidData, text)
+fn digest(key: &[u8; 16], message: &[u8]) -> u64 {
+    let mut hasher = SipHasher24::new_with_key(key);
+    hasher.write(message);
+    hasher.finish()
 }
 
 #[cfg(test)]
 mod tests {
     use super::*;
-    use std::env::temp_dir;
-    use std::process;
+    use tempfile::TempDir;
 
-    // A folder of its own for each test.
-    fn path(test: &str) -> PathBuf {
-        let folder = temp_dir().join(format!("tillermossd-{test}-{}", process::id()));
-        let _ = fs::remove_dir_all(&folder);
-        fs::create_dir(&folder).unwrap();
-        folder.join("numbers")
+    const KEY: &str = "000102030405060708090a0b0c0d0e0f";
+
+    fn folder() -> (TempDir, PathBuf) {
+        let folder = tempfile::tempdir().unwrap();
+        let path = folder.path().join("numbers");
+        (folder, path)
     }
 
     #[test]
     fn no_number_is_given_twice() {
-        let path = path("twice");
+        let (_folder, path) = folder();
         let mut first = Numbers::open(&path, false, None).unwrap();
         assert_eq!((first.allot().unwrap(), first.allot().unwrap()), (1, 2));
         let mut second = Numbers::open(&path, true, None).unwrap();
-        assert_eq!(second.allot().unwrap(), 3);
+        assert_eq!(second.allot().unwrap(), 101);
         assert_eq!(second.token(1, "ann"), first.token(1, "ann"));
+        assert_eq!(first.allot().unwrap(), 3);
     }
 
     #[test]
     fn a_number_that_cannot_be_written_down_is_not_given() {
-        let path = path("unwritten");
+        let (_folder, path) = folder();
         let mut numbers = Numbers::open(&path, false, None).unwrap();
-        assert_eq!(numbers.allot().unwrap(), 1);
-        fs::create_dir(path.with_added_extension("new")).unwrap();
+        fs::create_dir(&path).unwrap();
         assert!(numbers.allot().is_err());
-        fs::remove_dir(path.with_added_extension("new")).unwrap();
-        assert_eq!(numbers.allot().unwrap(), 3);
+        fs::remove_dir(&path).unwrap();
+        assert_eq!(numbers.allot().unwrap(), 1);
     }
 
     #[test]
-    fn a_store_without_numbers_wants_the_first() {
-        let path = path("first");
+    fn a_store_and_its_numbers_stand_together() {
+        let (_folder, path) = folder();
         assert!(Numbers::open(&path, true, None).is_err());
         assert!(!path.exists());
         assert_eq!(Numbers::open(&path, true, Some(9)).unwrap().allot().unwrap(), 9);
+        assert!(Numbers::open(&path, false, None).is_err());
+        assert_eq!(Numbers::open(&path, true, None).unwrap().allot().unwrap(), 109);
+        let (_folder, path) = folder();
+        Numbers::open(&path, false, None).unwrap().note(Epochs { last: 0, coming: 1 }).unwrap();
+        assert_eq!(Numbers::open(&path, false, None).unwrap().allot().unwrap(), 1);
+        assert!(Numbers::open(&path, false, None).is_err());
+    }
+
+    #[test]
+    fn epochs_are_kept() {
+        let (_folder, path) = folder();
+        let epochs = Epochs { last: 7, coming: 8 };
+        let mut numbers = Numbers::open(&path, false, None).unwrap();
+        numbers.note(epochs).unwrap();
+        assert_eq!(numbers.allot().unwrap(), 1);
+        assert_eq!(Numbers::open(&path, true, None).unwrap().epochs(), Some(epochs));
     }
 
     #[test]
     fn a_file_is_taken_exactly_in_its_form() {
-        let key = "000102030405060708090a0b0c0d0e0f";
         let rows = [
-            (format!("{TITLE}\nnext 1\nkey {key}\n"), true),
-            (format!("{TITLE}\nnext 9007199254740992\nkey {key}\n"), true),
-            (format!("{TITLE}\nnext 9007199254740993\nkey {key}\n"), false),
-            (format!("{TITLE}\nnext 0\nkey {key}\n"), false),
-            (format!("{TITLE}\nnext 1\nkey {key}0\n"), false),
-            (format!("{TITLE}\nnext 1\nkey {key}\nmore\n"), false),
-            (format!("{TITLE}\nnext 1\n"), false),
-            (format!("next 1\nkey {key}\n"), false),
+            (format!("{TITLE}\nnext 1\nkey {KEY}\nepoch 3\ncoming 4\n"), true),
+            (format!("{OLD_TITLE}\nnext 1\nkey {KEY}\n"), true),
+            (format!("{OLD_TITLE}\nnext 9007199254740992\nkey {KEY}\n"), true),
+            (format!("{OLD_TITLE}\nnext 9007199254740993\nkey {KEY}\n"), false),
+            (format!("{OLD_TITLE}\nnext 0\nkey {KEY}\n"), false),
+            (format!("{OLD_TITLE}\nnext 1\nkey {KEY}0\n"), false),
+            (format!("{OLD_TITLE}\nnext 1\nkey {KEY}\nmore\n"), false),
+            (format!("{OLD_TITLE}\nnext 1\n"), false),
+            (format!("{TITLE}\nnext 1\nkey {KEY}\n"), false),
+            (format!("{TITLE}\nnext 1\nkey {KEY}\nepoch x\ncoming 4\n"), false),
+            (format!("next 1\nkey {KEY}\n"), false),
             (String::new(), false),
         ];
         for (text, wanted) in rows {
             assert_eq!(Numbers::read(Path::new("n"), &text).is_some(), wanted, "{text}");
         }
-        let mut last = Numbers::read(Path::new("n"), &format!("{TITLE}\nnext 9007199254740992\nkey {key}\n")).unwrap();
+        let mut last = Numbers::read(Path::new("n"), &format!("{OLD_TITLE}\nnext 9007199254740992\nkey {KEY}\n")).unwrap();
         assert!(last.allot().is_err());
+    }
+
+    // The first, ninth and sixteenth of the vectors that its authors give: key 00 to 0f, messages 00, 00 01, ..
+    #[test]
+    fn digests_are_those_of_the_authors() {
+        let key: [u8; 16] = std::array::from_fn(|at| at as u8);
+        let message: Vec<u8> = (0..15).collect();
+        for (length, wanted) in [(0, 0x726f_db47_dd0e_0e31), (8, 0x93f5_f579_9a93_2462), (15, 0xa129_ca61_49be_45e5)] {
+            assert_eq!(digest(&key, &message[..length]), wanted, "{length}");
+        }
     }
 
     #[test]
     fn a_token_is_of_one_number_and_principal() {
-        let mut numbers = Numbers::open(&path("token"), false, None).unwrap();
+        let (_folder, path) = folder();
+        let mut numbers = Numbers::open(&path, false, None).unwrap();
         let number = numbers.allot().unwrap();
         let token = numbers.token(number, "ann");
         let rows = [

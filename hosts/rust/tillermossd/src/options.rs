@@ -1,134 +1,121 @@
 //! The command line.
 
-use std::net::{IpAddr, Ipv4Addr, SocketAddr};
+use clap::{Parser, Subcommand, ValueEnum};
+use host_wire::Address;
 use std::path::PathBuf;
 
-/// What `--help` prints.
-pub const HELP: &str = "\
-Serves a cell over TCP: starts `cellctl serve`, and carries the messages of clients to it.
-
-Usage: tillermossd LISTEN --store FILE [--settings FILE] [--master PROGRAM] [--first N] [--trace]
-
-  LISTEN              [ADDRESS:]PORT; without an address 127.0.0.1; port 0 for any that is free
-  --store FILE        the SQLite file of the store, which is made where there is none. Beside it stand FILE-numbers, the next
-                      client's number, and FILE-lock, which one server holds at a time
-  --settings FILE     the settings of the cell, in TOML
-  --master PROGRAM    the program cellctl; without it the one beside this program, else the one on the path
-  --first N           the first client's number over a store without FILE-numbers: above all that were used with it
-  --trace             the master's lines go to the standard error
-
-Nothing is encrypted, and a client says itself for whom it acts. Listen on another address than loopback only behind something
-that vouches for both.
-
-It prints `listening ADDRESS:PORT` once it serves. On SIGTERM or SIGINT the master goes down in order, and the status is 0. The
-status is 1 where it can't serve or the master is gone, 2 for a wrong command line.
-";
-
-/// What the command line asks for.
-#[derive(Debug, PartialEq, Eq)]
+/// Serves a cell: starts `cellctl serve`, and carries the messages of clients to it.
+#[derive(Debug, PartialEq, Eq, Parser)]
+#[command(version, args_conflicts_with_subcommands = true, subcommand_negates_reqs = true, after_help = AFTER)]
 pub struct Options {
-    /// Where to listen.
-    pub listen: SocketAddr,
-    /// The file of the store.
-    pub store: PathBuf,
-    /// The file of the settings.
+    /// Where to listen: unix:PATH, tls:[HOST:]PORT, tcp:[HOST:]PORT or [HOST:]PORT; without a host loopback; port 0 for any free one
+    #[arg(required = true)]
+    pub listen: Vec<Address>,
+    /// The SQLite file of the store, which is made where there is none
+    #[arg(long, required = true)]
+    pub store: Option<PathBuf>,
+    /// The settings of the cell and the limits of the server, in TOML
+    #[arg(long)]
     pub settings: Option<PathBuf>,
-    /// The program of the master.
+    /// The program cellctl; without it the one beside this program, else the one on the path
+    #[arg(long)]
     pub master: Option<PathBuf>,
-    /// The first number that is given over a store without a file of numbers.
+    /// The first client's number over a store without FILE-numbers: above all that were used with it
+    #[arg(long, value_parser = clap::value_parser!(u64).range(1..1 << 53))]
     pub first: Option<u64>,
-    /// Whether the master's lines are told.
-    pub is_traced: bool,
+    /// The server's certificate, in PEM, with those of the authorities between
+    #[arg(long, requires = "key")]
+    pub cert: Option<PathBuf>,
+    /// The key of the certificate, in PEM
+    #[arg(long, requires = "cert")]
+    pub key: Option<PathBuf>,
+    /// The authorities that sign the certificates of clients, in PEM
+    #[arg(long)]
+    pub client_ca: Option<PathBuf>,
+    /// Listens with tcp: on other addresses than loopback too: nothing is encrypted there, and who connects acts for anybody
+    #[arg(long)]
+    pub insecure: bool,
+    /// Where operators look: unix:PATH, which also gives copies of the store, or tcp:HOST:PORT on loopback
+    #[arg(long)]
+    pub admin: Option<Address>,
+    /// How the log on the standard error is written
+    #[arg(long, value_enum, default_value_t = Log::Text)]
+    pub log: Log,
+    /// The master's lines go to the log too
+    #[arg(long)]
+    pub trace: bool,
+    /// What is done instead of serving
+    #[command(subcommand)]
+    pub command: Option<Command>,
 }
 
-impl Options {
-    /// Reads the words behind the program's name; None where help is asked for.
-    pub fn read(words: impl Iterator<Item = String>) -> Result<Option<Options>, String> {
-        let mut words = words;
-        let (mut listen, mut store, mut settings, mut master, mut first) = (None, None, None, None, None);
-        let mut is_traced = false;
-        while let Some(word) = words.next() {
-            let mut value = || words.next().ok_or(format!("{word} lacks its value"));
-            match word.as_str() {
-                "--help" | "-h" => return Ok(None),
-                "--store" => store = Some(PathBuf::from(value()?)),
-                "--settings" => settings = Some(PathBuf::from(value()?)),
-                "--master" => master = Some(PathBuf::from(value()?)),
-                "--first" => first = Some(number(&value()?)?),
-                "--trace" => is_traced = true,
-                _ if word.starts_with('-') || listen.is_some() => return Err(format!("what is {word}? See --help")),
-                _ => listen = Some(address(&word)?),
-            }
-        }
-        let listen = listen.ok_or("LISTEN is missing. See --help")?;
-        let store = store.ok_or("--store FILE is missing. See --help")?;
-        Ok(Some(Options { listen, store, settings, master, first, is_traced }))
-    }
+const AFTER: &str = "\
+Beside the store stand FILE-numbers, the next client's number and the last epoch, and FILE-lock, which one server holds at a time.
+
+At unix: a client acts for the user that the system names, at tls: for the common name of its certificate, at tcp: for whom it says.
+
+It prints `listening ADDRESS` for each once it serves. On SIGTERM or SIGINT the master goes down in order, and the status is 0; on
+SIGHUP limits and certificates are read again. The status is 1 where it can't serve or has to stop, 2 for a wrong command line.
+RUST_LOG says what is logged, as `warn` or `tillermossd=debug`.";
+
+/// What is done instead of serving.
+#[derive(Debug, PartialEq, Eq, Subcommand)]
+pub enum Command {
+    /// Makes a store of a copy that `tillermoss backup` took. All sessions of the copy are ended, and all locks free
+    Restore {
+        /// The copy
+        copy: PathBuf,
+        /// The store, which isn't there
+        #[arg(long)]
+        store: PathBuf,
+    },
 }
 
-fn address(word: &str) -> Result<SocketAddr, String> {
-    if let Ok(port) = word.parse() {
-        return Ok(SocketAddr::new(IpAddr::V4(Ipv4Addr::LOCALHOST), port));
-    }
-    word.parse().map_err(|_| format!("{word} is no [ADDRESS:]PORT"))
-}
-
-fn number(word: &str) -> Result<u64, String> {
-    match word.parse() {
-        Ok(number) if (1..1 << 53).contains(&number) => Ok(number),
-        _ => Err(format!("{word} is no number of a client, 1 to 2^53-1")),
-    }
+/// How the log is written.
+#[derive(Clone, Copy, Debug, PartialEq, Eq, ValueEnum)]
+pub enum Log {
+    /// A line of text for each event
+    Text,
+    /// An object of JSON for each, one a line
+    Json,
 }
 
 #[cfg(test)]
 mod tests {
     use super::*;
 
-    fn read(line: &str) -> Result<Option<Options>, String> {
-        Options::read(line.split_whitespace().map(str::to_owned))
-    }
-
-    #[test]
-    fn an_address_is_loopback_unless_told_otherwise() {
-        let rows = [
-            ("7 --store s", "127.0.0.1:7"),
-            ("0.0.0.0:7 --store s", "0.0.0.0:7"),
-            ("--store s [::1]:7", "[::1]:7"),
-            ("0 --store s", "127.0.0.1:0"),
-        ];
-        for (line, wanted) in rows {
-            assert_eq!(read(line).unwrap().unwrap().listen.to_string(), wanted, "{line}");
-        }
+    fn read(line: &str) -> Result<Options, clap::Error> {
+        Options::try_parse_from(["tillermossd"].into_iter().chain(line.split_whitespace()))
     }
 
     #[test]
     fn each_option_is_read() {
-        let options = read("7 --store s --settings t --master m --first 5 --trace").unwrap().unwrap();
+        let line = "7 unix:/s tls:h:8 --store s --settings t --master m --first 5 --cert c --key k --client-ca a --insecure \
+                    --admin unix:/a --log json --trace";
         let wanted = Options {
-            listen: "127.0.0.1:7".parse().unwrap(),
-            store: "s".into(),
+            listen: ["7", "unix:/s", "tls:h:8"].map(|word| word.parse().unwrap()).to_vec(),
+            store: Some("s".into()),
             settings: Some("t".into()),
             master: Some("m".into()),
             first: Some(5),
-            is_traced: true,
+            cert: Some("c".into()),
+            key: Some("k".into()),
+            client_ca: Some("a".into()),
+            insecure: true,
+            admin: Some("unix:/a".parse().unwrap()),
+            log: Log::Json,
+            trace: true,
+            command: None,
         };
-        assert_eq!(options, wanted);
-        assert_eq!(read("--help"), Ok(None));
+        assert_eq!(read(line).unwrap(), wanted);
+        let restore = Command::Restore { copy: "c".into(), store: "s".into() };
+        assert_eq!(read("restore c --store s").unwrap().command, Some(restore));
     }
 
     #[test]
     fn other_words_are_refused() {
-        for line in [
-            "",
-            "7",
-            "--store s",
-            "7 --store",
-            "7 8 --store s",
-            "7 --store s --who",
-            "seven --store s",
-            "7 --store s --first 0",
-            "65536 --store s",
-        ] {
+        let rows = ["", "7", "--store s", "7 --store", "7 --store s --who", "seven --store s", "7 --store s --first 0"];
+        for line in rows.into_iter().chain(["65536 --store s", "7 --store s --cert c", "restore c", "7 --store s --log x"]) {
             assert!(read(line).is_err(), "{line}");
         }
     }

@@ -1,7 +1,6 @@
 //! When the master is to be given a tick.
 
 use crate::told::Next;
-use std::sync::{Mutex, PoisonError};
 use std::time::Duration;
 
 /// Between two ticks there are so many milliseconds at least.
@@ -10,15 +9,13 @@ const LEAST: u64 = 5;
 /// How many milliseconds after the last frame a tick is due where the master doesn't tell.
 const UNTOLD: u64 = 50;
 
-/// What is known of frames and of their answers. Each frame makes its master do what there is to do, so a tick is due only where
-/// none waits for its answer.
-#[derive(Debug)]
-pub struct Pulse(Mutex<State>);
+/// How many milliseconds behind a frame in which the store refused the next tick is due: a disk that is full has room a little later.
+const REFUSED: u64 = 500;
 
-#[derive(Debug)]
-struct State {
-    sent: u64,
-    answered: u64,
+/// What is known of the last frame and of its answer. Each frame makes its master do what there is to do, so a tick is due only
+/// where none waits for its answer.
+#[derive(Clone, Copy, Debug)]
+pub struct Pulse {
     last: u64,
     next: Next,
 }
@@ -26,34 +23,25 @@ struct State {
 impl Pulse {
     /// Behind the first frame's answer, whose moment this was, and whose mark told this.
     pub fn new(moment: u64, next: Next) -> Pulse {
-        Pulse(Mutex::new(State { sent: 0, answered: 0, last: moment, next }))
+        Pulse { last: moment, next }
     }
 
     /// A frame of this moment is sent.
-    pub fn send(&self, moment: u64) {
-        let mut state = self.0.lock().unwrap_or_else(PoisonError::into_inner);
-        state.sent += 1;
-        state.last = moment;
+    pub fn send(&mut self, moment: u64) {
+        self.last = moment;
     }
 
-    /// A frame was answered. Whether nothing more waits for its answer, so that the next tick has to be planned anew.
-    pub fn answer(&self, next: Next) -> bool {
-        let mut state = self.0.lock().unwrap_or_else(PoisonError::into_inner);
-        state.answered += 1;
-        state.next = next;
-        state.sent == state.answered
+    /// A frame was answered; whether the store refused in it. Then there is something to do at once, and it is tried a little later.
+    pub fn answer(&mut self, next: Next, is_refused: bool) {
+        self.next = if is_refused { Next::At(self.last.saturating_add(REFUSED)) } else { next };
     }
 
-    /// How long from this moment on there is no tick; None before something else happens.
+    /// How long from this moment on there is no tick, where no frame waits for its answer; None before something else happens.
     pub fn rest(&self, now: u64) -> Option<Duration> {
-        let state = self.0.lock().unwrap_or_else(PoisonError::into_inner);
-        if state.sent != state.answered {
-            return None;
-        }
-        let due = match state.next {
+        let due = match self.next {
             Next::Nothing => return None,
-            Next::Untold => state.last.saturating_add(UNTOLD),
-            Next::At(moment) => moment.max(state.last.saturating_add(LEAST)),
+            Next::Untold => self.last.saturating_add(UNTOLD),
+            Next::At(moment) => moment.max(self.last.saturating_add(LEAST)),
         };
         Some(Duration::from_millis(due.saturating_sub(now)))
     }
@@ -81,14 +69,14 @@ mod tests {
     }
 
     #[test]
-    fn no_tick_is_due_while_a_frame_waits_for_its_answer() {
-        let pulse = Pulse::new(0, Next::At(10));
-        pulse.send(1);
-        pulse.send(2);
-        assert_eq!(pulse.rest(100), None);
-        assert!(!pulse.answer(Next::At(20)));
-        assert_eq!(pulse.rest(100), None);
-        assert!(pulse.answer(Next::At(30)));
+    fn the_last_answer_says_the_next_deadline() {
+        let mut pulse = Pulse::new(0, Next::At(10));
+        pulse.send(24);
+        pulse.answer(Next::At(30), false);
         assert_eq!(pulse.rest(25), Some(Duration::from_millis(5)));
+        pulse.answer(Next::Nothing, false);
+        assert_eq!(pulse.rest(25), None);
+        pulse.answer(Next::At(24), true);
+        assert_eq!(pulse.rest(24), Some(Duration::from_millis(500)));
     }
 }

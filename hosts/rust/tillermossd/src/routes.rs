@@ -3,7 +3,7 @@
 use crate::outgoing::Outgoing;
 use host_wire::Estate;
 use std::collections::HashMap;
-use std::sync::{Mutex, MutexGuard, PoisonError};
+use std::sync::{Arc, Mutex, MutexGuard, PoisonError};
 
 /// The connection of each client that has one, and what those left that are closed.
 #[derive(Debug, Default)]
@@ -12,7 +12,7 @@ pub struct Routes(Mutex<Table>);
 #[derive(Debug, Default)]
 struct Table {
     bound: u64,
-    open: HashMap<u64, (u64, Outgoing)>,
+    open: HashMap<u64, (u64, Arc<Outgoing>)>,
     left: HashMap<u64, Estate>,
 }
 
@@ -23,14 +23,14 @@ impl Routes {
 
     /// From here on the client is reached so, and this is what it gets first; an earlier connection of it is cut off. Gives the
     /// number of this binding. Who got that is bound, before any that connects later.
-    pub fn bind(&self, client: u64, outgoing: Outgoing, first: Vec<u8>) -> u64 {
+    pub fn bind(&self, client: u64, outgoing: Arc<Outgoing>, first: Vec<u8>) -> u64 {
         let mut table = self.table();
         outgoing.send(first);
         table.bound += 1;
         let binding = table.bound;
         table.left.remove(&client);
         if let Some((_, old)) = table.open.insert(client, (binding, outgoing)) {
-            old.cut();
+            old.cut("its client has a later one");
         }
         binding
     }
@@ -46,6 +46,11 @@ impl Routes {
     /// Whether this binding is the client's present one.
     pub fn is_bound(&self, client: u64, binding: u64) -> bool {
         self.table().open.get(&client).is_some_and(|(bound, _)| *bound == binding)
+    }
+
+    /// For whom a client acts that has a connection.
+    pub fn principal(&self, client: u64) -> Option<Arc<str>> {
+        self.table().open.get(&client).map(|(_, outgoing)| outgoing.principal.clone())
     }
 
     /// The client is closed, and left this.
@@ -74,38 +79,38 @@ impl Routes {
 mod tests {
     use super::*;
     use host_wire::Blocks;
-    use std::net::{TcpListener, TcpStream};
-    use std::sync::Arc;
+    use tokio::io::{DuplexStream, duplex};
 
-    fn pair() -> (TcpStream, Arc<TcpStream>) {
-        let listener = TcpListener::bind("127.0.0.1:0").unwrap();
-        let one = TcpStream::connect(listener.local_addr().unwrap()).unwrap();
-        (one, Arc::new(listener.accept().unwrap().0))
+    fn bound(routes: &Routes, client: u64, first: &[u8]) -> (u64, DuplexStream) {
+        let (stream, other) = duplex(1024);
+        let outgoing = Arc::new(Outgoing::new(&"ann".into()));
+        let binding = routes.bind(client, outgoing.clone(), first.to_vec());
+        tokio::spawn(async move { outgoing.write_all(other).await });
+        (binding, stream)
     }
 
-    #[test]
-    fn a_client_is_reached_over_its_newest_connection() {
+    #[tokio::test]
+    async fn a_client_is_reached_over_its_newest_connection() {
         let routes = Routes::default();
-        let ((mut old, old_end), (mut new, new_end)) = (pair(), pair());
-        let first = routes.bind(7, Outgoing::new(&old_end).unwrap(), b"old".to_vec());
-        assert_eq!(Blocks::new(9).next(&mut old).unwrap(), Some(b"old".to_vec()));
-        let second = routes.bind(7, Outgoing::new(&new_end).unwrap(), b"new".to_vec());
+        let (first, mut old) = bound(&routes, 7, b"old");
+        assert_eq!(Blocks::new(9).next_of(&mut old).await.unwrap(), Some(b"old".to_vec()));
+        let (second, mut new) = bound(&routes, 7, b"new");
         let mut blocks = Blocks::new(9);
-        assert_eq!(blocks.next(&mut new).unwrap(), Some(b"new".to_vec()));
+        assert_eq!(blocks.next_of(&mut new).await.unwrap(), Some(b"new".to_vec()));
         assert!(!routes.is_bound(7, first));
         routes.unbind(7, first);
         assert!(routes.is_bound(7, second));
         assert_eq!(routes.send(8, b"lost".to_vec()), None);
         assert_eq!(routes.send(7, b"here".to_vec()), None);
-        assert_eq!(blocks.next(&mut new).unwrap(), Some(b"here".to_vec()));
-        assert_eq!(Blocks::new(9).next(&mut old).unwrap(), None);
+        assert_eq!(blocks.next_of(&mut new).await.unwrap(), Some(b"here".to_vec()));
+        assert_eq!(Blocks::new(9).next_of(&mut old).await.unwrap(), None);
         routes.unbind(7, second);
         assert!(!routes.is_bound(7, second));
     }
 
-    #[test]
-    fn what_is_asked_back_of_a_closed_client_is_acknowledged() {
-        let words = |kind: u8, words: [u64; 5]| [vec![1, kind], words.map(u64::to_be_bytes).concat()].concat();
+    #[tokio::test]
+    async fn what_is_asked_back_of_a_closed_client_is_acknowledged() {
+        let words = |kind: u8, words: [u64; 5]| [vec![2, kind], words.map(u64::to_be_bytes).concat()].concat();
         let alive =
             [words(1, [7, 2, 5, 12_000, 1])[..34].to_vec(), b"\0\0\0\x01\0\0\0\0\0\0\0\x04\0\0\0\x05/ls/c\0\0\0\0".to_vec()].concat();
         let routes = Routes::default();
@@ -116,8 +121,7 @@ mod tests {
         routes.forget(7);
         assert_eq!(routes.send(7, alive.clone()), None);
         leave();
-        let (_end, stream) = pair();
-        routes.bind(7, Outgoing::new(&stream).unwrap(), Vec::new());
+        let (_binding, _stream) = bound(&routes, 7, b"");
         assert_eq!(routes.send(7, alive), None);
     }
 }

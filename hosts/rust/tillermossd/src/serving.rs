@@ -1,66 +1,263 @@
 //! The server, from its start to its end.
 
+use crate::admin::{Admin, Desk};
 use crate::connections::{Hall, take_all};
+use crate::doors::{Certificates, Door};
 use crate::locks::take_lock;
-use crate::master::{Ending, Master, check_end};
-use crate::numbers::Numbers;
+use crate::master::{Ending, Making, Master, Order};
+use crate::numbers::{Epochs, Numbers};
 use crate::options::Options;
-use crate::routes::Routes;
-use crate::signals::Signals;
+use crate::picture::Picture;
+use crate::settings::Settings;
+use crate::showing::Showing;
+use crate::store::{self, Head, beside};
+use anyhow::{Context, Result, bail};
+use host_wire::Address;
+use nix::sys::resource::{Resource, getrlimit, setrlimit};
+use nix::sys::stat::{Mode, umask};
+use sd_notify::NotifyState;
 use std::fs;
 use std::io::{self, Write};
-use std::net::TcpListener;
+use std::os::unix::fs::PermissionsExt;
 use std::path::{Path, PathBuf};
-use std::sync::atomic::{AtomicBool, AtomicUsize, Ordering};
-use std::sync::mpsc::channel;
-use std::sync::{Arc, Mutex};
-use std::thread;
+use std::process::Command;
+use std::sync::{Arc, PoisonError};
+use std::time::{Duration, Instant};
+use tokio::signal::unix::{Signal, SignalKind, signal};
+use tokio::sync::mpsc;
+use tokio::time::interval;
+use tracing::{error, info, warn};
+
+/// So many masters are started in so long at most: more of them don't help.
+const MASTERS: usize = 5;
+const WHILE: Duration = Duration::from_secs(60);
+
+/// How often the service manager hears that the server lives.
+const WATCHDOG: Duration = Duration::from_secs(5);
+
+/// What was found before a master is started.
+struct Found {
+    picture: Picture,
+    numbers: Numbers,
+    settings: Settings,
+    warnings: Vec<String>,
+}
 
 /// Serves until it is told to go, and then goes in order; or answers why it can't, or why the master is gone.
-pub fn serve(options: &Options) -> io::Result<()> {
-    let store = fs::canonicalize(&options.store).unwrap_or_else(|_| options.store.clone());
-    let _lock = take_lock(&beside(&store, "lock"))?;
-    let has_store = fs::metadata(&store).is_ok_and(|file| file.len() > 0);
-    let numbers = Numbers::open(&beside(&store, "numbers"), has_store, options.first)?;
-    let listener = TcpListener::bind(options.listen)
-        .map_err(|error| io::Error::new(error.kind(), format!("listening at {}: {error}", options.listen)))?;
-    let mut signals = Signals::take()?;
+pub fn serve(options: Options) -> Result<()> {
+    // (whatever is made from here on is this user's alone)
+    umask(Mode::from_bits_truncate(0o077));
+    let path = options.store.clone().context("--store is missing")?;
+    let path = fs::canonicalize(&path).unwrap_or(path);
+    let _lock = take_lock(&beside(&path, "lock"))?;
+    store::forget_copies(&path)?;
+    let found = look(&options, &path)?;
+    let (_, most) = getrlimit(Resource::RLIMIT_NOFILE)?;
+    setrlimit(Resource::RLIMIT_NOFILE, most, most)?;
+    let runtime = tokio::runtime::Builder::new_multi_thread().enable_all().build()?;
+    let served = runtime.block_on(run(Arc::new(options), path, found));
+    // (what still goes on goes with the process)
+    runtime.shutdown_background();
+    served
+}
 
-    let (ending, ended) = channel();
-    let routes = Arc::new(Routes::default());
-    let master = Master::start(options, &store, routes.clone(), ending.clone())?;
-    let (count, is_over) = (AtomicUsize::new(0), AtomicBool::new(false));
-    let hall = Arc::new(Hall { numbers: Mutex::new(numbers), routes, work: master.work(), count, is_over });
-    tell(&listener)?;
-    let taking = hall.clone();
-    thread::Builder::new().spawn(move || take_all(listener, &taking))?;
-    thread::Builder::new().spawn(move || {
-        signals.wait();
-        // (where nobody waits for it the server is ending already)
-        let _ = ending.send(Ending::Asked);
-    })?;
-    match ended.recv() {
-        Ok(Ending::Asked) => {
-            hall.is_over.store(true, Ordering::Relaxed);
-            check_end(master.stop()?)
+// Looks at the store and what stands beside it. Nothing is written where they don't go together.
+fn look(options: &Options, path: &Path) -> Result<Found> {
+    let has_store = store::is_there(path);
+    let settings = Settings::read(options.settings.as_deref())?;
+    let mut numbers = Numbers::open(&beside(path, "numbers"), has_store, options.first)?;
+    let mut warnings = Vec::new();
+    let mut picture = Picture::default();
+    let mut epochs = Epochs { last: 0, coming: 1 };
+    let mut has_known_secret = settings.has_known_secret();
+    if has_store {
+        let folder = store::copy(path).with_context(|| format!("reading {}", path.display()))?;
+        let connection = store::open(&store::copied(&folder))?;
+        let head = Head::read(&connection)?;
+        has_known_secret = head.has_known_secret;
+        epochs = head.check(numbers.epochs())?;
+        picture.read(&connection)?;
+    }
+    if has_known_secret {
+        warnings.push("the store's secret is all zeros: whoever knows that can forge a handle".to_owned());
+    }
+    if has_store && fs::metadata(path)?.permissions().mode() & 0o077 != 0 {
+        warnings.push(format!("others than its user may read {}", path.display()));
+    }
+    let is_open = |address: &&Address| matches!(address, Address::Tcp(_));
+    for address in options.listen.iter().filter(is_open) {
+        let place = if address.is_local() { "this machine" } else { "everywhere" };
+        warnings.push(format!("{address}: who connects from {place} acts for anybody, and nothing is encrypted"));
+    }
+    if is_unproved(&options.master.clone().unwrap_or_else(cellctl)) {
+        warnings.push("the master was built without proof".to_owned());
+    }
+    numbers.note(epochs)?;
+    let settings = if has_store { settings } else { settings.with_secret() };
+    Ok(Found { picture, numbers, settings, warnings })
+}
+
+// Whether the master says so itself. (One that can't be started is told of when it is.)
+fn is_unproved(master: &Path) -> bool {
+    let told = Command::new(master).arg("--version").output();
+    told.is_ok_and(|told| String::from_utf8_lossy(&told.stdout).contains("without proof"))
+}
+
+// The program beside this one, else the one on the path.
+fn cellctl() -> PathBuf {
+    let own = std::env::current_exe().ok().and_then(|own| own.parent().map(|folder| folder.join("cellctl")));
+    own.filter(|program| program.exists()).unwrap_or_else(|| PathBuf::from("cellctl"))
+}
+
+// Listens at each address, with certificates where one is by TLS.
+async fn open(options: &Options) -> Result<(Vec<(Door, Address)>, Option<Arc<Certificates>>)> {
+    let is_tls = options.listen.iter().any(|address| matches!(address, Address::Tls(_)));
+    let certificates = if is_tls { Some(Arc::new(Certificates::new(options)?)) } else { None };
+    let mut doors = Vec::new();
+    for address in &options.listen {
+        doors.push(Door::open(address, options.insecure, certificates.as_ref()).await?);
+    }
+    Ok((doors, certificates))
+}
+
+async fn run(options: Arc<Options>, path: PathBuf, found: Found) -> Result<()> {
+    for warning in &found.warnings {
+        warn!("{warning}");
+    }
+    let (doors, certificates) = open(&options).await?;
+    let desk = match &options.admin {
+        Some(address) => Some(Desk::open(address).await?),
+        None => None,
+    };
+    let hall = Arc::new(Hall::new(found.numbers, found.picture, &found.settings.limits)?);
+    let making = Making { program: options.master.clone().unwrap_or_else(cellctl), store: path, settings: found.settings };
+    let (orders, ordered) = mpsc::channel(4);
+    let master = up(&making, &hall).await?;
+    if hall.picture().nodes.is_empty() {
+        // (a store that the master has made; it writes nothing before it gets a frame)
+        let folder = store::copy(&making.store)?;
+        hall.picture().read(&store::open(&store::copied(&folder))?)?;
+    }
+    let ended = tokio::spawn(keep(master, making, hall.clone(), ordered));
+
+    // (from here on a signal lets the master go in order)
+    let signals = Signals::take()?;
+    let mut listening = Vec::new();
+    for (door, address) in doors {
+        listening.push(address.to_string());
+        tokio::spawn(take_all(door, hall.clone()));
+    }
+    let showing = Arc::new(Showing { hall: hall.clone(), listening, warnings: found.warnings, begun: Instant::now() });
+    tell(&showing.listening, desk.as_ref().map(|(_, address)| address))?;
+    if let Some((desk, address)) = desk {
+        let admin = Admin { showing, orders: orders.clone(), is_private: matches!(address, Address::Unix(_)) };
+        tokio::spawn(desk.serve(Arc::new(admin)));
+    }
+    // (where no service manager waits for it nothing is told)
+    let _ = sd_notify::notify(false, &[NotifyState::Ready]);
+    wait(&options, &hall, certificates.as_deref(), &orders, ended, signals).await
+}
+
+// Starts a master, and notes its epoch.
+async fn up(making: &Making, hall: &Arc<Hall>) -> Result<Master> {
+    let master = making.start(hall).await?;
+    let epoch = hall.picture().epoch;
+    hall.numbers.lock().unwrap_or_else(PoisonError::into_inner).note(Epochs { last: epoch, coming: epoch + 1 })?;
+    info!(process = master.process(), epoch, "serving");
+    Ok(master)
+}
+
+// Keeps a master up, until it was told to go; why there can't be one.
+async fn keep(mut master: Master, making: Making, hall: Arc<Hall>, mut orders: mpsc::Receiver<Order>) -> Result<()> {
+    let mut starts = Vec::new();
+    loop {
+        let reason = match master.run(&mut orders).await {
+            Ending::Asked(status) if status.success() => return Ok(()),
+            Ending::Asked(status) => bail!("the master is gone: {status}"),
+            Ending::StoreGone(reason) => bail!("{reason}; nothing more is written"),
+            Ending::Gone(reason) => reason,
+        };
+        error!(reason, "the master is gone; another takes its place");
+        hall.picture().is_up = false;
+        hall.metrics.replaced();
+        starts.push(Instant::now());
+        starts.retain(|start| start.elapsed() < WHILE);
+        if starts.len() > MASTERS {
+            bail!("the master is gone again and again: {reason}");
         }
-        Ok(Ending::MasterGone) | Err(_) => {
-            let status = master.ended()?;
-            Err(io::Error::other(format!("the master is gone: {status}")))
+        master = up(&making, &hall).await?;
+    }
+}
+
+fn tell(listening: &[String], admin: Option<&Address>) -> io::Result<()> {
+    let mut out = io::stdout();
+    for address in listening {
+        writeln!(out, "listening {address}")?;
+    }
+    if let Some(address) = admin {
+        writeln!(out, "admin {address}")?;
+    }
+    out.flush()
+}
+
+// The signals that a server heeds.
+struct Signals {
+    terminate: Signal,
+    interrupt: Signal,
+    hangup: Signal,
+}
+
+impl Signals {
+    fn take() -> io::Result<Signals> {
+        let [terminate, interrupt, hangup] = [SignalKind::terminate(), SignalKind::interrupt(), SignalKind::hangup()].map(signal);
+        Ok(Signals { terminate: terminate?, interrupt: interrupt?, hangup: hangup? })
+    }
+}
+
+// Waits for signals and for the end.
+async fn wait(
+    options: &Options,
+    hall: &Hall,
+    certificates: Option<&Certificates>,
+    orders: &mpsc::Sender<Order>,
+    mut ended: tokio::task::JoinHandle<Result<()>>,
+    mut signals: Signals,
+) -> Result<()> {
+    let mut beats = interval(WATCHDOG);
+    loop {
+        tokio::select! {
+            end = &mut ended => return end.context("the master's task is gone")?,
+            _ = signals.terminate.recv() => go(orders).await,
+            _ = signals.interrupt.recv() => go(orders).await,
+            _ = signals.hangup.recv() => renew(options, hall, certificates),
+            _ = beats.tick() => {
+                // (where no service manager waits for it nothing is told)
+                let _ = sd_notify::notify(false, &[NotifyState::Watchdog]);
+            }
         }
     }
 }
 
-// A file beside the store.
-fn beside(store: &Path, what: &str) -> PathBuf {
-    let mut path = store.as_os_str().to_owned();
-    path.push("-");
-    path.push(what);
-    PathBuf::from(path)
+async fn go(orders: &mpsc::Sender<Order>) {
+    info!("going");
+    let _ = sd_notify::notify(false, &[NotifyState::Stopping]);
+    // (where the master's task is gone the server ends already)
+    let _ = orders.send(Order::Down).await;
 }
 
-fn tell(listener: &TcpListener) -> io::Result<()> {
-    let mut out = io::stdout();
-    writeln!(out, "listening {}", listener.local_addr()?)?;
-    out.flush()
+// Reads limits and certificates again; where that fails what there was stays.
+fn renew(options: &Options, hall: &Hall, certificates: Option<&Certificates>) {
+    match Settings::read(options.settings.as_deref()) {
+        Ok(settings) => {
+            *hall.limits.write().unwrap_or_else(PoisonError::into_inner) = settings.limits;
+            info!("the limits were read again; what is said of the cell holds from the next start on");
+        }
+        Err(error) => error!(reason = %format_args!("{error:#}"), "the settings stay as they were"),
+    }
+    if let Some(certificates) = certificates {
+        match certificates.renew(options) {
+            Ok(()) => info!("the certificates were read again"),
+            Err(error) => error!(reason = %format_args!("{error:#}"), "the certificates stay as they were"),
+        }
+    }
 }

@@ -3,7 +3,7 @@
 use host_wire::Fields;
 use std::io::{self, ErrorKind};
 
-const VERSION: u8 = 1;
+const VERSION: u8 = 2;
 
 /// What a server sends to its master.
 #[derive(Clone, Copy, Debug)]
@@ -98,10 +98,10 @@ mod tests {
     #[test]
     fn frames_have_their_bytes() {
         let rows: &[(Frame, &[u8])] = &[
-            (Frame::Up(1000), b"\x01\0\0\0\0\0\0\0\x03\xe8"),
-            (Frame::Message(1, b"\x01\x01m"), b"\x01\x01\0\0\0\0\0\0\0\x01\x01\x01m"),
-            (Frame::Tick(2), b"\x01\x02\0\0\0\0\0\0\0\x02"),
-            (Frame::Down, b"\x01\x03"),
+            (Frame::Up(1000), b"\x02\0\0\0\0\0\0\0\x03\xe8"),
+            (Frame::Message(1, b"\x02\x01m"), b"\x02\x01\0\0\0\0\0\0\0\x01\x02\x01m"),
+            (Frame::Tick(2), b"\x02\x02\0\0\0\0\0\0\0\x02"),
+            (Frame::Down, b"\x02\x03"),
         ];
         for (frame, wanted) in rows {
             assert_eq!(frame.write(), *wanted);
@@ -111,17 +111,17 @@ mod tests {
     #[test]
     fn what_is_told_is_read() {
         let rows: &[(&[u8], Option<Told>)] = &[
-            (b"\x01\0\0\0\0\x04up 1", Some(Told::Line("up 1".to_owned()))),
-            (b"\x01\x01\0\0\0\0\0\0\0\x07\x01\x02", Some(Told::Message(7, vec![1, 2]))),
-            (b"\x01\x02\x05", Some(Told::Bad(5))),
-            (b"\x01\x03", Some(Told::End(Next::Untold))),
-            (b"\x01\x03\0", Some(Told::End(Next::Nothing))),
-            (b"\x01\x03\x01\0\0\0\0\0\0\0\x09", Some(Told::End(Next::At(9)))),
-            (b"\x01\x03\x02", None),
-            (b"\x01\x03\x01\0", None),
-            (b"\x01\x04", None),
-            (b"\x02\x03", None),
-            (b"\x01\0\0\0\0\x03up 1", None),
+            (b"\x02\0\0\0\0\x04up 1", Some(Told::Line("up 1".to_owned()))),
+            (b"\x02\x01\0\0\0\0\0\0\0\x07\x01\x02", Some(Told::Message(7, vec![1, 2]))),
+            (b"\x02\x02\x05", Some(Told::Bad(5))),
+            (b"\x02\x03", Some(Told::End(Next::Untold))),
+            (b"\x02\x03\0", Some(Told::End(Next::Nothing))),
+            (b"\x02\x03\x01\0\0\0\0\0\0\0\x09", Some(Told::End(Next::At(9)))),
+            (b"\x02\x03\x02", None),
+            (b"\x02\x03\x01\0", None),
+            (b"\x02\x04", None),
+            (b"\x01\x03", None),
+            (b"\x02\0\0\0\0\x03up 1", None),
             (b"", None),
         ];
         for (bytes, wanted) in rows {

@@ -10,7 +10,7 @@ fn run(words: &[&str]) -> Output {
 fn help_and_wrong_words_are_told() {
     let help = run(&["--help"]);
     assert_eq!(help.status.code(), Some(0));
-    assert!(String::from_utf8(help.stdout).unwrap().starts_with("Serves a cell over TCP"));
+    assert!(String::from_utf8(help.stdout).unwrap().starts_with("Serves a cell"));
     for words in [&[][..], &["7171"], &["x", "--store", "s"]] {
         assert_eq!(run(words).status.code(), Some(2), "{words:?}");
     }

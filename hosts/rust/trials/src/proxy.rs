@@ -1,6 +1,7 @@
 //! A bad network between clients and their server: what goes over it is late, is cut off, and comes once more.
 
-use crate::random::Random;
+use rand::rngs::StdRng;
+use rand::{Rng, SeedableRng};
 use std::io::{self, Read, Write};
 use std::net::{Shutdown, SocketAddr, TcpListener, TcpStream};
 use std::sync::atomic::{AtomicU64, Ordering};
@@ -42,7 +43,7 @@ struct Shared {
 struct Way {
     from: TcpStream,
     to: TcpStream,
-    random: Random,
+    random: StdRng,
     shared: Arc<Shared>,
     /// What the client sent, on the way to the server.
     kept: Option<Vec<u8>>,
@@ -97,7 +98,7 @@ fn carry(client: TcpStream, shared: &Arc<Shared>) -> io::Result<()> {
     client.set_nodelay(true)?;
     let number = shared.counts.made.fetch_add(1, Ordering::Relaxed);
     let way = |from: &TcpStream, to: &TcpStream, side: u64, kept: Option<Vec<u8>>| -> io::Result<Way> {
-        let random = Random::new(shared.seed ^ (2 * number + side) << 20);
+        let random = StdRng::seed_from_u64(shared.seed ^ (2 * number + side) << 20);
         Ok(Way { from: from.try_clone()?, to: to.try_clone()?, random, shared: shared.clone(), kept })
     };
     let (there, back) = (way(&client, &server, 0, Some(Vec::new()))?, way(&server, &client, 1, None)?);
@@ -117,7 +118,7 @@ impl Way {
         let Some(kept) = self.kept.take() else {
             return;
         };
-        if is_cut && self.random.once_in(2) {
+        if is_cut && self.random.gen_ratio(1, 2) {
             // (where the server is away nothing comes once more)
             let _ = self.repeat(&kept);
         }
@@ -134,14 +135,14 @@ impl Way {
             if let Some(kept) = self.kept.as_mut().filter(|kept| kept.len() + count <= KEPT) {
                 kept.extend_from_slice(&room[..count]);
             }
-            if self.random.once_in(8) {
+            if self.random.gen_ratio(1, 8) {
                 self.shared.counts.late.fetch_add(1, Ordering::Relaxed);
-                thread::sleep(Duration::from_millis(self.random.below(30)));
+                thread::sleep(Duration::from_millis(self.random.gen_range(0..30)));
             }
-            if self.random.once_in(200) {
+            if self.random.gen_ratio(1, 200) {
                 self.shared.counts.cut.fetch_add(1, Ordering::Relaxed);
                 // (a part of the piece may still come)
-                let part = self.random.below(count as u64 + 1) as usize;
+                let part = self.random.gen_range(0..=count);
                 self.to.write_all(&room[..part])?;
                 return Ok(true);
             }
@@ -154,7 +155,7 @@ impl Way {
         let mut server = connect(&self.shared)?;
         server.write_all(kept)?;
         self.shared.counts.repeated.fetch_add(1, Ordering::Relaxed);
-        server.set_read_timeout(Some(Duration::from_millis(1 + self.random.below(100))))?;
+        server.set_read_timeout(Some(Duration::from_millis(1 + self.random.gen_range(0..100))))?;
         let mut room = [0; 4096];
         while server.read(&mut room)? > 0 {}
         Ok(())

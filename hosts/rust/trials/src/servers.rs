@@ -1,10 +1,14 @@
 //! Servers as processes.
 
-use std::fs;
+use nix::sys::signal::{Signal, kill};
+use nix::unistd::Pid;
+use std::fs::{self, File};
 use std::io::{self, BufRead, BufReader};
-use std::net::SocketAddr;
 use std::path::{Path, PathBuf};
 use std::process::{Child, Command, ExitStatus, Stdio};
+use std::thread;
+use std::time::Duration;
+use tillermoss::{Client, Error, Options};
 
 /// How a server is killed.
 #[derive(Clone, Copy, Debug, PartialEq, Eq)]
@@ -13,16 +17,27 @@ pub enum Kill {
     InOrder,
     /// By SIGKILL.
     Server,
-    /// Its master, by SIGKILL.
-    Master,
 }
 
 /// A server that runs.
 #[derive(Debug)]
 pub struct Server {
     child: Child,
-    /// Where it listens.
-    pub address: SocketAddr,
+    /// Where it listens first, as it said.
+    pub address: String,
+    /// Where it listens, in the order of its words.
+    pub addresses: Vec<String>,
+    /// Where it shows itself to operators, where that was asked for.
+    pub admin: Option<String>,
+    log: PathBuf,
+}
+
+/// How a server is started.
+#[derive(Clone, Debug)]
+pub struct Start {
+    words: Vec<String>,
+    store: PathBuf,
+    log: PathBuf,
 }
 
 /// A program of this workspace: cargo builds it, since its package has a test of it.
@@ -35,7 +50,10 @@ pub fn program(name: &str) -> PathBuf {
     let own = std::env::current_exe().expect("this program has a path");
     // (tests lie in the folder deps beside the programs)
     let folder = own.ancestors().skip(1).find(|folder| !folder.ends_with("deps"));
-    folder.expect("this program lies in a folder").join(name)
+    let beside = folder.expect("this program lies in a folder").join(name);
+    // (the programs of documents' examples lie elsewhere)
+    let built = |kind: &str| Path::new(env!("CARGO_MANIFEST_DIR")).join("../target").join(kind).join(name);
+    [beside, built("debug"), built("release")].into_iter().find(|path| path.exists()).expect("the program is built")
 }
 
 /// The master's program: CELLCTL, else where it is built.
@@ -59,6 +77,100 @@ pub fn folder(test: &str) -> PathBuf {
     folder
 }
 
+/// A folder with certificates of an authority for tests: `server`, and these principals.
+///
+/// # Panics
+///
+/// Where they can't be made.
+#[must_use]
+pub fn certificates(folder: &Path, principals: &[&str]) -> PathBuf {
+    let made = folder.join("certificates");
+    let script = Path::new(env!("CARGO_MANIFEST_DIR")).join("../../certificates");
+    let status = Command::new(script).arg(&made).args(principals).status().expect("hosts/certificates can be run");
+    assert!(status.success(), "hosts/certificates failed: {status}");
+    made
+}
+
+impl Start {
+    /// Over this store, at a free port of loopback.
+    #[must_use]
+    pub fn new(store: &Path) -> Start {
+        Start { words: Vec::new(), store: store.to_owned(), log: store.with_added_extension("log") }
+    }
+
+    /// With these words more. Where an address is among them it listens there alone.
+    #[must_use]
+    pub fn with(mut self, words: &[&str]) -> Start {
+        self.words.extend(words.iter().map(|word| (*word).to_owned()));
+        self
+    }
+
+    /// At a free port by TLS, with certificates of this folder.
+    #[must_use]
+    pub fn tls(self, certificates: &Path) -> Start {
+        let file = |name: &str| certificates.join(name).display().to_string();
+        self.with(&["tls:0", "--cert", &file("server.pem"), "--key", &file("server.key"), "--client-ca", &file("ca.pem")])
+    }
+
+    /// With settings of this text.
+    ///
+    /// # Panics
+    ///
+    /// Where they can't be written beside the store.
+    #[must_use]
+    pub fn settings(self, text: &str) -> Start {
+        let path = self.store.with_added_extension("toml");
+        fs::write(&path, text).expect("a file beside the store can be written");
+        self.with(&["--settings", &path.display().to_string()])
+    }
+
+    /// The command that starts it.
+    #[must_use]
+    pub fn command(&self) -> Command {
+        let mut command = Command::new(program("tillermossd"));
+        if self.addresses() == 0 {
+            command.arg("0");
+        }
+        command.args(&self.words).arg("--store").arg(&self.store).arg("--master").arg(master_program());
+        command
+    }
+
+    // How many addresses are among the words.
+    fn addresses(&self) -> usize {
+        let is_address = |word: &String| ["tcp:", "tls:", "unix:"].iter().any(|kind| word.starts_with(kind));
+        let is_admin = |at: usize| at > 0 && self.words[at - 1] == "--admin";
+        self.words.iter().enumerate().filter(|(at, word)| is_address(word) && !is_admin(*at)).count()
+    }
+
+    /// Starts it, and waits until it listens.
+    ///
+    /// # Errors
+    ///
+    /// Where it can't be started, or ends first: then what it logged is told.
+    pub fn start(&self) -> io::Result<Server> {
+        let log = File::options().create(true).append(true).open(&self.log)?;
+        let mut child = self.command().stdout(Stdio::piped()).stderr(log).spawn()?;
+        let (mut addresses, mut admin) = (Vec::new(), None);
+        let lines = child.stdout.take().map(|out| BufReader::new(out).lines()).into_iter().flatten();
+        let wanted = self.addresses().max(1) + usize::from(self.words.iter().any(|word| word == "--admin"));
+        for line in lines.take(wanted) {
+            let line = line?;
+            match line.split_once(' ') {
+                Some(("listening", place)) => addresses.push(place.to_owned()),
+                Some(("admin", place)) => admin = Some(place.to_owned()),
+                _ => {}
+            }
+        }
+        match addresses.first().cloned() {
+            Some(address) => Ok(Server { child, address, addresses, admin, log: self.log.clone() }),
+            None => {
+                let status = child.wait()?;
+                Err(io::Error::other(format!("the server didn't come up: {status}: {}", fs::read_to_string(&self.log)?)))
+            }
+        }
+    }
+}
+
 impl Server {
     /// Starts one over this store, and waits until it listens.
     ///
@@ -66,7 +178,7 @@ impl Server {
     ///
     /// Where it can't be started, or ends first.
     pub fn start(store: &Path) -> io::Result<Server> {
-        Server::start_with(store, None)
+        Start::new(store).start()
     }
 
     /// The same, with the settings of a file.
@@ -75,20 +187,55 @@ impl Server {
     ///
     /// As `start`.
     pub fn start_with(store: &Path, settings: Option<&Path>) -> io::Result<Server> {
-        let mut command = Command::new(program("tillermossd"));
-        command.arg("0").arg("--store").arg(store).arg("--master").arg(master_program());
-        if let Some(settings) = settings {
-            command.arg("--settings").arg(settings);
-        }
-        let mut child = command.stdout(Stdio::piped()).spawn()?;
-        let mut line = String::new();
-        if let Some(out) = child.stdout.take() {
-            BufReader::new(out).read_line(&mut line)?;
-        }
-        match line.trim_end().strip_prefix("listening ").and_then(|address| address.parse().ok()) {
-            Some(address) => Ok(Server { child, address }),
-            None => Err(io::Error::other(format!("the server didn't come up: {}", child.wait()?))),
-        }
+        let start = Start::new(store);
+        settings.map_or(start.clone(), |settings| start.with(&["--settings", &settings.display().to_string()])).start()
+    }
+
+    /// The address without its kind, of one that listens at `tcp:` or `tls:`.
+    ///
+    /// # Panics
+    ///
+    /// Where it listens at another.
+    #[must_use]
+    pub fn place(&self) -> &str {
+        self.address.split_once(':').expect("an address has a kind").1
+    }
+
+    /// The number of its process.
+    #[must_use]
+    pub fn process(&self) -> u32 {
+        self.child.id()
+    }
+
+    /// What it and those before it over the store logged.
+    ///
+    /// # Panics
+    ///
+    /// Where that can't be read.
+    #[must_use]
+    pub fn logged(&self) -> String {
+        fs::read_to_string(&self.log).expect("the log can be read")
+    }
+
+    /// Waits until it has logged this, 20 s at most.
+    #[must_use]
+    pub fn has_logged(&self, text: &str) -> bool {
+        (0..400).any(|_| {
+            let has = self.logged().contains(text);
+            if !has {
+                thread::sleep(Duration::from_millis(50));
+            }
+            has
+        })
+    }
+
+    /// Waits until it ends by itself; how.
+    ///
+    /// # Errors
+    ///
+    /// Where it can't be waited for.
+    pub fn wait(&mut self) -> io::Result<ExitStatus> {
+        self.child.wait()
     }
 
     /// Kills it; how it ended.
@@ -99,23 +246,46 @@ impl Server {
     pub fn kill(&mut self, kill: Kill) -> io::Result<ExitStatus> {
         match kill {
             Kill::Server => self.child.kill()?,
-            Kill::InOrder => signal("-TERM", self.child.id())?,
-            Kill::Master => signal("-KILL", self.master()?)?,
+            Kill::InOrder => self.signal(Signal::SIGTERM)?,
         }
         self.child.wait()
     }
 
-    // The number of the process of its master, its only child.
-    fn master(&self) -> io::Result<u32> {
+    /// Kills its master by SIGKILL, which it replaces.
+    ///
+    /// # Errors
+    ///
+    /// Where it has none.
+    pub fn kill_master(&self) -> io::Result<()> {
+        send(self.master()?, Signal::SIGKILL)
+    }
+
+    /// Sends it a signal.
+    ///
+    /// # Errors
+    ///
+    /// Where it is gone.
+    pub fn signal(&self, signal: Signal) -> io::Result<()> {
+        send(self.child.id(), signal)
+    }
+
+    /// The number of the process of its master, its only child.
+    ///
+    /// # Errors
+    ///
+    /// Where it has none.
+    pub fn master(&self) -> io::Result<u32> {
         let id = self.child.id();
-        let children = fs::read_to_string(format!("/proc/{id}/task/{id}/children"))?;
-        children.trim().parse().map_err(|_| io::Error::other(format!("the server's children: {children}")))
+        let mut found = String::new();
+        for task in fs::read_dir(format!("/proc/{id}/task"))? {
+            found += &fs::read_to_string(task?.path().join("children"))?;
+        }
+        found.trim().parse().map_err(|_| io::Error::other(format!("the server's children: {found}")))
     }
 }
 
-fn signal(name: &str, process: u32) -> io::Result<()> {
-    let status = Command::new("kill").arg(name).arg(process.to_string()).status()?;
-    if status.success() { Ok(()) } else { Err(io::Error::other("kill failed")) }
+fn send(process: u32, signal: Signal) -> io::Result<()> {
+    Ok(kill(Pid::from_raw(process.cast_signed()), signal)?)
 }
 
 impl Drop for Server {
@@ -124,4 +294,27 @@ impl Drop for Server {
         let _ = self.child.kill();
         let _ = self.child.wait();
     }
+}
+
+/// A server of an example's own, over a new store, which also shows itself to operators.
+///
+/// # Panics
+///
+/// Where it can't be started.
+#[must_use]
+pub fn server_of_its_own() -> Server {
+    let folder = tempfile::tempdir().expect("a folder can be made").into_path();
+    let admin = format!("unix:{}", folder.join("admin").display());
+    Start::new(&folder.join("store.db")).with(&["--admin", &admin]).start().expect("a server can be started")
+}
+
+/// Runs an example with a client of a server of its own.
+///
+/// # Panics
+///
+/// Where the server can't be started, and where the example fails.
+pub fn with_client(example: impl FnOnce(&Client) -> Result<(), Error>) {
+    let server = server_of_its_own();
+    let client = Client::connect(&Options::new(&server.address, "ann")).expect("the server is reached");
+    example(&client).expect("the example succeeds");
 }

@@ -1,5 +1,7 @@
 //! The command line, with a server.
 
+use nix::sys::signal::{Signal, kill};
+use nix::unistd::Pid;
 use std::fs;
 use std::io::{BufRead, BufReader, Lines, Write};
 use std::path::Path;
@@ -10,7 +12,7 @@ use trials::{Kill, Server, folder, program};
 
 fn command(server: &Server, words: &[&str]) -> Command {
     let mut command = Command::new(program("tillermoss"));
-    command.arg("--server").arg(server.address.to_string()).args(words);
+    command.arg("--server").arg(&server.address).args(words);
     command
 }
 
@@ -33,6 +35,18 @@ fn start_watch(server: &Server, name: &str) -> (Child, Lines<BufReader<ChildStdo
     (child, lines)
 }
 
+const STAT: &str = "\
+name /ls/c/f
+kind file
+life permanent
+length 5
+instance 4
+content-generation 3
+acl-generation 1
+lock-generation 0
+acl base base base
+";
+
 fn wait_for(path: &Path) {
     while !path.exists() {
         thread::sleep(Duration::from_millis(10));
@@ -47,23 +61,31 @@ fn files_are_made_read_and_deleted() {
         (&["get", "f"], "", 1),
         (&["put", "f", "hello"], "", 0),
         (&["get", "f"], "hello\n", 0),
+        (&["get", "f", "--raw"], "hello", 0),
+        (&["get", "-o", "json", "f"], "{\"content\":\"hello\",\"content_generation\":1,\"instance\":4,\"name\":\"/ls/c/f\"}\n", 0),
+        (&["put", "f", "HELLO", "--prev"], "hello\n", 0),
+        (&["put", "f", "late", "--if-generation", "1"], "", 3),
+        (&["put", "f", "hello", "--if-generation", "2"], "", 0),
+        (&["put", "f", "new", "--if-generation", "0"], "", 3),
+        (&["stat", "f"], STAT, 0),
         (&["get", "/ls/c/f"], "hello\n", 0),
         (&["put", "f", ""], "", 0),
         (&["get", "f"], "\n", 0),
         (&["put", "d/f", "x"], "", 1),
         (&["mkdir", "d"], "", 0),
-        (&["mkdir", "d"], "", 1),
+        (&["mkdir", "d"], "", 3),
         (&["put", "d/f", "x"], "", 0),
         (&["ls"], "acl\nd\nf\n", 0),
         (&["ls", "d"], "f\n", 0),
-        (&["ls", "f"], "", 1),
-        (&["get", "d"], "", 1),
-        (&["rm", "d"], "", 1),
+        (&["ls", "--output=json"], "{\"children\":[\"acl\",\"d\",\"f\"],\"name\":\"/ls/c\"}\n", 0),
+        (&["ls", "f"], "", 3),
+        (&["get", "d"], "", 3),
+        (&["rm", "d"], "", 3),
         (&["rm", "d/f"], "", 0),
         (&["ls", "d"], "", 0),
         (&["rm", "d"], "", 0),
-        (&["--as", "eve", "get", "f"], "", 1),
-        (&["--as", "Eve", "get", "f"], "", 1),
+        (&["--as", "eve", "get", "f"], "", 3),
+        (&["get", "f", "--as", "Eve"], "", 3),
     ];
     for (words, printed, status) in rows {
         assert_eq!(run(&server, words), ((*printed).to_owned(), Some(*status)), "{words:?}");
@@ -75,7 +97,7 @@ fn files_are_made_read_and_deleted() {
     assert!(server.kill(Kill::InOrder).unwrap().success());
     let mut left: Vec<_> = fs::read_dir(&folder).unwrap().map(|entry| entry.unwrap().file_name()).collect();
     left.sort();
-    assert_eq!(left, ["store.db", "store.db-lock", "store.db-numbers"]);
+    assert_eq!(left, ["store.db", "store.db-lock", "store.db-numbers", "store.db.log"]);
     fs::remove_dir_all(folder).unwrap();
 }
 
@@ -142,5 +164,143 @@ fn a_watch_tells_what_happens() {
     }
     directory.kill().unwrap();
     directory.wait().unwrap();
+    fs::remove_dir_all(folder).unwrap();
+}
+
+// (each error names what was done, the key, the address and the reason)
+#[test]
+fn errors_say_what_was_refused_and_why() {
+    let folder = folder("errors");
+    let server = Server::start(&folder.join("store.db")).unwrap();
+    assert_eq!(run(&server, &["put", "f", "x"]).1, Some(0));
+    let rows: &[(&[&str], &str, i32)] = &[
+        (&["get", "g"], "get /ls/c/g at ADDRESS: NotFound: ", 1),
+        (&["ls", "f"], "ls /ls/c/f at ADDRESS: WrongKind file: ", 3),
+        (&["get", "F"], "get /ls/c/F at ADDRESS: not a name", 2),
+        (&["get", "/ls/d/f"], "get /ls/d/f at ADDRESS: OtherCell: ", 3),
+        (&["get", "f", "--as", "eve"], "get /ls/c/f at ADDRESS: Denied read: ", 3),
+        (&["put", "f", "y", "--if-generation", "2"], "put /ls/c/f at ADDRESS: WrongGeneration 1: ", 3),
+        (&["lock", "f", "--", "/no/such/program"], "lock /ls/c/f at ADDRESS: /no/such/program: ", 6),
+        (&["lock", "l", "--delay", "60001", "--", "true"], "lock /ls/c/l at ADDRESS: DelayTooLong: ", 3),
+    ];
+    for (words, wanted, status) in rows {
+        let output = command(&server, words).output().unwrap();
+        let told = String::from_utf8(output.stderr).unwrap();
+        let wanted = format!("tillermoss: {}", wanted.replace("ADDRESS", &server.address.to_string()));
+        assert!(told.starts_with(&wanted), "{told} is not {wanted}");
+        assert_eq!((output.status.code(), output.stdout), (Some(*status), vec![]), "{words:?}");
+    }
+    fs::remove_dir_all(folder).unwrap();
+}
+
+#[test]
+fn a_signal_goes_to_the_command_and_ends_a_wait() {
+    let folder = folder("signals");
+    let (settings, begun) = (folder.join("cell.toml"), folder.join("begun"));
+    fs::write(&settings, "lease = 1000\n").unwrap();
+    let server = Server::start_with(&folder.join("store.db"), Some(&settings)).unwrap();
+    let script = format!("trap 'exit 9' TERM; touch {}; while :; do sleep 0.05; done", begun.display());
+    let mut first = start(&server, &["lock", "l", "--", "sh", "-c", &script]);
+    wait_for(&begun);
+    assert_eq!(run(&server, &["lock", "l", "--no-wait", "--", "true"]).1, Some(3));
+    let mut other = start(&server, &["lock", "l", "--", "true"]);
+    thread::sleep(Duration::from_millis(500));
+    signal(&other, Signal::SIGINT);
+    assert_eq!(other.wait().unwrap().code(), Some(130));
+    signal(&first, Signal::SIGTERM);
+    assert_eq!(first.wait().unwrap().code(), Some(9));
+    assert_eq!(run(&server, &["lock", "l", "--", "true"]).1, Some(0));
+    fs::remove_dir_all(folder).unwrap();
+}
+
+fn signal(child: &Child, signal: Signal) {
+    kill(Pid::from_raw(i32::try_from(child.id()).unwrap()), signal).unwrap();
+}
+
+// (one that stands still for longer than its lease loses its session)
+#[test]
+fn a_command_is_ended_where_the_session_is_lost() {
+    let folder = folder("lost");
+    let (settings, begun, ended) = (folder.join("cell.toml"), folder.join("begun"), folder.join("ended"));
+    fs::write(&settings, "lease = 1000\n").unwrap();
+    let server = Server::start_with(&folder.join("store.db"), Some(&settings)).unwrap();
+    let script = format!("trap 'touch {}; exit 9' TERM; touch {}; while :; do sleep 0.05; done", ended.display(), begun.display());
+    let mut first = command(&server, &["lock", "l", "--", "sh", "-c", &script]);
+    let first = first.stderr(Stdio::piped()).spawn().unwrap();
+    wait_for(&begun);
+    signal(&first, Signal::SIGSTOP);
+    assert_eq!(run(&server, &["lock", "l", "--", "true"]).1, Some(0));
+    assert!(!ended.exists());
+    signal(&first, Signal::SIGCONT);
+    let output = first.wait_with_output().unwrap();
+    let told = String::from_utf8(output.stderr).unwrap();
+    assert!(told.contains("the session is lost: the command was ended"), "{told}");
+    assert_eq!(output.status.code(), Some(5));
+    assert!(ended.exists());
+    fs::remove_dir_all(folder).unwrap();
+}
+
+#[test]
+fn one_is_elected_and_the_next_one_follows() {
+    let folder = folder("electing");
+    let server = Server::start(&folder.join("store.db")).unwrap();
+    let mut first = start(&server, &["elect", "primary", "a"]);
+    let mut told = BufReader::new(first.stdout.take().unwrap()).lines();
+    assert_eq!(told.next().unwrap().unwrap(), "elected /ls/c/primary");
+    assert_eq!(run(&server, &["get", "primary"]), ("a\n".to_owned(), Some(0)));
+    assert_eq!(run(&server, &["elect", "primary", "b", "--no-wait"]).1, Some(3));
+    let mut second = start(&server, &["elect", "primary", "b"]);
+    let mut told = BufReader::new(second.stdout.take().unwrap()).lines();
+    signal(&first, Signal::SIGTERM);
+    assert_eq!(first.wait().unwrap().code(), Some(0));
+    assert_eq!(told.next().unwrap().unwrap(), "elected /ls/c/primary");
+    assert_eq!(run(&server, &["get", "primary"]), ("b\n".to_owned(), Some(0)));
+    signal(&second, Signal::SIGTERM);
+    assert_eq!(second.wait().unwrap().code(), Some(0));
+    fs::remove_dir_all(folder).unwrap();
+}
+
+#[test]
+fn a_file_is_there_while_its_command_runs() {
+    let folder = folder("registering");
+    let server = Server::start(&folder.join("store.db")).unwrap();
+    assert_eq!(run(&server, &["mkdir", "workers"]).1, Some(0));
+    let program = program("tillermoss").display().to_string();
+    let address = server.address.to_string();
+    let words = ["register", "workers/a", "10.0.0.1:80", "--", &program, "--server", &address, "get", "workers/a"];
+    assert_eq!(run(&server, &words), ("10.0.0.1:80\n".to_owned(), Some(0)));
+    assert_eq!(run(&server, &["ls", "workers"]), (String::new(), Some(0)));
+    let mut first = start(&server, &["register", "workers/a", "x"]);
+    let mut told = BufReader::new(first.stdout.take().unwrap()).lines();
+    assert_eq!(told.next().unwrap().unwrap(), "registered /ls/c/workers/a");
+    assert_eq!(run(&server, &["register", "workers/a", "y", "--no-wait"]).1, Some(3));
+    let mut second = start(&server, &["register", "workers/a", "y"]);
+    thread::sleep(Duration::from_millis(300));
+    signal(&first, Signal::SIGINT);
+    assert_eq!(first.wait().unwrap().code(), Some(0));
+    let mut told = BufReader::new(second.stdout.take().unwrap()).lines();
+    assert_eq!(told.next().unwrap().unwrap(), "registered /ls/c/workers/a");
+    assert_eq!(run(&server, &["get", "workers/a"]), ("y\n".to_owned(), Some(0)));
+    signal(&second, Signal::SIGTERM);
+    assert_eq!(second.wait().unwrap().code(), Some(0));
+    fs::remove_dir_all(folder).unwrap();
+}
+
+#[test]
+fn a_watch_tells_in_json_what_was_there_before() {
+    let folder = folder("json");
+    let server = Server::start(&folder.join("store.db")).unwrap();
+    assert_eq!(run(&server, &["put", "f", "first"]).1, Some(0));
+    let mut child = command(&server, &["watch", "f", "--prev", "-o", "json", "--count", "1"]);
+    let mut child = child.stdout(Stdio::piped()).stderr(Stdio::piped()).spawn().unwrap();
+    assert!(BufReader::new(child.stderr.take().unwrap()).lines().next().unwrap().unwrap().starts_with("watching"));
+    assert_eq!(run(&server, &["put", "f", "second"]).1, Some(0));
+    let output = child.wait_with_output().unwrap();
+    let told: serde_json::Value = serde_json::from_slice(&output.stdout).unwrap();
+    let wanted = serde_json::json!({
+        "event": "put", "name": "/ls/c/f", "content": "second", "content_generation": 2,
+        "previous": { "content": "first", "content_generation": 1 },
+    });
+    assert_eq!((told, output.status.code()), (wanted, Some(0)));
     fs::remove_dir_all(folder).unwrap();
 }

@@ -1,42 +1,108 @@
 //! What happens to a node, as it is printed.
 
-use crate::commands::print;
-use tillermoss::{Client, Error, Event, Events, Kind, Refusal, Watch};
+use crate::faults::Fault;
+use crate::output::{content, note, print, print_json, say};
+use crate::words::Output;
+use serde_json::{Map, Value};
+use tillermoss::{Client, Error, Event, Events, Kind, Refusal, View, Watch};
 
 /// Prints the content of a file whenever it was written, and the children of a directory that come, go, or are written; until the
-/// node is deleted. Where two writes come close together the later content may stand for both.
-pub fn watch(client: &Client, name: &str) -> Result<(), Error> {
+/// node is deleted, or so many events were printed. Where two writes come close together the later content may stand for both.
+pub fn watch(client: &Client, output: Output, name: &str, prev: bool, count: Option<u64>) -> Result<(), Fault> {
     let watched = client.watch(name, Events::CONTENTS.and(Events::CHILDREN))?;
-    let mut seen = client.read(watched.handle)?.stat.content_generation;
-    eprintln!("watching {name}");
-    while let Ok(event) = watched.events.recv() {
-        match event {
-            Event::Contents { generation, .. } if generation <= seen => {}
-            Event::Contents { .. } | Event::Failover | Event::Lost => match print_content(client, name, &watched, seen)? {
-                Some(generation) => seen = generation,
-                None => return Ok(print(format!("DELETE {name}").as_bytes())?),
-            },
-            Event::ChildAdded(child) => print(format!("ADDED {child}").as_bytes())?,
-            Event::ChildRemoved(child) => print(format!("REMOVED {child}").as_bytes())?,
-            Event::ChildModified(child) => print(format!("MODIFIED {child}").as_bytes())?,
-            Event::Invalid => return Ok(print(format!("DELETE {name}").as_bytes())?),
-            Event::Jeopardy => eprintln!("tillermoss: the lease has ended"),
-            Event::Safe => eprintln!("tillermoss: the session is safe again"),
-            Event::Locked | Event::Conflict => {}
+    let seen = client.read(watched.handle)?;
+    let mut teller = Teller { output, prev, left: count, name: name.to_owned(), seen };
+    note(&format!("watching {name}"));
+    while teller.left != Some(0) {
+        let Ok(event) = watched.events.recv() else {
+            return Err(Refusal::SessionExpired.into());
+        };
+        if !teller.tell(client, &watched, event)? {
+            break;
         }
     }
-    Err(Refusal::SessionExpired.into())
+    Ok(())
 }
 
-// The content, where it is later than what was seen. Gives its generation; None where the node is gone.
-fn print_content(client: &Client, name: &str, watched: &Watch, seen: u64) -> Result<Option<u64>, Error> {
-    let view = match client.read(watched.handle) {
-        Err(Error::Refused(Refusal::StaleInstance)) => return Ok(None),
-        result => result?,
-    };
-    if view.stat.kind == Kind::File && view.stat.content_generation > seen {
-        print(format!("PUT {name}").as_bytes())?;
-        print(&view.content)?;
+/// What was printed of a node, and how more is.
+struct Teller {
+    output: Output,
+    prev: bool,
+    left: Option<u64>,
+    name: String,
+    seen: View,
+}
+
+impl Teller {
+    // Whether the node is still there.
+    fn tell(&mut self, client: &Client, watched: &Watch, event: Event) -> Result<bool, Fault> {
+        match event {
+            Event::Contents { generation, .. } if generation <= self.seen.stat.content_generation => {}
+            Event::Contents { .. } | Event::Failover | Event::Lost => return self.read(client, watched),
+            Event::ChildAdded(child) => self.print("ADDED", &child, None)?,
+            Event::ChildRemoved(child) => self.print("REMOVED", &child, None)?,
+            Event::ChildModified(child) => self.print("MODIFIED", &child, None)?,
+            Event::Invalid => return self.gone(),
+            Event::Jeopardy => say("the lease has ended: nothing is heard of the cell"),
+            Event::Safe => say("the session is safe again"),
+            _ => {}
+        }
+        Ok(true)
     }
-    Ok(Some(view.stat.content_generation.max(seen)))
+
+    fn gone(&mut self) -> Result<bool, Fault> {
+        let name = self.name.clone();
+        self.print("DELETE", &name, None)?;
+        Ok(false)
+    }
+
+    // The content, where it is later than what was seen.
+    fn read(&mut self, client: &Client, watched: &Watch) -> Result<bool, Fault> {
+        let view = match client.read(watched.handle) {
+            Err(Error::Refused(Refusal::StaleInstance)) => return self.gone(),
+            result => result?,
+        };
+        if view.stat.kind == Kind::File && view.stat.content_generation > self.seen.stat.content_generation {
+            let name = self.name.clone();
+            self.print("PUT", &name, Some(&view))?;
+        }
+        self.seen = view;
+        Ok(true)
+    }
+
+    fn print(&mut self, word: &str, name: &str, view: Option<&View>) -> Result<(), Fault> {
+        self.left = self.left.map(|left| left.saturating_sub(1));
+        match self.output {
+            Output::Text => self.print_text(word, name, view),
+            Output::Json => self.print_json(word, name, view),
+        }
+    }
+
+    fn print_text(&self, word: &str, name: &str, view: Option<&View>) -> Result<(), Fault> {
+        print(format!("{word} {name}").as_bytes())?;
+        if let Some(view) = view {
+            if self.prev {
+                print(&self.seen.content)?;
+            }
+            print(&view.content)?;
+        }
+        Ok(())
+    }
+
+    fn print_json(&self, word: &str, name: &str, view: Option<&View>) -> Result<(), Fault> {
+        let mut line = Map::new();
+        line.insert("event".to_owned(), word.to_lowercase().into());
+        line.insert("name".to_owned(), name.into());
+        if let Some(view) = view {
+            content(&mut line, &view.content);
+            line.insert("content_generation".to_owned(), view.stat.content_generation.into());
+            if self.prev {
+                let mut before = Map::new();
+                content(&mut before, &self.seen.content);
+                before.insert("content_generation".to_owned(), self.seen.stat.content_generation.into());
+                line.insert("previous".to_owned(), Value::Object(before));
+            }
+        }
+        Ok(print_json(&Value::Object(line))?)
+    }
 }

@@ -1,147 +1,318 @@
 //! The words of the command line.
 
-/// What `--help` prints.
-pub const HELP: &str = "\
-Asks a cell that tillermossd serves.
+use clap::{Args, Parser, Subcommand, ValueEnum};
+use std::ffi::OsString;
+use std::path::PathBuf;
+use std::time::Duration;
+use tillermoss::{Options, own_principal};
 
-Usage: tillermoss [--server HOST:PORT] [--as PRINCIPAL] [--cell CELL] COMMAND
+/// What stands behind the options and the commands.
+const STATUSES: &str = "\
+A name that begins with / is whole; another is one of the cell: motd is /ls/CELL/motd.
 
-  get NAME                prints the content of a file
-  put NAME [CONTENT]      writes the content of a file, or that of the standard input, and makes the file where there is none
-  ls [NAME]               lists the children of a directory, one a line
-  mkdir NAME              makes a directory
-  rm NAME                 deletes a file or an empty directory
-  lock NAME -- COMMAND    waits for the lock of a file, which is made where there is none and goes with its last user, runs the
-                          command while it is held, and ends as the command does. TILLERMOSS_SEQUENCER has the sequencer in
-                          hexadecimal. Where the session is lost the command is killed, since the lock may be another's
-  watch NAME              prints what happens to a file or a directory from then on, until it is deleted; first it says on the
-                          standard error that it watches
+Exit status:
+  0    done
+  1    there is no such node, or no such parent of a new one
+  2    a wrong command line
+  3    refused by the cell or the server, which say why
+  4    the server can't be reached, or no session began in time
+  5    the session is lost, or with it whether a call was done
+  6    the input can't be read, the output can't be written, or a command can't be started
+  141  what reads the output has closed it
+A command that ran under lock, elect or register ends with the command's status, 128 and its number where a signal ended it.";
 
-A name that begins with / is whole; another is one of the cell: f is /ls/CELL/f.
-
-  --server HOST:PORT      the server; without it that of TILLERMOSS_SERVER, else 127.0.0.1:7171
-  --as PRINCIPAL          for whom it acts; without it that of TILLERMOSS_PRINCIPAL, else ann
-  --cell CELL             the cell; without it that of TILLERMOSS_CELL, else c
-
-The status is 1 where the cell refuses or can't be reached, 2 for a wrong command line.
-";
-
-/// What is asked of the cell.
-#[derive(Clone, Debug, PartialEq, Eq)]
-pub enum Command {
-    /// A file's content.
-    Get(String),
-    /// A file's new content; None for that of the standard input.
-    Put(String, Option<String>),
-    /// A directory's children.
-    List(String),
-    /// A new directory.
-    MakeDirectory(String),
-    /// A node goes.
-    Remove(String),
-    /// A command, with its words, that is run under a lock.
-    Lock(String, Vec<String>),
-    /// What happens to a node.
-    Watch(String),
-}
-
-/// The whole command line.
-#[derive(Clone, Debug, PartialEq, Eq)]
+/// Asks a cell that tillermossd serves.
+#[derive(Debug, Parser)]
+#[command(name = "tillermoss", version = env!("TILLERMOSS_VERSION"), after_help = STATUSES, subcommand_required = true, arg_required_else_help = true)]
 pub struct Words {
-    /// Where the server is.
-    pub server: String,
-    /// For whom it is asked.
-    pub principal: String,
+    /// Where the server is and for whom it is asked.
+    #[command(flatten)]
+    pub reach: Reach,
+    /// How answers are printed.
+    #[arg(short, long, global = true, value_enum, default_value_t = Output::Text, value_name = "FORM")]
+    pub output: Output,
     /// What is asked.
-    pub command: Command,
+    #[command(subcommand)]
+    pub verb: Verb,
 }
 
-fn set_or(name: &str, default: &str) -> String {
-    std::env::var(name).unwrap_or(default.to_owned())
+/// Where the server is, for whom it is asked, and whose names are short.
+#[derive(Clone, Debug, Args)]
+pub struct Reach {
+    /// The server's address: unix:PATH, tls:HOST:PORT, tcp:HOST:PORT or HOST:PORT
+    #[arg(long, global = true, env = "TILLERMOSS_SERVER", default_value = "127.0.0.1:7171", value_name = "ADDRESS")]
+    pub server: String,
+    /// The principal to act for; without it the user at unix:, the certificate's common name at tls:, and ann at tcp:
+    #[arg(long = "as", global = true, env = "TILLERMOSS_PRINCIPAL", value_name = "PRINCIPAL")]
+    pub principal: Option<String>,
+    /// At tls:, the client's certificate, in PEM
+    #[arg(long, global = true, env = "TILLERMOSS_CERT", value_name = "FILE")]
+    pub cert: Option<PathBuf>,
+    /// At tls:, the key of the certificate, in PEM
+    #[arg(long, global = true, env = "TILLERMOSS_KEY", value_name = "FILE")]
+    pub key: Option<PathBuf>,
+    /// At tls:, the authorities that sign the server's certificate, in PEM
+    #[arg(long, global = true, env = "TILLERMOSS_CA", value_name = "FILE")]
+    pub ca: Option<PathBuf>,
+    /// Where the server listens to operators: unix:PATH or tcp:HOST:PORT, for status, sessions, locks and backup
+    #[arg(long, global = true, env = "TILLERMOSS_ADMIN", value_name = "ADDRESS")]
+    pub admin: Option<String>,
+    /// The cell of names that don't begin with /
+    #[arg(long, global = true, env = "TILLERMOSS_CELL", default_value = "c")]
+    pub cell: String,
+    /// Gives up after so many seconds where the server can't be reached, or refuses for now
+    #[arg(long, global = true, env = "TILLERMOSS_PATIENCE", default_value_t = 90, value_name = "SECONDS")]
+    pub patience: u64,
 }
 
-impl Words {
-    /// Reads the words behind the program's name; None where help is asked for.
-    pub fn read(words: impl Iterator<Item = String>) -> Result<Option<Words>, String> {
-        let mut words = words;
-        let (mut server, mut principal, mut cell) = (None, None, None);
-        loop {
-            let word = words.next().ok_or("a command is missing. See --help")?;
-            let mut value = || words.next().ok_or(format!("{word} lacks its value"));
-            match word.as_str() {
-                "--help" | "-h" | "help" => return Ok(None),
-                "--server" => server = Some(value()?),
-                "--as" => principal = Some(value()?),
-                "--cell" => cell = Some(value()?),
-                _ => {
-                    let cell = cell.unwrap_or_else(|| set_or("TILLERMOSS_CELL", "c"));
-                    let command = command(&word, &words.collect::<Vec<_>>(), &cell)?;
-                    let server = server.unwrap_or_else(|| set_or("TILLERMOSS_SERVER", "127.0.0.1:7171"));
-                    let principal = principal.unwrap_or_else(|| set_or("TILLERMOSS_PRINCIPAL", "ann"));
-                    return Ok(Some(Words { server, principal, command }));
-                }
-            }
+impl Reach {
+    /// How a client is connected.
+    pub fn options(&self) -> Options {
+        let own = || own_principal(&self.server, self.cert.as_deref());
+        let principal = self.principal.clone().or_else(own).unwrap_or("ann".to_owned());
+        Options {
+            patience: Duration::from_secs(self.patience),
+            certificate: self.cert.clone(),
+            key: self.key.clone(),
+            authority: self.ca.clone(),
+            ..Options::new(&self.server, &principal)
         }
+    }
+
+    /// The whole name.
+    pub fn whole(&self, name: &str) -> String {
+        if name.starts_with('/') { name.to_owned() } else { format!("/ls/{}/{name}", self.cell) }
     }
 }
 
-fn command(word: &str, rest: &[String], cell: &str) -> Result<Command, String> {
-    let rest: Vec<&str> = rest.iter().map(String::as_str).collect();
-    let whole = |name: &str| if name.starts_with('/') { name.to_owned() } else { format!("/ls/{cell}/{name}") };
-    match (word, rest.as_slice()) {
-        ("get", [name]) => Ok(Command::Get(whole(name))),
-        ("put", [name]) => Ok(Command::Put(whole(name), None)),
-        ("put", [name, content]) => Ok(Command::Put(whole(name), Some((*content).to_owned()))),
-        ("ls", []) => Ok(Command::List(format!("/ls/{cell}"))),
-        ("ls", [name]) => Ok(Command::List(whole(name))),
-        ("mkdir", [name]) => Ok(Command::MakeDirectory(whole(name))),
-        ("rm" | "del", [name]) => Ok(Command::Remove(whole(name))),
-        ("watch", [name]) => Ok(Command::Watch(whole(name))),
-        ("lock", [name, "--", run @ ..]) if !run.is_empty() => {
-            Ok(Command::Lock(whole(name), run.iter().map(|word| (*word).to_owned()).collect()))
+/// Whether it is a name: `/ls` and components of 1 to 64 of `a-z 0-9 . _ -`, neither `.` nor `..`, with 512 bytes at most.
+pub fn is_name(name: &str) -> bool {
+    name.len() <= 512 && name.strip_prefix("/ls/").is_some_and(|rest| rest.split('/').all(is_component))
+}
+
+fn is_component(word: &str) -> bool {
+    let fits = |letter: char| matches!(letter, 'a'..='z' | '0'..='9' | '.' | '_' | '-');
+    !matches!(word, "." | "..") && (1..=64).contains(&word.len()) && word.chars().all(fits)
+}
+
+/// How answers are printed.
+#[derive(Clone, Copy, Debug, PartialEq, Eq, ValueEnum)]
+pub enum Output {
+    /// As text.
+    Text,
+    /// As JSON, one value a line.
+    Json,
+}
+
+/// A verb with its words.
+#[derive(Debug, Subcommand)]
+pub enum Verb {
+    /// Prints the content of a file
+    Get {
+        /// The file
+        name: String,
+        /// Prints the bytes as they are, with no line feed added behind them
+        #[arg(long)]
+        raw: bool,
+    },
+    /// Writes the content of a file, and makes the file where there is none
+    #[command(after_help = "The whole content is written in one change. It waits until no client has the old one in its cache.")]
+    Put(Put),
+    /// Lists the children of a directory, one a line
+    Ls {
+        /// The directory; without it the cell's root
+        name: Option<String>,
+    },
+    /// Makes a directory
+    Mkdir {
+        /// The directory
+        name: String,
+    },
+    /// Deletes a file or an empty directory
+    #[command(visible_alias = "del")]
+    Rm {
+        /// The node
+        name: String,
+    },
+    /// Prints the numbers, the ACLs and the length of a node
+    Stat {
+        /// The node
+        name: String,
+    },
+    /// Runs a command while it holds the lock of a file
+    #[command(after_help = "\
+The file is made where there is none, and goes with its last user. The command has TILLERMOSS_SEQUENCER in its environment: the
+sequencer in hexadecimal, by which others can test that the lock is held. SIGTERM, SIGINT and SIGHUP are passed on to the command;
+one that comes while the lock is waited for ends the wait, which the cell forgets when the lease has run out. Where the session is
+lost the lock may be another's: then the command is ended, by SIGTERM and two seconds later by SIGKILL, and the status is 5.")]
+    Lock(Lock),
+    /// Waits to be elected, writes a value into the file, and runs a command while it is elected
+    #[command(after_help = "\
+The candidates of an election name the same file, whose lock the elected one holds and whose content it writes; who asks for the
+elected one reads or watches the file. Behind the command the file is emptied. Signals and a lost session: as lock has them.")]
+    Elect(Hold),
+    /// Makes a file that is there as long as a command runs
+    #[command(after_help = "\
+The file is ephemeral: it goes when the command has ended; where this program is killed or cut off, when its lease has run out. A
+file of the name that is there is waited for. Signals and a lost session: as lock has them.")]
+    Register(Hold),
+    /// Prints what happens to a file or a directory from then on, until it is deleted
+    #[command(after_help = "\
+It first says on the standard error that it watches. Where two writes come close together the later content may stand for both.")]
+    Watch {
+        /// The node
+        name: String,
+        /// Prints the content before each write too
+        #[arg(long)]
+        prev: bool,
+        /// Ends after so many lines of events
+        #[arg(long, value_name = "N")]
+        count: Option<u64>,
+    },
+    /// Says whether the cell answers, and how fast; with --admin how the server stands
+    Status,
+    /// Lists the live sessions: client, principal, whether it is connected, and the milliseconds that its lease runs. Wants --admin
+    Sessions,
+    /// Lists the locks that aren't free: name, mode, generation, who holds it and who waits. Wants --admin
+    Locks,
+    /// Takes a copy of a running server's store, for tillermossd restore. Wants --admin unix:PATH
+    Backup {
+        /// The copy, which isn't there yet
+        file: PathBuf,
+    },
+    /// Prints a script for a shell, by which it completes the words of this program
+    Completions {
+        /// The shell
+        shell: clap_complete::Shell,
+    },
+}
+
+/// The words of a put.
+#[derive(Debug, Args)]
+pub struct Put {
+    /// The file
+    pub name: String,
+    /// The content; without it that of the standard input
+    pub content: Option<OsString>,
+    /// Only where this is the present content generation; 0: only where there is no such file
+    #[arg(long, value_name = "N")]
+    pub if_generation: Option<u64>,
+    /// Prints the content that it replaces
+    #[arg(long)]
+    pub prev: bool,
+}
+
+/// The words of a lock.
+#[derive(Debug, Args)]
+pub struct Lock {
+    /// The file
+    pub name: String,
+    /// Is refused where the lock is held, in place of waiting for it
+    #[arg(long)]
+    pub no_wait: bool,
+    /// Holds it beside others that share it
+    #[arg(long)]
+    pub shared: bool,
+    /// So many milliseconds the lock stays closed where this program is lost while it holds it, at most 60000
+    #[arg(long, default_value_t = 0, value_name = "MILLISECONDS")]
+    pub delay: u64,
+    /// The command, with its words
+    #[arg(required = true, last = true)]
+    pub command: Vec<OsString>,
+}
+
+/// The words of what is held while a command runs.
+#[derive(Debug, Args)]
+pub struct Hold {
+    /// The file
+    pub name: String,
+    /// What the file says
+    pub value: OsString,
+    /// Is refused where another is there, in place of waiting
+    #[arg(long)]
+    pub no_wait: bool,
+    /// The command, with its words; without one it holds until SIGTERM, SIGINT or SIGHUP
+    #[arg(last = true)]
+    pub command: Vec<OsString>,
+}
+
+impl Verb {
+    /// The verb's own word, and the name that it speaks of.
+    pub fn words(&self) -> (&'static str, Option<&str>) {
+        match self {
+            Verb::Get { name, .. } => ("get", Some(name)),
+            Verb::Put(put) => ("put", Some(&put.name)),
+            Verb::Ls { name } => ("ls", name.as_deref()),
+            Verb::Mkdir { name } => ("mkdir", Some(name)),
+            Verb::Rm { name } => ("rm", Some(name)),
+            Verb::Stat { name } => ("stat", Some(name)),
+            Verb::Lock(lock) => ("lock", Some(&lock.name)),
+            Verb::Elect(hold) => ("elect", Some(&hold.name)),
+            Verb::Register(hold) => ("register", Some(&hold.name)),
+            Verb::Watch { name, .. } => ("watch", Some(name)),
+            Verb::Status => ("status", None),
+            Verb::Sessions => ("sessions", None),
+            Verb::Locks => ("locks", None),
+            Verb::Backup { .. } => ("backup", None),
+            Verb::Completions { .. } => ("completions", None),
         }
-        _ => Err(format!("what is {word} with these words? See --help")),
     }
 }
 
 #[cfg(test)]
 mod tests {
     use super::*;
+    use clap::CommandFactory;
 
-    fn read(line: &str) -> Result<Option<Words>, String> {
-        Words::read(line.split_whitespace().map(str::to_owned))
-    }
-
-    fn name(name: &str) -> String {
-        format!("/ls/k/{name}")
+    #[test]
+    fn the_words_fit_together() {
+        Words::command().debug_assert();
     }
 
     #[test]
-    fn commands_are_read() {
-        let rows = [
-            ("get f", Command::Get(name("f"))),
-            ("get /ls/d/f", Command::Get("/ls/d/f".to_owned())),
-            ("put f", Command::Put(name("f"), None)),
-            ("put f a", Command::Put(name("f"), Some("a".to_owned()))),
-            ("ls", Command::List("/ls/k".to_owned())),
-            ("ls d", Command::List(name("d"))),
-            ("mkdir d", Command::MakeDirectory(name("d"))),
-            ("rm d/f", Command::Remove(name("d/f"))),
-            ("del f", Command::Remove(name("f"))),
-            ("watch f", Command::Watch(name("f"))),
-            ("lock f -- run --as x", Command::Lock(name("f"), ["run", "--as", "x"].map(str::to_owned).to_vec())),
-        ];
-        for (line, command) in rows {
-            let words = read(&format!("--cell k --server s:1 --as bob {line}")).unwrap().unwrap();
-            assert_eq!(words, Words { server: "s:1".to_owned(), principal: "bob".to_owned(), command }, "{line}");
+    fn options_stand_anywhere() {
+        for line in ["--as bob get f -o json", "get --as bob f --output json", "-o json get f --as bob"] {
+            let words = Words::try_parse_from(["tillermoss"].into_iter().chain(line.split(' '))).unwrap();
+            assert_eq!((words.reach.principal.as_deref(), words.output), (Some("bob"), Output::Json), "{line}");
+            assert_eq!(words.verb.words(), ("get", Some("f")), "{line}");
         }
-        assert_eq!(read("--help"), Ok(None));
+    }
+
+    #[test]
+    fn what_stands_behind_two_dashes_is_the_commands() {
+        let words = Words::try_parse_from(["tillermoss", "lock", "f", "--", "run", "--as", "x"]).unwrap();
+        let Verb::Lock(lock) = words.verb else { panic!("another verb") };
+        assert_eq!(lock.command, ["run", "--as", "x"]);
+    }
+
+    #[test]
+    fn names_are_made_whole() {
+        let words = Words::try_parse_from(["tillermoss", "--cell", "k", "ls"]).unwrap();
+        for (name, wanted) in [("f", "/ls/k/f"), ("d/f", "/ls/k/d/f"), ("/ls/d/f", "/ls/d/f")] {
+            assert_eq!(words.reach.whole(name), wanted);
+        }
+    }
+
+    #[test]
+    fn names_are_told_from_other_words() {
+        let long = format!("/ls/c/{}", "a".repeat(64));
+        for name in ["/ls/c", "/ls/c/f", "/ls/c/d/a.b_c-9", "/ls/c/...", &long] {
+            assert!(is_name(name), "{name}");
+        }
+        let longer = format!("{long}a");
+        for word in ["", "/", "/ls", "/ls/", "/ls/c/", "/ls//f", "/ls/c/F", "/ls/c/a b", "/ls/c/..", "/ls/c/.", "/etc/c/f", &longer] {
+            assert!(!is_name(word), "{word}");
+        }
+        let names = |count| format!("/ls{}", format!("/{}", "a".repeat(63)).repeat(count));
+        assert!(is_name(&format!("{}/{}", names(7), "a".repeat(60))) && !is_name(&format!("{}/{}", names(7), "a".repeat(61))));
     }
 
     #[test]
     fn other_words_are_refused() {
-        for line in ["", "--server", "get", "get a b", "lock f", "lock f --", "lock f run", "put", "seek f", "--who a get f", "rm"] {
-            assert!(read(line).is_err(), "{line}");
+        let lines = ["", "--server", "get", "get a b", "lock f", "lock f --", "lock f run", "put", "seek f", "--who a get f", "rm"];
+        for line in lines {
+            let words = ["tillermoss"].into_iter().chain(line.split_whitespace());
+            assert!(Words::try_parse_from(words).unwrap_err().use_stderr(), "{line}");
         }
     }
 }

@@ -1,0 +1,74 @@
+//! What a server says by itself to a client behind the greeting: that it doesn't hand a call on to the master, and why.
+
+use crate::fields::Fields;
+
+const VERSION: u8 = 2;
+
+/// The kinds of messages of a master, as `docs/FORMATS.md` numbers them; and behind them that of a notice.
+const REPLY: u8 = 2;
+const NOTICE: u8 = 4;
+
+/// A refusal as the result of a call, and the byte of the refusal 15, that the store refused.
+const REFUSED: u8 = 7;
+const STORE_REFUSED: u8 = 14;
+
+/// Why a server doesn't hand the call of this number on to its master: a block before the reply, which then is that the store
+/// refused.
+#[derive(Clone, Debug, PartialEq, Eq)]
+pub struct Notice {
+    /// The call's number.
+    pub number: u64,
+    /// Which limit stands against it.
+    pub reason: String,
+}
+
+impl Notice {
+    /// Its bytes.
+    #[must_use]
+    pub fn write(&self) -> Vec<u8> {
+        let mut out = vec![VERSION, NOTICE];
+        out.extend_from_slice(&self.number.to_be_bytes());
+        out.extend_from_slice(self.reason.as_bytes());
+        out
+    }
+
+    /// The notice of these bytes; None of another block.
+    #[must_use]
+    pub fn read(block: &[u8]) -> Option<Notice> {
+        let mut fields = Fields(block);
+        if fields.take(2)? != [VERSION, NOTICE] {
+            return None;
+        }
+        Some(Notice { number: fields.word()?, reason: String::from_utf8_lossy(fields.0).into_owned() })
+    }
+}
+
+/// The bytes of a master's reply that the store refused.
+#[must_use]
+pub fn write_store_refused(client: u64, epoch: u64, number: u64) -> Vec<u8> {
+    let mut out = vec![VERSION, REPLY];
+    out.extend([client, epoch, number].iter().flat_map(|word| word.to_be_bytes()));
+    out.extend_from_slice(&[0, REFUSED, STORE_REFUSED]);
+    out
+}
+
+#[cfg(test)]
+mod tests {
+    use super::*;
+
+    #[test]
+    fn a_notice_is_read_as_it_was_written() {
+        let notice = Notice { number: 258, reason: "no room".to_owned() };
+        assert_eq!(notice.write(), b"\x02\x04\0\0\0\0\0\0\x01\x02no room");
+        assert_eq!(Notice::read(&notice.write()), Some(notice));
+        for other in [&b"\x02\x02\0\0\0\0\0\0\0\x01"[..], b"\x02\x04\0", b""] {
+            assert_eq!(Notice::read(other), None);
+        }
+    }
+
+    #[test]
+    fn a_refused_reply_has_its_bytes() {
+        let wanted = b"\x02\x02\0\0\0\0\0\0\0\x07\0\0\0\0\0\0\0\x02\0\0\0\0\0\0\0\x05\0\x07\x0e";
+        assert_eq!(write_store_refused(7, 2, 5), wanted);
+    }
+}

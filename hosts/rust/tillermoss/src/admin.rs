@@ -1,0 +1,189 @@
+//! What an operator asks a server for, where `tillermossd --admin` listens.
+
+use crate::errors::Error;
+use host_wire::{Address, LockShown, SessionShown, Status};
+use hyper::body::HttpBody;
+use hyper::client::conn::handshake;
+use hyper::{Body, Method, Request, Response};
+use serde::de::DeserializeOwned;
+use std::fs::{self, File};
+use std::future::Future;
+use std::io::{self, ErrorKind, Write};
+use std::os::unix::fs::OpenOptionsExt;
+use std::path::Path;
+use std::time::Duration;
+use tokio::net::{TcpStream, UnixStream};
+use tokio::runtime::Builder;
+use tokio::time::timeout;
+
+/// So long an answer may take to begin; a copy is taken meanwhile.
+const PATIENCE: Duration = Duration::from_secs(60);
+
+/// A server, as its operators reach it. Each call is a connection of its own.
+///
+/// ```
+/// # let server = trials::server_of_its_own();
+/// # let address = server.admin.as_deref().unwrap();
+/// # use tillermoss::*;
+/// let admin = Admin::new(address)?;
+/// assert_eq!(admin.status()?.epoch, 1);
+/// # Ok::<(), Error>(())
+/// ```
+#[derive(Clone, Debug)]
+pub struct Admin {
+    address: Address,
+}
+
+fn io_error(error: hyper::Error) -> Error {
+    io::Error::other(error).into()
+}
+
+impl Admin {
+    /// The one at this address, `unix:PATH` or `tcp:HOST:PORT`, as `tillermossd` prints it behind `admin`.
+    ///
+    /// ```
+    /// # use tillermoss::Admin;
+    /// assert!(Admin::new("unix:/run/tillermoss/admin").is_ok());
+    /// assert!(Admin::new("tls:h.example:7").is_err());
+    /// ```
+    ///
+    /// # Errors
+    ///
+    /// Where that is no such address. Nothing is connected yet.
+    pub fn new(address: &str) -> Result<Admin, Error> {
+        match address.parse() {
+            Ok(address @ (Address::Unix(_) | Address::Tcp(_))) => Ok(Admin { address }),
+            _ => Err(io::Error::new(ErrorKind::InvalidInput, format!("{address}: not unix:PATH or tcp:HOST:PORT")).into()),
+        }
+    }
+
+    /// How the server stands.
+    ///
+    /// ```
+    /// # let server = trials::server_of_its_own();
+    /// # let address = server.admin.as_deref().unwrap();
+    /// # use tillermoss::*;
+    /// let admin = Admin::new(address)?;
+    /// assert!(admin.status()?.is_ready);
+    /// # Ok::<(), Error>(())
+    /// ```
+    ///
+    /// # Errors
+    ///
+    /// Where it can't be reached.
+    pub fn status(&self) -> Result<Status, Error> {
+        self.get("/status")
+    }
+
+    /// The sessions that are live.
+    ///
+    /// ```
+    /// # let server = trials::server_of_its_own();
+    /// # let address = server.admin.as_deref().unwrap();
+    /// # use tillermoss::*;
+    /// let admin = Admin::new(address)?;
+    /// assert_eq!(admin.sessions()?, []);
+    /// # Ok::<(), Error>(())
+    /// ```
+    ///
+    /// # Errors
+    ///
+    /// As `status`.
+    pub fn sessions(&self) -> Result<Vec<SessionShown>, Error> {
+        self.get("/sessions")
+    }
+
+    /// The locks that aren't free, with those who hold them and wait for them.
+    ///
+    /// ```
+    /// # let server = trials::server_of_its_own();
+    /// # let address = server.admin.as_deref().unwrap();
+    /// # use tillermoss::*;
+    /// let admin = Admin::new(address)?;
+    /// assert_eq!(admin.locks()?, []);
+    /// # Ok::<(), Error>(())
+    /// ```
+    ///
+    /// # Errors
+    ///
+    /// As `status`.
+    pub fn locks(&self) -> Result<Vec<LockShown>, Error> {
+        self.get("/locks")
+    }
+
+    /// Takes a copy of the store into a new file that this user alone reads; how many bytes it has. The server gives it over a
+    /// `unix:` alone. While it copies its files the master is given nothing; the copy is whole, as of one moment between two changes.
+    ///
+    /// ```
+    /// # let server = trials::server_of_its_own();
+    /// # let address = server.admin.as_deref().unwrap();
+    /// # use tillermoss::*;
+    /// let admin = Admin::new(address)?;
+    /// let copy = std::env::temp_dir().join(format!("tillermoss-copy-{}.db", std::process::id()));
+    /// assert!(admin.backup(&copy)? > 0);
+    /// # std::fs::remove_file(copy)?;
+    /// # Ok::<(), Error>(())
+    /// ```
+    ///
+    /// # Errors
+    ///
+    /// Where the file is there, or can't be written, or the server doesn't give a copy. Then there is no file.
+    pub fn backup(&self, file: &Path) -> Result<u64, Error> {
+        let mut out = File::options().write(true).create_new(true).mode(0o600).open(file)?;
+        let taken = self.run(async {
+            let mut answer = self.ask(Method::POST, "/backup").await?;
+            let mut length = 0;
+            while let Some(bytes) = answer.body_mut().data().await {
+                let bytes = bytes.map_err(io_error)?;
+                length += bytes.len() as u64;
+                out.write_all(&bytes)?;
+            }
+            out.sync_all()?;
+            Ok(length)
+        });
+        if taken.is_err() {
+            // (a file that can't be removed stays, and is no whole copy)
+            let _ = fs::remove_file(file);
+        }
+        taken
+    }
+
+    fn run<T>(&self, asked: impl Future<Output = Result<T, Error>>) -> Result<T, Error> {
+        Builder::new_current_thread().enable_all().build()?.block_on(asked)
+    }
+
+    fn get<T: DeserializeOwned>(&self, path: &str) -> Result<T, Error> {
+        let bytes = self.run(async {
+            let answer = self.ask(Method::GET, path).await?;
+            hyper::body::to_bytes(answer.into_body()).await.map_err(io_error)
+        })?;
+        serde_json::from_slice(&bytes).map_err(|error| Error::Malformed(error.to_string()))
+    }
+
+    async fn ask(&self, method: Method, path: &str) -> Result<Response<Body>, Error> {
+        let request = Request::builder().method(method).uri(path).header("host", "localhost").body(Body::empty());
+        let request = request.map_err(io::Error::other)?;
+        let answered = timeout(PATIENCE, self.send(request));
+        let answer = answered.await.unwrap_or_else(|_| Err(io::Error::from(ErrorKind::TimedOut).into()))?;
+        if answer.status().is_success() {
+            return Ok(answer);
+        }
+        let said = hyper::body::to_bytes(answer.into_body()).await.map_err(io_error)?;
+        Err(io::Error::other(String::from_utf8_lossy(&said).trim_end().to_owned()).into())
+    }
+
+    async fn send(&self, request: Request<Body>) -> Result<Response<Body>, Error> {
+        let (mut sender, connection) = match &self.address {
+            Address::Unix(path) => {
+                let (sender, connection) = handshake(UnixStream::connect(path).await?).await.map_err(io_error)?;
+                (sender, Box::pin(connection) as std::pin::Pin<Box<dyn Future<Output = hyper::Result<()>> + Send>>)
+            }
+            Address::Tls(place) | Address::Tcp(place) => {
+                let (sender, connection) = handshake(TcpStream::connect(place).await?).await.map_err(io_error)?;
+                (sender, Box::pin(connection) as std::pin::Pin<Box<dyn Future<Output = hyper::Result<()>> + Send>>)
+            }
+        };
+        tokio::spawn(connection);
+        sender.send_request(request).await.map_err(io_error)
+    }
+}

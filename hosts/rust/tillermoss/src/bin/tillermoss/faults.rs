@@ -1,0 +1,127 @@
+//! Why the program ends as it does.
+
+use std::io;
+use tillermoss::{Error, Refusal};
+
+/// Why nothing came of a command.
+#[derive(Debug)]
+pub enum Fault {
+    /// The cell, the server or the client library.
+    Cell(Error),
+    /// The standard input can't be read, or the standard output can't be written.
+    Stream(io::Error),
+    /// The command can't be started or waited for.
+    Command(String, io::Error),
+    /// This signal ended a wait.
+    Signal(i32),
+    /// The word is no name.
+    Name,
+    /// Nobody says where the server listens to operators.
+    Admin,
+}
+
+impl From<Error> for Fault {
+    fn from(error: Error) -> Fault {
+        Fault::Cell(error)
+    }
+}
+
+impl From<Refusal> for Fault {
+    fn from(refusal: Refusal) -> Fault {
+        Fault::Cell(refusal.into())
+    }
+}
+
+impl From<io::Error> for Fault {
+    fn from(error: io::Error) -> Fault {
+        Fault::Stream(error)
+    }
+}
+
+impl Fault {
+    /// The exit status, as the help lists them.
+    pub fn status(&self) -> u8 {
+        match self {
+            Fault::Cell(Error::Refused(refusal)) => refusal_status(*refusal),
+            Fault::Cell(Error::TurnedAway(_) | Error::Limited(_)) => 3,
+            Fault::Cell(Error::Io(_) | Error::Unavailable | Error::Malformed(_)) => 4,
+            Fault::Cell(_) => 5,
+            Fault::Stream(error) if error.kind() == io::ErrorKind::BrokenPipe => 141,
+            Fault::Stream(_) | Fault::Command(..) => 6,
+            Fault::Name | Fault::Admin => 2,
+            Fault::Signal(signal) => u8::try_from(128 + signal).unwrap_or(u8::MAX),
+        }
+    }
+
+    /// What to do, where that can be said.
+    pub fn cure(&self) -> Option<&'static str> {
+        match self {
+            Fault::Name => Some("a name is /ls/CELL and components of 1 to 64 of a-z 0-9 . _ -, 512 bytes in all"),
+            Fault::Admin => Some("--admin or TILLERMOSS_ADMIN names the one that tillermossd --admin listens at"),
+            Fault::Cell(Error::Refused(refusal)) => refusal_cure(*refusal),
+            Fault::Cell(Error::Io(_)) => Some("is tillermossd running there? --server or TILLERMOSS_SERVER names another address"),
+            Fault::Cell(Error::Unavailable) => Some("a master that comes up waits for each live session; --patience waits longer"),
+            _ => None,
+        }
+    }
+
+    /// The reason in words.
+    pub fn reason(&self) -> String {
+        match self {
+            Fault::Cell(error) => error.to_string(),
+            Fault::Stream(error) => error.to_string(),
+            Fault::Command(command, error) => format!("{command}: {error}"),
+            Fault::Signal(_) => "a signal ended the wait".to_owned(),
+            Fault::Name => "not a name".to_owned(),
+            Fault::Admin => "no address for operators".to_owned(),
+        }
+    }
+}
+
+fn refusal_status(refusal: Refusal) -> u8 {
+    match refusal {
+        Refusal::NotFound | Refusal::StaleInstance => 1,
+        Refusal::NoSession | Refusal::SessionExpired | Refusal::Unknown => 5,
+        Refusal::Recovering | Refusal::InJeopardy => 4,
+        _ => 3,
+    }
+}
+
+fn refusal_cure(refusal: Refusal) -> Option<&'static str> {
+    match refusal {
+        Refusal::OtherCell => Some("--cell names the cell"),
+        Refusal::BadPrincipal => Some("--as takes 1 to 64 of a-z 0-9 . _ -"),
+        Refusal::Denied(_) => Some("who may is said by the ACLs that stat shows; --as acts for another principal"),
+        Refusal::WrongGeneration(_) => Some("it was written meanwhile: read it again"),
+        Refusal::SessionExpired => Some("what it held is lost"),
+        _ => None,
+    }
+}
+
+#[cfg(test)]
+mod tests {
+    use super::*;
+    use tillermoss::{Kind, Right};
+
+    #[test]
+    fn each_fault_has_its_status() {
+        let rows: [(Fault, u8); 13] = [
+            (Refusal::NotFound.into(), 1),
+            (Refusal::StaleInstance.into(), 1),
+            (Refusal::Denied(Right::Read).into(), 3),
+            (Refusal::WrongKind(Kind::File).into(), 3),
+            (Refusal::InJeopardy.into(), 4),
+            (Error::Unavailable.into(), 4),
+            (Error::Io(io::ErrorKind::ConnectionRefused.into()).into(), 4),
+            (Refusal::SessionExpired.into(), 5),
+            (Refusal::Unknown.into(), 5),
+            (io::Error::from(io::ErrorKind::BrokenPipe).into(), 141),
+            (Fault::Command("none".to_owned(), io::ErrorKind::NotFound.into()), 6),
+            (Fault::Signal(15), 143),
+            (Fault::Name, 2),
+        ];
+        for (fault, status) in rows {
+            assert_eq!(fault.status(), status, "{fault:?}");
+        }
+    }
+}

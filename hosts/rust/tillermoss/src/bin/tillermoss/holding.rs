@@ -1,0 +1,130 @@
+//! What is held while a command runs: a lock, an election, a file that says that somebody is there.
+
+use crate::faults::Fault;
+use crate::output::{print, say};
+use crate::running::{run, signals, wait_for};
+use crate::words::{Hold, Lock};
+use signal_hook::iterator::Signals;
+use std::os::unix::ffi::OsStrExt;
+use std::time::Duration;
+use tillermoss::{Client, Create, Error, Events, Handle, Life, LockMode, Mode, Opening, Refusal, Watch};
+
+/// So long until a file that is there is tried again to be made, where nothing was told of it.
+const AGAIN: Duration = Duration::from_secs(1);
+
+/// Waits for the lock of a file, runs the command, and lets the lock go; gives the command's status.
+pub fn lock(client: &Client, name: &str, asked: &Lock) -> Result<u8, Fault> {
+    let mut signals = signals()?;
+    let mode = if asked.shared { LockMode::Shared } else { LockMode::Exclusive };
+    let watch = client.watch_with(&Opening { lock_delay: asked.delay, ..candidate(name) })?;
+    let held = watch.handle;
+    let ended = take(client, held, mode, asked.no_wait, &mut signals).and_then(|()| {
+        let sequencer = client.sequencer(held)?;
+        run(&asked.command, Some(&sequencer), &watch, &mut signals)
+    });
+    close(client, held, &ended);
+    ended
+}
+
+/// Waits for the lock of a file, writes the value into it, runs the command, empties the file and lets the lock go; gives the
+/// command's status.
+pub fn elect(client: &Client, name: &str, asked: &Hold) -> Result<u8, Fault> {
+    let mut signals = signals()?;
+    let watch = client.watch_with(&candidate(name))?;
+    let held = watch.handle;
+    let ended = take(client, held, LockMode::Exclusive, asked.no_wait, &mut signals).and_then(|()| {
+        client.set(held, asked.value.as_bytes(), None)?;
+        let sequencer = client.sequencer(held)?;
+        announce(asked, "elected", name)?;
+        let ended = run(&asked.command, Some(&sequencer), &watch, &mut signals);
+        if !client.is_lost() {
+            client.set(held, b"", None)?;
+        }
+        ended
+    });
+    close(client, held, &ended);
+    ended
+}
+
+/// Makes a file that goes with this program, runs the command, and deletes the file; gives the command's status.
+pub fn register(client: &Client, name: &str, asked: &Hold) -> Result<u8, Fault> {
+    let mut signals = signals()?;
+    let watch = make(client, name, asked, &mut signals)?;
+    announce(asked, "registered", name)?;
+    let ended = run(&asked.command, None, &watch, &mut signals);
+    if !client.is_lost() {
+        // (one that somebody else deleted is gone already)
+        let _ = client.delete(watch.handle);
+    }
+    close(client, watch.handle, &ended);
+    ended
+}
+
+// A file that is made where there is none, and goes with the last who has it open.
+fn candidate(name: &str) -> Opening {
+    let file = Create { content: Some(Vec::new()), life: Life::Ephemeral, ..Create::default() };
+    Opening { create: Some(file), ..Opening::new(name, Mode::WRITE) }
+}
+
+// Without a command nothing else tells that it begins.
+fn announce(asked: &Hold, word: &str, name: &str) -> Result<(), Fault> {
+    if asked.command.is_empty() {
+        print(format!("{word} {name}").as_bytes())?;
+    }
+    Ok(())
+}
+
+fn take(client: &Client, held: Handle, mode: LockMode, no_wait: bool, signals: &mut Signals) -> Result<(), Fault> {
+    if no_wait {
+        return Ok(client.try_acquire(held, mode)?);
+    }
+    wait_for(client, held, signals, || acquire(client, held, mode))
+}
+
+// Where another master came up meanwhile the lock may be held already: then it is let go, and waited for again.
+fn acquire(client: &Client, held: Handle, mode: LockMode) -> Result<(), Error> {
+    loop {
+        match client.acquire(held, mode) {
+            Err(Error::Refused(Refusal::Unknown | Refusal::Held(_))) => match client.release(held) {
+                Err(Error::Refused(Refusal::NotHolder | Refusal::Unknown)) | Ok(()) => {}
+                Err(error) => return Err(error),
+            },
+            result => return result,
+        }
+    }
+}
+
+// What is closed frees its lock; where the session is lost nothing is held. A wait that a signal ended is still asked for, so nothing
+// else can be: it ends with the lease.
+fn close(client: &Client, held: Handle, ended: &Result<u8, Fault>) {
+    if client.is_lost() || matches!(ended, Err(Fault::Signal(_))) {
+        return;
+    }
+    if let Err(error) = client.close(held) {
+        say(&format!("letting go: {error}; it is free when the lease has run out"));
+    }
+}
+
+// Makes the file, and waits while there is one of the name. To have that open would keep it: so its directory is watched.
+fn make(client: &Client, name: &str, asked: &Hold, signals: &mut Signals) -> Result<Watch, Fault> {
+    let content = asked.value.as_bytes().to_vec();
+    let file = Create { must: true, content: Some(content), life: Life::Ephemeral, acl: None };
+    let opening = Opening { create: Some(file), ..Opening::new(name, Mode::READ.and(Mode::WRITE)) };
+    let mut above = None;
+    loop {
+        match client.watch_with(&opening) {
+            Err(Error::Refused(Refusal::Exists)) if !asked.no_wait => {}
+            result => return Ok(result?),
+        }
+        if let Some(signal) = signals.pending().next() {
+            return Err(Fault::Signal(signal));
+        }
+        match &above {
+            None => {
+                let parent = name.rsplit_once('/').map_or("", |(parent, _)| parent);
+                above = Some(client.watch(parent, Events::CHILDREN)?);
+            }
+            Some(watch) => _ = watch.events.recv_timeout(AGAIN),
+        }
+    }
+}

@@ -1,0 +1,125 @@
+//! What operators ask for.
+
+use crate::commands::connect;
+use crate::faults::Fault;
+use crate::output::{print, print_json, write};
+use crate::words::{Output, Reach};
+use serde_json::json;
+use std::path::Path;
+use std::time::Instant;
+use tillermoss::{Admin, LockShown, Mode, SessionShown, Status};
+
+/// How long a session takes to begin, and an answer to come.
+pub fn answers(reach: &Reach, output: Output) -> Result<(), Fault> {
+    let begun = Instant::now();
+    let client = connect(reach)?;
+    let session = u64::try_from(begun.elapsed().as_millis()).unwrap_or(u64::MAX);
+    let begun = Instant::now();
+    client.stat(client.open(&format!("/ls/{}", reach.cell), Mode::READ)?)?;
+    let answer = u64::try_from(begun.elapsed().as_millis()).unwrap_or(u64::MAX);
+    let (server, cell, principal, number) = (&reach.server, &reach.cell, reach.options().principal, client.number());
+    let text =
+        format!("server {server}\ncell {cell}\nprincipal {principal}\nclient {number}\nsession in {session} ms\nanswer in {answer} ms");
+    match output {
+        Output::Text => print(text.as_bytes())?,
+        Output::Json => print_json(&json!({
+            "server": server, "cell": cell, "principal": principal, "client": number, "session_ms": session, "answer_ms": answer,
+        }))?,
+    }
+    Ok(())
+}
+
+/// How the server stands.
+pub fn status_of(admin: &str, output: Output) -> Result<(), Fault> {
+    let status = Admin::new(admin)?.status()?;
+    match output {
+        Output::Text => print(status_text(&status).as_bytes())?,
+        Output::Json => print_json(&json!(status))?,
+    }
+    Ok(())
+}
+
+fn status_text(status: &Status) -> String {
+    let mut lines = vec![
+        format!("version {}", status.version),
+        format!("seconds {}", status.seconds),
+        format!("ready {}", if status.is_ready { "yes" } else { "no" }),
+        format!("epoch {}", status.epoch),
+        format!("nodes {}", status.nodes),
+        format!("bytes {}", status.bytes),
+        format!("sessions {}", status.sessions),
+        format!("connections {}", status.connections),
+        format!("locks {}", status.locks),
+        format!("rights {}", status.rights),
+        format!("changes-waiting {}", status.changes_waiting),
+    ];
+    lines.extend(status.listening.iter().map(|address| format!("listening {address}")));
+    lines.extend(status.warnings.iter().map(|warning| format!("warning {warning}")));
+    lines.join("\n")
+}
+
+/// The live sessions, one a line.
+pub fn sessions(admin: &str, output: Output) -> Result<(), Fault> {
+    let sessions = Admin::new(admin)?.sessions()?;
+    match output {
+        Output::Text => write(sessions.iter().map(session_line).collect::<String>().as_bytes())?,
+        Output::Json => print_json(&json!(sessions))?,
+    }
+    Ok(())
+}
+
+fn session_line(session: &SessionShown) -> String {
+    let connected = if session.is_connected { "connected" } else { "away" };
+    let lease = session.lease_left.map_or("-".to_owned(), |left| left.to_string());
+    format!("{} {} {connected} {lease}\n", session.client, session.principal)
+}
+
+/// The locks that aren't free, one a line.
+pub fn locks(admin: &str, output: Output) -> Result<(), Fault> {
+    let locks = Admin::new(admin)?.locks()?;
+    match output {
+        Output::Text => write(locks.iter().map(lock_line).collect::<String>().as_bytes())?,
+        Output::Json => print_json(&json!(locks))?,
+    }
+    Ok(())
+}
+
+fn lock_line(lock: &LockShown) -> String {
+    let mode = if lock.is_shared { "shared" } else { "exclusive" };
+    let (holders, waiters) = (listed(&lock.holders), listed(&lock.waiters));
+    format!("{} {mode} generation {} held by {holders} waited for by {waiters}\n", lock.name, lock.generation)
+}
+
+fn listed(clients: &[u64]) -> String {
+    if clients.is_empty() {
+        return "nobody".to_owned();
+    }
+    clients.iter().map(u64::to_string).collect::<Vec<_>>().join(",")
+}
+
+/// Takes a copy of the store.
+pub fn backup(admin: &str, output: Output, file: &Path) -> Result<(), Fault> {
+    let bytes = Admin::new(admin)?.backup(file)?;
+    match output {
+        Output::Text => print(format!("{bytes} bytes").as_bytes())?,
+        Output::Json => print_json(&json!({ "file": file.display().to_string(), "bytes": bytes }))?,
+    }
+    Ok(())
+}
+
+#[cfg(test)]
+mod tests {
+    use super::*;
+
+    #[test]
+    fn sessions_and_locks_are_lines() {
+        let session = SessionShown { client: 3, principal: "ann".to_owned(), is_connected: true, lease_left: Some(900) };
+        assert_eq!(session_line(&session), "3 ann connected 900\n");
+        let gone = SessionShown { is_connected: false, lease_left: None, ..session };
+        assert_eq!(session_line(&gone), "3 ann away -\n");
+        let lock = LockShown { name: "/ls/c/l".to_owned(), is_shared: false, holders: vec![3], waiters: vec![4, 5], generation: 2 };
+        assert_eq!(lock_line(&lock), "/ls/c/l exclusive generation 2 held by 3 waited for by 4,5\n");
+        let closed = LockShown { holders: vec![], waiters: vec![], is_shared: true, ..lock };
+        assert_eq!(lock_line(&closed), "/ls/c/l shared generation 2 held by nobody waited for by nobody\n");
+    }
+}

@@ -1,0 +1,146 @@
+//! How a server is reached: the stream to it, and whom the client shows there.
+
+use host_wire::{Address, common_name};
+use nix::unistd::{User, getuid};
+use std::fs::File;
+use std::io::{self, BufReader, ErrorKind};
+use std::net::IpAddr;
+use std::path::{Path, PathBuf};
+use std::sync::Arc;
+use tokio::io::{AsyncRead, AsyncWrite};
+use tokio::net::{TcpStream, UnixStream};
+use tokio_rustls::TlsConnector;
+use tokio_rustls::rustls::{Certificate, ClientConfig, PrivateKey, RootCertStore, ServerName};
+
+/// A stream of bytes to a server.
+pub trait Stream: AsyncRead + AsyncWrite + Send + Unpin {}
+
+impl<S: AsyncRead + AsyncWrite + Send + Unpin> Stream for S {}
+
+/// Where a server is, and by what the two know each other.
+#[derive(Clone)]
+pub struct Reach {
+    address: Address,
+    tls: Option<Arc<ClientConfig>>,
+}
+
+impl std::fmt::Debug for Reach {
+    fn fmt(&self, out: &mut std::fmt::Formatter<'_>) -> std::fmt::Result {
+        write!(out, "{}", self.address)
+    }
+}
+
+fn fault(text: String) -> io::Error {
+    io::Error::new(ErrorKind::InvalidInput, text)
+}
+
+fn at(path: &Path) -> impl Fn(io::Error) -> io::Error {
+    move |error| io::Error::new(error.kind(), format!("reading {}: {error}", path.display()))
+}
+
+fn certificates(path: &Path) -> io::Result<Vec<Certificate>> {
+    let mut file = BufReader::new(File::open(path).map_err(at(path))?);
+    let found: Vec<_> = rustls_pemfile::certs(&mut file).map_err(at(path))?.into_iter().map(Certificate).collect();
+    if found.is_empty() { Err(fault(format!("{} has no certificate", path.display()))) } else { Ok(found) }
+}
+
+fn key(path: &Path) -> io::Result<PrivateKey> {
+    use rustls_pemfile::Item::{ECKey, PKCS8Key, RSAKey};
+    let mut file = BufReader::new(File::open(path).map_err(at(path))?);
+    while let Some(item) = rustls_pemfile::read_one(&mut file).map_err(at(path))? {
+        if let PKCS8Key(key) | RSAKey(key) | ECKey(key) = item {
+            return Ok(PrivateKey(key));
+        }
+    }
+    Err(fault(format!("{} has no key", path.display())))
+}
+
+fn config(certificate: Option<&PathBuf>, own_key: Option<&PathBuf>, authority: Option<&PathBuf>) -> io::Result<Arc<ClientConfig>> {
+    let (Some(certificate), Some(own_key), Some(authority)) = (certificate, own_key, authority) else {
+        return Err(fault("tls: wants a certificate, its key, and the server's authority".to_owned()));
+    };
+    let mut authorities = RootCertStore::empty();
+    for found in certificates(authority)? {
+        authorities.add(&found).map_err(|error| fault(format!("{}: {error}", authority.display())))?;
+    }
+    let config = ClientConfig::builder().with_safe_defaults().with_root_certificates(authorities);
+    let config = config.with_single_cert(certificates(certificate)?, key(own_key)?);
+    config.map(Arc::new).map_err(|error| fault(format!("{}: {error}", certificate.display())))
+}
+
+impl Reach {
+    /// That of a word, with the files of certificates where it is a `tls:`.
+    pub fn new(server: &str, certificate: Option<&PathBuf>, own_key: Option<&PathBuf>, authority: Option<&PathBuf>) -> io::Result<Reach> {
+        let address: Address = server.parse().map_err(|error| fault(format!("{server}: {error}")))?;
+        let tls = match address {
+            Address::Tls(_) => Some(config(certificate, own_key, authority)?),
+            _ => None,
+        };
+        Ok(Reach { address, tls })
+    }
+
+    /// A stream to the server.
+    pub async fn connect(&self) -> io::Result<Box<dyn Stream>> {
+        match (&self.address, &self.tls) {
+            (Address::Unix(path), _) => Ok(Box::new(UnixStream::connect(path).await?)),
+            (Address::Tls(place), Some(config)) => {
+                let stream = stream(place).await?;
+                Ok(Box::new(TlsConnector::from(config.clone()).connect(server_name(place)?, stream).await?))
+            }
+            (Address::Tls(place) | Address::Tcp(place), _) => Ok(Box::new(stream(place).await?)),
+        }
+    }
+}
+
+// The name that the server's certificate has to have. It is that of a host, never a number; this machine's is `localhost`.
+fn server_name(place: &str) -> io::Result<ServerName> {
+    let host = place.rsplit_once(':').map_or(place, |(host, _)| host).trim_matches(['[', ']']);
+    let host = if host.parse().is_ok_and(|address: IpAddr| address.is_loopback()) { "localhost" } else { host };
+    match ServerName::try_from(host) {
+        Ok(name @ ServerName::DnsName(_)) => Ok(name),
+        _ => Err(fault(format!("tls: wants the server by the name that its certificate has, not {host}"))),
+    }
+}
+
+async fn stream(place: &str) -> io::Result<TcpStream> {
+    let stream = TcpStream::connect(place).await?;
+    stream.set_nodelay(true)?;
+    Ok(stream)
+}
+
+/// Whom a client acts for where nobody says it: at `unix:` this process's user, at `tls:` the common name of the certificate. None
+/// at `tcp:`, where a client says it, and where there is no such name.
+///
+/// ```
+/// # use tillermoss::own_principal;
+/// assert_eq!(own_principal("tcp:127.0.0.1:7171", None), None);
+/// ```
+#[must_use]
+pub fn own_principal(server: &str, certificate: Option<&Path>) -> Option<String> {
+    match server.parse().ok()? {
+        Address::Unix(_) => User::from_uid(getuid()).ok()?.map(|user| user.name),
+        Address::Tls(_) => common_name(&certificates(certificate?).ok()?.first()?.0),
+        Address::Tcp(_) => None,
+    }
+}
+
+#[cfg(test)]
+mod tests {
+    use super::*;
+
+    #[test]
+    fn a_certificate_names_a_host() {
+        let rows = [("h.example:7", true), ("localhost:7", true), ("127.0.0.1:7", true), ("[::1]:7", true), ("10.0.0.1:7", false)];
+        for (place, wanted) in rows {
+            assert_eq!(server_name(place).is_ok(), wanted, "{place}");
+        }
+    }
+
+    #[test]
+    fn what_tls_wants_is_told() {
+        assert!(Reach::new("tls:h:7", None, None, None).unwrap_err().to_string().contains("wants a certificate"));
+        assert!(Reach::new("h", None, None, None).is_err());
+        assert_eq!(own_principal("h:7", None), None);
+        assert!(own_principal("unix:/s", None).is_some());
+    }
+}

@@ -1,0 +1,149 @@
+//! Where clients come in: the sockets that the server listens at, and whom each connection shows.
+
+use crate::options::Options;
+use crate::tls::server_config;
+use anyhow::{Context, Result, bail};
+use host_wire::{Address, common_name, is_component};
+use nix::unistd::{Uid, User};
+use std::fs::{self, Permissions};
+use std::io;
+use std::os::unix::fs::{FileTypeExt, PermissionsExt};
+use std::os::unix::net::UnixStream as StdUnixStream;
+use std::path::Path;
+use std::sync::{Arc, PoisonError, RwLock};
+use tokio::io::{AsyncRead, AsyncWrite};
+use tokio::net::{TcpListener, TcpStream, UnixListener, UnixStream};
+use tokio_rustls::TlsAcceptor;
+use tokio_rustls::rustls::ServerConfig;
+
+/// A stream of bytes to a client.
+pub trait Stream: AsyncRead + AsyncWrite + Send + Unpin {}
+
+impl<S: AsyncRead + AsyncWrite + Send + Unpin> Stream for S {}
+
+/// A socket that takes connections.
+#[derive(Debug)]
+pub enum Door {
+    Unix(UnixListener),
+    Tls(TcpListener, Arc<Certificates>),
+    Tcp(TcpListener),
+}
+
+/// A connection that was taken, and nothing was said yet.
+#[derive(Debug)]
+pub enum Guest {
+    Unix(UnixStream),
+    Tls(TcpStream, Arc<Certificates>),
+    Tcp(TcpStream),
+}
+
+/// What the server shows to clients, as it was last read.
+#[derive(Debug)]
+pub struct Certificates(RwLock<Arc<ServerConfig>>);
+
+impl Certificates {
+    fn read(options: &Options) -> Result<Arc<ServerConfig>> {
+        let (Some(cert), Some(key), Some(client_ca)) = (&options.cert, &options.key, &options.client_ca) else {
+            bail!("tls: wants --cert, --key and --client-ca");
+        };
+        server_config(cert, key, client_ca)
+    }
+
+    /// Those of the options.
+    pub fn new(options: &Options) -> Result<Certificates> {
+        Ok(Certificates(RwLock::new(Certificates::read(options)?)))
+    }
+
+    /// Reads them again; where that fails the old ones stay.
+    pub fn renew(&self, options: &Options) -> Result<()> {
+        let read = Certificates::read(options)?;
+        *self.0.write().unwrap_or_else(PoisonError::into_inner) = read;
+        Ok(())
+    }
+
+    fn acceptor(&self) -> TlsAcceptor {
+        self.0.read().unwrap_or_else(PoisonError::into_inner).clone().into()
+    }
+}
+
+/// A socket in a file of this mode; one that nobody listens at any more gives way.
+pub fn listen_unix(path: &Path, mode: u32) -> Result<UnixListener> {
+    let at = || format!("listening at {}", path.display());
+    let is_socket = fs::symlink_metadata(path).is_ok_and(|file| file.file_type().is_socket());
+    if is_socket && StdUnixStream::connect(path).is_err_and(|error| error.kind() == io::ErrorKind::ConnectionRefused) {
+        fs::remove_file(path).with_context(at)?;
+    }
+    let listener = UnixListener::bind(path).with_context(at)?;
+    fs::set_permissions(path, Permissions::from_mode(mode)).with_context(at)?;
+    Ok(listener)
+}
+
+impl Door {
+    /// Listens at an address; gives it with the port that it has. Whoever the system knows may come to a `unix:`.
+    pub async fn open(address: &Address, is_insecure: bool, certificates: Option<&Arc<Certificates>>) -> Result<(Door, Address)> {
+        let (place, certificates) = match (address, certificates) {
+            (Address::Unix(path), _) => return Ok((Door::Unix(listen_unix(path, 0o666)?), address.clone())),
+            (Address::Tls(place), Some(certificates)) => (place, Some(certificates.clone())),
+            (Address::Tls(_), None) => bail!("tls: wants --cert, --key and --client-ca"),
+            (Address::Tcp(place), _) if address.is_local() || is_insecure => (place, None),
+            (Address::Tcp(_), _) => bail!("{address}: who connects there acts for anybody, and nothing is encrypted; only with --insecure"),
+        };
+        let listener = TcpListener::bind(place).await.with_context(|| format!("listening at {address}"))?;
+        let address = address.at(listener.local_addr()?);
+        let door = match certificates {
+            Some(certificates) => Door::Tls(listener, certificates),
+            None => Door::Tcp(listener),
+        };
+        Ok((door, address))
+    }
+
+    /// The next connection.
+    pub async fn take(&self) -> io::Result<Guest> {
+        match self {
+            Door::Unix(listener) => Ok(Guest::Unix(listener.accept().await?.0)),
+            Door::Tls(listener, certificates) => Ok(Guest::Tls(listener.accept().await?.0, certificates.clone())),
+            Door::Tcp(listener) => Ok(Guest::Tcp(listener.accept().await?.0)),
+        }
+    }
+}
+
+/// Whom a connection shows.
+#[derive(Clone, Debug, PartialEq, Eq)]
+pub enum Shown {
+    /// Nobody: the client says for whom it acts.
+    Nobody,
+    /// This principal, and it acts for no other.
+    Principal(String),
+    /// A name that is no principal.
+    Other(String),
+}
+
+impl Shown {
+    fn of(name: String) -> Shown {
+        if is_component(&name) { Shown::Principal(name) } else { Shown::Other(name) }
+    }
+}
+
+impl Guest {
+    /// Lets it in, as far as its greeting: the stream to it, and whom it shows.
+    pub async fn come_in(self) -> Result<(Box<dyn Stream>, Shown)> {
+        match self {
+            Guest::Unix(stream) => {
+                let user = stream.peer_cred()?.uid();
+                let name = User::from_uid(Uid::from_raw(user))?.map_or_else(|| user.to_string(), |user| user.name);
+                Ok((Box::new(stream), Shown::of(name)))
+            }
+            Guest::Tls(stream, certificates) => {
+                stream.set_nodelay(true)?;
+                let stream = certificates.acceptor().accept(stream).await?;
+                let certificate = stream.get_ref().1.peer_certificates().and_then(<[_]>::first).context("no certificate")?;
+                let name = common_name(&certificate.0).unwrap_or_default();
+                Ok((Box::new(stream), Shown::of(name)))
+            }
+            Guest::Tcp(stream) => {
+                stream.set_nodelay(true)?;
+                Ok((Box::new(stream), Shown::Nobody))
+            }
+        }
+    }
+}

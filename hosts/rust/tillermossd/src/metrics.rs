@@ -1,0 +1,167 @@
+//! What is counted, as Prometheus reads it.
+
+use prometheus::{
+    Gauge, Histogram, IntCounter, IntCounterVec, IntGauge, IntGaugeVec, Registry, TextEncoder, histogram_opts, opts,
+    register_gauge_with_registry, register_histogram_with_registry, register_int_counter_vec_with_registry,
+    register_int_counter_with_registry, register_int_gauge_vec_with_registry, register_int_gauge_with_registry,
+};
+use std::time::Duration;
+
+/// The bounds of times, in seconds.
+const BOUNDS: [f64; 11] = [0.0001, 0.0003, 0.001, 0.003, 0.01, 0.03, 0.1, 0.3, 1.0, 3.0, 10.0];
+
+/// The counters, each named `tillermoss_` and as it is named here.
+#[derive(Debug)]
+pub struct Metrics {
+    registry: Registry,
+    frames: IntCounterVec,
+    frame_seconds: Histogram,
+    commits: IntCounter,
+    commit_seconds: Histogram,
+    events: IntCounterVec,
+    refusals: IntCounterVec,
+    recoveries: IntCounter,
+    replaced: IntCounter,
+    turned_away: IntCounterVec,
+    cut: IntCounterVec,
+    limited: IntCounter,
+    slowed: IntCounter,
+    connections: IntGaugeVec,
+    cell: IntGaugeVec,
+    oldest: Gauge,
+    is_ready: IntGauge,
+}
+
+/// What is measured when somebody looks.
+#[derive(Clone, Copy, Debug, Default)]
+pub struct Levels {
+    pub greeting: usize,
+    pub bound: usize,
+    pub nodes: usize,
+    pub bytes: u64,
+    pub sessions: usize,
+    pub rights: usize,
+    pub locks: usize,
+    pub changes: usize,
+    pub oldest: Duration,
+    pub epoch: u64,
+    pub is_ready: bool,
+}
+
+impl Metrics {
+    /// All at nothing. The names are fixed and each is told once, so it doesn't fail.
+    pub fn new() -> prometheus::Result<Metrics> {
+        let r = Registry::new_custom(Some("tillermoss".to_owned()), None)?;
+        let seconds = |name: &str, help: &str| histogram_opts!(name, help, BOUNDS.to_vec());
+        let by = |name: &str, help: &str| opts!(name, help);
+        Ok(Metrics {
+            frames: register_int_counter_vec_with_registry!(by("frames_total", "Frames sent to the master."), &["kind"], r)?,
+            frame_seconds: register_histogram_with_registry!(seconds("frame_seconds", "From a frame to its last answer."), r)?,
+            commits: register_int_counter_with_registry!(by("commits_total", "Frames in which the store was written."), r)?,
+            commit_seconds: register_histogram_with_registry!(seconds("commit_seconds", "The same of those that wrote the store."), r)?,
+            events: register_int_counter_vec_with_registry!(by("events_total", "What the master told."), &["event"], r)?,
+            refusals: register_int_counter_vec_with_registry!(by("refusals_total", "Refusals, by their number."), &["number"], r)?,
+            recoveries: register_int_counter_with_registry!(by("recoveries_total", "Recoveries that ended."), r)?,
+            replaced: register_int_counter_with_registry!(by("masters_replaced_total", "Masters that were replaced."), r)?,
+            turned_away: register_int_counter_vec_with_registry!(by("turned_away_total", "Greetings refused."), &["reason"], r)?,
+            cut: register_int_counter_vec_with_registry!(by("connections_cut_total", "Connections cut off."), &["reason"], r)?,
+            limited: register_int_counter_with_registry!(by("calls_limited_total", "Calls that a limit refused."), r)?,
+            slowed: register_int_counter_with_registry!(by("messages_slowed_total", "Messages that came too fast."), r)?,
+            connections: register_int_gauge_vec_with_registry!(by("connections", "Connections."), &["state"], r)?,
+            cell: register_int_gauge_vec_with_registry!(by("cell", "How much the cell holds."), &["of"], r)?,
+            oldest: register_gauge_with_registry!(by("oldest_change_seconds", "How long the oldest change has waited."), r)?,
+            is_ready: register_int_gauge_with_registry!(by("ready", "1 where a master is up and has recovered."), r)?,
+            registry: r,
+        })
+    }
+
+    /// A frame goes to the master.
+    pub fn sent(&self, is_message: bool) {
+        self.frames.with_label_values(&[if is_message { "message" } else { "tick" }]).inc();
+    }
+
+    /// A frame was answered.
+    pub fn answered(&self, took: Duration, has_committed: bool) {
+        self.frame_seconds.observe(took.as_secs_f64());
+        if has_committed {
+            self.commits.inc();
+            self.commit_seconds.observe(took.as_secs_f64());
+        }
+    }
+
+    /// A line that begins with this word was told.
+    pub fn follow(&self, word: &str) {
+        match word {
+            "recovered" => self.recoveries.inc(),
+            "applied" | "started" | "ended" | "granted" | "acked" | "expired" | "locked" | "freed" | "lapsed" => {
+                self.events.with_label_values(&[word]).inc();
+            }
+            _ => {}
+        }
+    }
+
+    /// A call or a message was refused, by this number.
+    pub fn refused(&self, number: u8) {
+        self.refusals.with_label_values(&[&number.to_string()]).inc();
+    }
+
+    /// A greeting came to nothing.
+    pub fn turned_away(&self, reason: &str) {
+        self.turned_away.with_label_values(&[reason]).inc();
+    }
+
+    /// A connection was cut off.
+    pub fn cut(&self, reason: &str) {
+        self.cut.with_label_values(&[reason]).inc();
+    }
+
+    /// A limit refused a call.
+    pub fn limited(&self) {
+        self.limited.inc();
+    }
+
+    /// A message had to wait.
+    pub fn slowed(&self) {
+        self.slowed.inc();
+    }
+
+    /// A master was replaced.
+    pub fn replaced(&self) {
+        self.replaced.inc();
+    }
+
+    /// All of them, with the present levels.
+    pub fn text(&self, levels: &Levels) -> prometheus::Result<String> {
+        let set = |gauges: &IntGaugeVec, name: &str, value: u64| gauges.with_label_values(&[name]).set(value.cast_signed());
+        set(&self.connections, "greeting", levels.greeting as u64);
+        set(&self.connections, "bound", levels.bound as u64);
+        let cell = [("nodes", levels.nodes), ("sessions", levels.sessions), ("rights", levels.rights), ("locks", levels.locks)];
+        for (name, value) in cell.into_iter().chain([("changes_waiting", levels.changes)]) {
+            set(&self.cell, name, value as u64);
+        }
+        set(&self.cell, "bytes", levels.bytes);
+        set(&self.cell, "epoch", levels.epoch);
+        self.oldest.set(levels.oldest.as_secs_f64());
+        self.is_ready.set(levels.is_ready.into());
+        TextEncoder::new().encode_to_string(&self.registry.gather())
+    }
+}
+
+#[cfg(test)]
+mod tests {
+    use super::*;
+
+    #[test]
+    fn what_was_counted_is_told() {
+        let metrics = Metrics::new().unwrap();
+        metrics.sent(true);
+        metrics.answered(Duration::from_millis(2), true);
+        metrics.answered(Duration::from_millis(2), false);
+        metrics.refused(10);
+        let text = metrics.text(&Levels { sessions: 3, ..Levels::default() }).unwrap();
+        let wanted = ["frames_total{kind=\"message\"} 1", "frame_seconds_count 2", "commits_total 1", "refusals_total{number=\"10\"} 1"];
+        for line in wanted.into_iter().chain(["cell{of=\"sessions\"} 3", "commit_seconds_bucket{le=\"0.003\"} 1"]) {
+            assert!(text.contains(&format!("\ntillermoss_{line}\n")), "{line} in {text}");
+        }
+    }
+}

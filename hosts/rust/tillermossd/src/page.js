@@ -1,0 +1,87 @@
+'use strict';
+
+const at = (id) => document.getElementById(id);
+
+function made(kind, text, name) {
+  const element = document.createElement(kind);
+  if (text !== undefined) element.textContent = text;
+  if (name) element.className = name;
+  return element;
+}
+
+function table(id, heads, rows) {
+  const lines = [made('tr')];
+  lines[0].append(...heads.map((head) => made('th', head)));
+  for (const row of rows) {
+    const line = made('tr');
+    line.append(...row.map((cell) => (cell instanceof Node ? cell : made('td', cell))));
+    lines.push(line);
+  }
+  at(id).replaceChildren(...(rows.length ? lines : [made('caption', 'none', 'none')]));
+}
+
+const seconds = (milliseconds) => (milliseconds / 1000).toFixed(1) + ' s';
+
+function client(number, names) {
+  return names.has(number) ? number + ' (' + names.get(number) + ')' : String(number);
+}
+
+function lease(left) {
+  const cell = made('td');
+  if (left === null) {
+    cell.textContent = 'not known';
+    return cell;
+  }
+  const bar = made('span', undefined, left > 0 ? 'bar' : 'bar late');
+  bar.style.width = Math.max(0.3, Math.min(6, left / 2000)) + 'em';
+  cell.append(bar, left > 0 ? seconds(left) : 'ended');
+  return cell;
+}
+
+function tree(nodes, total) {
+  const lines = nodes.map((node) => {
+    const parts = node.name.split('/');
+    const line = made('div');
+    line.style.paddingLeft = (parts.length - 3) * 1.2 + 'em';
+    const name = parts.length > 3 ? parts[parts.length - 1] : node.name;
+    line.append(made('span', name + (node.is_file ? '' : '/')));
+    const more = (node.is_file ? node.length + ' bytes, generation ' + node.generation : '') + (node.is_ephemeral ? ', ephemeral' : '');
+    line.append(made('span', more, 'more'));
+    return line;
+  });
+  if (total > nodes.length) lines.push(made('div', 'and ' + (total - nodes.length) + ' more', 'none'));
+  at('tree').replaceChildren(...lines);
+}
+
+function show(all) {
+  const names = new Map(all.sessions.map((session) => [session.client, session.principal]));
+  const who = (numbers) => numbers.map((number) => client(number, names)).join(', ');
+  const status = all.status;
+  at('ready').textContent = status.is_ready ? 'ready' : 'not ready';
+  at('ready').className = status.is_ready ? 'yes' : '';
+  at('facts').textContent = 'epoch ' + status.epoch + ' · ' + status.nodes + ' nodes · ' + status.bytes + ' bytes · ' +
+    status.sessions + ' sessions · ' + status.rights + ' rights · ' + status.connections + ' connections · ' + status.listening.join(' ');
+  at('warnings').replaceChildren(...status.warnings.map((warning) => made('li', warning)));
+  tree(all.nodes, status.nodes);
+  table('waits', ['client', 'wants', 'of', 'since', 'waits for'], all.waits.map((wait) =>
+    [client(wait.client, names), wait.act, wait.name, seconds(wait.waited), who(wait.waits_for) || 'its turn']));
+  table('locks', ['node', 'held', 'by', 'waiting', 'generation'], all.locks.map((lock) =>
+    [lock.name, lock.is_shared ? 'shared' : 'exclusive', who(lock.holders) || 'nobody: lock-delay', who(lock.waiters), String(lock.generation)]));
+  table('sessions', ['client', 'principal', 'connection', 'lease'], all.sessions.map((session) =>
+    [String(session.client), session.principal, session.is_connected ? 'yes' : 'no', lease(session.lease_left)]));
+}
+
+async function follow() {
+  for (;;) {
+    try {
+      const answer = await fetch('/all');
+      show(await answer.json());
+    } catch {
+      at('ready').textContent = 'not reached';
+      at('ready').className = '';
+    }
+    await new Promise((done) => setTimeout(done, 500));
+  }
+}
+
+follow();

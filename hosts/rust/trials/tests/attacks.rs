@@ -1,0 +1,607 @@
+//! What the server has to bear: a table of attacks, each with what is refused, and with what stands behind it: a client that had
+//! come before still has its session and its handle, its file what it wrote, and a new client gets in.
+
+use host_wire::{Blocks, TurnedAway, write_block};
+use nix::sys::resource::{Resource, getrlimit, setrlimit};
+use nix::sys::signal::Signal;
+use rand::rngs::StdRng;
+use rand::{Rng, SeedableRng};
+use std::fs;
+use std::io::Write;
+use std::path::{Path, PathBuf};
+use std::process::{Command, Stdio};
+use std::sync::atomic::{AtomicBool, Ordering};
+use std::thread;
+use std::time::{Duration, Instant};
+use tillermoss::{Client, Error, Handle, Mode, Options};
+use trials::{
+    Kill, Plain, Server, Start, again, ask, call, certificates, folder, forged, handle, message, new, open_call, read_call, set_call, start,
+};
+
+const SEED: u64 = 20_061_106;
+
+/// The witness' settings: a short silence, and few connections that haven't greeted.
+const SETTINGS: &str = "principals = [\"ann\", \"bob\"]\n[limits]\nsilence = 30\ngreetings = 200\nconnections = 300\n\
+                        connections_of_a_principal = 250\nnodes = 20\nbytes = 2000000\nbytes_of_a_principal = 1000000\n";
+
+/// A cell that is attacked, and a client of it that isn't to notice.
+struct Stage {
+    folder: PathBuf,
+    store: PathBuf,
+    certificates: PathBuf,
+    server: Server,
+    witness: Client,
+    file: Handle,
+    turn: u64,
+}
+
+/// An attack: what is to be refused, as it is told, and what does it.
+type Attack = (&'static str, &'static str, fn(&mut Stage) -> String);
+
+fn begin(store: &Path, certificates: &Path) -> Start {
+    let socket = format!("unix:{}", store.with_added_extension("socket").display());
+    Start::new(store).with(&["tcp:0", &socket, "--admin", "tcp:0"]).tls(certificates).settings(SETTINGS)
+}
+
+impl Stage {
+    fn new(test: &str) -> Stage {
+        let folder = folder(test);
+        let (store, certificates) = (folder.join("store.db"), certificates(&folder, &["ann", "mallory", "Mallory"]));
+        let server = begin(&store, &certificates).start().unwrap();
+        let witness = Client::connect(&Options::new(&server.address, "ann")).unwrap();
+        let file = witness.create("/ls/c/witness", b"0").unwrap();
+        Stage { folder, store, certificates, server, witness, file, turn: 0 }
+    }
+
+    fn place(&self) -> &str {
+        self.server.place()
+    }
+
+    fn tls_place(&self) -> String {
+        self.server.addresses[2].replace("tls:127.0.0.1", "localhost")
+    }
+
+    // What a client with this certificate is told that says it acts for this principal.
+    fn over_tls(&self, certificate: &str, authority: &str, principal: &str) -> String {
+        let file = |name: String| Some(self.certificates.join(name));
+        told(Client::connect(&Options {
+            certificate: file(format!("{certificate}.pem")),
+            key: file(format!("{certificate}.key")),
+            authority: file(format!("{authority}.pem")),
+            ..Options::new(&format!("tls:{}", self.tls_place()), principal)
+        }))
+    }
+
+    // The witness goes on, and another comes.
+    fn check(&mut self, what: &str) {
+        self.turn += 1;
+        let content = self.turn.to_string().into_bytes();
+        self.witness.set(self.file, &content, None).unwrap_or_else(|error| panic!("{what}: the witness' write: {error}"));
+        assert_eq!(self.witness.read(self.file).unwrap().content, content, "{what}");
+        let options = Options { patience: Duration::from_secs(20), ..Options::new(&self.server.address, "bob") };
+        let other = Client::connect(&options).unwrap_or_else(|error| panic!("{what}: another client: {error}"));
+        assert_eq!(other.read(other.open("/ls/c/witness", Mode::READ).unwrap()).unwrap().content, content, "{what}");
+    }
+}
+
+impl Drop for Stage {
+    fn drop(&mut self) {
+        if !thread::panicking() {
+            // (a folder that can't be removed stays in the folder of tests)
+            let _ = fs::remove_dir_all(&self.folder);
+        }
+    }
+}
+
+fn told(connected: Result<Client, Error>) -> String {
+    match connected {
+        Ok(_) => "let in".to_owned(),
+        Err(Error::TurnedAway(reason)) => format!("{reason:?}"),
+        Err(Error::Io(_)) => "cut off".to_owned(),
+        Err(error) => error.to_string(),
+    }
+}
+
+fn said(answer: Option<Vec<u8>>) -> String {
+    match answer.as_deref() {
+        None => "cut off".to_owned(),
+        Some([7, number, ..]) => format!("refused {}", number + 1),
+        Some([kind, ..]) => format!("result {kind}"),
+        Some([]) => "nothing".to_owned(),
+    }
+}
+
+fn other_authority(stage: &mut Stage) -> String {
+    let other = certificates(&folder("other-authority"), &["ann"]);
+    for name in ["ann.pem", "ann.key"] {
+        fs::copy(other.join(name), stage.certificates.join(format!("other-{name}"))).unwrap();
+    }
+    fs::remove_dir_all(other.parent().unwrap()).unwrap();
+    stage.over_tls("other-ann", "ca", "ann")
+}
+
+// (the client library sends nobody there without one)
+fn no_certificate(stage: &mut Stage) -> String {
+    let authority = stage.certificates.join("ca.pem");
+    let mut child = Command::new("openssl")
+        .args(["s_client", "-quiet", "-connect", &stage.tls_place(), "-CAfile"])
+        .arg(authority)
+        .stdin(Stdio::piped())
+        .stdout(Stdio::piped())
+        .stderr(Stdio::piped())
+        .spawn()
+        .unwrap();
+    // (where the server has ended it already nothing can be written)
+    let _ = write_block(child.stdin.as_mut().unwrap(), &new("ann").write());
+    let output = child.wait_with_output().unwrap();
+    let is_alerted = String::from_utf8_lossy(&output.stderr).contains("certificate required");
+    if is_alerted && output.stdout.is_empty() { "certificate required".to_owned() } else { format!("{output:?}") }
+}
+
+fn own_certificate_of_another(stage: &mut Stage) -> String {
+    stage.over_tls("mallory", "ca", "ann")
+}
+
+fn name_outside_the_grammar(stage: &mut Stage) -> String {
+    stage.over_tls("Mallory", "ca", "ann")
+}
+
+fn another_user(stage: &mut Stage) -> String {
+    told(Client::connect(&Options::new(&stage.server.addresses[1], "not-this-user")))
+}
+
+fn another_number(stage: &mut Stage) -> String {
+    let hello = again("ann", host_wire::Welcome { client: stage.witness.number(), token: 7 });
+    Plain::greet(stage.place(), &hello).unwrap().1.map_or_else(|reason| format!("{reason:?}"), |_| "let in".to_owned())
+}
+
+fn another_client_in_a_message(stage: &mut Stage) -> String {
+    let (mut connection, client, epoch) = Plain::begin(stage.place(), "mallory").unwrap();
+    said(ask(&mut connection, &call(client - 1, epoch, 1, &open_call("/ls/c/m", b""))))
+}
+
+fn another_principal_in_a_start(stage: &mut Stage) -> String {
+    let (mut connection, welcome) = Plain::greet(stage.place(), &new("mallory")).unwrap();
+    said(ask(&mut connection, &start(welcome.unwrap().client, "ann")))
+}
+
+// A handle as a master of the first epoch would have given it, had the store the secret that everybody knows.
+fn forged_handle(stage: &mut Stage) -> String {
+    stage.server.kill(Kill::InOrder).unwrap();
+    let tls = stage.server.addresses[2].clone();
+    let tcp = stage.server.address.clone();
+    let socket = stage.server.addresses[1].clone();
+    let again = Start::new(&stage.store).with(&[&tcp, &socket, "--admin", stage.server.admin.as_deref().unwrap()]);
+    let file = |name: &str| stage.certificates.join(name).display().to_string();
+    let again = again.with(&[&tls, "--cert", &file("server.pem"), "--key", &file("server.key"), "--client-ca", &file("ca.pem")]);
+    stage.server = again.settings(SETTINGS).start().unwrap();
+    overwrite_by_forging(&stage.server)
+}
+
+fn overwrite_by_forging(server: &Server) -> String {
+    // (no session begins before the master has heard of all clients)
+    let begun = (0..300).find_map(|_| Plain::begin(server.place(), "mallory").map_err(|_| thread::sleep(Duration::from_millis(200))).ok());
+    let (mut connection, client, epoch) = begun.unwrap();
+    assert!(epoch > 1);
+    let handle = forged([0; 32], 1, client, 3, "/ls/c/acl/base");
+    loop {
+        let said = said(ask(&mut connection, &call(client, epoch, 1, &set_call(&handle, b"mallory\n"))));
+        // (29: the master hasn't heard of all clients yet)
+        if said != "refused 29" {
+            return said;
+        }
+        thread::sleep(Duration::from_millis(100));
+    }
+}
+
+// Far more than may be there at once, and they stay.
+fn slow_greetings(stage: &mut Stage) -> String {
+    let mut slow: Vec<Plain> = (0..600).map(|_| Plain::connect(stage.place()).unwrap()).collect();
+    for connection in &mut slow {
+        // (of one that is cut off already nothing is told)
+        let _ = connection.send_bytes(b"\0\0\0\x08\x01");
+    }
+    stage.check("slow greetings");
+    let begun = Instant::now();
+    let are_ended = slow.iter_mut().all(Plain::is_ended);
+    if are_ended && begun.elapsed() < Duration::from_secs(10) { "cut off".to_owned() } else { "not cut off".to_owned() }
+}
+
+fn half_open_connections(stage: &mut Stage) -> String {
+    let mut half: Vec<Plain> = (0..20).map(|_| Plain::begin(stage.place(), "mallory").unwrap().0).collect();
+    for connection in &mut half {
+        connection.stream.set_read_timeout(Some(Duration::from_secs(60))).unwrap();
+        connection.send_bytes(b"\0\0\x01\0half").unwrap();
+    }
+    stage.check("half-open connections");
+    let are_ended = half.iter_mut().all(Plain::is_ended);
+    if are_ended && stage.server.has_logged("its client is silent") { "cut off".to_owned() } else { "not cut off".to_owned() }
+}
+
+// In kilobytes.
+fn memory(server: &Server) -> u64 {
+    let status = fs::read_to_string(format!("/proc/{}/status", server.process())).unwrap();
+    let line = status.lines().find(|line| line.starts_with("VmRSS")).unwrap();
+    line.split_whitespace().nth(1).unwrap().parse().unwrap()
+}
+
+fn replies_that_are_not_read(stage: &mut Stage) -> String {
+    let before = memory(&stage.server);
+    let mut greedy = Vec::new();
+    for _ in 0..8 {
+        let (mut connection, client, epoch) = Plain::begin(stage.place(), "ann").unwrap();
+        let opened = ask(&mut connection, &call(client, epoch, 1, &open_call("/ls/c/large", &vec![b'a'; 262_144])));
+        let handle = handle(&opened.unwrap()).unwrap();
+        let asked = (2..200).try_for_each(|number| connection.send(&call(client, epoch, number, &read_call(&handle))));
+        // (it may be cut off before the last)
+        drop(asked);
+        greedy.push(connection);
+    }
+    let is_cut = stage.server.has_logged("it doesn't read what it is sent");
+    stage.check("replies that aren't read");
+    let more = memory(&stage.server).saturating_sub(before);
+    if is_cut && more < 60_000 { "cut off".to_owned() } else { format!("{is_cut}, {more} kB more") }
+}
+
+// The median time of a write of the witness, in microseconds.
+fn time_of_a_write(stage: &Stage) -> u128 {
+    let mut times: Vec<u128> = (0..200_u32)
+        .map(|turn| {
+            let begun = Instant::now();
+            stage.witness.set(stage.file, &turn.to_be_bytes(), None).unwrap();
+            begun.elapsed().as_micros()
+        })
+        .collect();
+    times.sort_unstable();
+    times[times.len() / 2]
+}
+
+fn flood(stage: &mut Stage) -> String {
+    let before = time_of_a_write(stage);
+    let is_over = AtomicBool::new(false);
+    let during = thread::scope(|scope| {
+        for _ in 0..2 {
+            let (mut connection, client, epoch) = Plain::begin(stage.place(), "mallory").unwrap();
+            let mut reader = connection.stream.try_clone().unwrap();
+            let is_over = &is_over;
+            scope.spawn(move || {
+                let mut blocks = Blocks::new(1 << 20);
+                while !is_over.load(Ordering::Relaxed) && blocks.next(&mut reader).is_ok_and(|block| block.is_some()) {}
+            });
+            scope.spawn(move || {
+                let mut number = 1;
+                while !is_over.load(Ordering::Relaxed) {
+                    number += 1;
+                    if connection.send(&message(1, &[client, epoch, number, 0, 0], b"")).is_err() {
+                        break;
+                    }
+                }
+                connection.stream.shutdown(std::net::Shutdown::Both).unwrap();
+            });
+        }
+        thread::sleep(Duration::from_millis(500));
+        let during = time_of_a_write(stage);
+        is_over.store(true, Ordering::Relaxed);
+        during
+    });
+    println!("a write took {before} us alone, {during} us beside a flood");
+    if during <= 3 * before { "slowed down".to_owned() } else { format!("{before} us alone, {during} us beside it") }
+}
+
+// Whole exchanges with some of their bytes changed, lost or doubled.
+fn mutated_blocks(stage: &mut Stage) -> String {
+    let mut random = StdRng::seed_from_u64(SEED);
+    let mut answers = 0;
+    for turn in 0..2000_u64 {
+        let mut bytes = Vec::new();
+        let client = turn % 50 + 1;
+        let blocks = [
+            new("mallory").write(),
+            start(client, "mallory"),
+            message(1, &[client, 1, turn + 2, 0, 0], b""),
+            call(client, 1, 1, &open_call("/ls/c/mutated", b"content")),
+        ];
+        blocks.iter().for_each(|block| write_block(&mut bytes, block).unwrap());
+        for _ in 0..random.gen_range(1..6) {
+            let at = random.gen_range(0..bytes.len());
+            match random.gen_range(0..4) {
+                0 => bytes[at] = random.r#gen(),
+                1 => bytes[at] ^= 1 << random.gen_range(0..8),
+                2 => _ = bytes.drain(at..(at + random.gen_range(1..8)).min(bytes.len())),
+                _ => bytes.insert(at, random.r#gen()),
+            }
+        }
+        let mut connection = Plain::connect(stage.place()).unwrap();
+        // (the server may have ended it in the middle)
+        let _ = connection.stream.write_all(&bytes);
+        let _ = connection.stream.shutdown(std::net::Shutdown::Write);
+        answers += u32::from(connection.next_block().is_some());
+    }
+    if answers > 100 { "refused or cut off".to_owned() } else { format!("only {answers} answers") }
+}
+
+fn too_many_connections(stage: &mut Stage) -> String {
+    let mut held = Vec::new();
+    for _ in 0..300 {
+        match Plain::greet(stage.place(), &new("crowd")).unwrap() {
+            (connection, Ok(_)) => held.push(connection),
+            (_, Err(reason)) => {
+                stage.check("too many connections");
+                return format!("{reason:?} behind {}", held.len());
+            }
+        }
+    }
+    "let in".to_owned()
+}
+
+fn too_many_nodes(stage: &mut Stage) -> String {
+    for number in 0..30 {
+        match stage.witness.create(&format!("/ls/c/n{number}"), b"") {
+            Ok(_) => {}
+            Err(Error::Limited(reason)) => {
+                (0..number).for_each(|number| {
+                    let opened = stage.witness.open(&format!("/ls/c/n{number}"), Mode::WRITE).unwrap();
+                    stage.witness.delete(opened).unwrap();
+                });
+                return reason;
+            }
+            Err(error) => return error.to_string(),
+        }
+    }
+    "let in".to_owned()
+}
+
+fn too_many_bytes(stage: &mut Stage) -> String {
+    let refused = (0..5).find_map(|number| stage.witness.create(&format!("/ls/c/b{number}"), &vec![0; 250_000]).err());
+    for number in 0..5 {
+        if let Ok(opened) = stage.witness.open(&format!("/ls/c/b{number}"), Mode::WRITE) {
+            stage.witness.delete(opened).unwrap();
+        }
+    }
+    refused.map_or_else(|| "let in".to_owned(), |error| error.to_string())
+}
+
+fn a_second_server(stage: &mut Stage) -> String {
+    let error = Start::new(&stage.store).start().unwrap_err().to_string();
+    if error.contains("another server holds") { "another server holds the store".to_owned() } else { error }
+}
+
+// A stopped master answers nothing.
+fn a_master_that_hangs(stage: &mut Stage) -> String {
+    let master = stage.server.master().unwrap();
+    nix::sys::signal::kill(nix::unistd::Pid::from_raw(master.cast_signed()), Signal::SIGSTOP).unwrap();
+    if stage.server.has_logged("it doesn't answer") { "replaced".to_owned() } else { "nothing".to_owned() }
+}
+
+fn requests_of_other_sites(stage: &mut Stage) -> String {
+    let place = stage.server.admin.as_deref().unwrap().strip_prefix("tcp:").unwrap();
+    match ureq::get(&format!("http://{place}/all")).set("Host", "evil.example").call() {
+        Err(ureq::Error::Status(status, _)) => status.to_string(),
+        other => format!("{other:?}"),
+    }
+}
+
+#[test]
+fn attacks_are_refused_and_the_cell_stands() {
+    let attacks: &[Attack] = &[
+        ("a certificate of another authority", "cut off", other_authority),
+        ("no certificate", "certificate required", no_certificate),
+        ("a certificate, and another's principal", "OtherPrincipal", own_certificate_of_another),
+        ("a certificate whose name is no principal", "BadPrincipal", name_outside_the_grammar),
+        ("a user, and another's principal", "OtherPrincipal", another_user),
+        ("another's number", "WrongToken", another_number),
+        ("a message that names another client", "cut off", another_client_in_a_message),
+        ("a Start that names another principal", "cut off", another_principal_in_a_start),
+        ("mutated blocks", "refused or cut off", mutated_blocks),
+        ("slow greetings", "cut off", slow_greetings),
+        ("half-open connections", "cut off", half_open_connections),
+        ("replies that aren't read", "cut off", replies_that_are_not_read),
+        ("floods of Beats", "slowed down", flood),
+        ("too many connections", "FullForPrincipal behind 250", too_many_connections),
+        ("too many nodes", "the limit nodes = 20 leaves no room for 1 more", too_many_nodes),
+        ("too many bytes", "the limit bytes_of_a_principal = 1000000 leaves no room for 250000 more", too_many_bytes),
+        ("a second server", "another server holds the store", a_second_server),
+        ("a page of another site", "403", requests_of_other_sites),
+        ("a forged handle of an earlier epoch", "refused 17", forged_handle),
+        ("a master that doesn't answer", "replaced", a_master_that_hangs),
+    ];
+    let mut stage = Stage::new("attacks");
+    for (what, wanted, attack) in attacks {
+        let refused = attack(&mut stage);
+        assert_eq!(refused, *wanted, "{what}; the log: {}", tail(&stage.server.logged()));
+        stage.check(what);
+        println!("attack: {what}: {refused}; behind it a session, its file and a new client stand");
+    }
+}
+
+fn tail(log: &str) -> &str {
+    log.get(log.len().saturating_sub(4000)..).unwrap_or(log)
+}
+
+// What forging comes to where the secret is known: so the attack above is one.
+#[test]
+fn a_store_with_a_known_secret_is_taken_with_a_warning() {
+    let folder = folder("known-secret");
+    let store = folder.join("store.db");
+    let start = Start::new(&store).settings(&format!("secret = \"{}\"\n", "0".repeat(64)));
+    let mut server = start.start().unwrap();
+    server.kill(Kill::InOrder).unwrap();
+    let server = start.start().unwrap();
+    assert!(server.has_logged("the store's secret is all zeros"));
+    assert_eq!(overwrite_by_forging(&server), "result 6");
+    fs::remove_dir_all(folder).unwrap();
+}
+
+/// What happens to a store, while its server runs or between two, and why the server doesn't serve it.
+type Loss = (&'static str, &'static str, fn(&Path));
+
+fn put_back(copy: &Path, store: &Path) {
+    for name in ["", "-wal"] {
+        let (from, to) = (format!("{}{name}", copy.display()), format!("{}{name}", store.display()));
+        // (a store that was closed has no log)
+        let _ = fs::remove_file(&to);
+        if Path::new(&from).exists() {
+            fs::copy(from, to).unwrap();
+        }
+    }
+}
+
+fn beside(store: &Path, what: &str) -> PathBuf {
+    PathBuf::from(format!("{}-{what}", store.display()))
+}
+
+#[test]
+fn a_store_that_is_not_the_same_stops_the_server() {
+    let losses: &[Loss] = &[
+        ("taken away", "went away", |store| fs::remove_file(store).unwrap()),
+        ("replaced", "was replaced by another file", |store| {
+            fs::copy(store, store.with_extension("new")).unwrap();
+            fs::rename(store.with_extension("new"), store).unwrap();
+        }),
+    ];
+    for (what, wanted, lose) in losses {
+        let folder = folder(&format!("store-{}", what.replace(' ', "-")));
+        let store = folder.join("store.db");
+        let mut server = Server::start(&store).unwrap();
+        let client = Client::connect(&Options::new(&server.address, "ann")).unwrap();
+        client.create("/ls/c/f", b"kept").unwrap();
+        lose(&store);
+        let left = fs::read(&store).ok();
+        assert!(!server.wait().unwrap().success(), "{what}");
+        assert!(server.has_logged(wanted), "{what}");
+        assert_eq!(fs::read(&store).ok(), left, "{what}: nothing is written");
+        println!("attack: a store that is {what}: the server stops, and nothing more is written");
+        drop(client);
+        fs::remove_dir_all(folder).unwrap();
+    }
+}
+
+#[test]
+fn a_store_that_does_not_go_with_its_numbers_is_refused() {
+    let losses: &[Loss] = &[
+        ("rolled back", "the store is an older copy", |store| put_back(&store.with_extension("copy"), store)),
+        ("gone, and its numbers are there", "but not its store", |store| fs::remove_file(store).unwrap()),
+        ("there, and its numbers are gone", "the store has no", |store| fs::remove_file(beside(store, "numbers")).unwrap()),
+        ("newer than its numbers", "they are an older copy", |store| {
+            fs::copy(store.with_extension("numbers"), beside(store, "numbers")).map(|_| ()).unwrap();
+        }),
+    ];
+    for (what, wanted, lose) in losses {
+        let folder = folder(&format!("numbers-{}", what.replace([' ', ','], "-")));
+        let store = folder.join("store.db");
+        for turn in 0..3_u8 {
+            let mut server = Server::start(&store).unwrap();
+            server.kill(Kill::InOrder).unwrap();
+            if turn == 0 {
+                fs::copy(&store, store.with_extension("copy")).unwrap();
+                fs::copy(beside(&store, "numbers"), store.with_extension("numbers")).unwrap();
+            }
+        }
+        lose(&store);
+        let files = || [fs::read(&store).ok(), fs::read(beside(&store, "numbers")).ok(), fs::read(beside(&store, "wal")).ok()];
+        let before = files();
+        let error = Server::start(&store).unwrap_err().to_string();
+        assert!(error.contains(wanted), "{what}: {error}");
+        assert!(files() == before, "{what}: nothing is written");
+        println!("attack: a store that is {what}: refused, and nothing is written");
+        fs::remove_dir_all(folder).unwrap();
+    }
+}
+
+// Reads a log up to a line that has this; gives what stands behind it.
+fn read_until<R: std::io::Read>(log: R, text: &str) -> std::io::BufReader<R> {
+    let mut log = std::io::BufReader::new(log);
+    let mut line = String::new();
+    while !line.contains(text) {
+        line.clear();
+        assert!(std::io::BufRead::read_line(&mut log, &mut line).unwrap() > 0, "the log ends before: {text}");
+    }
+    log
+}
+
+// A disk of its own, of 2 MB; a user may make one within its own namespaces.
+#[test]
+fn a_full_disk_refuses_until_it_has_room_again() {
+    let folder = folder("full-disk");
+    let disk = folder.join("disk");
+    fs::create_dir(&disk).unwrap();
+    let store = disk.join("store.db");
+    let command = Start::new(&store).command();
+    let mut inside = Command::new("unshare");
+    inside.args(["--map-root-user", "--mount", "sh", "-c", "mount -t tmpfs -o size=2m none \"$0\" && exec \"$@\""]);
+    inside.arg(&disk).arg(command.get_program()).args(command.get_args());
+    let mut child = inside.stdout(Stdio::piped()).stderr(Stdio::piped()).spawn().unwrap();
+    let mut line = String::new();
+    std::io::BufRead::read_line(&mut std::io::BufReader::new(child.stdout.take().unwrap()), &mut line).unwrap();
+    let address = line.trim_end().strip_prefix("listening ").unwrap_or_else(|| panic!("no server came up: {line}"));
+
+    let client = Client::connect(&Options::new(address, "ann")).unwrap();
+    let file = client.create("/ls/c/f", b"first").unwrap();
+    let filler = PathBuf::from(format!("/proc/{}/root{}/filler", child.id(), disk.display()));
+    let mut out = fs::File::create(&filler).unwrap();
+    let filled = (0..10_000).find(|_| out.write_all(&[0; 1024]).is_err());
+    assert!(filled.is_some());
+    drop(out);
+    let log = thread::scope(|scope| {
+        let large = vec![b'a'; 200_000];
+        let (client, begun) = (&client, Instant::now());
+        let written = scope.spawn(move || client.set(file, &large, None).map(|()| begun.elapsed()));
+        let refused = read_until(child.stderr.take().unwrap(), "the store refuses");
+        thread::sleep(Duration::from_secs(2));
+        assert!(!written.is_finished());
+        fs::remove_file(&filler).unwrap();
+        assert!(written.join().unwrap().unwrap() >= Duration::from_secs(2));
+        refused
+    });
+    assert_eq!(client.read(file).unwrap().stat.length, 200_000);
+    let mut log = read_until(log, "the store takes writes again");
+    println!("attack: a full disk: a write waits, and is done when there is room again; the same session stands");
+    drop(client);
+    nix::sys::signal::kill(nix::unistd::Pid::from_raw(child.id().cast_signed()), Signal::SIGTERM).unwrap();
+    let (mut rest, status) = (String::new(), child.wait().unwrap());
+    std::io::Read::read_to_string(&mut log, &mut rest).unwrap();
+    assert!(status.success(), "{status}: {rest}");
+    fs::remove_dir_all(folder).unwrap();
+}
+
+#[test]
+fn an_address_that_is_not_safe_wants_a_word() {
+    let folder = folder("insecure");
+    let store = folder.join("store.db");
+    let rows: &[(&[&str], Option<&str>)] = &[
+        (&["tcp:0.0.0.0:0"], Some("only with --insecure")),
+        (&["tls:0"], Some("wants --cert, --key and --client-ca")),
+        (&["tcp:0", "--admin", "tcp:0.0.0.0:0"], Some("only unix:PATH, or tcp: on loopback")),
+        (&["tcp:0.0.0.0:0", "--insecure"], None),
+    ];
+    for (words, wanted) in rows {
+        let started = Start::new(&store).with(words).start();
+        match wanted {
+            Some(wanted) => assert!(started.unwrap_err().to_string().contains(wanted), "{words:?}"),
+            None => assert!(started.unwrap().has_logged("acts for anybody, and nothing is encrypted"), "{words:?}"),
+        }
+    }
+    fs::remove_dir_all(folder).unwrap();
+}
+
+#[test]
+fn ten_thousand_connections_hold_in_little_memory() {
+    let (_, most) = getrlimit(Resource::RLIMIT_NOFILE).unwrap();
+    assert!(most > 10_200, "this wants 10,200 descriptors: ulimit -Hn says {most}");
+    setrlimit(Resource::RLIMIT_NOFILE, most, most).unwrap();
+    let folder = folder("many");
+    let store = folder.join("store.db");
+    let server = Start::new(&store).settings("[limits]\nconnections_of_a_principal = 10000\n").start().unwrap();
+    let mut held = Vec::new();
+    for number in 0..10_000 {
+        let (connection, welcome) = Plain::greet(server.place(), &new("ann")).unwrap();
+        assert!(welcome.is_ok(), "{number}: {welcome:?}");
+        held.push(connection);
+    }
+    let kilobytes = memory(&server);
+    println!("10,000 connections hold {} MB", kilobytes / 1000);
+    assert!(kilobytes < 200_000, "{kilobytes} kB");
+    assert_eq!(Plain::greet(server.place(), &new("bob")).unwrap().1, Err(TurnedAway::Full));
+    drop(held);
+    fs::remove_dir_all(folder).unwrap();
+}

@@ -1,0 +1,263 @@
+//! What an operator sees of a server, and does with it.
+
+use nix::sys::signal::Signal;
+use std::fs;
+use std::io::Write;
+use std::os::unix::fs::PermissionsExt;
+use std::os::unix::net::UnixDatagram;
+use std::path::Path;
+use std::process::{Command, Stdio};
+use std::thread;
+use std::time::{Duration, Instant};
+use tillermoss::{Admin, Client, Error, LockMode, Mode, Options, Refusal};
+use trials::{Kill, Server, Start, folder, master_program, program};
+
+fn begin(folder: &Path) -> Start {
+    Start::new(&folder.join("store.db")).with(&["tcp:0", "--admin", "tcp:0"])
+}
+
+// The status and the body of an answer.
+fn get(server: &Server, path: &str) -> (u16, String) {
+    let place = server.admin.as_deref().unwrap().strip_prefix("tcp:").unwrap();
+    match ureq::get(&format!("http://{place}{path}")).call() {
+        Ok(answer) | Err(ureq::Error::Status(_, answer)) => (answer.status(), answer.into_string().unwrap()),
+        Err(error) => panic!("{path}: {error}"),
+    }
+}
+
+fn connect(server: &Server, principal: &str) -> Client {
+    Client::connect(&Options::new(&server.address, principal)).unwrap()
+}
+
+// Waits until it is so, 20 s at most.
+fn wait_until(mut is_so: impl FnMut() -> bool) {
+    let begun = Instant::now();
+    while !is_so() {
+        assert!(begun.elapsed() < Duration::from_secs(20), "it isn't so");
+        thread::sleep(Duration::from_millis(20));
+    }
+}
+
+#[test]
+fn what_is_held_and_waited_for_is_shown() {
+    let folder = folder("shown");
+    let server = begin(&folder).start().unwrap();
+    let admin = Admin::new(server.admin.as_deref().unwrap()).unwrap();
+    let (ann, bob) = (connect(&server, "ann"), connect(&server, "bob"));
+    let (held, wanted) = (ann.create("/ls/c/l", b"").unwrap(), bob.open("/ls/c/l", Mode::READ.and(Mode::WRITE)).unwrap());
+    ann.acquire(held, LockMode::Exclusive).unwrap();
+    thread::scope(|scope| {
+        let waiting = scope.spawn(|| bob.acquire(wanted, LockMode::Exclusive));
+        wait_until(|| admin.locks().unwrap()[0].waiters == [bob.number()]);
+        let locks = admin.locks().unwrap();
+        assert_eq!((locks.len(), locks[0].name.as_str(), locks[0].holders.as_slice()), (1, "/ls/c/l", &[ann.number()][..]));
+        wait_until(|| get(&server, "/all").1.contains("\"act\":\"acquire\",\"name\":\"/ls/c/l\""));
+        ann.release(held).unwrap();
+        waiting.join().unwrap().unwrap();
+    });
+    assert_eq!(admin.locks().unwrap()[0].holders, [bob.number()]);
+    let sessions = admin.sessions().unwrap();
+    let found: Vec<_> = sessions.iter().map(|session| (session.client, session.principal.as_str(), session.is_connected)).collect();
+    assert_eq!(found, [(ann.number(), "ann", true), (bob.number(), "bob", true)]);
+    assert!(sessions.iter().all(|session| session.lease_left.is_some_and(|left| left > 0 && left <= 60_000)));
+    let status = admin.status().unwrap();
+    assert_eq!((status.is_ready, status.epoch, status.nodes, status.sessions, status.connections), (true, 1, 4, 2, 2));
+    assert_eq!(status.bytes, "ann\nbob\n".len() as u64);
+    assert!(status.warnings[0].contains("acts for anybody"));
+    fs::remove_dir_all(folder).unwrap();
+}
+
+// Until its lease has run out a client that is stopped lets a write wait for its cache.
+#[test]
+fn whom_a_write_waits_for_is_shown() {
+    let folder = folder("waits");
+    let server = begin(&folder).start().unwrap();
+    let writer = connect(&server, "ann");
+    let file = writer.create("/ls/c/f", b"first").unwrap();
+    let mut reader = Command::new(program("tillermoss"));
+    let mut reader =
+        reader.args(["--server", &server.address, "watch", "/ls/c/f"]).stderr(Stdio::piped()).stdout(Stdio::null()).spawn().unwrap();
+    let mut line = String::new();
+    std::io::BufRead::read_line(&mut std::io::BufReader::new(reader.stderr.take().unwrap()), &mut line).unwrap();
+    nix::sys::signal::kill(nix::unistd::Pid::from_raw(reader.id().cast_signed()), Signal::SIGSTOP).unwrap();
+    thread::scope(|scope| {
+        let written = scope.spawn(|| writer.set(file, b"second", None));
+        wait_until(|| get(&server, "/all").1.contains("\"act\":\"set\",\"name\":\"/ls/c/f\""));
+        let all = get(&server, "/all").1;
+        assert!(all.contains(&format!("\"waits_for\":[{}]", writer.number() + 1)), "{all}");
+        assert!(get(&server, "/metrics").1.contains("tillermoss_cell{of=\"changes_waiting\"} 1\n"));
+        written.join().unwrap().unwrap();
+    });
+    reader.kill().unwrap();
+    reader.wait().unwrap();
+    fs::remove_dir_all(folder).unwrap();
+}
+
+// The parser is that of Prometheus' own library for Python (the package python3-prometheus-client).
+const PARSER: &str = "
+import sys
+from prometheus_client.parser import text_string_to_metric_families
+for family in text_string_to_metric_families(sys.stdin.read()):
+    for sample in family.samples:
+        print(family.type, sample.name, *sorted(sample.labels.items()), sample.value)
+";
+
+#[test]
+fn metrics_are_read_by_a_parser_of_their_format() {
+    let folder = folder("metrics");
+    let server = begin(&folder).start().unwrap();
+    let client = connect(&server, "ann");
+    let file = client.create("/ls/c/f", b"abc").unwrap();
+    (0..3_u8).for_each(|turn| client.set(file, &[turn], None).unwrap());
+    client.read(file).unwrap();
+    assert!(matches!(client.open("/ls/c/none", Mode::READ), Err(Error::Refused(Refusal::NotFound))));
+    let (status, text) = get(&server, "/metrics");
+    assert_eq!(status, 200);
+    let mut parser = Command::new("/usr/bin/python3").args(["-c", PARSER]).stdin(Stdio::piped()).stdout(Stdio::piped()).spawn().unwrap();
+    parser.stdin.take().unwrap().write_all(text.as_bytes()).unwrap();
+    let output = parser.wait_with_output().unwrap();
+    assert!(output.status.success(), "this wants the package python3-prometheus-client");
+    let read = String::from_utf8(output.stdout).unwrap();
+    let wanted = [
+        "counter tillermoss_events_total ('event', 'applied') 4.0",
+        "counter tillermoss_events_total ('event', 'started') 1.0",
+        "counter tillermoss_refusals_total ('number', '6') 1.0",
+        "histogram tillermoss_commit_seconds_count 5.0",
+        "gauge tillermoss_cell ('of', 'sessions') 1.0",
+        "gauge tillermoss_cell ('of', 'rights') 2.0",
+        "gauge tillermoss_cell ('of', 'bytes') 9.0",
+        "gauge tillermoss_connections ('state', 'bound') 1.0",
+        "gauge tillermoss_ready 1.0",
+    ];
+    for line in wanted {
+        assert!(read.lines().any(|found| found == line), "{line} in\n{read}");
+    }
+    fs::remove_dir_all(folder).unwrap();
+}
+
+#[test]
+fn a_server_is_ready_once_its_master_has_recovered() {
+    let folder = folder("ready");
+    let mut server = begin(&folder).start().unwrap();
+    let client = connect(&server, "ann");
+    assert_eq!((get(&server, "/healthz").0, get(&server, "/readyz").0), (200, 200));
+    server.kill(Kill::Server).unwrap();
+    drop(client);
+    server = begin(&folder).start().unwrap();
+    assert_eq!((get(&server, "/healthz").0, get(&server, "/readyz").0), (200, 503));
+    assert_eq!(get(&server, "/nowhere").0, 404);
+    assert!(get(&server, "/").1.contains("<script src=\"/page.js\""));
+    fs::remove_dir_all(folder).unwrap();
+}
+
+#[test]
+fn a_copy_is_taken_of_a_running_server_and_restored() {
+    let folder = folder("copies");
+    let begin = || Start::new(&folder.join("store.db")).with(&["tcp:0", "--admin", &format!("unix:{}", folder.join("admin").display())]);
+    let mut server = begin().start().unwrap();
+    let admin = Admin::new(server.admin.as_deref().unwrap()).unwrap();
+    let client = connect(&server, "ann");
+    let file = client.create("/ls/c/f", b"copied").unwrap();
+    client.acquire(file, LockMode::Exclusive).unwrap();
+    let copy = folder.join("copy.db");
+    let length = admin.backup(&copy).unwrap();
+    assert_eq!((fs::metadata(&copy).unwrap().len(), fs::metadata(&copy).unwrap().permissions().mode() & 0o777), (length, 0o600));
+    assert!(admin.backup(&copy).is_err());
+    let check = |store: &Path| Command::new(master_program()).arg("check").arg(store).output().unwrap().stdout;
+    assert_eq!(String::from_utf8(check(&copy)).unwrap(), "sound epoch 1 nodes 4 sessions 1 locks 1\n");
+    client.set(file, b"later", None).unwrap();
+    drop(client);
+    server.kill(Kill::InOrder).unwrap();
+
+    let store = folder.join("store.db");
+    let restore = || Command::new(program("tillermossd")).arg("restore").arg(&copy).arg("--store").arg(&store).output().unwrap();
+    assert_eq!(restore().status.code(), Some(1));
+    fs::rename(&store, folder.join("aside.db")).unwrap();
+    let restored = restore();
+    assert!(restored.status.success(), "{restored:?}");
+    let found = String::from_utf8(check(&store)).unwrap();
+    assert_eq!(found, "sound epoch 2 nodes 4 sessions 0 locks 0\n");
+    server = begin().start().unwrap();
+    let client = connect(&server, "ann");
+    let view = client.read(client.open("/ls/c/f", Mode::READ).unwrap()).unwrap();
+    assert_eq!(view.content, b"copied");
+    assert!(view.stat.content_generation > 1 << 32, "no generation of the lost time comes again");
+    assert_eq!(admin.status().unwrap().epoch, 3);
+    fs::remove_dir_all(folder).unwrap();
+}
+
+#[test]
+fn what_a_server_makes_is_its_users_alone() {
+    let folder = folder("modes");
+    let server = begin(&folder).start().unwrap();
+    connect(&server, "ann").create("/ls/c/f", b"").unwrap();
+    for name in ["store.db", "store.db-wal", "store.db-numbers", "store.db-lock"] {
+        assert_eq!(fs::metadata(folder.join(name)).unwrap().permissions().mode() & 0o777, 0o600, "{name}");
+    }
+    fs::remove_dir_all(folder).unwrap();
+}
+
+#[test]
+fn a_copy_is_given_at_a_private_socket_alone() {
+    let folder = folder("public");
+    let server = begin(&folder).start().unwrap();
+    let admin = Admin::new(server.admin.as_deref().unwrap()).unwrap();
+    assert!(admin.status().unwrap().is_ready);
+    let error = admin.backup(&folder.join("copy.db")).unwrap_err().to_string();
+    assert!(error.contains("only at --admin unix:PATH"), "{error}");
+    assert!(!folder.join("copy.db").exists());
+    fs::remove_dir_all(folder).unwrap();
+}
+
+#[test]
+fn settings_are_read_again() {
+    let folder = folder("again");
+    let server = begin(&folder).settings("[limits]\nnodes = 4\n").start().unwrap();
+    let client = connect(&server, "ann");
+    client.create("/ls/c/f", b"").unwrap();
+    let error = client.create("/ls/c/g", b"").unwrap_err();
+    assert_eq!(error.to_string(), "the limit nodes = 4 leaves no room for 1 more");
+    let path = folder.join("store.db.toml");
+    fs::write(&path, "[limits]\nnodes = \n").unwrap();
+    server.signal(Signal::SIGHUP).unwrap();
+    assert!(server.has_logged("the settings stay as they were"));
+    assert!(matches!(client.create("/ls/c/g", b""), Err(Error::Limited(_))));
+    fs::write(&path, "[limits]\nnodes = 5\n").unwrap();
+    server.signal(Signal::SIGHUP).unwrap();
+    assert!(server.has_logged("the limits were read again"));
+    client.create("/ls/c/g", b"").unwrap();
+    assert!(matches!(client.create("/ls/c/h", b""), Err(Error::Limited(_))));
+    fs::remove_dir_all(folder).unwrap();
+}
+
+// By the words that a service manager gets.
+#[test]
+fn a_service_manager_is_told() {
+    let folder = folder("service");
+    let socket = UnixDatagram::bind(folder.join("notify")).unwrap();
+    socket.set_read_timeout(Some(Duration::from_secs(20))).unwrap();
+    let mut command = begin(&folder).command();
+    let mut child = command.env("NOTIFY_SOCKET", folder.join("notify")).stdout(Stdio::null()).stderr(Stdio::null()).spawn().unwrap();
+    let told = || {
+        let mut room = [0; 100];
+        let count = socket.recv(&mut room).unwrap();
+        String::from_utf8_lossy(&room[..count]).trim().to_owned()
+    };
+    assert_eq!([told(), told()], ["READY=1", "WATCHDOG=1"]);
+    nix::sys::signal::kill(nix::unistd::Pid::from_raw(child.id().cast_signed()), Signal::SIGTERM).unwrap();
+    assert_eq!(told(), "STOPPING=1");
+    assert!(child.wait().unwrap().success());
+    fs::remove_dir_all(folder).unwrap();
+}
+
+#[test]
+fn a_log_is_lines_of_json_where_that_is_asked_for() {
+    let folder = folder("json");
+    let mut server = begin(&folder).with(&["--log", "json"]).start().unwrap();
+    drop(connect(&server, "ann"));
+    server.kill(Kill::InOrder).unwrap();
+    let lines: Vec<serde_json::Value> = server.logged().lines().map(|line| serde_json::from_str(line).unwrap()).collect();
+    let up = lines.iter().find(|line| line["message"] == "a master is up").unwrap();
+    assert_eq!((up["level"].as_str(), up["epoch"].as_str()), (Some("INFO"), Some("1")));
+    fs::remove_dir_all(folder).unwrap();
+}
