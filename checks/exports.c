@@ -32,7 +32,7 @@ static void put_text(struct bytes *to, const char *text) {
 /* The version, the kind, and client 1, epoch 1 and this number. */
 static struct bytes head(int kind, uint64_t number) {
     struct bytes made = {{0}, 0};
-    put(&made, 1, 1);
+    put(&made, 2, 1);
     put(&made, (uint64_t)kind, 1);
     put(&made, 1, 8);
     put(&made, 1, 8);
@@ -151,12 +151,12 @@ static void refuses(struct cell_client *client) {
     put(&call, 0, 1);
     put(&call, 0, 1);
     expect("bytes behind a call", ask(client, 1010, call), CELL_CLIENT_EXTRA);
-    call.at[0] = 2;
+    call.at[0] = 1;
     expect("another version", ask(client, 1010, call), CELL_CLIENT_BAD_VERSION);
     call = head(3, 1);
     expect("another kind", ask(client, 1010, call), CELL_CLIENT_BAD_KIND);
     start = (struct bytes){{0}, 0};
-    put(&start, 0x0100, 2);
+    put(&start, 0x0200, 2);
     put(&start, 1, 8);
     put(&start, 1, 8);
     put_text(&start, "ann");

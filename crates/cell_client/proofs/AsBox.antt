@@ -6,8 +6,8 @@ use Rattle.std_alloc.proofs.BoxSteps.Form.{Bx}
 use Rattle.std_heap.specs.contracts.Global as Heap
 use Rattle.std_heap.specs.contracts.GlobalAllocator.TheImpl.{ghosts, dict}
 use Rattle.std_heap.proofs.Global.TheLaws as heap
-use Rattle.held_cell.specs.contracts.held.Held as Held
-use Rattle.held_cell.proofs.held.Held.TheLaws as held
+use Rattle.cell_client.specs.contracts.held.Held as Held
+use Rattle.cell_client.proofs.held.Held.TheLaws as held
 use Rattle.cell_client.specs.contracts.parts.Parts as Parts
 use Rattle.cell_client.specs.contracts.handles.Handle as Handle
 

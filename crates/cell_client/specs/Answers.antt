@@ -3,10 +3,10 @@ use Rattle.std.specs.Prelude.{◌≡◌, ◌⊎◌, ◌≤◌, ◌<◌, ℕ, Lis
 use Rattle.wire_core.specs.declared.faults.WireFault.{WireFault}
 use Rattle.wire_core.specs.declared.faults.WireFault.TheVariants as wire
 use Rattle.plain.specs.Results.{Gives}
-use Rattle.held_cell.specs.declared.statuses.Status.{Status}
-use Rattle.held_cell.specs.Statuses.{status_code, wire_code}
-use Rattle.held_cell.specs.States.{HeldState}
-use Rattle.held_cell.specs.Steps.{Makes}
+use Rattle.cell_client.specs.declared.statuses.Status.{Status}
+use Rattle.cell_client.specs.Statuses.{status_code, wire_code}
+use Rattle.cell_client.specs.States.{HeldState}
+use Rattle.cell_client.specs.Steps.{Makes}
 
 -- a client was opened, which is told by 0; or it is told what is wrong. Want of memory, 1, may stand in the place of either
 abbrev pub Opens : Result HeldState WireFault → ℕ → Type 0

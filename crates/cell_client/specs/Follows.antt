@@ -2,8 +2,8 @@
 use base.Fml.{Fml}
 use denote.Ref.{MutBor}
 use denote.Follow.{follows}
-use Rattle.held_cell.specs.States.{HeldState}
-use Rattle.held_cell.specs.contracts.held.Held as Held
+use Rattle.cell_client.specs.States.{HeldState}
+use Rattle.cell_client.specs.contracts.held.Held as Held
 use Rattle.cell_client.specs.declared.handles.Handle.{Handle}
 use Rattle.cell_client.specs.contracts.handles.Handle as H
 

@@ -4,7 +4,7 @@ ghost use Rattle.std.specs.Borrow.{sem};
 ghost use Rattle.cell_client.specs.Follows.{handle_follows};
 
 use crate::handles::Handle;
-use held_cell::Held;
+use crate::held::Held;
 
 impl Handle {
     // The client, to be changed in its place.

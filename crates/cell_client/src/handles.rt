@@ -3,11 +3,11 @@ ghost use Rattle.std.specs.Prelude.{◌≡◌};
 ghost use Rattle.std.specs.Borrow.{sem};
 ghost use Rattle.std.specs.Box.Ownership.{box_owns};
 ghost use Rattle.std.specs.contracts.impls.GlobalAllocator.TheImpl.{ghosts};
-ghost use Rattle.held_cell.specs.States.{HeldState};
-ghost use Rattle.held_cell.specs.contracts.held.Held.{the_row};
+ghost use Rattle.cell_client.specs.States.{HeldState};
+ghost use Rattle.cell_client.specs.contracts.held.Held.{the_row};
 
+use crate::held::Held;
 use crate::parts::Parts;
-use held_cell::Held;
 use std::alloc::Global;
 use std::marker::Model;
 
@@ -23,7 +23,7 @@ pub struct Handle {
 impl Model for Handle {
     ghost use Rattle.std.specs.Box.Ownership.{box_owns};
     ghost use Rattle.std.specs.contracts.impls.GlobalAllocator.TheImpl.{ghosts};
-    ghost use Rattle.held_cell.specs.contracts.held.Held.{the_row};
+    ghost use Rattle.cell_client.specs.contracts.held.Held.{the_row};
 
     ghost also_owns = { λ h. box_owns (ghosts.dealloc_token h.alloc) the_row h.at h.value };
 }

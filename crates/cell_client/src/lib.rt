@@ -1,25 +1,33 @@
 //! A client of a cell, for programs in other languages: what stands under `extern "C"` here stands in include/cell_client.h.
+//! It is asked and given by bytes, and what came of its last step is kept until the next one.
 #![tactic(auto)]
 
+mod asks;
 mod changes;
 mod handles;
+mod held;
+mod leases;
+mod opens;
 mod parts;
 mod rooms;
+mod shows;
+mod statuses;
 
 ghost use Rattle.std.specs.Prelude.{◌≡◌, ◌≢◌, Ok, Err};
 ghost use Rattle.std.specs.Option.{option_map};
-ghost use Rattle.held_cell.specs.Opens.{opened};
-ghost use Rattle.held_cell.specs.Steps.{beat_held, ask_held, ask_bytes, give_bytes};
-ghost use Rattle.held_cell.specs.Shows.{message_bytes, lines_bytes, last_content};
-ghost use Rattle.client_parts.specs.declared.asks.Ask.TheVariants as asks;
-ghost use Rattle.client_parts.specs.declared.asks.NodeCall.TheVariants as node_calls;
+ghost use Rattle.cell_client.specs.Opens.{opened};
+ghost use Rattle.cell_client.specs.Steps.{beat_held, ask_held, ask_bytes, give_bytes};
+ghost use Rattle.cell_client.specs.Shows.{message_bytes, lines_bytes, last_content};
+ghost use Rattle.client_core.specs.declared.parts.asks.Ask.TheVariants as asks;
+ghost use Rattle.client_core.specs.declared.parts.asks.NodeCall.TheVariants as node_calls;
 ghost use Rattle.cell_client.specs.Answers.{Opens, Answers, Fills, Shows};
-ghost use Rattle.held_cell.specs.Leases.{EndsAt};
+ghost use Rattle.cell_client.specs.Leases.{EndsAt};
 
 use handles::Handle;
-use held_cell::{Held, Status};
+pub use held::Held;
 use parts::Parts;
 use rooms::{fill, put};
+pub use statuses::Status;
 use std::alloc::Global;
 use wire_core::WireFault;
 

@@ -2,7 +2,7 @@
 ghost use Rattle.std.specs.Prelude.{◌≡◌};
 ghost use Rattle.cell_client.specs.Answers.{Fills, Writes};
 
-use held_cell::Status;
+use crate::statuses::Status;
 use plain::Bytes;
 use wire_core::WireFault;
 

@@ -5,3 +5,4 @@ pub mod Told
 mod Above
 pub mod AskedFor
 mod ToAsk
+pub mod EffectShapes

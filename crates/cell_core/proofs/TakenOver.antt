@@ -8,7 +8,7 @@ use Rattle.std.specs.Ordering.{ordering_reverse, nat_cmp}
 use Rattle.std.specs.Cmp.{nat_cmp_total}
 use Rattle.std.specs.BTreeMap.{insert_entry}
 use Rattle.rows_cell.specs.declared.tables.Session as stored
-use Rattle.messages_cell.specs.declared.outs.Reply.{Reply}
+use Rattle.tags_cell.specs.declared.messages.outs.Reply.{Reply}
 use Rattle.session_core.specs.declared.records.Session.{Session}
 use Rattle.session_core.specs.Session.{recovered_session}
 use Rattle.session_core.specs.Sessions.{SessionTable, with_new}

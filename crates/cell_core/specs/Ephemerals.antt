@@ -7,7 +7,7 @@ use Rattle.node_core.specs.Nodes.{get_node, with_parent}
 use Rattle.gate_core.specs.Gate.{push_answer}
 use Rattle.cell_parts.specs.declared.pending.Idle.{Idle}
 use Rattle.cell_parts.specs.declared.pending.Task.TheVariants as tasks
-use Rattle.cell_tables.specs.Ephemerals.{is_left, goes, idle_of}
+use Rattle.cell_parts.specs.Ephemerals.{is_left, goes, idle_of}
 use Rattle.cell_state.specs.State.{MasterState, tables_of}
 use Rattle.cell_core.specs.Step.{queued, asking_for}
 

@@ -15,9 +15,16 @@ pub use Rattle.cell_state.specs.Lookups
 pub use Rattle.cell_parts.specs.Locks
 pub use Rattle.cell_parts.specs.Calls
 pub use Rattle.cell_state.specs.Notices
-pub use Rattle.cell_update.specs.Updates
+pub use Rattle.cell_state.specs.Updates
+pub use Rattle.lock_core.specs.State as LockStates
+pub use Rattle.lock_core.specs.Turns
+pub use Rattle.lock_core.specs.Locks as LockTables
+pub use Rattle.cell_state.specs.Replies
 pub mod Step
 pub mod Names
 pub mod Asking
 pub mod Cases
 pub mod Ephemerals
+pub mod Effect
+pub mod Outcomes
+pub mod ChangeNotices

@@ -7,15 +7,15 @@ use Rattle.lease_core.specs.Lease.{moment_limit}
 use Rattle.rights_core.specs.Rights.{grant_answer, granted, clients_to_ask, asked_back, numbers_ending, ended}
 use Rattle.gate_core.specs.Gate.{with_change}
 use Rattle.tags_cell.specs.declared.handles.Handle.{Handle}
-use Rattle.messages_cell.specs.declared.calls.Open.{Open}
-use Rattle.messages_cell.specs.declared.calls.Create.{Create}
-use Rattle.messages_cell.specs.declared.calls.Call.{Call}
-use Rattle.messages_cell.specs.declared.requests.Start.{Start}
-use Rattle.messages_cell.specs.declared.beats.Beat.{Beat}
-use Rattle.messages_cell.specs.declared.requests.CallMessage.{CallMessage}
-use Rattle.messages_cell.specs.declared.requests.Request.{Request}
-use Rattle.messages_cell.specs.declared.outs.CallResult.{CallResult}
-use Rattle.messages_cell.specs.declared.outs.Reply.{Reply}
+use Rattle.tags_cell.specs.declared.messages.calls.Open.{Open}
+use Rattle.tags_cell.specs.declared.messages.calls.Create.{Create}
+use Rattle.tags_cell.specs.declared.messages.calls.Call.{Call}
+use Rattle.tags_cell.specs.declared.messages.requests.Start.{Start}
+use Rattle.tags_cell.specs.declared.messages.beats.Beat.{Beat}
+use Rattle.tags_cell.specs.declared.messages.requests.CallMessage.{CallMessage}
+use Rattle.tags_cell.specs.declared.messages.requests.Request.{Request}
+use Rattle.tags_cell.specs.declared.messages.outs.CallResult.{CallResult}
+use Rattle.tags_cell.specs.declared.messages.outs.Reply.{Reply}
 use Rattle.cell_parts.specs.declared.pending.Taken.{Taken}
 use Rattle.session_core.specs.declared.records.Kept.{Kept}
 use Rattle.session_core.specs.Session.{beat_fault, beaten, kept_answer, keeping}
@@ -33,14 +33,14 @@ use Rattle.cell_state.specs.Lookups.{session_of, kept_of, is_live, may_start, is
 use Rattle.cell_parts.specs.Calls.{create_fault, bytes_of}
 use Rattle.cell_parts.specs.Answered.{answered_by}
 use Rattle.cell_parts.specs.Notes.{open_note}
-use Rattle.cell_update.specs.Updates.{with_note}
+use Rattle.cell_state.specs.Updates.{with_note}
 use Rattle.node_core.specs.declared.refusals.Fault.TheVariants as faults
 use Rattle.node_core.specs.declared.lines.Line.TheVariants as lines
 use Rattle.gate_core.specs.Gate as of_gate
-use Rattle.messages_cell.specs.declared.calls.Call.TheVariants as calls
-use Rattle.messages_cell.specs.declared.requests.Request.TheVariants as requests
-use Rattle.messages_cell.specs.declared.outs.CallResult.TheVariants as results
-use Rattle.messages_cell.specs.declared.outs.Out.TheVariants as outs
+use Rattle.tags_cell.specs.declared.messages.calls.Call.TheVariants as calls
+use Rattle.tags_cell.specs.declared.messages.requests.Request.TheVariants as requests
+use Rattle.tags_cell.specs.declared.messages.outs.CallResult.TheVariants as results
+use Rattle.tags_cell.specs.declared.messages.outs.Out.TheVariants as outs
 use Rattle.cell_parts.specs.declared.pending.Task.TheVariants as tasks
 use Rattle.cell_parts.specs.declared.pending.Work.TheVariants as works
 

@@ -10,12 +10,11 @@ ghost use Rattle.cell_parts.specs.Calls.{bytes_of};
 use crate::asking::Touched;
 use cell_parts::{HandleKey, Note, OpenHandle, bytes_of, create_fault};
 use cell_state::Master;
-use messages_cell::{Call, CallMessage, CallResult, Open};
 use names_cell::Name;
 use node_core::Fault;
 use plain::Bytes;
 use std::alloc::AllocError;
-use tags_cell::{ClientNumber, Handle, MessageNumber};
+use tags_cell::{Call, CallMessage, CallResult, ClientNumber, Handle, MessageNumber, Open};
 
 /// What the tests of a new call give. It is made before anything changes.
 #[derive(Drop)]

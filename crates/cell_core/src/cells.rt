@@ -4,13 +4,11 @@ ghost use Rattle.lease_core.specs.Lease.{IsMoment, least_lease, longest_lease};
 ghost use Rattle.cell_state.specs.State.{master_of};
 ghost use Rattle.cell_state.specs.Lookups.{noted};
 ghost use Rattle.cell_state.specs.Notices.{with_tellings};
-ghost use Rattle.cell_update.specs.Updates.{BeginsNew, grown, undone, rest_of, with_rest};
+ghost use Rattle.cell_state.specs.Updates.{BeginsNew, grown, undone, rest_of, with_rest};
 
 use crate::stored::{locks_of, sessions_of};
-use cell_parts::{Nodes, Telling};
-use cell_state::Master;
-use cell_tables::Tables;
-use cell_update::{Former, Grown, Rest, Update, finish, grow, settle, undo};
+use cell_parts::{Nodes, Tables, Telling};
+use cell_state::{Former, Grown, Master, Rest, Update, finish, grow, settle, undo};
 use plain::Items;
 use rows_cell::Rows;
 use std::alloc::{AllocError, Global};

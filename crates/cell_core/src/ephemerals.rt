@@ -2,7 +2,7 @@
 ghost use Rattle.std.specs.Prelude.{◌≡◌, true, Some, find, IfOk, OnOk, OnErr};
 ghost use Rattle.std.specs.Option.{option_map};
 ghost use Rattle.gate_core.specs.Gate.{push_answer};
-ghost use Rattle.cell_tables.specs.Ephemerals.{idle_of};
+ghost use Rattle.cell_parts.specs.Ephemerals.{idle_of};
 ghost use Rattle.cell_core.specs.Step.{queued, names_of};
 ghost use Rattle.cell_core.specs.Ephemerals.{is_to_go, is_ok, may_tidy, next_idle, tidied, is_still_idle};
 

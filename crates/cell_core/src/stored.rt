@@ -5,11 +5,11 @@ ghost use Rattle.cell_parts.specs.StoredSessions.{sessions_of};
 ghost use Rattle.cell_parts.specs.Locks.{locks_of, generations_of, with_row, holder_of};
 
 use lock_core::{Claim, Hold, Locks, Owner};
-use messages_cell::Reply;
 use node_core::{LockMode, NUMBER_LIMIT};
 use rows_cell::{LockKey, LockRow, LockState, Rows};
 use session_core::Sessions;
 use std::alloc::{AllocError, Global};
+use tags_cell::Reply;
 
 // The locks as the rows tell them, with each delay anew from this moment.
 pub(crate) fn locks_of(alloc: Global, rows: &Rows, now: u64) -> Result<Locks, AllocError>

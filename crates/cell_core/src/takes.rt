@@ -1,7 +1,7 @@
 //! What a master does with a message.
 ghost use Rattle.std.specs.Prelude.{◌≡◌, ◌≢◌, true, false, Some, None, Ok, Err, IfOk, IfErr, OnOk, OnErr};
 ghost use Rattle.cell_core.specs.Step.{take_step, take_at, start_step, beat_step, call_step, kept_step, new_call, admit_step, telling, granting, is_cachable, with_right, waits, with_call, recorded, queued, replied, task_of};
-ghost use Rattle.cell_update.specs.Updates.{with_note};
+ghost use Rattle.cell_state.specs.Updates.{with_note};
 ghost use Rattle.cell_state.specs.Lookups.{kept_of, is_full, is_spent, nothing};
 ghost use Rattle.session_core.specs.Session.{kept_answer};
 ghost use Rattle.gate_core.specs.Gate.{push_answer};
@@ -12,18 +12,16 @@ use crate::answers::{Answers, Thrice};
 use crate::asking::{Touched, ask};
 use crate::cells::Cell;
 use cell_parts::{Asked, Note, Taken, Task, Work, answered_by};
-use cell_state::Master;
-use cell_update::settle_note;
+use cell_state::{Master, settle_note};
 use gate_core::Pending;
 use lease_core::MOMENT_LIMIT;
-use messages_cell::{Beat, CallMessage, CallResult, Request, Start};
 use names_cell::Name;
 use node_core::Fault;
 use plain::Items;
 use rights_core::Ending;
 use session_core::Kept;
 use std::alloc::AllocError;
-use tags_cell::{ClientNumber, MessageNumber};
+use tags_cell::{Beat, CallMessage, CallResult, ClientNumber, MessageNumber, Request, Start};
 
 impl Cell {
     /// One step by a request that came. A moment, in milliseconds, that is earlier than the last one counts as that;

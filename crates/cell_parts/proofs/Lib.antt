@@ -4,3 +4,8 @@ mod OpenOn
 mod OwnedHandles
 mod NamedNodes
 pub mod Appended
+mod Noted
+mod Kept
+mod Looked
+mod Moved
+mod FirstIdle

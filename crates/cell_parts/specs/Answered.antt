@@ -1,6 +1,6 @@
 -- What is kept of a call that has its reply.
 use Rattle.std.specs.Prelude.{Some}
-use Rattle.messages_cell.specs.declared.outs.Reply.{Reply}
+use Rattle.tags_cell.specs.declared.messages.outs.Reply.{Reply}
 use Rattle.session_core.specs.declared.records.Kept.{Kept}
 
 -- the reply to a call is what is recorded of it

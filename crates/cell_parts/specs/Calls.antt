@@ -7,15 +7,15 @@ use Rattle.node_core.specs.declared.stats.Stat.{Stat}
 use Rattle.node_core.specs.Limits.{content_limit, lock_delay_limit}
 use Rattle.tags_cell.specs.Modes.{has_right}
 use Rattle.tags_cell.specs.declared.handles.Handle.{Handle}
-use Rattle.messages_cell.specs.declared.calls.Open.{Open}
-use Rattle.messages_cell.specs.declared.calls.NewNode.{NewNode}
-use Rattle.messages_cell.specs.declared.calls.Call.{Call}
-use Rattle.messages_cell.specs.declared.outs.CallResult.{CallResult}
+use Rattle.tags_cell.specs.declared.messages.calls.Open.{Open}
+use Rattle.tags_cell.specs.declared.messages.calls.NewNode.{NewNode}
+use Rattle.tags_cell.specs.declared.messages.calls.Call.{Call}
+use Rattle.tags_cell.specs.declared.messages.outs.CallResult.{CallResult}
 use Rattle.node_core.specs.declared.refusals.Fault.TheVariants as faults
 use Rattle.node_core.specs.declared.kinds.Kind.TheVariants as kinds
-use Rattle.messages_cell.specs.declared.calls.NewNode.TheVariants as made
-use Rattle.messages_cell.specs.declared.calls.Call.TheVariants as calls
-use Rattle.messages_cell.specs.declared.outs.CallResult.TheVariants as results
+use Rattle.tags_cell.specs.declared.messages.calls.NewNode.TheVariants as made
+use Rattle.tags_cell.specs.declared.messages.calls.Call.TheVariants as calls
+use Rattle.tags_cell.specs.declared.messages.outs.CallResult.TheVariants as results
 
 -- a lock-delay above its limit
 abbrev pub is_too_long : ℕ → Bool

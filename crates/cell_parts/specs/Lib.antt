@@ -6,6 +6,7 @@ pub use Rattle.session_core.specs.Sessions
 pub use Rattle.lease_core.specs.Lease
 pub use Rattle.lock_core.specs.Locks as LockTables
 pub use Rattle.tags_cell.specs.Handles as HandleBytes
+pub use Rattle.plain.specs.Tables
 pub mod Handles
 pub mod Keys
 pub mod Claims
@@ -17,3 +18,6 @@ pub mod Calls
 pub mod Events
 pub mod Locks
 pub mod StoredSessions
+pub mod State
+pub mod Ephemerals
+pub mod Candidates

@@ -4,7 +4,7 @@ use Rattle.rows_cell.specs.declared.tables.Rows.{Rows}
 use Rattle.session_core.specs.declared.records.Session.{Session}
 use Rattle.session_core.specs.Session.{recovered_session}
 use Rattle.session_core.specs.Sessions.{SessionTable}
-use Rattle.messages_cell.specs.declared.outs.Reply.{Reply}
+use Rattle.tags_cell.specs.declared.messages.outs.Reply.{Reply}
 use Rattle.rows_cell.specs.declared.tables.Session as stored
 
 -- a session of the rows lives for the recovery timeout at least

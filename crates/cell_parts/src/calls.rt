@@ -3,10 +3,9 @@ ghost use Rattle.std.specs.Prelude.{◌≡◌, false, Some, None};
 ghost use Rattle.std.specs.Option.{SomeIff};
 ghost use Rattle.cell_parts.specs.Calls.{bytes_of, needing, write_fault, node_fault, create_fault, delay_fault, content_fault, is_too_long};
 
-use messages_cell::{Call, CallResult, NewNode, Open};
 use node_core::{CONTENT_LIMIT, Fault, Kind, Right};
 use plain::Bytes;
-use tags_cell::{Handle, LockDelay};
+use tags_cell::{Call, CallResult, Handle, LockDelay, NewNode, Open};
 
 /// The bytes of the handle that a call on a node shows; none for an Open and a CheckSequencer.
 pub fn bytes_of(call: &Call) -> &[u8]

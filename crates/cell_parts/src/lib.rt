@@ -1,14 +1,18 @@
-//! What a master in memory is made of: its handles, its nodes, the calls and notices by themselves, and
-//! what waits.
+//! The tables of a master in memory: its nodes, handles, sessions, rights and what waits, each by itself and all as one; and
+//! which ephemeral nodes are to go.
 #![tactic(auto)]
 
 mod calls;
+mod candidates;
+mod ephemerals;
 mod handles;
 mod nodes;
 mod notices;
 mod open_handles;
 mod pending;
 mod rows;
+mod tables;
+mod walks;
 
 pub use calls::{bytes_of, create_fault, delay_of, denied, denied_without, node_fault, set_answer};
 pub use handles::{HandleKey, HandleState, Note, OpenHandle, claim_of, owner_of};
@@ -17,3 +21,4 @@ pub use notices::{Notice, Telling, event_of, instance_of};
 pub use open_handles::Handles;
 pub use pending::{Asked, Idle, Taken, Task, Work, answered_by};
 pub use rows::{lock_rows, row_edits};
+pub use tables::Tables;

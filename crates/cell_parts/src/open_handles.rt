@@ -11,12 +11,11 @@ ghost use Rattle.cell_parts.specs.OpenHandles.{place_of, with_place, state_at, A
 
 use crate::handles::{HandleKey, HandleState};
 use lock_core::{Hold, Lock, Owner};
-use messages_cell::Reply;
 use plain::Table;
 use session_core::Sessions;
 use std::alloc::{AllocError, Global};
 use std::marker::Model;
-use tags_cell::Ordinal;
+use tags_cell::{Ordinal, Reply};
 
 /// Where a handle stands: its node's instance first, so that all handles on a node stand next to each other.
 #[derive(Clone, Copy, PartialEq, Eq, PartialOrd, Ord)]

@@ -2,13 +2,12 @@
 ghost use Rattle.std.specs.Prelude.{◌≡◌};
 ghost use Rattle.cell_parts.specs.Answered.{answered_by};
 
-use messages_cell::{Call, Out, Reply};
 use names_cell::{Name, Principal};
 use node_core::Line;
 use plain::{Bytes, Items, Same};
 use session_core::Kept;
 use std::alloc::AllocError;
-use tags_cell::{ClientNumber, MessageNumber};
+use tags_cell::{Call, ClientNumber, MessageNumber, Out, Reply};
 
 /// What a change that waits will do.
 #[derive(Drop)]

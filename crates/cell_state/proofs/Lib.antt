@@ -1,2 +1,4 @@
 pub mod MissingRights
 mod ToldHandles
+mod Appended
+mod LocksPut

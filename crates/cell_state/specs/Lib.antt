@@ -10,8 +10,15 @@ pub use Rattle.cell_parts.specs.Keys
 pub use Rattle.cell_parts.specs.OpenHandles
 pub use Rattle.cell_parts.specs.Calls
 pub use Rattle.cell_parts.specs.Events
+pub use Rattle.plain.specs.Tables
+pub use Rattle.rows_cell.specs.LockRows
+pub use Rattle.lock_core.specs.Locks as LockTables
+pub use Rattle.cell_parts.specs.Locks
 pub mod State
 pub mod NameSpace
 pub mod Lookups
 pub mod Notices
 pub mod Concerned
+pub mod Updates
+pub mod Replies
+pub mod Lapses

@@ -23,11 +23,11 @@ use Rattle.tags_cell.specs.Handles.{is_ordinal, handle_bytes, read_handle}
 use Rattle.tags_cell.specs.Sequencers.{sequencer_bytes, read_sequencer}
 use Rattle.tags_cell.specs.declared.sequencers.Sequencer.{Sequencer}
 use Rattle.tags_cell.specs.declared.handles.Handle.{Handle}
-use Rattle.messages_cell.specs.declared.calls.Open.{Open}
-use Rattle.messages_cell.specs.declared.calls.Call.{Call}
-use Rattle.messages_cell.specs.declared.beats.Beat.{Beat}
-use Rattle.messages_cell.specs.declared.outs.CallResult.{CallResult}
-use Rattle.messages_cell.specs.declared.outs.Reply.{Reply}
+use Rattle.tags_cell.specs.declared.messages.calls.Open.{Open}
+use Rattle.tags_cell.specs.declared.messages.calls.Call.{Call}
+use Rattle.tags_cell.specs.declared.messages.beats.Beat.{Beat}
+use Rattle.tags_cell.specs.declared.messages.outs.CallResult.{CallResult}
+use Rattle.tags_cell.specs.declared.messages.outs.Reply.{Reply}
 use Rattle.cell_parts.specs.declared.pending.Taken.{Taken}
 use Rattle.session_core.specs.declared.records.Kept.{Kept}
 use Rattle.session_core.specs.declared.records.Session.{Session}
@@ -39,7 +39,7 @@ use Rattle.cell_parts.specs.declared.handles.HandleKey.{HandleKey}
 use Rattle.cell_parts.specs.declared.handles.Note.{Note}
 use Rattle.cell_parts.specs.Keys.{handle_order, key_of}
 use Rattle.cell_parts.specs.Claims.{owner_of}
-use Rattle.cell_tables.specs.Ephemerals.{is_held_open, must_stay}
+use Rattle.cell_parts.specs.Ephemerals.{is_held_open, must_stay}
 use Rattle.cell_state.specs.State.{MasterState, tables_of}
 use Rattle.cell_state.specs.NameSpace.{NameSpace, Caller}
 use Rattle.cell_parts.specs.Notes.{open_note}
@@ -50,9 +50,9 @@ use Rattle.node_core.specs.declared.kinds.Kind.TheVariants as kinds
 use Rattle.node_core.specs.declared.kinds.Right.TheVariants as rights
 use Rattle.rights_core.specs.declared.endings.Ending.TheVariants as endings
 use Rattle.rights_core.specs.declared.grants.Grant.TheVariants as grants
-use Rattle.messages_cell.specs.declared.calls.Call.TheVariants as calls
-use Rattle.messages_cell.specs.declared.outs.CallResult.TheVariants as results
-use Rattle.messages_cell.specs.declared.outs.Out.TheVariants as outs
+use Rattle.tags_cell.specs.declared.messages.calls.Call.TheVariants as calls
+use Rattle.tags_cell.specs.declared.messages.outs.CallResult.TheVariants as results
+use Rattle.tags_cell.specs.declared.messages.outs.Out.TheVariants as outs
 use Rattle.session_core.specs.Session as of_session
 use Rattle.session_core.specs.Sessions as of_sessions
 use Rattle.cell_parts.specs.declared.handles.HandleState.TheVariants as states

@@ -8,13 +8,13 @@ use Rattle.rights_core.specs.declared.cache_rights.CacheRight.{CacheRight}
 use Rattle.gate_core.specs.declared.pending.Waiting.{Waiting}
 use Rattle.gate_core.specs.Gate.{GateState, change_at, ready}
 use Rattle.session_core.specs.Sessions.{SessionTable, all_heard}
-use Rattle.messages_cell.specs.declared.outs.Reply.{Reply}
+use Rattle.tags_cell.specs.declared.messages.outs.Reply.{Reply}
 use Rattle.lock_core.specs.Locks.{LockTable}
 use Rattle.cell_parts.specs.declared.pending.Task.{Task}
 use Rattle.cell_parts.specs.declared.handles.HandleKey.{HandleKey}
 use Rattle.cell_parts.specs.declared.handles.HandleState.{HandleState}
 use Rattle.cell_parts.specs.Locks.{locks_of}
-use Rattle.cell_tables.specs.State.{TableState}
+use Rattle.cell_parts.specs.State.{TableState}
 use Rattle.cell_parts.specs.StoredSessions.{sessions_of}
 
 -- name: the cell's. secret: what check digits are made over. nodes: the map. locks: by instance. sessions: also those

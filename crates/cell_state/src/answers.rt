@@ -7,11 +7,10 @@ ghost use Rattle.cell_parts.specs.Calls.{needing};
 
 use crate::masters::Master;
 use cell_parts::{denied, denied_without, set_answer};
-use messages_cell::{Call, CallResult};
 use node_core::{Fault, Kind, Node, Right, Stat};
 use plain::Bytes;
 use std::alloc::AllocError;
-use tags_cell::Handle;
+use tags_cell::{Call, CallResult, Handle};
 
 impl Master {
     /// What is answered at once, or None where the call waits for its turn.

@@ -1,13 +1,27 @@
-//! The parts of a master in memory as one record, and what is looked up in it.
+//! The parts of a master in memory as one record: what is looked up in it, what a step changes in it, and what of that is
+//! committed, printed and sent.
 #![tactic(auto)]
 
 mod answers;
+mod edits;
+mod lapses;
 mod locks;
 mod masters;
 mod opens;
+mod replies;
 mod rights;
 mod sends;
 mod shown;
 mod tellings;
+mod updates;
 
+pub use edits::edits_of;
+pub use lapses::{expiry_lines, lapses_puts, lapses_replies};
 pub use masters::Master;
+pub use replies::{
+    Told, line_if, locked_line, locked_lines, puts_of, replies_to, told_by, turn_replies,
+};
+pub use updates::{
+    Change, Former, Grown, KeptPut, LockPut, MapRest, Rest, SessionUpdate, Update, finish, grow,
+    settle, settle_note, undo,
+};

@@ -7,12 +7,11 @@ ghost use Rattle.cell_parts.specs.Calls.{needing};
 
 use crate::masters::Master;
 use cell_parts::owner_of;
-use messages_cell::CallResult;
 use names_cell::Name;
 use node_core::{Fault, Right};
 use plain::Bytes;
 use std::alloc::AllocError;
-use tags_cell::{Handle, Sequencer, SequencerFault};
+use tags_cell::{CallResult, Handle, Sequencer, SequencerFault};
 
 impl Master {
     /// Why a call that carries these bytes of a sequencer isn't done. Without any it stands under none.

@@ -2,11 +2,9 @@
 ghost use Rattle.std.specs.Prelude.{◌≡◌};
 ghost use Rattle.lease_core.specs.Lease.{IsMoment};
 
-use cell_parts::{Handles, Task};
-use cell_tables::Tables;
+use cell_parts::{Handles, Tables, Task};
 use gate_core::Gate;
 use lock_core::Locks;
-use messages_cell::Reply;
 use names_cell::Component;
 use node_core::Map;
 use plain::Secret;
@@ -14,6 +12,7 @@ use rights_core::Rights;
 use session_core::Sessions;
 use std::alloc::Global;
 use std::marker::Model;
+use tags_cell::Reply;
 
 /// A master in memory: what it read from the rows when it came up and has committed since, the changes that wait, its
 /// sessions with the last call of each client, the handles that it knows, and the rights to cache names that it granted.

@@ -5,11 +5,10 @@ ghost use Rattle.cell_state.specs.Lookups.{is_of_cell, new_handle, open_present,
 
 use crate::masters::Master;
 use cell_parts::{Note, OpenHandle, delay_of};
-use messages_cell::{CallResult, NewHandle, Open};
 use names_cell::Name;
 use node_core::{Fault, Node};
 use std::alloc::AllocError;
-use tags_cell::{ClientNumber, Handle, MessageNumber, Ordinal};
+use tags_cell::{CallResult, ClientNumber, Handle, MessageNumber, NewHandle, Open, Ordinal};
 
 impl Master {
     /// Whether the name is one of the cell.

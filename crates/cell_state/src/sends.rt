@@ -6,14 +6,13 @@ ghost use Rattle.cell_state.specs.Lookups.{refusal, turned_away, reply_of, stamp
 use crate::masters::Master;
 use cell_parts::Taken;
 use gate_core::PENDING_LIMIT;
-use messages_cell::{Beat, CallResult, Out, Refused, Reply};
 use names_cell::{Name, Principal};
 use node_core::{Fault, Line, NUMBER_LIMIT};
 use plain::Items;
 use rights_core::{Ending, Grant};
 use session_core::Kept;
 use std::alloc::AllocError;
-use tags_cell::{ClientNumber, MessageNumber};
+use tags_cell::{Beat, CallResult, ClientNumber, MessageNumber, Out, Refused, Reply};
 
 impl Master {
     /// What is sent and printed, and not recorded.

@@ -6,7 +6,7 @@ use crate::exits::unwritten_status;
 use anyhow::{Context, Result, bail};
 use names_cell::Component;
 use rows_cell::{Counts, StoreFault};
-use rows_file::{inspect_file, verdict};
+use rows_sql::{inspect_file, verdict};
 use std::{fs, io};
 
 /// Tests the store at a path by the name of a cell, prints what is found, and answers the exit status: 0 where it is sound,

@@ -100,7 +100,7 @@ Exit status:
 /// The frames by which a program hosts a master, and a first exchange.
 pub(crate) const FRAMES: &str = "\
 Frames on standard input, and what is told of each on standard output, with nothing between them. A frame is the number of
-its bytes in four, big-endian, and then 01, a byte for its kind, and its fields. Moments are the caller's, eight bytes in
+its bytes in four, big-endian, and then 02, a byte for its kind, and its fields. Moments are the caller's, eight bytes in
 milliseconds. On standard input, 1,048,576 bytes at most:
   00 MOMENT         a master comes up
   01 MOMENT MESSAGE a message of a client comes to it, all its bytes
@@ -116,13 +116,13 @@ On standard output, to each frame in its turn:
 All that is told is committed before, and written before more is read. docs/FORMATS.md has the bytes of messages.
 
 A first exchange: a master comes up at moment 1000, and client 1 begins a session for ann.
-  to    0000000a0100 00000000000003e8
-  from  0000000a0100 00000004 75702031                                          up 1
-        00000003010300
-  to    000000230101 00000000000003e8 0100 0000000000000001 0000000000000001 00000003 616e6e
-  from  0000000f0100 00000009 737461727465642031                                started 1
-        0000002c0101 0000000000000001 0100 0000000000000001 0000000000000001 0000000000000001 0000000000002ee0
-        0000000b010301 00000000000032c8                                       next at 13,000
+  to    0000000a0200 00000000000003e8
+  from  0000000a0200 00000004 75702031                                          up 1
+        00000003020300
+  to    000000230201 00000000000003e8 0200 0000000000000001 0000000000000001 00000003 616e6e
+  from  0000000f0200 00000009 737461727465642031                                started 1
+        0000002c0201 0000000000000001 0200 0000000000000001 0000000000000001 0000000000000001 0000000000002ee0
+        0000000b020301 00000000000032c8                                       next at 13,000
 
 Exit status:
   0                 the end of the input was reached

@@ -14,30 +14,30 @@ use Rattle.node_core.specs.declared.answers.Answer.{Answer}
 use Rattle.node_core.specs.declared.answers.Answer.TheVariants as answers
 use Rattle.node_core.specs.declared.lines.Line.TheVariants as lines
 use Rattle.node_core.specs.declared.views.View.{View}
-use Rattle.messages_cell.specs.declared.calls.Call.{Call}
-use Rattle.messages_cell.specs.declared.calls.Call.TheVariants as calls
-use Rattle.messages_cell.specs.declared.calls.Open.{Open}
-use Rattle.messages_cell.specs.declared.outs.NewHandle.{NewHandle}
-use Rattle.client_parts.specs.declared.asks.Ask.{Ask}
-use Rattle.client_parts.specs.declared.asks.Ask.TheVariants as asks
-use Rattle.client_parts.specs.declared.asks.NodeCall.{NodeCall}
-use Rattle.client_parts.specs.declared.asks.Asked.{Asked}
-use Rattle.client_parts.specs.declared.asks.Outcome.TheVariants as outcomes
-use Rattle.client_parts.specs.declared.handles.ClientHandle.{ClientHandle}
+use Rattle.tags_cell.specs.declared.messages.calls.Call.{Call}
+use Rattle.tags_cell.specs.declared.messages.calls.Call.TheVariants as calls
+use Rattle.tags_cell.specs.declared.messages.calls.Open.{Open}
+use Rattle.tags_cell.specs.declared.messages.outs.NewHandle.{NewHandle}
+use Rattle.client_core.specs.declared.parts.asks.Ask.{Ask}
+use Rattle.client_core.specs.declared.parts.asks.Ask.TheVariants as asks
+use Rattle.client_core.specs.declared.parts.asks.NodeCall.{NodeCall}
+use Rattle.client_core.specs.declared.parts.asks.Asked.{Asked}
+use Rattle.client_core.specs.declared.parts.asks.Outcome.TheVariants as outcomes
+use Rattle.client_core.specs.declared.parts.handles.ClientHandle.{ClientHandle}
 use Rattle.client_core.specs.declared.plans.Plan.{Plan}
 use Rattle.client_core.specs.declared.plans.Plan.TheVariants as plans
-use Rattle.client_parts.specs.declared.sessions.Session.{Session}
-use Rattle.client_parts.specs.declared.sessions.Session.TheVariants as sessions
-use Rattle.client_parts.specs.declared.steps.Beaten.{Beaten}
-use Rattle.client_parts.specs.declared.targets.Target.{Target}
-use Rattle.client_parts.specs.declared.targets.Target.TheVariants as targets
-use Rattle.client_parts.specs.declared.targets.Outstanding.{Outstanding}
+use Rattle.client_core.specs.declared.parts.sessions.Session.{Session}
+use Rattle.client_core.specs.declared.parts.sessions.Session.TheVariants as sessions
+use Rattle.client_core.specs.declared.parts.steps.Beaten.{Beaten}
+use Rattle.client_core.specs.declared.parts.targets.Target.{Target}
+use Rattle.client_core.specs.declared.parts.targets.Target.TheVariants as targets
+use Rattle.client_core.specs.declared.parts.targets.Outstanding.{Outstanding}
 use Rattle.client_core.specs.State.{ClientState, standing_then, session_behind, session_in, session_then, note_in, note_lines_in, note_lines}
-use Rattle.client_parts.specs.Handles.{handle_of, usable_handle}
+use Rattle.client_core.specs.Handles.{handle_of, usable_handle}
 use Rattle.client_core.specs.Serves.{serve_answer, cached_served, share, entry_served}
-use Rattle.client_parts.specs.Opens.{cached_answer, is_plain, only_reads, kept_handle}
+use Rattle.client_core.specs.Opens.{cached_answer, is_plain, only_reads, kept_handle}
 use Rattle.client_core.specs.Asks.{fault_then, send_plan, served_or, close_plan, poison_plan, node_plan, sequencer_plan, plan_of, asked_for, message_of, with_call, with_shared, ask_by, ask_in, ask_at, ask_step}
-use Rattle.client_parts.specs.Calls.{call_on}
+use Rattle.client_core.specs.Calls.{call_on}
 use Rattle.client_core.specs.Beats.{start_message, beat_message, with_beat, beaten, sends, beat_by, beat_at, beat_step}
 use Rattle.client_core.specs.Cases.{noted_moment, IsSafe, IsUsable, IsShared, AskCase, asked_in, BeatCase, beaten_in}
 use Rattle.client_core.specs.Cases.AskCase.{AskedTooLate, Unsafe, Refused, ReadServed, AbsenceServed, Shared, OutOfHandles, Released, OutOfCalls, Sent, Poisoned}

@@ -7,10 +7,10 @@ use Rattle.node_core.specs.declared.refusals.Fault.TheVariants as faults
 use Rattle.node_core.specs.declared.answers.Answer.{Answer}
 use Rattle.node_core.specs.declared.answers.Answer.TheVariants as answers
 use Rattle.node_core.specs.declared.views.View.{View}
-use Rattle.client_parts.specs.declared.asks.NodeCall.{NodeCall}
-use Rattle.client_parts.specs.declared.asks.NodeCall.TheVariants as node_calls
-use Rattle.client_parts.specs.declared.handles.ClientHandle.{ClientHandle}
-use Rattle.client_parts.specs.Opens.{names_in, cached_answer}
+use Rattle.client_core.specs.declared.parts.asks.NodeCall.{NodeCall}
+use Rattle.client_core.specs.declared.parts.asks.NodeCall.TheVariants as node_calls
+use Rattle.client_core.specs.declared.parts.handles.ClientHandle.{ClientHandle}
+use Rattle.client_core.specs.Opens.{names_in, cached_answer}
 
 module _ (P : Answer → Type 0) (viewed : (view : View) → P (answers.Viewed view)) (listed : (names : List (List ℕ)) → P (answers.Names names)) (stale : P (answers.Refused faults.StaleInstance)) where
   abbrev Each : Option Answer → Type 0

@@ -9,28 +9,28 @@ use Rattle.cache_core.specs.declared.standings.Standing.TheVariants as standings
 use Rattle.node_core.specs.declared.refusals.Fault.{Fault}
 use Rattle.node_core.specs.declared.refusals.Fault.TheVariants as faults
 use Rattle.node_core.specs.declared.lines.Line.TheVariants as lines
-use Rattle.messages_cell.specs.declared.outs.Out.{Out}
-use Rattle.messages_cell.specs.declared.outs.Out.TheVariants as outs
-use Rattle.messages_cell.specs.declared.outs.Started.{Started as StartedMessage}
-use Rattle.messages_cell.specs.declared.beats.Alive.{Alive as AliveMessage}
-use Rattle.messages_cell.specs.declared.outs.Reply.{Reply}
-use Rattle.messages_cell.specs.declared.outs.Refused.{Refused as RefusedMessage}
-use Rattle.messages_cell.specs.Messages.{request_number, out_client}
-use Rattle.client_parts.specs.declared.sessions.Session.{Session}
-use Rattle.client_parts.specs.declared.sessions.Session.TheVariants as sessions
-use Rattle.client_parts.specs.declared.steps.Given.{Given}
-use Rattle.client_parts.specs.declared.targets.Target.{Target}
-use Rattle.client_parts.specs.declared.targets.Target.TheVariants as targets
-use Rattle.client_parts.specs.declared.targets.Outstanding.{Outstanding}
+use Rattle.tags_cell.specs.declared.messages.outs.Out.{Out}
+use Rattle.tags_cell.specs.declared.messages.outs.Out.TheVariants as outs
+use Rattle.tags_cell.specs.declared.messages.outs.Started.{Started as StartedMessage}
+use Rattle.tags_cell.specs.declared.messages.beats.Alive.{Alive as AliveMessage}
+use Rattle.tags_cell.specs.declared.messages.outs.Reply.{Reply}
+use Rattle.tags_cell.specs.declared.messages.outs.Refused.{Refused as RefusedMessage}
+use Rattle.tags_cell.specs.Messages.{request_number, out_client}
+use Rattle.client_core.specs.declared.parts.sessions.Session.{Session}
+use Rattle.client_core.specs.declared.parts.sessions.Session.TheVariants as sessions
+use Rattle.client_core.specs.declared.parts.steps.Given.{Given}
+use Rattle.client_core.specs.declared.parts.targets.Target.{Target}
+use Rattle.client_core.specs.declared.parts.targets.Target.TheVariants as targets
+use Rattle.client_core.specs.declared.parts.targets.Outstanding.{Outstanding}
 use Rattle.client_core.specs.State.{ClientState, standing_then, session_then, note_in, note, note_live}
-use Rattle.client_parts.specs.Opens.{Lesson}
+use Rattle.client_core.specs.Opens.{Lesson}
 use Rattle.client_core.specs.Lessons.{is_safe, is_fresh, may_install, taught, lesson}
-use Rattle.client_parts.specs.Targets.{unknown_lines}
-use Rattle.client_parts.specs.Handles.{has_number}
+use Rattle.client_core.specs.Targets.{unknown_lines}
+use Rattle.client_core.specs.Handles.{has_number}
 use Rattle.client_core.specs.Gives.{is_live, is_unstarted, is_span, told, passed_over, rejected, offered, begun, with_processed, takes_offer, bettered, with_lease, safe_lines, kept_alive, is_numbered, target_for, awaited, answer_of, ended_plainly, ended, finish_step, reply_for, lost, lose_step, later_epoch, learned, learn_step, taken, taken_own, give_at, give_step}
-use Rattle.client_parts.specs.Invalidations.{is_in_order}
-use Rattle.client_parts.specs.Events.{are_events_in_order, event_lines}
-use Rattle.client_parts.specs.Sessions.{session_without, session_after}
+use Rattle.client_core.specs.Invalidations.{is_in_order}
+use Rattle.client_core.specs.Events.{are_events_in_order, event_lines}
+use Rattle.client_core.specs.Sessions.{session_without, session_after}
 use Rattle.client_core.specs.Cases.{noted_moment, IsHeard, IsLive, IsStarted, IsAlive, IsFit, IsAwaited, GiveCase, given_in}
 use Rattle.client_core.specs.Cases.GiveCase.{GivenTooLate, OfAnother, Started, StartedUnfit, StartedDropped, LeaseTaken, LeaseStays, AliveUnfit, AliveDropped, OutOfNumbers, Replied, Installed, ReplyDropped, NotAwaited, Learns, Lost, TurnedAway, RefusalDropped}
 use Rattle.client_core.proofs.Noting.{either, less, not_less, same, other, up_to, both, safely, live_before, unstarted_before, noted_lease}

@@ -10,16 +10,16 @@ use Rattle.cache_core.specs.declared.changes.CacheOp.{CacheOp}
 use Rattle.cache_core.specs.declared.changes.CacheOp.TheVariants.{Flush, Clear}
 use Rattle.node_core.specs.declared.refusals.Fault.{Fault}
 use Rattle.node_core.specs.declared.refusals.Fault.TheVariants as faults
-use Rattle.messages_cell.specs.declared.beats.Alive.{Alive}
-use Rattle.messages_cell.specs.declared.beats.Invalidation.{Invalidation}
-use Rattle.messages_cell.specs.declared.outs.CallResult.{CallResult}
-use Rattle.messages_cell.specs.declared.outs.CallResult.TheVariants as results
-use Rattle.client_parts.specs.declared.asks.Ask.{Ask}
-use Rattle.client_parts.specs.declared.targets.Target.{Target}
-use Rattle.client_parts.specs.Invalidations.{all_flushed}
-use Rattle.client_parts.specs.Leased.{under}
-use Rattle.client_parts.specs.Moments.{moment}
-use Rattle.client_parts.specs.Ops.{losses, with_flushes, lease_ops}
+use Rattle.tags_cell.specs.declared.messages.beats.Alive.{Alive}
+use Rattle.tags_cell.specs.declared.messages.beats.Invalidation.{Invalidation}
+use Rattle.tags_cell.specs.declared.messages.outs.CallResult.{CallResult}
+use Rattle.tags_cell.specs.declared.messages.outs.CallResult.TheVariants as results
+use Rattle.client_core.specs.declared.parts.asks.Ask.{Ask}
+use Rattle.client_core.specs.declared.parts.targets.Target.{Target}
+use Rattle.client_core.specs.Invalidations.{all_flushed}
+use Rattle.client_core.specs.Leased.{under}
+use Rattle.client_core.specs.Moments.{moment}
+use Rattle.client_core.specs.PartOps.{losses, with_flushes, lease_ops}
 use Rattle.client_core.specs.State.{ClientState, note_in, note}
 use Rattle.client_core.specs.Asks.{ask_step}
 use Rattle.client_core.specs.Beats.{beat_step}

@@ -7,3 +7,4 @@ pub mod Numbered
 pub mod Leases
 pub mod OneEntry
 pub mod Leading
+pub mod Firsts

@@ -7,11 +7,11 @@ use Rattle.std.specs.Option.{option_to_list}
 use Rattle.cache_core.specs.Standings.{grace_period, standing_at, turn_line}
 use Rattle.cache_core.specs.declared.standings.Standing.{Standing}
 use Rattle.cache_core.specs.declared.standings.Standing.TheVariants as standings
-use Rattle.client_parts.specs.declared.sessions.Session.{Session}
-use Rattle.client_parts.specs.declared.sessions.Session.TheVariants as sessions
+use Rattle.client_core.specs.declared.parts.sessions.Session.{Session}
+use Rattle.client_core.specs.declared.parts.sessions.Session.TheVariants as sessions
 use Rattle.client_core.specs.State.{ClientState, at_moment, standing_then, session_behind, session_in, session_then, note_in, note, note_lines_in, note_lines}
 use Rattle.client_core.specs.Asks.{fault_then}
-use Rattle.client_parts.specs.Sessions.{standing_fault, session_fault}
+use Rattle.client_core.specs.Sessions.{standing_fault, session_fault}
 use Rattle.client_core.specs.Laws.{SafeNoteSetsTheClock}
 
 pub either : {A : Type 0} (P : A → Type 0) (b : Bool) (x y : A) → (b ≡ true → P x) → (b ≡ false → P y) → P (cond b x y)

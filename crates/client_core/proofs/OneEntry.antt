@@ -7,20 +7,20 @@ use Rattle.lease_core.specs.Lease.{LeaseTerms, is_unexpired}
 use Rattle.cache_core.specs.Caches.{Entries, CacheState, AreCacheEntries, same_name, entry_of, is_leased, installed, flushed, noted as noted_cache}
 use Rattle.cache_core.proofs.OneName.{flushed_entry_goes, flush_keeps_others, installed_entry_stands, other_entry_stays_or_goes, limit_is_kept}
 use Rattle.node_core.specs.declared.views.View.{View}
-use Rattle.messages_cell.specs.declared.beats.Invalidation.{Invalidation}
-use Rattle.messages_cell.specs.declared.outs.Out.{Out}
-use Rattle.messages_cell.specs.declared.outs.Out.TheVariants as outs
-use Rattle.messages_cell.specs.declared.outs.Reply.{Reply}
-use Rattle.client_parts.specs.declared.asks.Ask.{Ask}
-use Rattle.client_parts.specs.declared.sessions.Session.{Session}
-use Rattle.client_parts.specs.declared.sessions.Session.TheVariants as sessions
-use Rattle.client_parts.specs.declared.targets.Outstanding.{Outstanding}
+use Rattle.tags_cell.specs.declared.messages.beats.Invalidation.{Invalidation}
+use Rattle.tags_cell.specs.declared.messages.outs.Out.{Out}
+use Rattle.tags_cell.specs.declared.messages.outs.Out.TheVariants as outs
+use Rattle.tags_cell.specs.declared.messages.outs.Reply.{Reply}
+use Rattle.client_core.specs.declared.parts.asks.Ask.{Ask}
+use Rattle.client_core.specs.declared.parts.sessions.Session.{Session}
+use Rattle.client_core.specs.declared.parts.sessions.Session.TheVariants as sessions
+use Rattle.client_core.specs.declared.parts.targets.Outstanding.{Outstanding}
 use Rattle.client_core.specs.State.{ClientState, note_in, note, note_live}
 use Rattle.client_core.specs.Asks.{ask_step}
 use Rattle.client_core.specs.Beats.{beat_step}
-use Rattle.client_parts.specs.Leased.{under}
+use Rattle.client_core.specs.Leased.{under}
 use Rattle.client_core.specs.Gives.{offered, give_step}
-use Rattle.client_parts.specs.Invalidations.{all_flushed}
+use Rattle.client_core.specs.Invalidations.{all_flushed}
 use Rattle.client_core.specs.Cases.{noted_moment, IsAwaited, IsLearned, AskCase, asked_in, BeatCase, beaten_in, GiveCase, given_in}
 use Rattle.client_core.specs.Cases.AskCase.{AskedTooLate, Unsafe, Refused, ReadServed, AbsenceServed, Shared, OutOfHandles, Released, OutOfCalls, Sent, Poisoned}
 use Rattle.client_core.specs.Cases.BeatCase.{BeatTooLate, OutOfBeats, Starts, Beats, Quiet}

@@ -6,12 +6,12 @@ use Rattle.node_core.specs.declared.answers.Answer.TheVariants as answers
 use Rattle.node_core.specs.declared.events.Event.{Event}
 use Rattle.node_core.specs.declared.lines.Line.{Line}
 use Rattle.node_core.specs.declared.lines.Line.TheVariants as lines
-use Rattle.messages_cell.specs.declared.beats.NumberedEvent.{NumberedEvent}
-use Rattle.client_parts.specs.declared.targets.Target.{Target}
-use Rattle.client_parts.specs.declared.targets.Target.TheVariants as targets
-use Rattle.client_parts.specs.declared.targets.Outstanding.{Outstanding}
-use Rattle.client_parts.specs.Events.{event_lines}
-use Rattle.client_parts.specs.Targets.{unknown_line, unknown_lines}
+use Rattle.tags_cell.specs.declared.messages.beats.NumberedEvent.{NumberedEvent}
+use Rattle.client_core.specs.declared.parts.targets.Target.{Target}
+use Rattle.client_core.specs.declared.parts.targets.Target.TheVariants as targets
+use Rattle.client_core.specs.declared.parts.targets.Outstanding.{Outstanding}
+use Rattle.client_core.specs.Events.{event_lines}
+use Rattle.client_core.specs.Targets.{unknown_line, unknown_lines}
 use Rattle.client_core.proofs.Noting.{either}
 
 -- every line is one of an event

@@ -11,41 +11,41 @@ use Rattle.node_core.specs.declared.answers.Answer.{Answer}
 use Rattle.node_core.specs.declared.answers.Answer.TheVariants as answers
 use Rattle.node_core.specs.declared.lines.Line.TheVariants as lines
 use Rattle.node_core.specs.declared.views.View.{View}
-use Rattle.messages_cell.specs.declared.calls.Call.{Call}
-use Rattle.messages_cell.specs.declared.calls.Open.{Open}
-use Rattle.messages_cell.specs.declared.outs.Out.{Out}
-use Rattle.messages_cell.specs.declared.outs.Out.TheVariants as outs
-use Rattle.messages_cell.specs.declared.outs.Started.{Started as StartedMessage}
-use Rattle.messages_cell.specs.declared.beats.Alive.{Alive as AliveMessage}
-use Rattle.messages_cell.specs.declared.outs.Reply.{Reply}
-use Rattle.messages_cell.specs.declared.outs.Refused.{Refused as RefusedMessage}
-use Rattle.messages_cell.specs.declared.outs.NewHandle.{NewHandle}
-use Rattle.messages_cell.specs.Messages.{request_number, out_client}
-use Rattle.client_parts.specs.declared.asks.Ask.{Ask}
-use Rattle.client_parts.specs.declared.asks.Ask.TheVariants as asks
-use Rattle.client_parts.specs.declared.asks.NodeCall.{NodeCall}
-use Rattle.client_parts.specs.declared.asks.Asked.{Asked}
-use Rattle.client_parts.specs.declared.asks.Outcome.TheVariants as outcomes
-use Rattle.client_parts.specs.declared.handles.ClientHandle.{ClientHandle}
+use Rattle.tags_cell.specs.declared.messages.calls.Call.{Call}
+use Rattle.tags_cell.specs.declared.messages.calls.Open.{Open}
+use Rattle.tags_cell.specs.declared.messages.outs.Out.{Out}
+use Rattle.tags_cell.specs.declared.messages.outs.Out.TheVariants as outs
+use Rattle.tags_cell.specs.declared.messages.outs.Started.{Started as StartedMessage}
+use Rattle.tags_cell.specs.declared.messages.beats.Alive.{Alive as AliveMessage}
+use Rattle.tags_cell.specs.declared.messages.outs.Reply.{Reply}
+use Rattle.tags_cell.specs.declared.messages.outs.Refused.{Refused as RefusedMessage}
+use Rattle.tags_cell.specs.declared.messages.outs.NewHandle.{NewHandle}
+use Rattle.tags_cell.specs.Messages.{request_number, out_client}
+use Rattle.client_core.specs.declared.parts.asks.Ask.{Ask}
+use Rattle.client_core.specs.declared.parts.asks.Ask.TheVariants as asks
+use Rattle.client_core.specs.declared.parts.asks.NodeCall.{NodeCall}
+use Rattle.client_core.specs.declared.parts.asks.Asked.{Asked}
+use Rattle.client_core.specs.declared.parts.asks.Outcome.TheVariants as outcomes
+use Rattle.client_core.specs.declared.parts.handles.ClientHandle.{ClientHandle}
 use Rattle.client_core.specs.declared.plans.Plan.TheVariants as plans
-use Rattle.client_parts.specs.declared.sessions.Session.TheVariants as sessions
-use Rattle.client_parts.specs.declared.steps.Given.{Given}
-use Rattle.client_parts.specs.declared.steps.Beaten.{Beaten}
-use Rattle.client_parts.specs.declared.targets.Target.{Target}
-use Rattle.client_parts.specs.declared.targets.Target.TheVariants as targets
-use Rattle.client_parts.specs.declared.targets.Outstanding.{Outstanding}
+use Rattle.client_core.specs.declared.parts.sessions.Session.TheVariants as sessions
+use Rattle.client_core.specs.declared.parts.steps.Given.{Given}
+use Rattle.client_core.specs.declared.parts.steps.Beaten.{Beaten}
+use Rattle.client_core.specs.declared.parts.targets.Target.{Target}
+use Rattle.client_core.specs.declared.parts.targets.Target.TheVariants as targets
+use Rattle.client_core.specs.declared.parts.targets.Outstanding.{Outstanding}
 use Rattle.client_core.specs.State.{ClientState, at_moment, session_then, note, note_live, note_lines}
-use Rattle.client_parts.specs.Handles.{handle_of, has_number}
-use Rattle.client_parts.specs.Opens.{cached_answer, is_plain, only_reads, kept_handle, Lesson}
+use Rattle.client_core.specs.Handles.{handle_of, has_number}
+use Rattle.client_core.specs.Opens.{cached_answer, is_plain, only_reads, kept_handle, Lesson}
 use Rattle.client_core.specs.Asks.{fault_then, plan_of, asked_for, message_of, with_call, with_shared, without_handle}
 use Rattle.client_core.specs.Poisons.{with_poisoned, poison_lines}
 use Rattle.client_core.specs.Beats.{start_message, beat_message, with_beat, beaten}
 use Rattle.client_core.specs.Lessons.{lesson}
-use Rattle.client_parts.specs.Targets.{unknown_lines}
+use Rattle.client_core.specs.Targets.{unknown_lines}
 use Rattle.client_core.specs.Gives.{is_numbered, later_epoch, learned, told, passed_over, rejected, offered, begun, with_processed, bettered, safe_lines, awaited, answer_of, ended_plainly, with_lesson, lost}
-use Rattle.client_parts.specs.Invalidations.{is_in_order}
-use Rattle.client_parts.specs.Events.{are_events_in_order, event_lines}
-use Rattle.client_parts.specs.Sessions.{session_after}
+use Rattle.client_core.specs.Invalidations.{is_in_order}
+use Rattle.client_core.specs.Events.{are_events_in_order, event_lines}
+use Rattle.client_core.specs.Sessions.{session_after}
 
 -- the moment that is noted
 abbrev pub noted_moment : ClientState → ℕ → ℕ

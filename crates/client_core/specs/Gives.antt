@@ -15,33 +15,33 @@ use Rattle.node_core.specs.declared.answers.Answer.{Answer}
 use Rattle.node_core.specs.declared.answers.Answer.TheVariants as answers
 use Rattle.node_core.specs.declared.lines.Line.{Line}
 use Rattle.node_core.specs.declared.lines.Line.TheVariants as lines
-use Rattle.messages_cell.specs.declared.outs.Out.{Out}
-use Rattle.messages_cell.specs.declared.outs.Out.TheVariants as outs
-use Rattle.messages_cell.specs.declared.outs.Started.{Started}
-use Rattle.messages_cell.specs.declared.beats.Alive.{Alive}
-use Rattle.messages_cell.specs.declared.outs.Reply.{Reply}
-use Rattle.messages_cell.specs.declared.outs.Refused.{Refused}
-use Rattle.messages_cell.specs.declared.outs.CallResult.{CallResult}
-use Rattle.messages_cell.specs.declared.outs.CallResult.TheVariants as results
-use Rattle.messages_cell.specs.declared.outs.NewHandle.{NewHandle}
-use Rattle.messages_cell.specs.declared.calls.Open.{Open}
-use Rattle.messages_cell.specs.Messages.{request_number, out_client}
-use Rattle.client_parts.specs.declared.sessions.Session.{Session}
-use Rattle.client_parts.specs.declared.sessions.Session.TheVariants as sessions
-use Rattle.client_parts.specs.declared.handles.ClientHandle.{ClientHandle}
-use Rattle.client_parts.specs.declared.steps.Given.{Given}
-use Rattle.client_parts.specs.declared.targets.Target.{Target}
-use Rattle.client_parts.specs.declared.targets.Target.TheVariants as targets
-use Rattle.client_parts.specs.declared.targets.Outstanding.{Outstanding}
-use Rattle.client_parts.specs.Sessions.{session_after}
-use Rattle.client_parts.specs.Invalidations.{is_in_order, last_number, all_flushed}
-use Rattle.client_parts.specs.Events.{are_events_in_order, last_event, event_lines}
-use Rattle.client_parts.specs.Targets.{opening_of, sequencer_of, unknown_lines}
-use Rattle.client_parts.specs.Moments.{moment}
+use Rattle.tags_cell.specs.declared.messages.outs.Out.{Out}
+use Rattle.tags_cell.specs.declared.messages.outs.Out.TheVariants as outs
+use Rattle.tags_cell.specs.declared.messages.outs.Started.{Started}
+use Rattle.tags_cell.specs.declared.messages.beats.Alive.{Alive}
+use Rattle.tags_cell.specs.declared.messages.outs.Reply.{Reply}
+use Rattle.tags_cell.specs.declared.messages.outs.Refused.{Refused}
+use Rattle.tags_cell.specs.declared.messages.outs.CallResult.{CallResult}
+use Rattle.tags_cell.specs.declared.messages.outs.CallResult.TheVariants as results
+use Rattle.tags_cell.specs.declared.messages.outs.NewHandle.{NewHandle}
+use Rattle.tags_cell.specs.declared.messages.calls.Open.{Open}
+use Rattle.tags_cell.specs.Messages.{request_number, out_client}
+use Rattle.client_core.specs.declared.parts.sessions.Session.{Session}
+use Rattle.client_core.specs.declared.parts.sessions.Session.TheVariants as sessions
+use Rattle.client_core.specs.declared.parts.handles.ClientHandle.{ClientHandle}
+use Rattle.client_core.specs.declared.parts.steps.Given.{Given}
+use Rattle.client_core.specs.declared.parts.targets.Target.{Target}
+use Rattle.client_core.specs.declared.parts.targets.Target.TheVariants as targets
+use Rattle.client_core.specs.declared.parts.targets.Outstanding.{Outstanding}
+use Rattle.client_core.specs.Sessions.{session_after}
+use Rattle.client_core.specs.Invalidations.{is_in_order, last_number, all_flushed}
+use Rattle.client_core.specs.Events.{are_events_in_order, last_event, event_lines}
+use Rattle.client_core.specs.Targets.{opening_of, sequencer_of, unknown_lines}
+use Rattle.client_core.specs.Moments.{moment}
 use Rattle.client_core.specs.State.{ClientState, session_then, note, note_lines}
-use Rattle.client_parts.specs.Handles.{handle_of, has_number, put_under, handles_behind, kept_behind}
-use Rattle.client_parts.specs.Opens.{Lesson}
-use Rattle.client_parts.specs.Leased.{under}
+use Rattle.client_core.specs.Handles.{handle_of, has_number, put_under, handles_behind, kept_behind}
+use Rattle.client_core.specs.Opens.{Lesson}
+use Rattle.client_core.specs.Leased.{under}
 use Rattle.client_core.specs.Lessons.{lesson}
 
 abbrev pub is_unstarted : Session → Bool

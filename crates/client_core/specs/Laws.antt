@@ -6,12 +6,12 @@ use Rattle.node_core.specs.declared.refusals.Fault.{Fault}
 use Rattle.node_core.specs.declared.answers.Answer.TheVariants as answers
 use Rattle.node_core.specs.declared.lines.Line.{Line}
 use Rattle.node_core.specs.declared.lines.Line.TheVariants as lines
-use Rattle.messages_cell.specs.declared.outs.Out.{Out}
-use Rattle.messages_cell.specs.declared.outs.Out.TheVariants as outs
-use Rattle.messages_cell.specs.declared.outs.Reply.{Reply}
-use Rattle.client_parts.specs.declared.asks.Ask.{Ask}
-use Rattle.client_parts.specs.declared.asks.Outcome.TheVariants.{Served, Refused}
-use Rattle.client_parts.specs.declared.steps.Given.{Given}
+use Rattle.tags_cell.specs.declared.messages.outs.Out.{Out}
+use Rattle.tags_cell.specs.declared.messages.outs.Out.TheVariants as outs
+use Rattle.tags_cell.specs.declared.messages.outs.Reply.{Reply}
+use Rattle.client_core.specs.declared.parts.asks.Ask.{Ask}
+use Rattle.client_core.specs.declared.parts.asks.Outcome.TheVariants.{Served, Refused}
+use Rattle.client_core.specs.declared.parts.steps.Given.{Given}
 use Rattle.client_core.specs.State.{ClientState, at_moment, note, note_lines}
 use Rattle.client_core.specs.Asks.{fault_then, asked_for, ask_step}
 use Rattle.client_core.specs.Beats.{beat_step}

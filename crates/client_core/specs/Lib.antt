@@ -1,20 +1,21 @@
-pub use Rattle.client_parts.specs.Calls
-pub use Rattle.client_parts.specs.Opens
-pub use Rattle.client_parts.specs.Sessions
-pub use Rattle.client_parts.specs.Targets
-pub use Rattle.client_parts.specs.Handles
-pub use Rattle.client_parts.specs.Moments
-pub use Rattle.client_parts.specs.Leased
-pub use Rattle.client_parts.specs.Invalidations
-pub use Rattle.client_parts.specs.Events
-pub use Rattle.client_parts.specs.Ops as PartOps
 pub use Rattle.cache_core.specs.Caches
 pub use Rattle.cache_core.specs.Changes
 pub use Rattle.cache_core.specs.Kept
 pub use Rattle.cache_core.specs.Standings
-pub use Rattle.messages_cell.specs.Messages
+pub use Rattle.tags_cell.specs.Messages
 pub use Rattle.tags_cell.specs.Modes
 pub use Rattle.tags_cell.specs.Numbers
+pub mod Sessions
+pub mod Calls
+pub mod Opens
+pub mod Targets
+pub mod Handles
+pub mod Moments
+pub mod Leased
+pub mod InOrder
+pub mod Invalidations
+pub mod Events
+pub mod PartOps
 pub mod State
 pub mod Poisons
 pub mod Serves
@@ -25,3 +26,4 @@ pub mod Beats
 pub mod Cases
 pub mod Ops
 pub mod Laws
+pub mod Deadlines

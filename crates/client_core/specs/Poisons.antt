@@ -7,10 +7,10 @@ use Rattle.node_core.specs.declared.refusals.Fault.TheVariants as faults
 use Rattle.node_core.specs.declared.answers.Answer.TheVariants as answers
 use Rattle.node_core.specs.declared.lines.Line.{Line}
 use Rattle.node_core.specs.declared.lines.Line.TheVariants as lines
-use Rattle.messages_cell.specs.Messages.{request_number}
-use Rattle.client_parts.specs.declared.handles.ClientHandle.{ClientHandle}
-use Rattle.client_parts.specs.declared.targets.Outstanding.{Outstanding}
-use Rattle.client_parts.specs.Targets.{is_on, dropped}
+use Rattle.tags_cell.specs.Messages.{request_number}
+use Rattle.client_core.specs.declared.parts.handles.ClientHandle.{ClientHandle}
+use Rattle.client_core.specs.declared.parts.targets.Outstanding.{Outstanding}
+use Rattle.client_core.specs.Targets.{is_on, dropped}
 use Rattle.client_core.specs.State.{ClientState}
 
 -- the outstanding call, if it is on the handle, is refused (and its reply will be dropped)

@@ -11,11 +11,11 @@ use Rattle.node_core.specs.Limits.{number_end}
 use Rattle.node_core.specs.declared.refusals.Fault.{Fault}
 use Rattle.node_core.specs.declared.refusals.Fault.TheVariants as faults
 use Rattle.node_core.specs.declared.lines.Line.{Line}
-use Rattle.messages_cell.specs.declared.outs.NewHandle.{NewHandle}
-use Rattle.client_parts.specs.declared.handles.ClientHandle.{ClientHandle}
-use Rattle.client_parts.specs.declared.targets.Outstanding.{Outstanding}
-use Rattle.client_parts.specs.declared.sessions.Session.{Session}
-use Rattle.client_parts.specs.declared.sessions.Session.TheVariants as sessions
+use Rattle.tags_cell.specs.declared.messages.outs.NewHandle.{NewHandle}
+use Rattle.client_core.specs.declared.parts.handles.ClientHandle.{ClientHandle}
+use Rattle.client_core.specs.declared.parts.targets.Outstanding.{Outstanding}
+use Rattle.client_core.specs.declared.parts.sessions.Session.{Session}
+use Rattle.client_core.specs.declared.parts.sessions.Session.TheVariants as sessions
 
 pub record ClientState : Type 0 where
   pub number : ℕ

@@ -7,16 +7,15 @@ ghost use Rattle.client_core.specs.Asks.{ask_step, ask_by, plan_of, carried_out,
 ghost use Rattle.client_core.specs.declared.plans.Plan.TheVariants as plans;
 
 use crate::client::Client;
-use crate::plans::Plan;
-use client_parts::{
+use crate::parts::{
     Ask, Asked, ClientHandle, Outcome, Outstanding, Target, moment_by, one_line, opened_lines,
 };
-use messages_cell::{Call, CallMessage, Request};
+use crate::plans::Plan;
 use node_core::{Answer, Fault, Line, NUMBER_LIMIT};
 use plain::{Bytes, Items};
 use std::alloc::AllocError;
 use std::mem;
-use tags_cell::MessageNumber;
+use tags_cell::{Call, CallMessage, MessageNumber, Request};
 
 impl Client {
     /// Asks for a call. First the time is noted; where that prints lines they come first, also where the call is refused.

@@ -6,15 +6,14 @@ ghost use Rattle.client_core.specs.State.{new_client, note, note_lines, Does};
 ghost use Rattle.client_core.specs.Beats.{beat_step, sends, start_message, beat_message, with_beat};
 ghost use Rattle.client_core.specs.Gives.{give_step, taken_own, told};
 
+use crate::parts::{Beaten, ClientHandle, Given, Outstanding, Session, moment_by};
 use cache_core::{Cache, KeptHandles, Standing};
-use client_parts::{Beaten, ClientHandle, Given, Outstanding, Session, moment_by};
-use messages_cell::{Beat, NewHandle, Out, Request, Start};
 use names_cell::Principal;
 use node_core::Fault;
 use plain::Table;
 use std::alloc::{AllocError, Global};
 use std::marker::Model;
-use tags_cell::{ClientNumber, MessageNumber};
+use tags_cell::{Beat, ClientNumber, MessageNumber, NewHandle, Out, Request, Start};
 
 /// A client of a cell (Burrows 2006, section 2.7): its session, its cache under the lease on it, its handles, and its call
 /// that has no reply yet. To a contract, the record of these.

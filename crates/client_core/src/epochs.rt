@@ -2,14 +2,14 @@
 ghost use Rattle.std.specs.Prelude.{◌≡◌, None, OnOk, OnErr, IfOk};
 ghost use Rattle.lease_core.specs.Lease.{IsMoment};
 ghost use Rattle.client_core.specs.State.{note};
-ghost use Rattle.client_parts.specs.Targets.{unknown_lines};
+ghost use Rattle.client_core.specs.Targets.{unknown_lines};
 ghost use Rattle.client_core.specs.Gives.{told, later_epoch, learned};
 
 use crate::client::Client;
-use client_parts::{Given, Session, with_unknown};
-use messages_cell::Refused;
+use crate::parts::{Given, Session, with_unknown};
 use node_core::Fault;
 use std::alloc::AllocError;
+use tags_cell::Refused;
 
 impl Client {
     // The master's epoch, where the refusal tells of a later one than the client's, in its session. A refusal that is of an

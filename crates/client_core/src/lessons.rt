@@ -1,15 +1,15 @@
 //! What a reply teaches a client of a name (Burrows 2006, section 2.7).
 ghost use Rattle.std.specs.Prelude.{◌≡◌, Some, IfOk};
-ghost use Rattle.client_parts.specs.Handles.{handle_of};
+ghost use Rattle.client_core.specs.Handles.{handle_of};
 ghost use Rattle.client_core.specs.Lessons.{is_fresh, may_install, viewed, view_taught, absence_taught, taught, lesson};
 
 use crate::client::Client;
+use crate::parts::{Target, absence_taught, standing_by};
 use cache_core::{Shared, Standing};
-use client_parts::{Target, absence_taught, standing_by};
-use messages_cell::{CallResult, Reply};
 use names_cell::Name;
 use node_core::{Fault, View};
 use std::alloc::AllocError;
+use tags_cell::{CallResult, Reply};
 
 impl Client {
     // The answer of a read, of a ReadDir or of a plain Open, where the cache takes it.

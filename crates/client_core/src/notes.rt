@@ -5,8 +5,8 @@ ghost use Rattle.client_core.specs.State.{session_then, note, note_lines};
 ghost use Rattle.client_core.specs.Asks.{fault_then};
 
 use crate::client::Client;
+use crate::parts::{Session, standing_by, turn_lines};
 use cache_core::Standing;
-use client_parts::{Session, standing_by, turn_lines};
 use node_core::{Fault, Line};
 use plain::Items;
 use std::alloc::AllocError;

@@ -8,13 +8,13 @@ ghost use Rattle.client_core.specs.State.{Does};
 ghost use Rattle.client_core.specs.Gives.{is_span, offered, started_step, is_numbered, alive_step, kept_alive, with_processed, with_lease, takes_offer, is_jeopardy};
 
 use crate::client::Client;
-use cache_core::{CacheOp, Standing};
-use client_parts::{
+use crate::parts::{
     Given, Session, flush_all, is_numbered, last_event, last_number, put_under, with_events,
 };
+use cache_core::{CacheOp, Standing};
 use lease_core::Lease;
-use messages_cell::{Alive, Started};
 use node_core::{Fault, Line};
+use tags_cell::{Alive, Started};
 
 impl Client {
     // Takes the session that the newest Start asked for, and the lease on it.

@@ -3,11 +3,11 @@
 ghost use Rattle.std.specs.Prelude.{◌≡◌, ◌∷◌, [], Ok, IfOk};
 ghost use Rattle.lease_core.specs.Lease.{IsMoment};
 ghost use Rattle.cache_core.specs.Changes.{applied_all};
-ghost use Rattle.messages_cell.specs.Messages.{out_client};
-ghost use Rattle.client_parts.specs.Sessions.{session_after};
-ghost use Rattle.client_parts.specs.declared.asks.Ask.{Ask};
-ghost use Rattle.client_parts.specs.declared.asks.Asked.{Asked};
-ghost use Rattle.client_parts.specs.declared.steps.Beaten.{Beaten};
+ghost use Rattle.tags_cell.specs.Messages.{out_client};
+ghost use Rattle.client_core.specs.Sessions.{session_after};
+ghost use Rattle.client_core.specs.declared.parts.asks.Ask.{Ask};
+ghost use Rattle.client_core.specs.declared.parts.asks.Asked.{Asked};
+ghost use Rattle.client_core.specs.declared.parts.steps.Beaten.{Beaten};
 ghost use Rattle.client_core.specs.State.{note, session_then};
 ghost use Rattle.client_core.specs.Asks.{ask_step};
 ghost use Rattle.client_core.specs.Beats.{beat_step};
@@ -15,15 +15,15 @@ ghost use Rattle.client_core.specs.Gives.{offered, takes_offer, started_step, ke
 ghost use Rattle.client_core.specs.Ops.{LeadTo};
 
 use crate::client::Client;
-use cache_core::CacheOp;
-use client_parts::{
+use crate::parts::{
     Session, Target, is_numbered, moment_by, noted_ops, with_flushes, with_lease, with_losses,
     with_op,
 };
+use cache_core::CacheOp;
 use lease_core::Lease;
-use messages_cell::{Alive, Out, Refused, Reply, Started};
 use std::alloc::AllocError;
 use std::collections::VecDeque;
+use tags_cell::{Alive, Out, Refused, Reply, Started};
 
 impl Client {
     /// The changes of the cache that an `ask` and a `beat` of this moment make: those of the noting of the time. Nothing is

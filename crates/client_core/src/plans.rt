@@ -2,14 +2,14 @@
 ghost use Rattle.std.specs.Prelude.{◌≡◌, Some, IfOk};
 ghost use Rattle.std.specs.Option.{option_copied};
 ghost use Rattle.plain.specs.Results.{Gives};
-ghost use Rattle.client_parts.specs.Handles.{handle_of, usable_handle};
+ghost use Rattle.client_core.specs.Handles.{handle_of, usable_handle};
 ghost use Rattle.client_core.specs.Asks.{plan_of, send_plan, open_plan, close_plan, node_plan, sequencer_plan};
 
 use crate::client::Client;
-use client_parts::{Ask, ClientHandle, NodeCall, Target, usable_handle};
-use messages_cell::{Call, Open};
+use crate::parts::{Ask, ClientHandle, NodeCall, Target, usable_handle};
 use node_core::{Answer, Fault, Line};
 use plain::Bytes;
+use tags_cell::{Call, Open};
 
 /// What a client does next.
 #[derive(Drop)]

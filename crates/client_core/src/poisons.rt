@@ -2,13 +2,13 @@
 ghost use Rattle.std.specs.Prelude.{◌≡◌, IfOk, Ok};
 ghost use Rattle.lease_core.specs.Lease.{IsMoment};
 ghost use Rattle.client_core.specs.State.{Does};
-ghost use Rattle.client_parts.specs.declared.asks.Ask.TheVariants as asks;
+ghost use Rattle.client_core.specs.declared.parts.asks.Ask.TheVariants as asks;
 ghost use Rattle.client_core.specs.declared.plans.Plan.TheVariants as plans;
 ghost use Rattle.client_core.specs.Asks.{ask_step, carried_out};
 ghost use Rattle.client_core.specs.Poisons.{poison_lines, poisoned};
 
 use crate::client::Client;
-use client_parts::{Ask, Asked, ClientHandle, Outcome, drop_reply};
+use crate::parts::{Ask, Asked, ClientHandle, Outcome, drop_reply};
 use node_core::{Answer, Fault, Line};
 use plain::Items;
 use std::alloc::AllocError;

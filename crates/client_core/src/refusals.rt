@@ -1,16 +1,16 @@
 //! A client is given a refusal.
 ghost use Rattle.std.specs.Prelude.{◌≡◌, OnErr, IfOk, Ok};
 ghost use Rattle.lease_core.specs.Lease.{IsMoment};
-ghost use Rattle.client_parts.specs.Sessions.{session_after};
+ghost use Rattle.client_core.specs.Sessions.{session_after};
 ghost use Rattle.client_core.specs.State.{session_then};
 ghost use Rattle.client_core.specs.Gives.{lost, lose_step, refused_step};
 
 use crate::client::Client;
+use crate::parts::{Given, Session, pushed};
 use cache_core::Standing;
-use client_parts::{Given, Session, pushed};
-use messages_cell::Refused;
 use node_core::Line;
 use std::alloc::AllocError;
+use tags_cell::Refused;
 
 impl Client {
     // Learns a later epoch, or ends the session, where the master of the refusal knows none.

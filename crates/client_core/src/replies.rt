@@ -3,19 +3,19 @@ ghost use Rattle.std.specs.Prelude.{◌≡◌, ◌++◌, ◌∷◌, [], true, On
 ghost use Rattle.lease_core.specs.Lease.{IsMoment};
 ghost use Rattle.client_core.specs.State.{note, note_lines, Does};
 ghost use Rattle.client_core.specs.Lessons.{lesson};
-ghost use Rattle.messages_cell.specs.declared.outs.CallResult.TheVariants as results;
-ghost use Rattle.client_parts.specs.declared.targets.Target.TheVariants as targets;
-ghost use Rattle.client_parts.specs.Handles.{has_number};
+ghost use Rattle.tags_cell.specs.declared.messages.outs.CallResult.TheVariants as results;
+ghost use Rattle.client_core.specs.declared.parts.targets.Target.TheVariants as targets;
+ghost use Rattle.client_core.specs.Handles.{has_number};
 ghost use Rattle.client_core.specs.Gives.{awaited, answer_of, ended_plainly, ended, finish_step, reply_for, reply_step};
 
 use crate::client::Client;
-use client_parts::{
+use crate::parts::{
     Given, Session, Target, has_number, keep_handle, pushed, put_sequencer, sent_sequencer,
 };
-use messages_cell::{CallResult, Reply};
 use node_core::{Answer, Fault, Line};
 use plain::Items;
 use std::alloc::AllocError;
+use tags_cell::{CallResult, Reply};
 
 impl Client {
     pub(crate) fn take_reply(&mut self, moment: u64, reply: &Reply) -> Result<Given, Fault>

@@ -3,10 +3,10 @@ ghost use Rattle.std.specs.Prelude.{◌≡◌};
 ghost use Rattle.std.specs.Option.{option_copied};
 
 use crate::client::Client;
+use crate::parts::{ClientHandle, Outstanding, Session};
 use cache_core::{Cache, KeptHandles, Standing};
-use client_parts::{ClientHandle, Outstanding, Session};
-use messages_cell::NewHandle;
 use plain::Table;
+use tags_cell::NewHandle;
 
 /// All that a client is, but for its number and its principal, to be looked at.
 #[derive(Clone, Copy)]

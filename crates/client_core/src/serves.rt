@@ -5,13 +5,13 @@ ghost use Rattle.node_core.specs.declared.lines.Line.TheVariants as lines;
 ghost use Rattle.client_core.specs.Serves.{read_served, cached_served, open_served, entry_served, handle_shared};
 
 use crate::client::Client;
+use crate::parts::{ClientHandle, NodeCall, is_plain, only_reads, served_line};
 use crate::plans::Plan;
 use cache_core::Shared;
-use client_parts::{ClientHandle, NodeCall, is_plain, only_reads, served_line};
-use messages_cell::Open;
 use names_cell::Name;
 use node_core::{Answer, Fault, Line, Right, View};
 use std::alloc::AllocError;
+use tags_cell::Open;
 
 impl Client {
     // A read or a ReadDir of this handle, where what is cached under its name answers it. None where the handle has a

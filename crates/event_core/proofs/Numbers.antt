@@ -3,7 +3,7 @@ use Rattle.std.proofs.Common.{◌≡◌, ℕ, zero, suc, ◌+◌, ◌-◌, ◌<�
 use Rattle.std.specs.Prelude.{nat_lt, filter}
 use Rattle.std.proofs.lemmas.Bool.Decides.{nat_tests}
 use Rattle.node_core.specs.declared.events.Event.{Event}
-use Rattle.messages_cell.specs.declared.beats.NumberedEvent.{NumberedEvent}
+use Rattle.tags_cell.specs.declared.messages.beats.NumberedEvent.{NumberedEvent}
 use Rattle.event_core.specs.Queue.{numbered_from}
 
 abbrev numbered : ℕ → Event → NumberedEvent

@@ -1,8 +1,8 @@
 //! What a master sends is given to its client.
 use client_core::Client;
-use messages_cell::Out;
 use node_core::Fault;
 use over_core::{Swept, Taken};
+use tags_cell::Out;
 
 pub(crate) fn give_taken(client: &mut Client, taken: Taken) -> Result<(), Fault> {
     let given = give(client, taken.outs.as_slice());

@@ -1,14 +1,13 @@
 //! A master, a client, and what it opens.
 use anyhow::{Result, bail};
 use client_core::{Ask, Client};
-use messages_cell::{Create, Disposition, NewNode, Open};
 use names_cell::{Name, Principal};
 use node_core::{Fault, Life};
 use over_core::Cell;
 use plain::Bytes;
 use rows_cell::{ListRecords, Settings};
 use std::alloc::{AllocError, Global};
-use tags_cell::{ClientNumber, Events, Mode};
+use tags_cell::{ClientNumber, Create, Disposition, Events, Mode, NewNode, Open};
 
 /// A master over rows in lists.
 pub(crate) type Master = Cell<ListRecords>;

@@ -8,9 +8,9 @@ use anyhow::Result;
 use client_core::{Ask, Client, NodeCall, Outcome};
 use gives::{give_swept, give_taken};
 use made::{Master, new_client, new_master, opening};
-use messages_cell::Request;
 use node_core::Fault;
 use std::alloc::Global;
+use tags_cell::Request;
 
 fn main(rt: HostRuntime) -> Result<()> {
     let mut cell = new_master(rt.alloc())?;

@@ -10,7 +10,7 @@ use Rattle.std.proofs.Crossing.{Vec-send}
 use Rattle.std.proofs.alloc.Global.TheSendSync as heap
 use Rattle.names_cell.proofs.components.Component.TheSendSync as component
 use Rattle.plain.proofs.secrets.Secret.TheSendSync as secret
-use Rattle.messages_cell.proofs.outs.Reply.TheSendSync as reply
+use Rattle.tags_cell.proofs.messages.outs.Reply.TheSendSync as reply
 use Rattle.rights_core.specs.contracts.history.History as History
 use Rattle.rights_core.specs.contracts.rights.Rights as Rights
 use Rattle.rights_core.specs.contracts.rights.Rights.TheInside as rights_in
@@ -28,9 +28,9 @@ use Rattle.cell_parts.proofs.nodes.Nodes.TheSendSync as nodes
 use Rattle.cell_parts.proofs.open_handles.Handles.TheSendSync as handles
 use Rattle.cell_parts.specs.contracts.pending.Task as Task
 use Rattle.cell_parts.proofs.pending.Task.TheSendSync as task
-use Rattle.cell_tables.specs.contracts.tables.Tables as Tables
-use Rattle.cell_tables.specs.contracts.tables.Tables.TheInside as tables_in
-use Rattle.cell_tables.proofs.candidates.Candidates.TheSendSync as candidates
+use Rattle.cell_parts.specs.contracts.tables.Tables as Tables
+use Rattle.cell_parts.specs.contracts.tables.Tables.TheInside as tables_in
+use Rattle.cell_parts.proofs.candidates.Candidates.TheSendSync as candidates
 use Rattle.cell_state.specs.contracts.masters.Master as Master
 use Rattle.cell_state.specs.contracts.masters.Master.TheInside as master_in
 use Rattle.cell_core.specs.contracts.cells.Cell as Cell

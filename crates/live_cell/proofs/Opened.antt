@@ -6,7 +6,7 @@ use Rattle.rows_cell.specs.declared.tables.Rows.{Rows}
 use Rattle.rows_cell.specs.Stores.{Store}
 use Rattle.cell_state.specs.State.{MasterState}
 use Rattle.cell_core.specs.Step.{is_past_end}
-use Rattle.sweep_laws.specs.Up.{master_by, next_epoch, ComesUp}
+use Rattle.over_core.specs.Up.{master_by, next_epoch, ComesUp}
 
 by_rows : (past : Bool) (lease now : ℕ) (r : Result Rows Fault) (master : MasterState) → (if past then Err faults.Exhausted else master_by lease now r) ≡ Ok master → master.rights ≡ []
 by_rows true lease now r master h = absurd cc

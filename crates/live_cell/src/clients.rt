@@ -3,16 +3,16 @@ use crate::letters::{Letter, Letters};
 use crate::players::{FILE, Player};
 use crate::turns::Turn;
 use crate::viewers::view;
-use messages_cell::{Out, Request};
 use names_cell::Name;
 use node_core::Fault;
+use over_core::Swept;
 use rows_cell::Records;
 use std::alloc::Global;
 use std::sync::Wait;
 use std::sync::atomic::{AtomicU64, Ordering};
 use std::sync::ledger::Ledger;
 use std::thread::{Threads, join};
-use sweep_laws::Swept;
+use tags_cell::{Out, Request};
 use watch_cell::{Event, Opening, Pass, Watch};
 
 /// A client's threads, until all clients have finished or one was refused: then all end.

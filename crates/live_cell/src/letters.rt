@@ -1,9 +1,9 @@
 //! What threads send each other.
 use crossbeam_channel::{Receiver, Sender, bounded};
-use messages_cell::Out;
 use std::alloc::{AllocError, Global};
 use std::sync::Wait;
 use std::sync::atomic::{AtomicU64, Ordering};
+use tags_cell::Out;
 
 /// So many letters wait for a client. There are never more: an answer to its call, one to its Beat, and the end.
 const ROOM: usize = 8;

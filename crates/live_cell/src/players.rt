@@ -3,14 +3,13 @@ ghost use Rattle.std.specs.Prelude.{◌≡◌, None, IfOk};
 ghost use Rattle.cache_core.specs.Caches.{new_cache};
 
 use client_core::{Ask, Asked, Client, Given, NodeCall, Outcome};
-use messages_cell::{Create, Disposition, NewNode, Open, Out, Request};
 use names_cell::{Name, Principal};
 use node_core::{Answer, Fault, Life, Line};
 use plain::Bytes;
 use share_cell::{Keeper, Viewer};
 use std::alloc::Global;
 use std::sync::Wait;
-use tags_cell::{ClientNumber, Events, Mode};
+use tags_cell::{ClientNumber, Create, Disposition, Events, Mode, NewNode, Open, Out, Request};
 
 /// The file that all clients open.
 pub(crate) const FILE: &str = "/ls/c/live";

@@ -5,15 +5,15 @@ use Rattle.node_core.specs.declared.views.Mod.{Mod}
 use Rattle.node_core.specs.declared.views.Mod.TheVariants.{Put, Gone}
 use Rattle.gate_core.specs.Gate.{GateState, without}
 use Rattle.cell_parts.specs.Keys.{handle_order}
-use Rattle.cell_update.specs.Updates.{with_begun, with_put, with_node, grown, session_rest, map_rest, with_session_rest, with_kept, without_gone, with_map, without_lock, recovered, left, done}
+use Rattle.cell_state.specs.Updates.{with_begun, with_put, with_node, grown, session_rest, map_rest, with_session_rest, with_kept, without_gone, with_map, without_lock, recovered, left, done}
 use Rattle.cell_state.specs.State.{MasterState}
-use Rattle.cell_update.specs.Updates.{with_note}
+use Rattle.cell_state.specs.Updates.{with_note}
 use Rattle.cell_state.specs.Lookups.{noted}
-use Rattle.cell_update.specs.declared.updates.Change.{Change}
-use Rattle.cell_update.specs.declared.updates.Update.{Update}
-use Rattle.cell_update.specs.declared.updates.MapRest.{MapRest}
-use Rattle.cell_update.specs.declared.updates.SessionUpdate.{SessionUpdate}
-use Rattle.cell_update.specs.declared.updates.SessionUpdate.TheVariants.{Begins, Prolongs, Ends, Answers}
+use Rattle.cell_state.specs.declared.updates.Change.{Change}
+use Rattle.cell_state.specs.declared.updates.Update.{Update}
+use Rattle.cell_state.specs.declared.updates.MapRest.{MapRest}
+use Rattle.cell_state.specs.declared.updates.SessionUpdate.{SessionUpdate}
+use Rattle.cell_state.specs.declared.updates.SessionUpdate.TheVariants.{Begins, Prolongs, Ends, Answers}
 use Rattle.cell_parts.specs.declared.handles.Note.{Note}
 use Rattle.cell_parts.specs.declared.pending.Task.{Task}
 

@@ -2,14 +2,14 @@
 use Rattle.std.proofs.Common.{◌≡◌, [], ◌∷◌, false, Some, refl, sym, ap, subst, ◌∙◌, ⊎_elim, arith}
 use Rattle.std.specs.Prelude.{Contains}
 use Rattle.std.proofs.lemmas.List.Elements.{Contains-push, Contains-push_cases}
-use Rattle.messages_cell.specs.declared.outs.CallResult.{CallResult}
-use Rattle.messages_cell.specs.declared.outs.Out.TheVariants as outs
-use Rattle.messages_cell.specs.declared.outs.Reply.{Reply}
-use Rattle.messages_cell.specs.declared.requests.CallMessage.{CallMessage}
+use Rattle.tags_cell.specs.declared.messages.outs.CallResult.{CallResult}
+use Rattle.tags_cell.specs.declared.messages.outs.Out.TheVariants as outs
+use Rattle.tags_cell.specs.declared.messages.outs.Reply.{Reply}
+use Rattle.tags_cell.specs.declared.messages.requests.CallMessage.{CallMessage}
 use Rattle.cell_parts.specs.declared.pending.Taken.{Taken}
 use Rattle.cell_state.specs.State.{MasterState}
 use Rattle.cell_state.specs.Lookups.{reply_of, stamped_reply}
-use Rattle.cell_update.specs.Updates.{with_note}
+use Rattle.cell_state.specs.Updates.{with_note}
 use Rattle.cell_core.specs.Step.{admission_for}
 use Rattle.master_laws.specs.Steps.{IsAnsweredBy}
 use Rattle.master_laws.proofs.NewCalls.{NewCase, new_by, IsNewCase}

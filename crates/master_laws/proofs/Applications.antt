@@ -1,18 +1,18 @@
 -- What a sweep does in which a call has its turn.
 use Rattle.std.proofs.Common.{◌≡◌, ℕ, List, false, cond, Option, sym, ap, ◌∙◌}
 use Rattle.std.specs.Option.{option_map_or}
-use Rattle.messages_cell.specs.declared.calls.Call.{Call}
+use Rattle.tags_cell.specs.declared.messages.calls.Call.{Call}
 use Rattle.cell_parts.specs.declared.pending.Asked.{Asked}
 use Rattle.cell_parts.specs.declared.pending.Task.{Task}
 use Rattle.cell_state.specs.NameSpace.{name_space, caller}
 use Rattle.cell_state.specs.State.{MasterState}
-use Rattle.cell_apply.specs.declared.effects.Effect.{Effect}
-use Rattle.sweep_plan.specs.declared.plans.Plan.{Plan}
-use Rattle.sweep_laws.specs.declared.swept.Swept.{Swept}
-use Rattle.cell_apply.specs.Effect.{effect}
-use Rattle.sweep_plan.specs.Plans.{tellings_of}
-use Rattle.sweep_plan.specs.Plans.{first_action, no_plan, plan_asked, plan_work, plan_task, plan_of, leaving}
-use Rattle.sweep_laws.specs.Sweep.{swept_by_plan, telling, swept}
+use Rattle.cell_core.specs.declared.effects.Effect.{Effect}
+use Rattle.over_core.specs.declared.plans.Plan.{Plan}
+use Rattle.over_core.specs.declared.swept.Swept.{Swept}
+use Rattle.cell_core.specs.Effect.{effect}
+use Rattle.over_core.specs.Plans.{tellings_of}
+use Rattle.over_core.specs.Plans.{first_action, no_plan, plan_asked, plan_work, plan_task, plan_of, leaving}
+use Rattle.over_core.specs.Sweep.{swept_by_plan, telling, swept}
 use Rattle.master_laws.specs.Steps.{IsBeingApplied}
 
 -- what is planned for a call with this effect

@@ -10,37 +10,37 @@ use Rattle.gate_core.specs.Gate.{is_numbered, without}
 use Rattle.session_core.specs.declared.records.Offer.{Offer}
 use Rattle.session_core.specs.declared.records.Session.{Session}
 use Rattle.session_core.specs.Sessions.{offer_of}
-use Rattle.messages_cell.specs.declared.outs.Reply.{Reply}
+use Rattle.tags_cell.specs.declared.messages.outs.Reply.{Reply}
 use Rattle.node_core.specs.Nodes.{with_parent}
 use Rattle.node_core.specs.declared.lines.Line.TheVariants as lines
 use Rattle.node_core.specs.declared.refusals.Fault.TheVariants as faults
 use Rattle.std.specs.Map.{lookup}
 use Rattle.std.specs.BTreeMap.{is_at}
-use Rattle.messages_cell.specs.declared.calls.Call.{Call}
+use Rattle.tags_cell.specs.declared.messages.calls.Call.{Call}
 use Rattle.cell_parts.specs.declared.handles.HandleKey.{HandleKey}
 use Rattle.cell_parts.specs.declared.pending.Task.{Task}
 use Rattle.cell_parts.specs.declared.pending.Task.TheVariants as tasks
 use Rattle.cell_parts.specs.declared.pending.Work.TheVariants as works
-use Rattle.cell_update.specs.Updates.{left, done}
+use Rattle.cell_state.specs.Updates.{left, done}
 use Rattle.cell_parts.specs.Keys.{handle_order}
-use Rattle.cell_update.specs.declared.updates.SessionUpdate.TheVariants.{Begins, Prolongs, Answers}
+use Rattle.cell_state.specs.declared.updates.SessionUpdate.TheVariants.{Begins, Prolongs, Answers}
 use Rattle.cell_core.specs.Ephemerals.{is_still_idle}
 use Rattle.cell_core.specs.Step.{queued}
 use Rattle.cell_core.proofs.AskedFor.{asks_only}
 use Rattle.cell_state.specs.NameSpace.{name_space, caller}
 use Rattle.cell_state.specs.State.{MasterState, task_at}
 use Rattle.cell_state.specs.Lookups.{session_of, is_live, may_start, turned_away, noted}
-use Rattle.cell_update.specs.Updates.{with_note}
-use Rattle.cell_apply.specs.Effect.{effect, gone_by_itself}
-use Rattle.sweep_plan.specs.Plans.{first_action, no_plan, session_plan, started_out, alive_out, plan_session, plan_start, plan_of, plan_task, plan_work, plan_call, plan_asked, plan_effect, leaving, expiry_plan}
-use Rattle.cell_update.specs.Lapses.{lapses_of}
-use Rattle.sweep_laws.specs.Sweep.{acted, swept}
-use Rattle.sweep_plan.specs.declared.plans.Plan.{Plan}
-use Rattle.sweep_plan.specs.declared.actions.Action.{Action}
-use Rattle.sweep_plan.specs.declared.actions.Action.TheVariants as actions
+use Rattle.cell_state.specs.Updates.{with_note}
+use Rattle.cell_core.specs.Effect.{effect, gone_by_itself}
+use Rattle.over_core.specs.Plans.{first_action, no_plan, session_plan, started_out, alive_out, plan_session, plan_start, plan_of, plan_task, plan_work, plan_call, plan_asked, plan_effect, leaving, expiry_plan}
+use Rattle.cell_state.specs.Lapses.{lapses_of}
+use Rattle.over_core.specs.Sweep.{acted, swept}
+use Rattle.over_core.specs.declared.plans.Plan.{Plan}
+use Rattle.over_core.specs.declared.actions.Action.{Action}
+use Rattle.over_core.specs.declared.actions.Action.TheVariants as actions
 use Rattle.master_laws.specs.Closed.{IsClosed, IsClosedForGood, task_opens, work_opens, waits_to_open, ClosedForGoodBySweeps}
 use Rattle.master_laws.proofs.AfterSweeps.{done_handles, done_gate}
-use Rattle.sweep_laws.proofs.SweepCases.{does_first}
+use Rattle.over_core.proofs.SweepCases.{does_first}
 use Rattle.master_laws.proofs.ClosedNotes.{stays_closed}
 use Rattle.master_laws.proofs.TameEffects.{tame}
 

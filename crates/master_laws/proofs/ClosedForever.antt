@@ -1,11 +1,11 @@
 -- A handle that was closed for good is so behind every list of steps.
 use Rattle.std.proofs.Common.{◌≡◌, ℕ, [], ◌∷◌, false, Ok, Err, refl}
 use Rattle.std.specs.List.{list_any}
-use Rattle.messages_cell.specs.declared.requests.Request.{Request}
+use Rattle.tags_cell.specs.declared.messages.requests.Request.{Request}
 use Rattle.cell_parts.specs.declared.handles.HandleKey.{HandleKey}
 use Rattle.cell_state.specs.State.{MasterState}
 use Rattle.cell_core.specs.Step.{take_step}
-use Rattle.sweep_laws.specs.Sweep.{sweep_step}
+use Rattle.over_core.specs.Sweep.{sweep_step}
 use Rattle.master_laws.specs.Closed.{asks_to_open, IsClosedForGood, MasterStep, left_by, master_behind, step_opens, ClosedForGoodForever}
 use Rattle.master_laws.specs.Closed.MasterStep.{Takes, Sweeps}
 use Rattle.master_laws.proofs.ClosedByMessages.{closed_for_good_by_messages}

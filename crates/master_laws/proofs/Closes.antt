@@ -6,12 +6,12 @@ use Rattle.std.specs.BTreeMap.{is_at, insert_entry}
 use Rattle.std.proofs.lemmas.List.Elements.{Contains-push, Contains-append_left}
 use Rattle.plain.proofs.Entries.{lookup_put}
 use Rattle.tags_cell.specs.Handles.{read_handle}
-use Rattle.messages_cell.specs.declared.calls.Call.TheVariants as calls
+use Rattle.tags_cell.specs.declared.messages.calls.Call.TheVariants as calls
 use Rattle.tags_cell.specs.declared.handles.Handle.{Handle}
-use Rattle.messages_cell.specs.declared.outs.CallResult.TheVariants as results
-use Rattle.messages_cell.specs.declared.outs.Out.{Out}
-use Rattle.messages_cell.specs.declared.outs.Out.TheVariants as outs
-use Rattle.messages_cell.specs.declared.outs.Reply.{Reply}
+use Rattle.tags_cell.specs.declared.messages.outs.CallResult.TheVariants as results
+use Rattle.tags_cell.specs.declared.messages.outs.Out.{Out}
+use Rattle.tags_cell.specs.declared.messages.outs.Out.TheVariants as outs
+use Rattle.tags_cell.specs.declared.messages.outs.Reply.{Reply}
 use Rattle.cell_parts.specs.Keys.{handle_order}
 use Rattle.cell_parts.specs.declared.handles.HandleKey.{HandleKey}
 use Rattle.cell_parts.specs.declared.handles.HandleState.{HandleState}
@@ -22,16 +22,16 @@ use Rattle.cell_state.specs.State.{MasterState}
 use Rattle.cell_parts.specs.Keys.{key_of}
 use Rattle.cell_state.specs.Lookups.{noted, reply_of}
 use Rattle.cell_parts.proofs.PlacedHandles.{exact_handle, same_handle}
-use Rattle.sweep_plan.specs.declared.plans.Plan.{Plan}
-use Rattle.sweep_laws.specs.declared.swept.Swept.{Swept}
-use Rattle.cell_apply.specs.Effect.{close_at, handle_effect, effect}
-use Rattle.cell_update.specs.Replies.{sent}
-use Rattle.cell_apply.specs.Outcomes.{locking_replies}
-use Rattle.sweep_laws.specs.Sweep.{sweep_step}
+use Rattle.over_core.specs.declared.plans.Plan.{Plan}
+use Rattle.over_core.specs.declared.swept.Swept.{Swept}
+use Rattle.cell_core.specs.Effect.{close_at, handle_effect, effect}
+use Rattle.cell_state.specs.Replies.{sent}
+use Rattle.cell_core.specs.Outcomes.{locking_replies}
+use Rattle.over_core.specs.Sweep.{sweep_step}
 use Rattle.master_laws.specs.Steps.{IsBeingApplied}
 use Rattle.master_laws.specs.Closed.{CloseCloses}
 use Rattle.master_laws.proofs.AfterSweeps.{done_handles}
-use Rattle.sweep_laws.proofs.SweepCases.{does_first}
+use Rattle.over_core.proofs.SweepCases.{does_first}
 use Rattle.master_laws.proofs.Applications.{plan_for, done_as, done_so}
 
 -- what is noted of a handle is what is known of it

@@ -11,8 +11,8 @@ use Rattle.std.proofs.lemmas.List.Sums.{sum_by-cons}
 use Rattle.gate_core.specs.declared.pending.Pending.{Pending}
 use Rattle.gate_core.specs.declared.pending.Waiting.{Waiting}
 use Rattle.gate_core.specs.Gate.{is_numbered, without}
-use Rattle.messages_cell.specs.declared.calls.Call.{Call}
-use Rattle.messages_cell.specs.declared.calls.Call.TheVariants as calls
+use Rattle.tags_cell.specs.declared.messages.calls.Call.{Call}
+use Rattle.tags_cell.specs.declared.messages.calls.Call.TheVariants as calls
 use Rattle.cell_parts.specs.declared.handles.HandleKey.{HandleKey}
 use Rattle.cell_parts.specs.declared.pending.Task.{Task}
 use Rattle.cell_parts.specs.declared.pending.Task.TheVariants as tasks
@@ -21,7 +21,7 @@ use Rattle.cell_parts.specs.declared.pending.Work.TheVariants as works
 use Rattle.cell_state.specs.State.{MasterState, task_at}
 use Rattle.cell_parts.specs.Keys.{key_of}
 use Rattle.cell_state.specs.Lookups.{kept_of, noted}
-use Rattle.sweep_laws.specs.Kept.{IsOwnTask, IsOwnCall, is_call, is_call_by, call_count, waits_count, is_unanswered, unanswered}
+use Rattle.over_core.specs.Kept.{IsOwnTask, IsOwnCall, is_call, is_call_by, call_count, waits_count, is_unanswered, unanswered}
 use Rattle.master_laws.specs.Closed.{opens_as, work_opens, task_opens, waits_to_open, CloseClosesForGood}
 use Rattle.master_laws.proofs.AfterSweeps.{done_gate}
 use Rattle.master_laws.proofs.Closes.{close_plan, closed_so, close_closes}

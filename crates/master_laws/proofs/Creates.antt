@@ -13,22 +13,22 @@ use Rattle.node_core.specs.declared.refusals.Fault.{Fault}
 use Rattle.node_core.specs.declared.refusals.Fault.TheVariants as faults
 use Rattle.node_core.specs.declared.nodes.Node.{Node}
 use Rattle.tags_cell.specs.Handles.{is_ordinal, handle_bytes}
-use Rattle.messages_cell.specs.declared.calls.Create.{Create}
-use Rattle.messages_cell.specs.declared.calls.Disposition.{Disposition}
-use Rattle.messages_cell.specs.declared.calls.Disposition.TheVariants.{May, Must}
-use Rattle.messages_cell.specs.declared.calls.NewNode.{NewNode}
-use Rattle.messages_cell.specs.declared.calls.NewNode.TheVariants as made
-use Rattle.messages_cell.specs.declared.calls.Open.{Open}
+use Rattle.tags_cell.specs.declared.messages.calls.Create.{Create}
+use Rattle.tags_cell.specs.declared.messages.calls.Disposition.{Disposition}
+use Rattle.tags_cell.specs.declared.messages.calls.Disposition.TheVariants.{May, Must}
+use Rattle.tags_cell.specs.declared.messages.calls.NewNode.{NewNode}
+use Rattle.tags_cell.specs.declared.messages.calls.NewNode.TheVariants as made
+use Rattle.tags_cell.specs.declared.messages.calls.Open.{Open}
 use Rattle.tags_cell.specs.declared.handles.Handle.{Handle}
-use Rattle.messages_cell.specs.declared.outs.CallResult.{CallResult}
-use Rattle.messages_cell.specs.declared.outs.CallResult.TheVariants as results
-use Rattle.messages_cell.specs.declared.outs.NewHandle.{NewHandle}
+use Rattle.tags_cell.specs.declared.messages.outs.CallResult.{CallResult}
+use Rattle.tags_cell.specs.declared.messages.outs.CallResult.TheVariants as results
+use Rattle.tags_cell.specs.declared.messages.outs.NewHandle.{NewHandle}
 use Rattle.cell_state.specs.NameSpace.{name_space, caller}
 use Rattle.cell_state.specs.State.{MasterState}
 use Rattle.cell_state.specs.Lookups.{may, missing_right, is_of_cell, sequencer_fault, new_handle, open_present, plain_open}
 use Rattle.cell_parts.specs.Calls.{is_too_long, create_fault}
-use Rattle.cell_apply.specs.declared.effects.Effect.{Effect}
-use Rattle.cell_apply.specs.Effect.{answered, refused, content_of, is_last, opened_effect, new_node, acls_of, create_made, create_numbered, create_permitted, create_in, create_under, create_new, create_over, create_effect, create_tested, create_under_sequencer, create_here, open_effect, effect}
+use Rattle.cell_core.specs.declared.effects.Effect.{Effect}
+use Rattle.cell_core.specs.Effect.{answered, refused, content_of, is_last, opened_effect, new_node, acls_of, create_made, create_numbered, create_permitted, create_in, create_under, create_new, create_over, create_effect, create_tested, create_under_sequencer, create_here, open_effect, effect}
 use Rattle.master_laws.specs.Opens.{AreCarried}
 use Rattle.master_laws.specs.Makes.{IsWithinLimits, MayMake, MayFind, MayMakeOrFind, MakesOnlyWherePermitted, MakesWherePermitted}
 use Rattle.master_laws.proofs.PlainOpens.{within, not_beyond, permitted_by, none_missing, opened_where, opened}

@@ -9,12 +9,12 @@ use Rattle.node_core.specs.declared.refusals.Fault.{Fault}
 use Rattle.node_core.specs.declared.refusals.Fault.TheVariants as faults
 use Rattle.node_core.specs.declared.nodes.Node.{Node}
 use Rattle.tags_cell.specs.Handles.{is_ordinal, handle_bytes}
-use Rattle.messages_cell.specs.declared.calls.Open.{Open}
+use Rattle.tags_cell.specs.declared.messages.calls.Open.{Open}
 use Rattle.tags_cell.specs.declared.handles.Handle.{Handle}
-use Rattle.messages_cell.specs.declared.outs.CallResult.{CallResult}
-use Rattle.messages_cell.specs.declared.outs.CallResult.TheVariants as results
-use Rattle.messages_cell.specs.declared.outs.NewHandle.{NewHandle}
-use Rattle.messages_cell.specs.declared.requests.CallMessage.{CallMessage}
+use Rattle.tags_cell.specs.declared.messages.outs.CallResult.{CallResult}
+use Rattle.tags_cell.specs.declared.messages.outs.CallResult.TheVariants as results
+use Rattle.tags_cell.specs.declared.messages.outs.NewHandle.{NewHandle}
+use Rattle.tags_cell.specs.declared.messages.requests.CallMessage.{CallMessage}
 use Rattle.cell_parts.specs.Keys.{handle_order}
 use Rattle.cell_parts.specs.declared.handles.HandleState.TheVariants as states
 use Rattle.cell_parts.specs.declared.pending.Taken.{Taken}
@@ -23,7 +23,7 @@ use Rattle.cell_state.specs.State.{MasterState}
 use Rattle.cell_state.specs.Lookups.{noted, missing_right, numbered_handle, open_present, plain_open, opened_answer, opened_note}
 use Rattle.cell_parts.specs.Keys.{key_of}
 use Rattle.cell_parts.specs.Notes.{open_note}
-use Rattle.cell_update.specs.Updates.{with_note}
+use Rattle.cell_state.specs.Updates.{with_note}
 use Rattle.cell_parts.specs.Calls.{is_too_long}
 use Rattle.cell_core.specs.Step.{admission_for}
 use Rattle.master_laws.specs.Opens.{handle_for, GivenHandleIsOpen}

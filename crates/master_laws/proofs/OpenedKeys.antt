@@ -8,7 +8,7 @@ use Rattle.node_core.specs.declared.refusals.Fault.{Fault}
 use Rattle.node_core.specs.declared.refusals.Fault.TheVariants as faults
 use Rattle.node_core.specs.declared.nodes.Node.{Node}
 use Rattle.tags_cell.specs.Handles.{is_ordinal}
-use Rattle.messages_cell.specs.declared.calls.Open.{Open}
+use Rattle.tags_cell.specs.declared.messages.calls.Open.{Open}
 use Rattle.tags_cell.specs.declared.handles.Handle.{Handle}
 use Rattle.cell_parts.specs.Keys.{is_key}
 use Rattle.cell_state.specs.NameSpace.{name_space, caller}

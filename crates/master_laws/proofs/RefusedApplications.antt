@@ -9,9 +9,9 @@ use Rattle.std.specs.Option.{option_map, option_map_or, option_and_then}
 use Rattle.std.proofs.lemmas.Bool.Decides.{nat_tests}
 use Rattle.node_core.specs.declared.refusals.Fault.{Fault}
 use Rattle.rows_cell.specs.declared.tables.Edit.{Edit}
-use Rattle.messages_cell.specs.declared.calls.Call.{Call}
-use Rattle.messages_cell.specs.declared.outs.CallResult.TheVariants as results
-use Rattle.messages_cell.specs.declared.outs.Reply.{Reply}
+use Rattle.tags_cell.specs.declared.messages.calls.Call.{Call}
+use Rattle.tags_cell.specs.declared.messages.outs.CallResult.TheVariants as results
+use Rattle.tags_cell.specs.declared.messages.outs.Reply.{Reply}
 use Rattle.session_core.specs.declared.records.Kept.{Kept}
 use Rattle.session_core.specs.declared.records.Session.{Session}
 use Rattle.session_core.specs.Session.{keeping}
@@ -20,21 +20,21 @@ use Rattle.session_core.specs.Sessions as of_sessions
 use Rattle.session_core.proofs.OneClient.{own_session, other_session, kept_session}
 use Rattle.cell_parts.specs.declared.notices.Telling.{Telling}
 use Rattle.cell_parts.specs.declared.pending.Asked.{Asked}
-use Rattle.cell_update.specs.Updates.{edits_of}
+use Rattle.cell_state.specs.Updates.{edits_of}
 use Rattle.cell_state.specs.NameSpace.{name_space, caller}
 use Rattle.cell_state.specs.Notices.{with_telling}
 use Rattle.cell_state.specs.State.{MasterState}
 use Rattle.cell_state.specs.Lookups.{reply_of, noted}
 use Rattle.cell_parts.specs.Answered.{answered_by}
-use Rattle.sweep_plan.specs.declared.plans.Plan.{Plan}
-use Rattle.cell_apply.specs.Effect.{refused, effect}
-use Rattle.sweep_plan.specs.Plans.{tellings_of}
-use Rattle.sweep_plan.specs.Plans.{first_action}
-use Rattle.sweep_laws.specs.Sweep.{swept, action_edits, is_over}
-use Rattle.sweep_laws.proofs.ToldSessions.{reads_told, lease_told}
+use Rattle.over_core.specs.declared.plans.Plan.{Plan}
+use Rattle.cell_core.specs.Effect.{refused, effect}
+use Rattle.over_core.specs.Plans.{tellings_of}
+use Rattle.over_core.specs.Plans.{first_action}
+use Rattle.over_core.specs.Sweep.{swept, action_edits, is_over}
+use Rattle.over_core.proofs.ToldSessions.{reads_told, lease_told}
 use Rattle.master_laws.specs.Steps.{IsBeingApplied}
 use Rattle.master_laws.specs.Refused.{life_of, RefusedApplicationChangesNothing}
-use Rattle.sweep_laws.proofs.SweepCases.{does_first}
+use Rattle.over_core.proofs.SweepCases.{does_first}
 use Rattle.master_laws.proofs.Applications.{plan_for, done_as, planned, done_so}
 use Rattle.master_laws.proofs.TameEffects.{tame}
 

@@ -7,13 +7,13 @@ use Rattle.rights_core.specs.declared.cache_rights.CacheRight.{CacheRight}
 use Rattle.rights_core.specs.declared.grants.Grant.{Grant}
 use Rattle.rights_core.specs.declared.grants.Grant.TheVariants as grants
 use Rattle.rights_core.specs.Rights.{grant_answer, granted, with_granted, new_right}
-use Rattle.messages_cell.specs.declared.calls.Call.TheVariants as calls
-use Rattle.messages_cell.specs.declared.calls.Open.{Open}
-use Rattle.messages_cell.specs.declared.outs.CallResult.{CallResult}
-use Rattle.messages_cell.specs.declared.outs.CallResult.TheVariants as results
-use Rattle.messages_cell.specs.declared.outs.Out.TheVariants as outs
-use Rattle.messages_cell.specs.declared.outs.Reply.{Reply}
-use Rattle.messages_cell.specs.declared.requests.CallMessage.{CallMessage}
+use Rattle.tags_cell.specs.declared.messages.calls.Call.TheVariants as calls
+use Rattle.tags_cell.specs.declared.messages.calls.Open.{Open}
+use Rattle.tags_cell.specs.declared.messages.outs.CallResult.{CallResult}
+use Rattle.tags_cell.specs.declared.messages.outs.CallResult.TheVariants as results
+use Rattle.tags_cell.specs.declared.messages.outs.Out.TheVariants as outs
+use Rattle.tags_cell.specs.declared.messages.outs.Reply.{Reply}
+use Rattle.tags_cell.specs.declared.messages.requests.CallMessage.{CallMessage}
 use Rattle.cell_parts.specs.declared.handles.Note.{Note}
 use Rattle.cell_parts.specs.declared.pending.Taken.{Taken}
 use Rattle.cell_core.specs.Cases.{IsAnswered, IsGranted}
@@ -21,7 +21,7 @@ use Rattle.cell_state.specs.State.{MasterState}
 use Rattle.cell_parts.specs.Answered.{answered_by}
 use Rattle.cell_core.specs.Step.{recorded, replied, granting, with_right, admission_for}
 use Rattle.cell_state.specs.Lookups.{granted_lines, stamped_reply, reply_of, sends, noted}
-use Rattle.cell_update.specs.Updates.{with_note}
+use Rattle.cell_state.specs.Updates.{with_note}
 use Rattle.master_laws.specs.Refused.{first_shown, with_refusal, RefusesCall, RefusedCallChangesNothing, RefusalGrantsAbsenceAlone}
 use Rattle.master_laws.proofs.Answered.{only_one, none_in}
 use Rattle.master_laws.proofs.NewCalls.{NewCase, new_by, new_case}

@@ -14,14 +14,14 @@ use Rattle.node_core.specs.declared.kinds.Right.TheVariants as rights
 use Rattle.node_core.specs.Nodes.{get_node, has_children}
 use Rattle.tags_cell.specs.Handles.{handle_bytes, read_handle}
 use Rattle.tags_cell.specs.declared.handles.Handle.{Handle}
-use Rattle.messages_cell.specs.declared.calls.Open.{Open}
-use Rattle.messages_cell.specs.declared.calls.Create.{Create}
-use Rattle.messages_cell.specs.declared.calls.Disposition.{Disposition}
-use Rattle.messages_cell.specs.declared.calls.Disposition.TheVariants.{May, Must}
-use Rattle.messages_cell.specs.declared.calls.Call.{Call}
-use Rattle.messages_cell.specs.declared.calls.Call.TheVariants as calls
-use Rattle.messages_cell.specs.declared.outs.CallResult.{CallResult}
-use Rattle.messages_cell.specs.declared.outs.CallResult.TheVariants as results
+use Rattle.tags_cell.specs.declared.messages.calls.Open.{Open}
+use Rattle.tags_cell.specs.declared.messages.calls.Create.{Create}
+use Rattle.tags_cell.specs.declared.messages.calls.Disposition.{Disposition}
+use Rattle.tags_cell.specs.declared.messages.calls.Disposition.TheVariants.{May, Must}
+use Rattle.tags_cell.specs.declared.messages.calls.Call.{Call}
+use Rattle.tags_cell.specs.declared.messages.calls.Call.TheVariants as calls
+use Rattle.tags_cell.specs.declared.messages.outs.CallResult.{CallResult}
+use Rattle.tags_cell.specs.declared.messages.outs.CallResult.TheVariants as results
 use Rattle.lock_core.specs.declared.claims.Claim.{Claim}
 use Rattle.lock_core.specs.declared.turns.Turn.{Turn}
 use Rattle.lock_core.specs.declared.turns.Acquired.{Acquired}
@@ -36,9 +36,9 @@ use Rattle.cell_state.specs.Lookups.{may, missing_right, is_of_cell, sequencer_f
 use Rattle.cell_parts.specs.Calls.{create_fault, bytes_of}
 use Rattle.cell_parts.specs.Keys.{key_of}
 use Rattle.cell_parts.specs.Notes.{open_note}
-use Rattle.cell_apply.specs.declared.effects.Effect.{Effect}
-use Rattle.cell_apply.specs.declared.effects.Locking.{Locking}
-use Rattle.cell_apply.specs.Effect.{answered, refused, changes_to, is_last, opened_effect, new_node, acls_of, create_made, create_numbered, create_permitted, create_in, create_under, create_new, create_over, create_effect, create_tested, create_under_sequencer, open_effect, acquire_by, try_by, release_by, close_under, generation_fits, with_content, with_acls, put_at, deleted, delete_at, change_at, change_on, effect_on, handle_effect, effect}
+use Rattle.cell_core.specs.declared.effects.Effect.{Effect}
+use Rattle.cell_core.specs.declared.effects.Locking.{Locking}
+use Rattle.cell_core.specs.Effect.{answered, refused, changes_to, is_last, opened_effect, new_node, acls_of, create_made, create_numbered, create_permitted, create_in, create_under, create_new, create_over, create_effect, create_tested, create_under_sequencer, open_effect, acquire_by, try_by, release_by, close_under, generation_fits, with_content, with_acls, put_at, deleted, delete_at, change_at, change_on, effect_on, handle_effect, effect}
 use Rattle.master_laws.proofs.OpenedKeys.{IsOfCall, new_key, present_key, plain_key}
 use Rattle.master_laws.proofs.ClosedNotes.{AreFair, closes, is_by_open, none_fair, one_fair}
 

@@ -5,14 +5,14 @@ use Rattle.node_core.specs.declared.refusals.Fault.{Fault}
 use Rattle.node_core.specs.declared.refusals.Fault.TheVariants as faults
 use Rattle.rows_cell.specs.declared.tables.Rows.{Rows}
 use Rattle.tags_cell.specs.Handles.{read_handle}
-use Rattle.messages_cell.specs.declared.calls.Call.{Call}
-use Rattle.messages_cell.specs.declared.calls.Call.TheVariants as calls
+use Rattle.tags_cell.specs.declared.messages.calls.Call.{Call}
+use Rattle.tags_cell.specs.declared.messages.calls.Call.TheVariants as calls
 use Rattle.tags_cell.specs.declared.handles.Handle.{Handle}
-use Rattle.messages_cell.specs.declared.outs.CallResult.TheVariants as results
-use Rattle.messages_cell.specs.declared.outs.Out.TheVariants as outs
-use Rattle.messages_cell.specs.declared.requests.CallMessage.{CallMessage}
-use Rattle.messages_cell.specs.declared.requests.Request.{Request}
-use Rattle.messages_cell.specs.declared.requests.Request.TheVariants as requests
+use Rattle.tags_cell.specs.declared.messages.outs.CallResult.TheVariants as results
+use Rattle.tags_cell.specs.declared.messages.outs.Out.TheVariants as outs
+use Rattle.tags_cell.specs.declared.messages.requests.CallMessage.{CallMessage}
+use Rattle.tags_cell.specs.declared.messages.requests.Request.{Request}
+use Rattle.tags_cell.specs.declared.messages.requests.Request.TheVariants as requests
 use Rattle.cell_parts.specs.declared.handles.HandleKey.{HandleKey}
 use Rattle.cell_parts.specs.declared.handles.HandleState.TheVariants as states
 use Rattle.cell_parts.specs.declared.pending.Asked.{Asked}
@@ -27,9 +27,9 @@ use Rattle.cell_state.specs.Lookups.{handle_state_of, noted, reply_of}
 use Rattle.cell_parts.specs.Keys.{key_of}
 use Rattle.cell_parts.specs.Calls.{bytes_of}
 use Rattle.cell_core.specs.Step.{replied, take_step}
-use Rattle.sweep_laws.specs.declared.swept.Swept.{Swept}
-use Rattle.sweep_laws.specs.Kept.{IsKept}
-use Rattle.sweep_laws.specs.Sweep.{sweep_step}
+use Rattle.over_core.specs.declared.swept.Swept.{Swept}
+use Rattle.over_core.specs.Kept.{IsKept}
+use Rattle.over_core.specs.Sweep.{sweep_step}
 use Rattle.master_laws.specs.Steps.{TakesCall, IsBeingApplied}
 
 -- the handle with this key was closed in the master's epoch

@@ -8,17 +8,17 @@ use Rattle.node_core.specs.declared.kinds.Right.TheVariants as rights
 use Rattle.node_core.specs.declared.nodes.Node.{Node}
 use Rattle.rows_cell.specs.declared.tables.Rows.{Rows}
 use Rattle.tags_cell.specs.Handles.{is_ordinal}
-use Rattle.messages_cell.specs.declared.calls.Call.TheVariants as calls
-use Rattle.messages_cell.specs.declared.calls.Create.{Create}
-use Rattle.messages_cell.specs.declared.calls.Disposition.TheVariants as dispositions
-use Rattle.messages_cell.specs.declared.calls.Open.{Open}
-use Rattle.messages_cell.specs.declared.outs.CallResult.TheVariants as results
-use Rattle.messages_cell.specs.declared.outs.NewHandle.{NewHandle}
+use Rattle.tags_cell.specs.declared.messages.calls.Call.TheVariants as calls
+use Rattle.tags_cell.specs.declared.messages.calls.Create.{Create}
+use Rattle.tags_cell.specs.declared.messages.calls.Disposition.TheVariants as dispositions
+use Rattle.tags_cell.specs.declared.messages.calls.Open.{Open}
+use Rattle.tags_cell.specs.declared.messages.outs.CallResult.TheVariants as results
+use Rattle.tags_cell.specs.declared.messages.outs.NewHandle.{NewHandle}
 use Rattle.cell_state.specs.NameSpace.{name_space, caller}
 use Rattle.cell_state.specs.State.{MasterState}
 use Rattle.cell_state.specs.Lookups.{may, is_of_cell}
-use Rattle.cell_apply.specs.Effect.{new_node, acls_of, content_of, effect}
-use Rattle.sweep_laws.specs.Kept.{IsKept}
+use Rattle.cell_core.specs.Effect.{new_node, acls_of, content_of, effect}
+use Rattle.over_core.specs.Kept.{IsKept}
 use Rattle.master_laws.specs.Opens.{ArePermitted, MayOpen, AreCarried}
 
 -- what is written into the new node, and the lock-delay of its handle, are within the limits

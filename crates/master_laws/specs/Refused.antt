@@ -4,16 +4,16 @@ use Rattle.std.specs.Option.{option_map, option_and_then}
 use Rattle.node_core.specs.declared.refusals.Fault.{Fault}
 use Rattle.node_core.specs.declared.refusals.Fault.TheVariants as faults
 use Rattle.gate_core.specs.Gate.{without}
-use Rattle.messages_cell.specs.declared.calls.Call.{Call}
-use Rattle.messages_cell.specs.declared.calls.Call.TheVariants as calls
-use Rattle.messages_cell.specs.declared.calls.Open.{Open}
-use Rattle.messages_cell.specs.declared.outs.CallResult.TheVariants as results
-use Rattle.messages_cell.specs.declared.outs.Out.TheVariants as outs
-use Rattle.messages_cell.specs.declared.outs.Refused.{Refused}
-use Rattle.messages_cell.specs.declared.outs.Reply.{Reply}
-use Rattle.messages_cell.specs.declared.requests.CallMessage.{CallMessage}
-use Rattle.messages_cell.specs.declared.requests.Request.{Request}
-use Rattle.messages_cell.specs.declared.requests.Request.TheVariants as requests
+use Rattle.tags_cell.specs.declared.messages.calls.Call.{Call}
+use Rattle.tags_cell.specs.declared.messages.calls.Call.TheVariants as calls
+use Rattle.tags_cell.specs.declared.messages.calls.Open.{Open}
+use Rattle.tags_cell.specs.declared.messages.outs.CallResult.TheVariants as results
+use Rattle.tags_cell.specs.declared.messages.outs.Out.TheVariants as outs
+use Rattle.tags_cell.specs.declared.messages.outs.Refused.{Refused}
+use Rattle.tags_cell.specs.declared.messages.outs.Reply.{Reply}
+use Rattle.tags_cell.specs.declared.messages.requests.CallMessage.{CallMessage}
+use Rattle.tags_cell.specs.declared.messages.requests.Request.{Request}
+use Rattle.tags_cell.specs.declared.messages.requests.Request.TheVariants as requests
 use Rattle.session_core.specs.declared.records.Session.{Session}
 use Rattle.cell_parts.specs.declared.handles.Note.{Note}
 use Rattle.cell_parts.specs.declared.pending.Asked.{Asked}
@@ -24,10 +24,10 @@ use Rattle.cell_state.specs.State.{MasterState}
 use Rattle.cell_state.specs.Lookups.{session_of, kept_of, sends, reply_of, shown_handle, noted}
 use Rattle.cell_parts.specs.Answered.{answered_by}
 use Rattle.cell_core.specs.Step.{recorded, with_right, shown_note, take_step}
-use Rattle.cell_update.specs.Updates.{with_note}
-use Rattle.sweep_laws.specs.declared.swept.Swept.{Swept}
-use Rattle.cell_apply.specs.Effect.{effect}
-use Rattle.sweep_laws.specs.Sweep.{sweep_edits, sweep_step}
+use Rattle.cell_state.specs.Updates.{with_note}
+use Rattle.over_core.specs.declared.swept.Swept.{Swept}
+use Rattle.cell_core.specs.Effect.{effect}
+use Rattle.over_core.specs.Sweep.{sweep_edits, sweep_step}
 use Rattle.master_laws.specs.Steps.{IsBeingApplied}
 use Rattle.master_laws.specs.Closed.{shown_bytes}
 

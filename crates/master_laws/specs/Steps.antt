@@ -1,11 +1,11 @@
 -- What a master does with a call: what it answers at once, and whose turn it is in a sweep.
 use Rattle.std.specs.Prelude.{◌≡◌, ℕ, true, false, List, Contains, Option, Some, Ok}
-use Rattle.messages_cell.specs.declared.calls.Call.{Call}
-use Rattle.messages_cell.specs.declared.requests.CallMessage.{CallMessage}
-use Rattle.messages_cell.specs.declared.requests.Request.TheVariants as requests
-use Rattle.messages_cell.specs.declared.outs.CallResult.{CallResult}
-use Rattle.messages_cell.specs.declared.outs.Out.TheVariants as outs
-use Rattle.messages_cell.specs.declared.outs.Reply.{Reply}
+use Rattle.tags_cell.specs.declared.messages.calls.Call.{Call}
+use Rattle.tags_cell.specs.declared.messages.requests.CallMessage.{CallMessage}
+use Rattle.tags_cell.specs.declared.messages.requests.Request.TheVariants as requests
+use Rattle.tags_cell.specs.declared.messages.outs.CallResult.{CallResult}
+use Rattle.tags_cell.specs.declared.messages.outs.Out.TheVariants as outs
+use Rattle.tags_cell.specs.declared.messages.outs.Reply.{Reply}
 use Rattle.cell_parts.specs.declared.pending.Asked.{Asked}
 use Rattle.cell_parts.specs.declared.pending.Taken.{Taken}
 use Rattle.cell_parts.specs.declared.pending.Task.TheVariants as tasks
@@ -14,8 +14,8 @@ use Rattle.cell_state.specs.State.{MasterState, task_at}
 use Rattle.cell_state.specs.Lookups.{is_live, noted}
 use Rattle.cell_core.specs.Step.{take_step}
 use Rattle.cell_core.specs.Cases.{IsNew}
-use Rattle.sweep_plan.specs.declared.actions.Action.TheVariants as actions
-use Rattle.sweep_plan.specs.Plans.{first_action}
+use Rattle.over_core.specs.declared.actions.Action.TheVariants as actions
+use Rattle.over_core.specs.Plans.{first_action}
 
 -- at a moment a master takes a call that is new, of a live session of its epoch, and isn't in recovery
 pub record TakesCall (s : MasterState) (now : ℕ) (message : CallMessage) (new : MasterState) (taken : Taken) : Type 0 where

@@ -1,12 +1,12 @@
 -- A session that a plan begins is not there yet.
 use Rattle.std.proofs.Common.{◌≡◌, Result, Ok, Err, sym, subst, rules}
 use Rattle.std.specs.Prelude.{IfOk}
-use Rattle.cell_update.specs.declared.updates.Update.{Update}
-use Rattle.cell_update.specs.Updates.{BeginsNew}
+use Rattle.cell_state.specs.declared.updates.Update.{Update}
+use Rattle.cell_state.specs.Updates.{BeginsNew}
 use Rattle.cell_state.specs.State.{MasterState}
-use Rattle.sweep_plan.specs.declared.actions.Action.{Action}
-use Rattle.sweep_plan.specs.declared.plans.Plan.{Plan}
-use Rattle.sweep_plan.specs.Plans.{plan_of}
+use Rattle.over_core.specs.declared.actions.Action.{Action}
+use Rattle.over_core.specs.declared.plans.Plan.{Plan}
+use Rattle.over_core.specs.Plans.{plan_of}
 
 begins_new : (s : MasterState) (action : Action) → BeginsNew s (plan_of s action).update.session
 begins_new s action = search rules

@@ -4,10 +4,10 @@ use Rattle.std.specs.Prelude.{◌⊎◌, IfOk, IfErr, OnOk, OnErr}
 use Rattle.node_core.specs.declared.refusals.Fault.{Fault}
 use Rattle.rows_cell.specs.Stores.{Store, IsCommitted, IsRefused}
 use Rattle.cell_state.specs.State.{MasterState}
-use Rattle.sweep_laws.specs.Kept.{CellState, IsKept}
-use Rattle.sweep_laws.specs.Sweep.{sweep_edits, sweep_step, swept_as}
-use Rattle.sweep_laws.proofs.KeptBySweeps.{swept_kept}
-use Rattle.sweep_laws.proofs.SweepRefused.{refused_so}
+use Rattle.over_core.specs.Kept.{CellState, IsKept}
+use Rattle.over_core.specs.Sweep.{sweep_edits, sweep_step, swept_as}
+use Rattle.over_core.proofs.KeptBySweeps.{swept_kept}
+use Rattle.over_core.proofs.SweepRefused.{refused_so}
 use Rattle.over_core.specs.declared.sweeps.SweptThrice.{SweptThrice}
 
 pub thrice_kept : (old new : Store) (s after : MasterState) (now : ℕ) (result : Result SweptThrice Fault) → IsKept old.cell old.rows s → IfOk result (λ t. sweep_step s now ≡ Ok (after, swept_as t.answers t.quiet)) → OnOk result (IsCommitted (sweep_edits s now) old new) → OnErr result (after ≡ s) → IfErr result (λ e. (sweep_step s now ≡ Err e × new ≡ old) ⊎ IsRefused e (sweep_edits s now) old new) → IsKept new.cell new.rows after

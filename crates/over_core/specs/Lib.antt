@@ -1,14 +1,31 @@
+pub use Rattle.lock_core.specs.Locks as LockTables
+pub use Rattle.cell_state.specs.State
+pub use Rattle.cell_state.specs.Lookups
+pub use Rattle.cell_core.specs.Ephemerals
+pub use Rattle.cell_state.specs.Updates
+pub use Rattle.cell_state.specs.Replies
+pub use Rattle.cell_state.specs.Lapses
+pub use Rattle.cell_core.specs.Effect
+pub use Rattle.cell_core.specs.Outcomes
+pub use Rattle.cell_core.specs.ChangeNotices as Notices
 pub use Rattle.plain.specs.Results
 pub use Rattle.names_cell.specs.Text
 pub use Rattle.node_core.specs.Nodes
 pub use Rattle.rows_cell.specs.Rows
 pub use Rattle.rows_cell.specs.Sound
 pub use Rattle.rows_cell.specs.Stores
-pub use Rattle.cell_state.specs.State
+pub use Rattle.rows_cell.specs.LockRows
+pub use Rattle.rows_cell.specs.Indexes
+pub use Rattle.rights_core.specs.Rights
+pub use Rattle.rights_core.specs.Grants
+pub use Rattle.lock_core.specs.State as LockStates
+pub use Rattle.lock_core.specs.Turns
+pub use Rattle.cell_parts.specs.Locks
 pub use Rattle.cell_core.specs.Step
-pub use Rattle.cell_update.specs.Updates
-pub use Rattle.sweep_plan.specs.Plans
-pub use Rattle.sweep_laws.specs.Kept
-pub use Rattle.sweep_laws.specs.Sweep
-pub use Rattle.sweep_laws.specs.Up
-pub use Rattle.deadline_core.specs.Deadlines
+pub use Rattle.cell_core.specs.Cases
+pub mod Plans
+pub mod Kept
+pub mod Sweep
+pub mod SweepCase
+pub mod Up
+pub mod Deadlines

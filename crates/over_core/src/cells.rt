@@ -10,25 +10,25 @@ ghost use Rattle.rows_cell.specs.Rows.{changed_rows};
 ghost use Rattle.rows_cell.specs.Sound.{sound};
 ghost use Rattle.cell_core.specs.Step.{take_step};
 ghost use Rattle.rows_cell.specs.Stores.{Commits, IsCommitted, IsRead, IsRefused, IsUnread};
-ghost use Rattle.sweep_laws.specs.Sweep.{sweep_step, sweep_edits, swept_as};
+ghost use Rattle.over_core.specs.Sweep.{sweep_step, sweep_edits, swept_as};
 ghost use Rattle.rights_core.specs.Rights.{totals_of};
-ghost use Rattle.sweep_laws.specs.Kept.{IsKept};
-ghost use Rattle.sweep_laws.specs.Up.{up_edits, next_epoch, ComesUp, StaysDown, CouldComeUp, CouldNotComeUp};
-ghost use Rattle.deadline_core.specs.Deadlines.{IsDeadline};
+ghost use Rattle.over_core.specs.Kept.{IsKept};
+ghost use Rattle.over_core.specs.Up.{up_edits, next_epoch, ComesUp, StaysDown, CouldComeUp, CouldNotComeUp};
+ghost use Rattle.over_core.specs.Deadlines.{IsDeadline};
 
 use crate::sweeps::{SweptThrice, sweep_by, sweep_thrice_by};
+use crate::swept::Swept;
 use cell_core::Thrice;
 use cell_parts::Taken;
 use cell_state::Master;
 use lease_core::MOMENT_LIMIT;
-use messages_cell::Request;
 use node_core::{Fault, Line, NUMBER_LIMIT};
 use plain::Items;
 use rights_core::Totals;
 use rows_cell::{Edit, Records, Rows};
 use std::alloc::{AllocError, Global};
 use std::marker::Model;
-use sweep_laws::Swept;
+use tags_cell::Request;
 
 /// A master of a cell with the records that outlive it (Burrows 2006, sections 2.7 and 2.9). To a contract, what the
 /// master is, the name of its cell, the rows that stand, the rows that a crash may leave, how often the store refused, and
@@ -40,7 +40,7 @@ pub struct Cell<R: Records> {
 }
 
 impl<R: Records> Model for Cell<R> {
-    ghost use Rattle.sweep_laws.specs.Kept.{CellState, IsKept};
+    ghost use Rattle.over_core.specs.Kept.{CellState, IsKept};
 
     ghost Value = { CellState };
 
@@ -164,7 +164,7 @@ impl<R: Records> Cell<R> {
         ensures deadline { IfOk result (IsDeadline self.old.master) }
         ensures same { self.new ≡ self.old }
     {
-        deadline_core::next_deadline(&mut self.master)
+        crate::deadlines::next_deadline(&mut self.master)
     }
 
     /// How many rights were granted in this master's epoch, and how many of them stand in each way. Takes no memory.

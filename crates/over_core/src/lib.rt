@@ -1,10 +1,23 @@
-//! A master over its records: it comes up, takes messages, sweeps, and goes.
+//! A master over its records: it comes up, takes messages, sweeps, and goes. A sweep and a coming up are tables, with one case
+//! for each of their arms; and a master tells when it has something to do next.
 #![tactic(auto)]
 
+mod actions;
 mod cells;
+mod deadlines;
+mod lapses;
+mod laws;
+mod plans;
 mod sweeps;
+mod swept;
+mod tellings;
 
+pub use actions::{Action, first_action};
 pub use cell_parts::Taken;
 pub use cells::Cell;
-pub use sweep_laws::Swept;
+pub use deadlines::next_deadline;
+pub use laws::quiet_tells_of_sweeps;
+pub use plans::{Plan, plan_of};
 pub use sweeps::SweptThrice;
+pub use swept::Swept;
+pub use tellings::tellings_of;

@@ -5,23 +5,24 @@ ghost use Rattle.rows_cell.specs.Rows.{changed_rows};
 ghost use Rattle.rows_cell.specs.Sound.{sound};
 ghost use Rattle.rows_cell.specs.Stores.{Commits, IsCommitted, IsRefused};
 ghost use Rattle.gate_core.specs.Gate.{push_answer};
-ghost use Rattle.cell_update.specs.Updates.{BeginsNew, edits_of, done};
+ghost use Rattle.cell_state.specs.Updates.{BeginsNew, edits_of, done};
 ghost use Rattle.cell_core.specs.Ephemerals.{is_ok, tidied};
-ghost use Rattle.sweep_plan.specs.Plans.{tellings_of, first_action, plan_of};
-ghost use Rattle.sweep_laws.specs.Sweep.{is_quiet, done_and_told, swept, swept_as, action_edits, is_over, sweep_edits, sweep_step};
+ghost use Rattle.over_core.specs.Plans.{tellings_of, first_action, plan_of};
+ghost use Rattle.over_core.specs.Sweep.{is_quiet, done_and_told, swept, swept_as, action_edits, is_over, sweep_edits, sweep_step};
 
+use crate::actions::{Action, first_action};
+use crate::plans::{Plan, plan_of};
+use crate::swept::Swept;
+use crate::tellings::tellings_of;
 use cell_core::{Answers, Cell, Thrice};
 use cell_parts::{Idle, Taken, Telling};
-use cell_state::Master;
-use cell_update::{Grown, Update, edits_of};
+use cell_state::{Grown, Master, Update, edits_of};
 use lease_core::MOMENT_LIMIT;
-use messages_cell::Out;
 use node_core::{Fault, Line};
 use plain::Items;
 use rows_cell::{Edit, Records};
 use std::alloc::AllocError;
-use sweep_laws::Swept;
-use sweep_plan::{Action, Plan, first_action, plan_of, tellings_of};
+use tags_cell::Out;
 
 // What is planned for an action, its answer as often as it is wanted, and what the clients of open handles are told of it.
 struct Prepared<A: Answers> {
@@ -91,7 +92,7 @@ pub(crate) fn sweep_thrice_by<R: Records>(
 }
 
 // The same, its answer as often as it is wanted.
-#[tactic(auto, unfolding(sweep_laws::specs::Sweep::sweep_step))]
+#[tactic(auto, unfolding(crate::specs::Sweep::sweep_step))]
 fn sweep_as<R: Records, A: Answers, T>(
     cell: &mut Cell,
     records: &mut R,

@@ -31,38 +31,29 @@ fn push(queue: &mut EventQueue, count: u64) {
     }
 }
 
-fn first(alloc: Global, queue: &EventQueue) -> Result<u64, Fault> {
+// Of the events that wait: how many, the numbers of the first and the last, and whether the last says that some were missed.
+fn waiting(alloc: Global, queue: &EventQueue) -> Result<[u64; 4], Fault> {
     let waiting = queue.unacked(alloc)?;
-    Ok(match waiting.as_slice().first() {
-        None => 0,
-        Some(first) => first.number,
-    })
-}
-
-fn last(alloc: Global, queue: &EventQueue) -> Result<u64, Fault> {
-    let waiting = queue.unacked(alloc)?;
-    Ok(match waiting.as_slice().last() {
-        None => 0,
-        Some(last) => last.number,
-    })
-}
-
-fn is_lost(alloc: Global, queue: &EventQueue) -> Result<u64, Fault> {
-    let waiting = queue.unacked(alloc)?;
-    Ok(match waiting.as_slice().last() {
-        None => 0,
-        Some(last) => u64::from(matches!(&last.event, Event::Lost)),
-    })
+    let count = waiting.len() as u64;
+    Ok(
+        match (waiting.as_slice().first(), waiting.as_slice().last()) {
+            (Some(first), Some(last)) => {
+                let lost = u64::from(matches!(&last.event, Event::Lost));
+                [count, first.number, last.number, lost]
+            }
+            _ => [0; 4],
+        },
+    )
 }
 
 fn does(alloc: Global, queue: &mut EventQueue, step: Step) -> Result<u64, Fault> {
     match step {
         Step::Push(count) => push(queue, count),
         Step::Acknowledge(number) => queue.acknowledge(number)?,
-        Step::Waiting => return Ok(queue.unacked(alloc)?.len() as u64),
-        Step::First => return first(alloc, queue),
-        Step::Last => return last(alloc, queue),
-        Step::IsLost => return is_lost(alloc, queue),
+        Step::Waiting => return Ok(waiting(alloc, queue)?[0]),
+        Step::First => return Ok(waiting(alloc, queue)?[1]),
+        Step::Last => return Ok(waiting(alloc, queue)?[2]),
+        Step::IsLost => return Ok(waiting(alloc, queue)?[3]),
         Step::Count => return Ok(queue.count()),
         Step::Owes => return Ok(u64::from(queue.owes())),
     }

@@ -1,15 +1,28 @@
-//! Tests of sessions and their events, and of masters and clients by themselves, as tables.
+//! Tests of the lowest crates by their calls: lists and tables, names and lines, messages' numbers, leases, locks, rights and the
+//! gate, the client's cache, sessions and their events, a new store's rows.
 #![tactic(auto)]
 
 #[cfg(test)]
+mod caches;
+#[cfg(test)]
+mod containers;
+#[cfg(test)]
 mod events;
 #[cfg(test)]
-mod listings;
+mod leases;
 #[cfg(test)]
-mod masters;
+mod lines;
 #[cfg(test)]
-mod moments;
+mod locks;
 #[cfg(test)]
-mod parts;
+mod messages;
+#[cfg(test)]
+mod names;
+#[cfg(test)]
+mod queues;
+#[cfg(test)]
+mod rights;
+#[cfg(test)]
+mod rows;
 #[cfg(test)]
 mod sessions;

@@ -1,12 +1,11 @@
 //! Sessions: Starts, Beats, events, what was issued and acknowledged, the last call, expiry, and a new master. The lease is
 //! 12,000 ms.
-use messages_cell::Beat;
 use names_cell::Principal;
 use node_core::{Event, Fault};
 use session_core::{Kept, Sessions};
 use std::alloc::Global;
 use std::process::Abort;
-use tags_cell::{ClientNumber, MessageNumber};
+use tags_cell::{Beat, ClientNumber, MessageNumber};
 
 const LEASE: u64 = 12_000;
 
@@ -131,28 +130,21 @@ fn tell(sessions: &mut Sessions<u64>, client: u64, count: u64) {
     }
 }
 
-fn last(sessions: &Sessions<u64>, client: u64) -> Result<u64, Fault> {
+// Of the events that wait: how many, the number of the last, and whether the last says that some were missed and the first tells
+// of a new master.
+fn waiting(sessions: &Sessions<u64>, client: u64) -> Result<[u64; 4], Fault> {
     let waiting = sessions.unacked(client)?;
-    Ok(match waiting.as_slice().last() {
-        None => 0,
-        Some(last) => last.number,
-    })
-}
-
-fn is_lost(sessions: &Sessions<u64>, client: u64) -> Result<u64, Fault> {
-    let waiting = sessions.unacked(client)?;
-    Ok(match waiting.as_slice().last() {
-        None => 0,
-        Some(last) => u64::from(matches!(&last.event, Event::Lost)),
-    })
-}
-
-fn is_fail_over(sessions: &Sessions<u64>, client: u64) -> Result<u64, Fault> {
-    let waiting = sessions.unacked(client)?;
-    Ok(match waiting.as_slice().first() {
-        None => 0,
-        Some(first) => u64::from(matches!(&first.event, Event::FailOver)),
-    })
+    let count = waiting.len() as u64;
+    Ok(
+        match (waiting.as_slice().first(), waiting.as_slice().last()) {
+            (Some(first), Some(last)) => {
+                let lost = u64::from(matches!(&last.event, Event::Lost));
+                let told = u64::from(matches!(&first.event, Event::FailOver));
+                [count, last.number, lost, told]
+            }
+            _ => [0; 4],
+        },
+    )
 }
 
 fn reads(sessions: &Sessions<u64>, step: Step) -> Result<u64, Fault> {
@@ -163,10 +155,10 @@ fn reads(sessions: &Sessions<u64>, step: Step) -> Result<u64, Fault> {
         Step::Kept(client, call) => kept(sessions, client, call),
         Step::AllHeard => Ok(u64::from(sessions.all_heard())),
         Step::HasSpentEvents => Ok(u64::from(sessions.has_spent_events())),
-        Step::Waiting(client) => Ok(sessions.unacked(client)?.len() as u64),
-        Step::Last(client) => last(sessions, client),
-        Step::IsLost(client) => is_lost(sessions, client),
-        Step::IsFailOver(client) => is_fail_over(sessions, client),
+        Step::Waiting(client) => Ok(waiting(sessions, client)?[0]),
+        Step::Last(client) => Ok(waiting(sessions, client)?[1]),
+        Step::IsLost(client) => Ok(waiting(sessions, client)?[2]),
+        Step::IsFailOver(client) => Ok(waiting(sessions, client)?[3]),
         Step::IsLive(client) => Ok(u64::from(sessions.is_live(client))),
         _ => Err(Fault::Unknown),
     }
@@ -346,6 +338,80 @@ const TABLES: &[(&str, &[(Step, Result<u64, Fault>)])] = &[
             (Step::Expire(3), Ok(0)),
             (Step::AllHeard, Ok(1)),
             (Step::Expired(61_002), Ok(0)),
+        ],
+    ),
+    // The lease that was offered at 1,500 ends at 13,500, long before the session.
+    (
+        "lease_of_a_new_master",
+        &[
+            (Step::Recover(1, true, 1_000), Ok(0)),
+            (Step::Beat(1, 5, 0, 0, 1_500), Ok(0)),
+            (Step::Answer(1, 1_500), Ok(0)),
+            (Step::Beat(1, 7, 0, 1, 2_000), Ok(0)),
+            (Step::Due(9_749), Ok(0)),
+            (Step::Due(9_750), Ok(1)),
+            (Step::Expired(61_001), Ok(0)),
+            (Step::Expired(61_002), Ok(1)),
+        ],
+    ),
+    // A mark is old 12,000 and 48,000 ms behind the answer that set it.
+    (
+        "who_does_not_let_go",
+        &[
+            (Step::Start(1, "ann", 0, 0), Ok(12_000)),
+            (Step::Issue(1), Ok(0)),
+            (Step::Beat(1, 2, 0, 0, 1_000), Ok(0)),
+            (Step::Answer(1, 1_000), Ok(0)),
+            (Step::Beat(1, 3, 0, 0, 30_000), Ok(0)),
+            (Step::Answer(1, 30_000), Ok(0)),
+            (Step::Beat(1, 4, 0, 0, 60_999), Ok(0)),
+            (Step::Due(60_999), Ok(1)),
+            (Step::Due(61_000), Ok(1)),
+            (Step::Beat(1, 5, 0, 0, 61_000), Ok(0)),
+            (Step::Due(61_000), Ok(0)),
+            (Step::Issue(1), Ok(0)),
+            (Step::Due(72_000), Ok(0)),
+            (Step::Beat(1, 6, 1, 0, 61_000), Ok(0)),
+            (Step::Due(61_000), Ok(1)),
+            (Step::Answer(1, 61_000), Ok(0)),
+            (Step::Beat(1, 7, 1, 0, 120_999), Ok(0)),
+            (Step::Due(120_999), Ok(1)),
+            (Step::Beat(1, 8, 1, 0, 121_000), Ok(0)),
+            (Step::Due(121_000), Ok(0)),
+        ],
+    ),
+    (
+        "who_does_not_hear_of_the_new_master",
+        &[
+            (Step::Recover(1, true, 0), Ok(0)),
+            (Step::Beat(1, 1, 0, 0, 0), Ok(0)),
+            (Step::Answer(1, 0), Ok(0)),
+            (Step::Beat(1, 2, 0, 0, 59_999), Ok(0)),
+            (Step::Due(59_999), Ok(1)),
+            (Step::Beat(1, 3, 0, 0, 60_000), Ok(0)),
+            (Step::Due(60_000), Ok(0)),
+            (Step::Beat(1, 4, 0, 1, 60_000), Ok(0)),
+            (Step::Due(60_000), Ok(1)),
+        ],
+    ),
+    // Events alone, or what came since, hold up nobody.
+    (
+        "who_owes_what_came_since",
+        &[
+            (Step::Start(1, "ann", 0, 0), Ok(12_000)),
+            (Step::Tell(1, 1), Ok(0)),
+            (Step::Beat(1, 2, 0, 0, 0), Ok(0)),
+            (Step::Answer(1, 0), Ok(0)),
+            (Step::Beat(1, 3, 0, 0, 90_000), Ok(0)),
+            (Step::Due(90_000), Ok(1)),
+            (Step::Issue(1), Ok(0)),
+            (Step::Answer(1, 90_000), Ok(0)),
+            (Step::Issue(1), Ok(0)),
+            (Step::Beat(1, 4, 1, 0, 120_000), Ok(0)),
+            (Step::Answer(1, 120_000), Ok(0)),
+            (Step::Issue(1), Ok(0)),
+            (Step::Beat(1, 5, 2, 0, 150_000), Ok(0)),
+            (Step::Due(150_000), Ok(1)),
         ],
     ),
     (

@@ -18,16 +18,16 @@ use Rattle.rows_cell.specs.declared.tables.Edit.TheVariants.{PutNode}
 use Rattle.rows_cell.specs.Rows.{StoredNodes}
 use Rattle.rows_cell.specs.Opening.{opening}
 use Rattle.settings_core.specs.Settings.{Settled}
-use Rattle.rows_schema.specs.OurSchema.{first_schema, the_schema}
+use Rattle.rows_sql.specs.OurSchema.{first_schema, the_schema}
 use Rattle.rows_cell.specs.Sound.{sound}
-use Rattle.rows_schema.specs.declared.ours.Version.{Version}
-use Rattle.rows_schema.specs.declared.ours.Version.TheVariants.{First, Second}
-use Rattle.rows_schema.specs.Versions.{schema_of}
-use Rattle.rows_read.specs.Held.{Says, SaysAs}
-use Rattle.rows_read.specs.Ready.{tables_of, tables_as, IsReady, IsStill, Quiet}
-use Rattle.rows_read.proofs.OneSchema.{one_database}
-use Rattle.rows_edits.specs.Ongoing.{IsStore}
-use Rattle.rows_edits.specs.Creation.{no_schema, puts_of, IsMade, MayOpen}
+use Rattle.rows_sql.specs.declared.schema.ours.Version.{Version}
+use Rattle.rows_sql.specs.declared.schema.ours.Version.TheVariants.{First, Second}
+use Rattle.rows_sql.specs.Versions.{schema_of}
+use Rattle.rows_sql.specs.Held.{Says, SaysAs}
+use Rattle.rows_sql.specs.Ready.{tables_of, tables_as, IsReady, IsStill, Quiet}
+use Rattle.rows_sql.proofs.OneSchema.{one_database}
+use Rattle.rows_sql.specs.Ongoing.{IsStore}
+use Rattle.rows_sql.specs.Creation.{no_schema, puts_of, IsMade, MayOpen}
 use Rattle.rows_sql.specs.Keeping.{Keeps}
 use Rattle.rows_sql.specs.Adopting.{IsAnew, Takes, IsTakenAs, IsForeign, IsAtItsEnd, Adopts, IsOther, IsFull, IsTaken, IsLeftAlone, IsReopened, ComesBack}
 use Rattle.rows_sql.proofs.Opened.{opened}

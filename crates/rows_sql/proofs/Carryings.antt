@@ -11,18 +11,18 @@ use Rattle.sqlite.specs.Held.{Held, state}
 use Rattle.rows_cell.specs.Sound.{sound}
 use Rattle.rows_cell.specs.declared.tables.Rows.{Rows}
 use Rattle.settings_core.specs.Settings.{Settled}
-use Rattle.rows_schema.specs.OurSchema.{first_schema}
-use Rattle.rows_schema.specs.declared.ours.Version.TheVariants.{First}
-use Rattle.rows_read.specs.Held.{Says, SaysAs}
-use Rattle.rows_read.specs.Ready.{tables_of, tables_as, IsReadyAs, IsStillAs, QuietAs}
-use Rattle.rows_read.specs.Children.{Parents, children_of}
-use Rattle.rows_edits.specs.Carrying.{IsFirstStore, IsCarried, MayCarry}
-use Rattle.rows_edits.specs.Creation.{IsStoreOf}
+use Rattle.rows_sql.specs.OurSchema.{first_schema}
+use Rattle.rows_sql.specs.declared.schema.ours.Version.TheVariants.{First}
+use Rattle.rows_sql.specs.Held.{Says, SaysAs}
+use Rattle.rows_sql.specs.Ready.{tables_of, tables_as, IsReadyAs, IsStillAs, QuietAs}
+use Rattle.rows_sql.specs.Children.{Parents, children_of}
+use Rattle.rows_sql.specs.Carrying.{IsFirstStore, IsCarried, MayCarry}
+use Rattle.rows_sql.specs.Creation.{IsStoreOf}
 use Rattle.rows_cell.specs.Rows.{map_of}
-use Rattle.rows_read.proofs.SaidTables.{one_said}
+use Rattle.rows_sql.proofs.SaidTables.{one_said}
 use Rattle.rows_sql.specs.Adopting.{IsAnew, Takes, IsAtItsEnd, IsTaken, IsLeftAlone, carried, CarryingKeeps}
 use Rattle.rows_sql.proofs.Adoptions.{no_first, not_both}
-use Rattle.rows_sql.specs.Carrying.{Becomes, Remains}
+use Rattle.rows_sql.specs.Carryings.{Becomes, Remains}
 
 -- a sound store's epoch that isn't at its end lies below it
 pub epoch_low : (cell : List ℕ) (rows : Rows) → sound cell rows ≡ true → (rows.epoch == number_limit) ≡ false → rows.epoch < number_limit

@@ -13,8 +13,8 @@ use Rattle.sqlite.specs.Held.{Held}
 use Rattle.sqlite.specs.Files.{file_state, IsClosed}
 use Rattle.sqlite.specs.Closing.{IsCopied}
 use Rattle.rows_cell.specs.declared.tables.Rows.{Rows}
-use Rattle.rows_read.specs.Held.{Says}
-use Rattle.rows_read.specs.Ready.{tables_of}
+use Rattle.rows_sql.specs.Held.{Says}
+use Rattle.rows_sql.specs.Ready.{tables_of}
 use Rattle.rows_sql.specs.Keeping.{IsLeft}
 use Rattle.rows_sql.specs.Closed.{StandsAlone}
 

@@ -11,12 +11,12 @@ use Rattle.sqlite.specs.Held.{Held, state}
 use Rattle.rows_cell.specs.declared.tables.Rows.{Rows}
 use Rattle.rows_cell.specs.declared.tables.Edit.{Edit}
 use Rattle.rows_cell.specs.Rows.{changed_rows}
-use Rattle.rows_schema.specs.declared.ours.Version.TheVariants.{Second}
-use Rattle.rows_read.specs.Children.{children_of}
-use Rattle.rows_read.specs.Held.{Says}
-use Rattle.rows_read.specs.Ready.{tables_of, IsReady, IsStill, Quiet}
-use Rattle.rows_read.proofs.SaidTables.{one_said}
-use Rattle.rows_edits.specs.Ongoing.{IsStore, Committed, MayCommit}
+use Rattle.rows_sql.specs.declared.schema.ours.Version.TheVariants.{Second}
+use Rattle.rows_sql.specs.Children.{children_of}
+use Rattle.rows_sql.specs.Held.{Says}
+use Rattle.rows_sql.specs.Ready.{tables_of, IsReady, IsStill, Quiet}
+use Rattle.rows_sql.proofs.SaidTables.{one_said}
+use Rattle.rows_sql.specs.Ongoing.{IsStore, Committed, MayCommit}
 use Rattle.rows_sql.specs.declared.records.Note.{Note}
 use Rattle.rows_sql.specs.Keeping.{Stood, no_rows, noted, stood, IsLeft, Keeps, GoesOn}
 

@@ -6,9 +6,9 @@ use Rattle.sqlite_trees.specs.View.{IsClean, IsOrdered, doubt}
 use Rattle.sqlite.specs.State.{HasCleanDisk, Opens, IsLive}
 use Rattle.sqlite.specs.Held.{Held, state}
 use Rattle.sqlite.specs.Steps.{IsFresh}
-use Rattle.rows_schema.specs.OurSchema.{first_schema, the_schema}
-use Rattle.rows_edits.specs.Ongoing.{IsStore}
-use Rattle.rows_edits.specs.Carrying.{IsFirstStore}
+use Rattle.rows_sql.specs.OurSchema.{first_schema, the_schema}
+use Rattle.rows_sql.specs.Ongoing.{IsStore}
+use Rattle.rows_sql.specs.Carrying.{IsFirstStore}
 use Rattle.rows_sql.proofs.Shaped.{is_store, is_first_store}
 
 -- what is known of an unbroken store that was opened anew

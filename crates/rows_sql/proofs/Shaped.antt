@@ -18,9 +18,9 @@ use Rattle.sqlite_rules.specs.Lists.{Has}
 use Rattle.sqlite_rules.proofs.ListLemmas.{has_filtered}
 use Rattle.sqlite_rules.proofs.PlaceLemmas.{row_at_is}
 use Rattle.sqlite.specs.Effect.{Database, IsDatabase}
-use Rattle.rows_schema.specs.OurSchema.{first_schema, the_schema, meta, nodes, sessions, locks, children}
-use Rattle.rows_edits.specs.Ongoing.{IsStore}
-use Rattle.rows_edits.specs.Carrying.{IsFirstStore}
+use Rattle.rows_sql.specs.OurSchema.{first_schema, the_schema, meta, nodes, sessions, locks, children}
+use Rattle.rows_sql.specs.Ongoing.{IsStore}
+use Rattle.rows_sql.specs.Carrying.{IsFirstStore}
 
 zip_has : {A B : Type 0} (R : A → B → Type 0) (xs : List A) (ys : List B) (y : B) → AllZip R xs ys → Has ys y → (x : A) × Has xs x × R x y
 zip_has R [] [] y z h = absurd h

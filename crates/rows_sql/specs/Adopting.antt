@@ -12,13 +12,13 @@ use Rattle.rows_cell.specs.declared.tables.Rows.{Rows}
 use Rattle.node_core.specs.Limits.{number_limit}
 use Rattle.rows_cell.specs.Sound.{sound}
 use Rattle.rows_cell.specs.Rows.{map_of}
-use Rattle.rows_schema.specs.OurSchema.{first_schema, the_schema}
-use Rattle.rows_schema.specs.declared.ours.Version.TheVariants.{First}
-use Rattle.rows_read.specs.Held.{Says, SaysAs}
-use Rattle.rows_read.specs.Ready.{tables_of, tables_as}
-use Rattle.rows_edits.specs.Ongoing.{IsStore}
-use Rattle.rows_edits.specs.Creation.{no_schema}
-use Rattle.rows_edits.specs.Carrying.{IsFirstStore}
+use Rattle.rows_sql.specs.OurSchema.{first_schema, the_schema}
+use Rattle.rows_sql.specs.declared.schema.ours.Version.TheVariants.{First}
+use Rattle.rows_sql.specs.Held.{Says, SaysAs}
+use Rattle.rows_sql.specs.Ready.{tables_of, tables_as}
+use Rattle.rows_sql.specs.Ongoing.{IsStore}
+use Rattle.rows_sql.specs.Creation.{no_schema}
+use Rattle.rows_sql.specs.Carrying.{IsFirstStore}
 
 -- a connection that was just opened: nothing is begun, and of a store the rowids of each table rise
 pub record IsAnew (s : State) : Type 0 where

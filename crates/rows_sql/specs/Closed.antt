@@ -7,8 +7,8 @@ use Rattle.sqlite_trees.specs.Tree.{Trees}
 use Rattle.sqlite.specs.Files.{image_of}
 use Rattle.sqlite.specs.Closing.{HoldsAlone}
 use Rattle.rows_cell.specs.declared.tables.Rows.{Rows}
-use Rattle.rows_read.specs.Held.{Says}
-use Rattle.rows_read.specs.Ready.{tables_of}
+use Rattle.rows_sql.specs.Held.{Says}
+use Rattle.rows_sql.specs.Ready.{tables_of}
 
 -- the database file alone holds a database whose tables say these rows, as the files read now and after a crash
 pub record StandsAlone {D : Type 0} (g : Ghosts D) (files : Files D) (rows : Rows) : Type 0 where

@@ -10,9 +10,9 @@ use Rattle.sqlite.specs.Held.{Held, state}
 use Rattle.rows_cell.specs.declared.tables.Rows.{Rows}
 use Rattle.rows_cell.specs.declared.tables.Edit.{Edit}
 use Rattle.rows_cell.specs.Rows.{changed_rows}
-use Rattle.rows_read.specs.Held.{Says}
-use Rattle.rows_read.specs.Ready.{tables_of, IsSettled, Rests}
-use Rattle.rows_edits.specs.Ongoing.{IsStore}
+use Rattle.rows_sql.specs.Held.{Says}
+use Rattle.rows_sql.specs.Ready.{tables_of, IsSettled, Rests}
+use Rattle.rows_sql.specs.Ongoing.{IsStore}
 use Rattle.rows_sql.specs.declared.records.Note.{Note}
 use Rattle.rows_sql.specs.declared.records.Note.TheVariants.{Adopted, Read, Done, Tried}
 

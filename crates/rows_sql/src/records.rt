@@ -4,14 +4,14 @@ ghost use Rattle.sqlite_trees.specs.View.{doubt, IsClean};
 ghost use Rattle.sqlite.specs.State.{HasCleanDisk};
 ghost use Rattle.sqlite.specs.Held.{state};
 ghost use Rattle.rows_cell.specs.declared.tables.Rows.{Rows as Held};
-ghost use Rattle.rows_read.specs.Held.{Says};
-ghost use Rattle.rows_read.specs.Ready.{tables_of};
+ghost use Rattle.rows_sql.specs.Held.{Says};
+ghost use Rattle.rows_sql.specs.Ready.{tables_of};
 ghost use Rattle.rows_sql.specs.Keeping.{noted, stood, IsLeft};
 ghost use Rattle.rows_sql.specs.Adopting.{Adopts, ComesBack, IsOther, IsFull};
 
 use crate::adoption::{reopen, take_over};
+use crate::history::GhostLog;
 use crate::steps::{goes_on, is_committed, load_sound};
-use ghost_log::GhostLog;
 use names_cell::Component;
 use node_core::NUMBER_LIMIT;
 use plain::Items;

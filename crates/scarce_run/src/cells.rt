@@ -4,7 +4,7 @@ use names_cell::Principal;
 use node_core::Fault;
 use plain::Secret;
 use rows_cell::{ListRecords, Records};
-use rows_text::text_of;
+use rows_testing::text_of;
 use settings_core::{Settings, component};
 use std::alloc::Global;
 use world_cell::World;

@@ -7,16 +7,15 @@ use crate::stops::Stop;
 use crate::texts::write_lines;
 use client_core::{Asked, Beaten, Client, Given, Outcome};
 use lease_core::Clock;
-use messages_cell::{Out, Request};
 use names_cell::{Name, Principal};
 use node_core::{Fault, Line};
 use plain::Items;
 use share_cell::{Hit, Keeper, Kept, Viewer};
 use std::alloc::{AllocError, Global};
 use std::sync::Wait;
-use tags_cell::ClientNumber;
-use world_clients::mail::{out_at, request_at};
-use world_clients::{Message, Step};
+use tags_cell::{ClientNumber, Out, Request};
+use world_core::mail::{out_at, request_at};
+use world_core::{Message, Step};
 
 /// A client, a viewer of its cache that looks at one name, and the messages that were sent, numbered from 1. All clocks stand at 0.
 /// It has to be closed.

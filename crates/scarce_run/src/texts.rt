@@ -2,9 +2,9 @@
 use crate::stops::Stop;
 use node_core::Line;
 use plain::Items;
+use script_cell::{Parsed, read_step};
 use std::alloc::{AllocError, Global};
-use step_words::{Parsed, read_step};
-use world_clients::Step;
+use world_core::Step;
 
 fn step_of(alloc: Global, line: &str) -> Result<Step, Stop> {
     match read_step(alloc, line)? {

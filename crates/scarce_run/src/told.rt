@@ -1,7 +1,7 @@
 //! What a run tells.
 use crate::twins::are_same;
 use std::alloc::Global;
-use world_clients::Message;
+use world_core::Message;
 
 /// What a run prints, and what the client and the watch sent one another.
 #[derive(Drop)]

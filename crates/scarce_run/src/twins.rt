@@ -1,9 +1,9 @@
 //! What is told, beside what is told where nothing is refused.
 use rows_cell::ListRecords;
-use same_cell::Alike;
 use std::alloc::Global;
+use watch_cell::Alike;
 use world_cell::World;
-use world_clients::Message;
+use world_core::Message;
 
 fn is_same(message: &Message, other: &Message) -> bool {
     match (message, other) {

@@ -19,7 +19,7 @@ use std::mem;
 use std::sync::Wait;
 use std::sync::ledger::Ledger;
 use watch_cell::{Blanks, Closed, Event, Opening, Pass, Receipt, Watch};
-use world_clients::Step;
+use world_core::Step;
 
 // A pass that takes messages, and one that sweeps.
 const SEATS: u64 = 2;

@@ -11,7 +11,7 @@ use rows_cell::ListRecords;
 use settings_core::Settings;
 use std::alloc::Global;
 use world_cell::World;
-use world_clients::Step;
+use world_core::Step;
 
 // Tries a step until it isn't refused memory. Behind each refusal the world is as its twin, which hasn't done the step.
 fn stepped(

@@ -10,12 +10,12 @@ use Rattle.node_core.specs.declared.lines.Line.{Line}
 use Rattle.node_core.specs.declared.lines.Line.TheVariants as lines
 use Rattle.node_core.specs.Texts.{line_text}
 use Rattle.world_core.specs.declared.parts.SweepResult.{SweepResult}
-use Rattle.world_clients.specs.declared.steps.Step.{Step}
+use Rattle.world_core.specs.declared.steps.Step.{Step}
 use Rattle.world_core.specs.World.{WorldView}
 use Rattle.world_laws.proofs.PartsOfRuns.{take_more}
-use Rattle.step_words.specs.declared.steps.Parsed.{Parsed}
-use Rattle.step_words.specs.declared.steps.Parsed.TheVariants as parsed
-use Rattle.step_words.specs.Readings.{IsParsed}
+use Rattle.script_cell.specs.declared.steps.Parsed.{Parsed}
+use Rattle.script_cell.specs.declared.steps.Parsed.TheVariants as parsed
+use Rattle.script_cell.specs.Readings.{IsParsed}
 use Rattle.script_cell.specs.Settling.{Played, played, PlaysMade, PlaysRefused, turn_step, is_waiting, is_idle, Turns, TakesTurn, SettlesBy, Settles}
 use Rattle.script_cell.specs.Texts.{Reading, Advances}
 use Rattle.script_cell.specs.Scripts.{lines_text, told, DoesParsed, DoesLine, DoesLines, IsOfPart, IsOfScript, Wrote}

@@ -1,3 +1,11 @@
+mod Contents
+mod Cuts
+mod Decimals
+mod Lifts
+mod LineWords
+mod Options
+mod Ticks
+mod Written
 pub mod Turns
 mod Doings
 mod FirstLines

@@ -13,15 +13,15 @@ use Rattle.node_core.specs.declared.lines.Line.TheVariants as lines
 use Rattle.node_core.specs.Nodes.{Nodes, view_at}
 use Rattle.rows_cell.specs.Rows.{map_of}
 use Rattle.rows_cell.specs.Sound.{is_live_in}
-use Rattle.world_clients.specs.declared.steps.Step.{Step}
+use Rattle.world_core.specs.declared.steps.Step.{Step}
 use Rattle.world_core.specs.World.{WorldView, IsUndoubted}
 use Rattle.world_laws.specs.Runs.{AnyRun, map_by, map_at, after_line, after_lines, epoch_by, epoch_at, live_by, live_at, put_number, applied, Rises}
 use Rattle.world_laws.specs.Served.{ServesPresentByThen}
 use Rattle.world_laws.specs.Laws.{HoldsOfRun, HoldsOfRuns}
 use Rattle.world_laws.proofs.SureRuns.{run_doubts}
-use Rattle.step_words.specs.declared.steps.Parsed.{Parsed}
-use Rattle.step_words.specs.declared.steps.Parsed.TheVariants as parsed
-use Rattle.step_words.specs.Readings.{IsParsed}
+use Rattle.script_cell.specs.declared.steps.Parsed.{Parsed}
+use Rattle.script_cell.specs.declared.steps.Parsed.TheVariants as parsed
+use Rattle.script_cell.specs.Readings.{IsParsed}
 use Rattle.script_cell.specs.declared.stops.Stop.{Stop}
 use Rattle.script_cell.specs.declared.stops.Stop.TheVariants.{BadStep, Unread, NoMemory, Unwritten}
 use Rattle.script_cell.specs.Settling.{Played, played, PlaysMade, PlaysRefused, TakesTurn, Turns, SettlesBy, Settles}

@@ -1,3 +1,6 @@
+pub mod Readings
+pub mod Steps
+pub mod Words
 pub mod Ran
 pub mod Scripts
 pub mod Settling

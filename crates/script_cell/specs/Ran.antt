@@ -6,7 +6,7 @@ use Rattle.node_core.specs.declared.lines.Line.{Line}
 use Rattle.node_core.specs.declared.lines.Line.TheVariants as lines
 use Rattle.rows_cell.specs.Rows.{map_of}
 use Rattle.rows_cell.specs.Sound.{is_live_in}
-use Rattle.world_clients.specs.declared.steps.Step.{Step}
+use Rattle.world_core.specs.declared.steps.Step.{Step}
 use Rattle.world_core.specs.World.{WorldView, IsUndoubted}
 use Rattle.world_laws.specs.Runs.{AnyRun, map_at, after_lines, epoch_at, live_at, applied, Rises}
 use Rattle.world_laws.specs.Served.{ServesPresentByThen}
@@ -15,9 +15,9 @@ use Rattle.script_cell.specs.declared.stops.Stop.{Stop}
 use Rattle.script_cell.specs.declared.stops.Stop.TheVariants.{BadStep, Unread, NoMemory, Unwritten}
 use Rattle.script_cell.specs.Settling.{Played, played}
 use Rattle.script_cell.specs.Scripts.{lines_text, DoesParsed, IsOfPart, IsOfScript, Wrote}
-use Rattle.step_words.specs.declared.steps.Parsed.{Parsed}
-use Rattle.step_words.specs.declared.steps.Parsed.TheVariants as parsed
-use Rattle.step_words.specs.Readings.{IsParsed}
+use Rattle.script_cell.specs.declared.steps.Parsed.{Parsed}
+use Rattle.script_cell.specs.declared.steps.Parsed.TheVariants as parsed
+use Rattle.script_cell.specs.Readings.{IsParsed}
 use Rattle.std.specs.Io.KnownBytes.{Appends}
 use Rattle.script_cell.specs.Stops.{status_of}
 use Rattle.script_cell.specs.Texts.{Passes}

@@ -7,9 +7,9 @@ use Rattle.node_core.specs.declared.lines.Line.{Line}
 use Rattle.node_core.specs.declared.lines.Line.TheVariants as lines
 use Rattle.node_core.specs.Texts.{line_text}
 use Rattle.world_core.specs.World.{WorldView}
-use Rattle.step_words.specs.declared.steps.Parsed.{Parsed}
-use Rattle.step_words.specs.declared.steps.Parsed.TheVariants as parsed
-use Rattle.step_words.specs.Readings.{IsParsed}
+use Rattle.script_cell.specs.declared.steps.Parsed.{Parsed}
+use Rattle.script_cell.specs.declared.steps.Parsed.TheVariants as parsed
+use Rattle.script_cell.specs.Readings.{IsParsed}
 use Rattle.script_cell.specs.Settling.{Played, played, PlaysMade, PlaysRefused, Settles}
 use Rattle.script_cell.specs.Texts.{AreLines, Passes}
 

@@ -11,7 +11,7 @@ use rows_cell::Records;
 use std::alloc::{AllocError, Global};
 use std::marker::Model;
 use world_cell::World;
-use world_clients::{Message, Step};
+use world_core::{Message, Step};
 
 /// Which messages of a world came to their receivers once at least. To a contract, a mark for each message in turn; one
 /// without a mark came to nobody.

@@ -10,6 +10,7 @@ ghost use Rattle.script_cell.specs.Texts.{Advances};
 
 use crate::deliveries::Deliveries;
 use crate::lines::{LINE_COUNT_LIMIT, ScriptLines};
+use crate::steps::{Parsed, read_line};
 use crate::stops::Stop;
 use crate::traces::Trace;
 use node_core::{Fault, Line};
@@ -18,7 +19,6 @@ use rows_cell::Records;
 use settings_core::Settings;
 use std::alloc::Global;
 use std::io::{Read, Write};
-use step_words::{Parsed, read_line};
 use world_cell::World;
 use world_core::SweepResult;
 

@@ -1,8 +1,8 @@
 //! What is told of messages as they are sent.
 use crate::stops::Stop;
-use messages_cell::{Call, Out, Request};
 use std::io::{self, Write};
-use world_clients::Message;
+use tags_cell::{Call, Out, Request};
+use world_core::Message;
 
 /// Where it is told why a script stops, and, where it is traced, which messages were sent.
 #[derive(Drop)]

@@ -1,3 +1,11 @@
-pub mod Blocks
+pub mod Sweeps
+pub mod OneMore
+pub mod BlockLaws
+pub mod FrameLaws
+pub mod ToldLaws
+pub mod Readings
+pub mod Writings
+pub mod Hearings
+pub mod Streaming
 pub mod Passages
-pub mod Runs
+pub mod Served

@@ -6,11 +6,11 @@ use Rattle.std.proofs.KnownBytes.{Consumes-trans}
 use Rattle.byteorder.specs.Endian.{big_number}
 use Rattle.wire_core.specs.declared.faults.WireFault.{WireFault}
 use Rattle.wire_core.specs.declared.faults.WireFault.TheVariants.{TooLong, Cut}
-use Rattle.frame_core.specs.Blocks.{block_limit, block_at, next_block}
-use Rattle.frame_core.proofs.BlockLaws.{next_short, next_counted, block_over, block_cut, block_whole}
+use Rattle.serve_cell.specs.Blocks.{block_limit, block_at, next_block}
+use Rattle.serve_cell.proofs.BlockLaws.{next_short, next_counted, block_over, block_cut, block_whole}
 use Rattle.plain.specs.Results.{Gives}
 use Rattle.wire_core.specs.declared.faults.WireFault.TheVariants.{NoMemory}
-use Rattle.frame_core.specs.declared.frames.Frame.{Frame}
+use Rattle.serve_cell.specs.declared.frames.Frame.{Frame}
 use Rattle.serve_cell.specs.Streams.{Drops, BlockIs, BehindIs, in_buffer, Fits, FoundBlock, frame_of, FrameIs}
 use borrow.Rule.Slice.PartMut.{put_mid, post_of}
 use lib.Seq.{take-add, take-append-le}

@@ -1,3 +1,9 @@
+pub mod Serving
+pub mod Runs
+pub mod Blocks
+pub mod Frames
+pub mod Told
+pub mod Laws
 pub mod Seats
 pub mod Replies
 pub mod Streams

@@ -4,19 +4,19 @@ use Rattle.node_core.specs.declared.refusals.Fault.{Fault}
 use Rattle.node_core.specs.declared.lines.Line.{Line}
 use Rattle.node_core.specs.declared.lines.Line.TheVariants as lines
 use Rattle.node_core.specs.Texts.{line_text}
-use Rattle.messages_cell.specs.declared.outs.Out.{Out}
-use Rattle.messages_cell.specs.Messages.{out_client}
-use Rattle.sweep_laws.specs.declared.swept.Swept.{Swept}
+use Rattle.tags_cell.specs.declared.messages.outs.Out.{Out}
+use Rattle.tags_cell.specs.Messages.{out_client}
+use Rattle.over_core.specs.declared.swept.Swept.{Swept}
 use Rattle.wire_core.specs.declared.faults.WireFault.{WireFault}
-use Rattle.frame_core.specs.declared.tellings.Told.{Told}
-use Rattle.frame_core.specs.declared.tellings.Told.TheVariants as tells
-use Rattle.frame_core.specs.Blocks.{framed}
-use Rattle.frame_core.specs.Told.{told}
-use Rattle.serve_core.specs.declared.settling.End.{End}
-use Rattle.serve_core.specs.declared.settling.End.TheVariants as ends
-use Rattle.serve_core.specs.declared.settling.Settled.{Settled}
-use Rattle.serve_core.specs.declared.answers.Answered.{Answered}
-use Rattle.serve_core.specs.declared.answers.Answered.TheVariants as answers
+use Rattle.serve_cell.specs.declared.tellings.Told.{Told}
+use Rattle.serve_cell.specs.declared.tellings.Told.TheVariants as tells
+use Rattle.serve_cell.specs.Blocks.{framed}
+use Rattle.serve_cell.specs.Told.{told}
+use Rattle.serve_cell.specs.declared.settling.End.{End}
+use Rattle.serve_cell.specs.declared.settling.End.TheVariants as ends
+use Rattle.serve_cell.specs.declared.settling.Settled.{Settled}
+use Rattle.serve_cell.specs.declared.answers.Answered.{Answered}
+use Rattle.serve_cell.specs.declared.answers.Answered.TheVariants as answers
 use Rattle.serve_cell.specs.declared.seats.Reply.{Reply}
 use Rattle.serve_cell.specs.declared.seats.Reply.TheVariants as replies
 

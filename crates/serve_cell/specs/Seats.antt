@@ -2,16 +2,16 @@
 use Rattle.std.specs.Prelude.{◌≡◌, ℕ, Option, Some, None, Result, Ok, Err}
 use Rattle.node_core.specs.declared.refusals.Fault.TheVariants.{MasterDown, MasterUp}
 use Rattle.rows_cell.specs.Stores.{Store}
-use Rattle.messages_cell.specs.declared.requests.Request.{Request}
+use Rattle.tags_cell.specs.declared.messages.requests.Request.{Request}
 use Rattle.cell_state.specs.State.{MasterState}
-use Rattle.sweep_laws.specs.Kept.{CellState}
-use Rattle.sweep_laws.specs.Up.{ComesUp, StaysDown}
-use Rattle.deadline_core.specs.Deadlines.{IsDeadline}
+use Rattle.over_core.specs.Kept.{CellState}
+use Rattle.over_core.specs.Up.{ComesUp, StaysDown}
+use Rattle.over_core.specs.Deadlines.{IsDeadline}
 use Rattle.wire_core.specs.declared.faults.WireFault.{WireFault}
-use Rattle.frame_core.specs.declared.frames.Frame.{Frame}
-use Rattle.frame_core.specs.declared.frames.Frame.TheVariants as frames
-use Rattle.serve_core.specs.declared.settling.Settled.{Settled}
-use Rattle.serve_core.specs.Serving.{EndsIn, Answers}
+use Rattle.serve_cell.specs.declared.frames.Frame.{Frame}
+use Rattle.serve_cell.specs.declared.frames.Frame.TheVariants as frames
+use Rattle.serve_cell.specs.declared.settling.Settled.{Settled}
+use Rattle.serve_cell.specs.Serving.{EndsIn, Answers}
 use Rattle.serve_cell.specs.declared.seats.Seat.{Seat}
 use Rattle.serve_cell.specs.declared.seats.Seat.TheVariants as seats
 use Rattle.serve_cell.specs.declared.seats.Reply.{Reply}

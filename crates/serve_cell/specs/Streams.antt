@@ -6,10 +6,10 @@ use Rattle.wire_core.specs.declared.faults.WireFault.{WireFault}
 use Rattle.wire_core.specs.declared.faults.WireFault.TheVariants as wire
 use Rattle.wire_core.specs.Forms.{◌>>=◌, read_whole}
 use Rattle.cell_state.specs.State.{MasterState}
-use Rattle.frame_core.specs.declared.frames.Frame.{Frame}
-use Rattle.frame_core.specs.declared.tellings.Told.{Told}
-use Rattle.frame_core.specs.Blocks.{block_at, next_block}
-use Rattle.frame_core.specs.Frames.{frame}
+use Rattle.serve_cell.specs.declared.frames.Frame.{Frame}
+use Rattle.serve_cell.specs.declared.tellings.Told.{Told}
+use Rattle.serve_cell.specs.Blocks.{block_at, next_block}
+use Rattle.serve_cell.specs.Frames.{frame}
 use Rattle.serve_cell.specs.declared.seats.Reply.{Reply}
 use Rattle.serve_cell.specs.declared.stops.Stop.{Stop}
 use Rattle.serve_cell.specs.declared.stops.Stop.TheVariants.{Unread, Unwritten, NoMemory}

@@ -4,9 +4,10 @@ ghost use Rattle.std.specs.Io.KnownBytes.{Consumes, IsAtEnd};
 ghost use Rattle.plain.specs.Results.{Gives};
 ghost use Rattle.serve_cell.specs.Streams.{Drops, Fits, in_buffer, frame_of, FoundBehind, FoundBlock, FoundFrame};
 
+use crate::blocks::BLOCK_LIMIT;
+use crate::frames::{Frame, read_frame};
 use crate::stops::Stop;
 use byteorder::{BigEndian, ByteOrder};
-use frame_core::{BLOCK_LIMIT, Frame, read_frame};
 use std::alloc::Global;
 use std::io::{ErrorKind, Read};
 use wire_core::WireFault;

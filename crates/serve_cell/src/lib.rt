@@ -1,13 +1,35 @@
-//! A master that another program starts: frames that come in a stream, and their answers in another.
+//! A master that another program starts: frames come in a stream, each is answered by a step and by sweeps until one is quiet,
+//! and the answers go into another stream.
 #![tactic(auto)]
 
+mod answers;
+mod blocks;
+mod frames;
+mod heard;
 mod inputs;
+mod kinds;
+mod laws;
 mod outputs;
+mod runs;
 mod seats;
+mod settling;
 mod stops;
 mod streams;
+mod tellings;
 
+pub use answers::{Answered, answer};
+pub use blocks::{ANSWER_LIMIT, BLOCK_LIMIT};
+pub use frames::{Frame, read_frame, write_frame};
+pub use heard::read_told;
+pub use kinds::{FrameKind, ToldKind};
+pub use laws::{
+    framed_is_next, frames_are_of_format, read_frame_was_written, read_told_was_written,
+    told_is_next, written_frame_is_read, written_told_is_read,
+};
 pub use outputs::write_reply;
+pub use runs::{Asked, serve};
 pub use seats::{Reply, Seat};
+pub use settling::{End, Settled, settle};
 pub use stops::Stop;
 pub use streams::{Turned, serve_on};
+pub use tellings::{Told, write_bad, write_end, write_line, write_message};

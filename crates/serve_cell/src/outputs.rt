@@ -2,14 +2,15 @@
 ghost use Rattle.std.specs.Prelude.{◌∷◌, ◌++◌, [], map, OnOk, IfOk};
 ghost use Rattle.serve_cell.specs.Replies.{line_told, out_told, refusal_told, bad_told, mark_told, step_told, sweeps_told, end_told, settled_told, answered_told, reply_told, all_told, AreBlocks, Puts};
 
+use crate::answers::Answered;
 use crate::seats::Reply;
+use crate::settling::{End, Settled};
 use crate::stops::Stop;
-use frame_core::{write_bad, write_end, write_line, write_message};
-use messages_cell::Out;
+use crate::tellings::{write_bad, write_end, write_line, write_message};
 use node_core::{Fault, Line};
-use serve_core::{Answered, End, Settled};
+use over_core::Swept;
 use std::alloc::Global;
-use sweep_laws::Swept;
+use tags_cell::Out;
 use wire_core::WireFault;
 
 /// The bytes of all that is told of a frame, and of the mark behind it with the next deadline, in milliseconds.

@@ -2,13 +2,14 @@
 ghost use Rattle.std.specs.Prelude.{◌≡◌, ◌≤◌, IfOk};
 ghost use Rattle.serve_cell.specs.Seats.{hosted, Does, DoesFrame, Arrives, Listens, Ticks, Leaves, IsDue};
 
-use frame_core::Frame;
-use messages_cell::Request;
+use crate::answers::{Answered, answer};
+use crate::frames::Frame;
+use crate::settling::{Settled, settle};
 use node_core::Fault;
 use over_core::Cell;
 use rows_cell::Records;
-use serve_core::{Answered, Settled, answer, settle};
 use std::alloc::{AllocError, Global};
+use tags_cell::Request;
 use wire_core::WireFault;
 
 /// The records of a cell by themselves, or with the master that is up over them.

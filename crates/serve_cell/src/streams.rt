@@ -4,11 +4,12 @@ ghost use Rattle.std.specs.Io.KnownBytes.{Appends};
 ghost use Rattle.serve_cell.specs.Seats.{hosted};
 ghost use Rattle.serve_cell.specs.Streams.{Ends, TakesTurn, IsWritten, IsTold, DoesFound};
 
+use crate::blocks::BLOCK_LIMIT;
+use crate::frames::Frame;
 use crate::inputs::next_frame;
 use crate::outputs::write_reply;
 use crate::seats::{Reply, Seat};
 use crate::stops::Stop;
-use frame_core::{BLOCK_LIMIT, Frame};
 use rows_cell::Records;
 use std::alloc::{AllocError, Global};
 use std::io::{self, Read, Write};

@@ -1,6 +1,6 @@
 -- What is known of all sessions at once, as each step leaves them.
 use Rattle.std.proofs.Common.{◌≡◌, ◌≢◌, ℕ, nat_eq, ◌<◌, ◌≤◌, ◌+◌, ◌-◌, ◌/◌, List, [], ◌∷◌, Bool, true, false, cond, Option, Some, None, refl, sym, ap, ◌∙◌, arith, subst}
-use Rattle.std.specs.Prelude.{not, ◌&&◌, ◌||◌, nat_le, max, All, is_some}
+use Rattle.std.specs.Prelude.{not, ◌&&◌, ◌||◌, nat_le, max, min, All}
 use Rattle.std.specs.Option.{option_map, option_map_or}
 use Rattle.std.specs.List.{list_all, list_any}
 use Rattle.std.specs.Ordering.{nat_cmp}
@@ -10,15 +10,16 @@ use Rattle.std.proofs.lemmas.Bool.Decides.{nat_tests}
 use Rattle.std.proofs.lemmas.List.Elements.{All-nil, All-head, All-tail, All-weaker}
 use Rattle.std.proofs.lemmas.Map.Views.{All-values-insert_entry, All-values-set_value, All-map-remove_entry}
 use Rattle.lease_core.specs.Lease.{least_lease, longest_lease}
+use Rattle.session_core.specs.declared.records.Parked.{Parked}
 use Rattle.session_core.specs.declared.records.Session.{Session}
 use Rattle.node_core.specs.Limits.{number_limit}
 use Rattle.event_core.specs.Queue.{count_of, is_exhausted}
-use Rattle.session_core.specs.Session.{events_of, owes, has_heard, nears_timeout, is_due, is_client_expired, is_client_due}
+use Rattle.session_core.specs.Session.{events_of, owes, has_heard, nears_end, is_given_up, is_due, is_client_expired, is_client_due}
 use Rattle.session_core.specs.Sessions.{SessionTable, has_spent_events, all_heard, passes, AreAllAmong}
 use Rattle.timer_core.specs.Timers.{TimerState, never, has_key, wakes}
 use Rattle.session_core.specs.declared.bounds.Bounds.{Bounds}
 use Rattle.session_core.specs.declared.bounds.Moments.{Moments}
-use Rattle.session_core.specs.Quiet.{end_moment, answer_moment, moments_of, IsNoted, AreNoted, is_client_unheard, HaveAtMost}
+use Rattle.session_core.specs.Quiet.{end_moment, due_moment, answer_moment, moments_of, IsNoted, AreNoted, is_client_unheard, HaveAtMost}
 use Rattle.session_core.proofs.OneClient.{lookup_set, lookup_set_apart, lookup_put, lookup_put_apart}
 
 -- ---- what is noted, as sessions come, change and go
@@ -190,16 +191,17 @@ ends_by : (live : Bool) (timeout now : ℕ) → (live && nat_le timeout now) ≡
 ends_by true timeout now h = grind (arith, nat_tests)
 ends_by false timeout now h = absurd (cc)
 
-answers_by : (live owing : Bool) (timeout limit now : ℕ) → (live && (owing || nat_le (timeout - now) limit)) ≡ true → cond (live && true) (cond owing 0 (timeout - limit)) never ≤ now
-answers_by true true timeout limit now h = omega arith
-answers_by true false timeout limit now h = grind (arith, nat_tests)
-answers_by false owing timeout limit now h = absurd (cc)
+answers_by : (live up owing : Bool) (timeout limit now : ℕ) → (live && (not up && (owing || nat_le (timeout - now) limit))) ≡ true → cond (live && not up) (cond owing 0 (timeout - limit)) never ≤ now
+answers_by true true owing timeout limit now h = absurd (cc)
+answers_by true false true timeout limit now h = omega arith
+answers_by true false false timeout limit now h = grind (arith, nat_tests)
+answers_by false up owing timeout limit now h = absurd (cc)
 
 due_by : {K : Type 0} (lease now : ℕ) (session : Session K) → is_due lease now session ≡ true → answer_moment lease session ≤ now
 due_by {K} lease now session h =
-    (elim session.parked as (λ o. option_map_or (λ beat. session.live && (owes session || nears_timeout lease now session)) o false ≡ true → cond (session.live && is_some o) (cond (owes session) 0 (session.timeout - (3000 + lease / 16))) never ≤ now) [
+    (elim session.parked as (λ (o : Option Parked). option_map_or (λ beat. session.live && (not (is_given_up lease beat session) && (owes session || nears_end lease now session))) o false ≡ true → option_map_or (λ beat. cond (session.live && not (is_given_up lease beat session)) (due_moment lease session) never) o never ≤ now) [
       | None ↦ (λ k. absurd (cc))
-      | Some beat ↦ (λ k. answers_by session.live (owes session) session.timeout (3000 + lease / 16) now k)
+      | Some beat ↦ (λ k. answers_by session.live (is_given_up lease beat session) (owes session) (min session.timeout session.lease_end) (3000 + lease / 16) now k)
     ]) h
 
 and_second : (a b : Bool) → (a && b) ≡ true → b ≡ true

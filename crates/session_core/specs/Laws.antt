@@ -6,7 +6,7 @@ use Rattle.std.specs.Map.{lookup, keys_of}
 use Rattle.std.specs.BTreeMap.{is_at}
 use Rattle.std.specs.List.Sorted.{IsStrictlySortedBy}
 use Rattle.node_core.specs.declared.events.Event.{Event}
-use Rattle.messages_cell.specs.declared.beats.Beat.{Beat}
+use Rattle.tags_cell.specs.declared.messages.beats.Beat.{Beat}
 use Rattle.session_core.specs.declared.records.Parked.{Parked}
 use Rattle.session_core.specs.declared.records.Kept.{Kept}
 use Rattle.session_core.specs.declared.records.Session.{Session}
@@ -37,6 +37,10 @@ stepped (Keeping kept) session = keeping kept session
 -- no step takes a session's time away
 abbrev pub TimeoutNeverMovesBack : Type 0 → Type 0
 TimeoutNeverMovesBack K = (step : Step K) (session : Session K) → session.timeout ≤ (stepped step session).timeout
+
+-- a session lives no shorter than the lease that its client was last offered
+abbrev pub OutlivesItsLease : Type 0 → Type 0
+OutlivesItsLease K = (step : Step K) (session : Session K) → session.lease_end ≤ session.timeout → (stepped step session).lease_end ≤ (stepped step session).timeout
 
 -- the invalidations that were acknowledged were issued
 abbrev pub IsWithin : {K : Type 0} → Session K → Type 0

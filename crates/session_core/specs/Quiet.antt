@@ -1,5 +1,6 @@
 -- What is known of all sessions at once, so that none has to be looked for.
-use Rattle.std.specs.Prelude.{◌≡◌, ℕ, Bool, true, not, ◌&&◌, ◌≤◌, ◌+◌, ◌-◌, ◌/◌, List, All, Some, if◌then◌else◌, is_some}
+use Rattle.std.specs.Prelude.{◌≡◌, ℕ, Bool, true, not, ◌&&◌, ◌≤◌, ◌+◌, ◌-◌, ◌/◌, List, All, Some, min, if◌then◌else◌}
+use Rattle.std.specs.Option.{option_map_or}
 use Rattle.std.specs.Map.{values_of, lookup}
 use Rattle.std.specs.BTreeMap.{is_at}
 use Rattle.std.specs.Ordering.{nat_cmp}
@@ -7,17 +8,20 @@ use Rattle.timer_core.specs.Timers.{TimerState, never, wakes}
 use Rattle.session_core.specs.declared.bounds.Moments.{Moments}
 use Rattle.session_core.specs.declared.records.Session.{Session}
 use Rattle.event_core.specs.Queue.{count_of}
-use Rattle.session_core.specs.Session.{owes, has_heard, events_of}
+use Rattle.session_core.specs.Session.{owes, has_heard, events_of, is_given_up}
 
 -- from this moment on the master may end the session
 abbrev pub end_moment : {K : Type 0} → Session K → ℕ
 end_moment session = if session.live then session.timeout else never
 
--- from this moment on its Beat is to be answered
+-- from this moment on a Beat of it is to be answered
+abbrev pub due_moment : {K : Type 0} → ℕ → Session K → ℕ
+due_moment lease session = if owes session then 0 else min session.timeout session.lease_end - (3000 + lease / 16)
+
+-- from this moment on its parked Beat is to be answered
 abbrev pub answer_moment : {K : Type 0} → ℕ → Session K → ℕ
 answer_moment lease session =
-    if session.live && is_some session.parked then (if owes session then 0 else session.timeout - (3000 + lease / 16))
-    else never
+    option_map_or (λ beat. if session.live && not (is_given_up lease beat session) then due_moment lease session else never) session.parked never
 
 abbrev pub moments_of : {K : Type 0} → ℕ → Session K → Moments
 moments_of lease session = record { end = end_moment session; answer = answer_moment lease session }

@@ -3,14 +3,13 @@ ghost use Rattle.std.specs.Prelude.{◌≡◌, ◌≤◌, if◌then◌else◌, S
 ghost use Rattle.std.specs.Option.{option_map, option_map_or};
 ghost use Rattle.lease_core.specs.Lease.{IsMoment, longest_lease};
 ghost use Rattle.event_core.specs.Queue.{count_of, acknowledged_to};
-ghost use Rattle.session_core.specs.Session.{events_of, live_beat_fault, beat_fault, beaten, is_client_due, prolonged, answered};
+ghost use Rattle.session_core.specs.Session.{events_of, live_beat_fault, beat_fault, acknowledging, beaten, is_client_due, prolonged, unparked, answered};
 
 use crate::records::{Offer, Parked, Session};
 use crate::sessions::Sessions;
-use messages_cell::Beat;
 use node_core::Fault;
 use std::collections::BTreeSet;
-use tags_cell::ClientNumber;
+use tags_cell::{Beat, ClientNumber};
 
 impl<K> Session<K> {
     // Why a Beat of this live session is refused.
@@ -45,6 +44,18 @@ impl<K> Session<K> {
         requires { live_beat_fault self.old beat.now ≡ None }
         ensures { self.new ≡ beaten beat.now received self.old }
     {
+        self.take_acknowledgements(beat, received);
+        self.mark = if self.meets_its_mark() {
+            None
+        } else {
+            self.mark
+        };
+    }
+
+    fn take_acknowledgements(&mut self, beat: &Beat, received: u64)
+        requires { live_beat_fault self.old beat.now ≡ None }
+        ensures { self.new ≡ acknowledging beat.now received self.old }
+    {
         self.take_events(beat.events);
         self.newest_beat = beat.number.get();
         self.invalidations.acknowledged = self.invalidations.acknowledged.max(beat.invalidations);
@@ -54,13 +65,22 @@ impl<K> Session<K> {
         });
     }
 
+    // Its client is offered a lease that ends then: it lives until that moment at least.
+    pub(crate) fn prolong(&mut self, until: u64)
+        ensures { self.new ≡ prolonged until self.old }
+    {
+        self.timeout = self.timeout.max(until);
+        self.lease_end = until;
+    }
+
     // The parked Beat, if there is one, is answered.
-    fn end_beat(&mut self, until: u64)
-        ensures { self.new ≡ option_map_or (λ beat. prolonged until (record self.old { parked = None })) self.old.parked self.old }
+    fn end_beat(&mut self, now: u64, until: u64)
+        ensures { self.new ≡ option_map_or (λ beat. prolonged until (unparked now self.old)) self.old.parked self.old }
     {
         if self.parked.is_some() {
+            self.mark = self.mark.or(self.mark_at(now));
             self.parked = None;
-            self.timeout = self.timeout.max(until);
+            self.prolong(until);
         }
     }
 }
@@ -110,8 +130,10 @@ impl<K> Sessions<K> {
         Ok(())
     }
 
-    /// The lowest client whose parked Beat is to be answered: something waits for its acknowledgement, or its timeout
-    /// is near. Takes no memory.
+    /// The lowest client whose parked Beat is to be answered: something waits for its acknowledgement, or the end of
+    /// the lease that this master last offered it, or of its session, is near. None of a client that is given up: an
+    /// answer told it of an invalidation that it hasn't acknowledged, or of the new master, and the Beat came `PATIENCE`
+    /// and a lease later. Takes no memory.
     pub fn due(&self, now: u64) -> Option<ClientNumber>
         ensures value { result ≡ lowest self.now (is_client_due self.now.lease now) }
         ensures lowest { IsLowest self.now (is_client_due self.now.lease now) result }
@@ -171,7 +193,7 @@ impl<K> Sessions<K> {
     }
 
     /// The client's parked Beat is answered at `now`: it waits no longer, and the session lives for a lease from now
-    /// on. Where none is parked nothing changes. Takes no memory.
+    /// on. Where others wait for what it hasn't acknowledged, that is noted. Where none is parked nothing changes. Takes no memory.
     pub fn answer(&mut self, client: ClientNumber, now: u64)
         requires { IsMoment now }
         ensures { self.new ≡ with_session self.old client (answered self.old.lease now) }
@@ -180,7 +202,7 @@ impl<K> Sessions<K> {
         let number = client.get();
         if let Some(session) = self.map.get_mut(&number) {
             let before = session.moments(self.lease);
-            session.end_beat(until);
+            session.end_beat(now, until);
             let after = session.moments(self.lease);
             self.bounds
                 .change(number, before, after, session.event_count());

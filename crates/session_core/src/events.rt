@@ -5,10 +5,10 @@ ghost use Rattle.session_core.specs.Session.{events_of, told};
 
 use crate::records::Session;
 use crate::sessions::Sessions;
-use messages_cell::NumberedEvent;
 use node_core::{Event, NUMBER_LIMIT};
 use plain::Items;
 use std::alloc::{AllocError, Global};
+use tags_cell::NumberedEvent;
 
 impl<K> Session<K> {
     fn tell(&mut self, event: Event)

@@ -14,8 +14,8 @@ mod sessions;
 mod starts;
 
 pub use laws::{
-    acknowledged_was_issued, last_call_is_kept, offer_is_covered, step_is_its_own,
-    table_issues_to_each, timeout_never_moves_back,
+    acknowledged_was_issued, last_call_is_kept, offer_is_covered, session_outlives_its_lease,
+    step_is_its_own, table_issues_to_each, timeout_never_moves_back,
 };
-pub use records::{Begun, Kept, Offer, Parked, Session, Tally};
+pub use records::{Begun, Kept, Mark, Offer, PATIENCE, Parked, Session, Tally};
 pub use sessions::Sessions;

@@ -1,14 +1,18 @@
 //! What a master knows of a session.
-ghost use Rattle.std.specs.Prelude.{◌≡◌, ◌≤◌};
+ghost use Rattle.std.specs.Prelude.{◌≡◌, ◌≤◌, Some, None, min, if◌then◌else◌};
 ghost use Rattle.lease_core.specs.Lease.{longest_lease};
 ghost use Rattle.event_core.specs.Queue.{count_of, has_waiting};
-ghost use Rattle.session_core.specs.Session.{is_owing, events_of, owes, nears_timeout, is_due, has_heard, is_expired};
-ghost use Rattle.session_core.specs.Quiet.{moments_of, end_moment, answer_moment};
+ghost use Rattle.session_core.specs.Session.{is_owing, events_of, owes, owes_fail_over, holds_up, mark_at, meets, meets_its_mark, patience, is_given_up, nears_end, is_due, has_heard, is_expired};
+ghost use Rattle.session_core.specs.Quiet.{moments_of, end_moment, due_moment, answer_moment};
 
 use crate::bounds::Moments;
 use event_core::EventQueue;
 use names_cell::Principal;
 use tags_cell::MessageNumber;
+
+/// How long a session may hold up others beyond a lease, in milliseconds. By then a client whose messages get through
+/// has acknowledged, and one whose messages don't has lost its session by its own clock, 45 s behind its lease.
+pub const PATIENCE: u64 = 48_000;
 
 /// How many invalidations were issued to a session in this epoch (Burrows 2006, section 2.7), numbered from 1, and up to
 /// which number it acknowledged them.
@@ -33,6 +37,15 @@ pub struct Parked {
     pub number: MessageNumber,
     /// When the master received it, in milliseconds.
     pub received: u64,
+}
+
+/// What a session has to acknowledge before others go on, since an Alive told it of that.
+#[derive(Clone, Copy)]
+pub struct Mark {
+    /// The last of its invalidations that were issued then.
+    pub invalidations: u64,
+    /// When the Alive was sent, in milliseconds.
+    pub since: u64,
 }
 
 /// What the answer to a Beat offers its client.
@@ -69,12 +82,19 @@ pub struct Session<K> {
     pub live: bool,
     /// From then on the master may end it, in milliseconds by the master's clock.
     pub timeout: u64,
+    /// The end of the lease that this master last offered its client, in milliseconds by the master's clock; the timeout
+    /// before it offered one. Never behind the timeout.
+    pub lease_end: u64,
     /// The number of the newest Beat taken in this epoch; 0 before the first.
     pub newest_beat: u64,
     pub invalidations: Tally,
     /// None once it has ended.
     pub events: Option<EventQueue>,
+    /// Whether this master took it over from the rows: then its first event tells of the new master.
+    pub taken_over: bool,
     pub parked: Option<Parked>,
+    /// What it was told that others wait for, and hasn't acknowledged.
+    pub mark: Option<Mark>,
     pub kept: Option<Kept<K>>,
 }
 
@@ -106,12 +126,19 @@ impl<K> Session<K> {
         self.invalidations.is_owing() || self.owes_events()
     }
 
-    // Whether the timeout is near, at which a Beat is answered even if nothing waits for the client.
-    fn nears_timeout(&self, lease: u64, now: u64) -> bool
-        requires { lease ≤ longest_lease }
-        ensures { result ≡ nears_timeout lease now self.now }
+    // The earlier of the ends of its client's lease and of the session.
+    fn nearer_end(&self) -> u64
+        ensures { result ≡ min self.now.timeout self.now.lease_end }
     {
-        self.timeout.saturating_sub(now) <= 3000 + lease / 16
+        self.timeout.min(self.lease_end)
+    }
+
+    // Whether that end is near, at which a Beat is answered even if nothing waits for the client.
+    fn nears_end(&self, lease: u64, now: u64) -> bool
+        requires { lease ≤ longest_lease }
+        ensures { result ≡ nears_end lease now self.now }
+    {
+        self.nearer_end().saturating_sub(now) <= 3000 + lease / 16
     }
 
     // Whether its Beat is to be answered.
@@ -119,10 +146,57 @@ impl<K> Session<K> {
         requires { lease ≤ longest_lease }
         ensures { result ≡ is_due lease now self.now }
     {
-        if self.parked.is_none() || !self.live {
+        let Some(beat) = self.parked else {
+            return false;
+        };
+        if !self.live || self.is_given_up(lease, beat) {
             return false;
         }
-        self.owes() || self.nears_timeout(lease, now)
+        self.owes() || self.nears_end(lease, now)
+    }
+
+    // Whether it hasn't acknowledged that a new master is up.
+    fn owes_fail_over(&self) -> bool
+        ensures { result ≡ owes_fail_over self.now }
+    {
+        self.taken_over && !self.has_heard()
+    }
+
+    // What it has to acknowledge, so that others go on.
+    pub(crate) fn mark_at(&self, now: u64) -> Option<Mark>
+        ensures { result ≡ mark_at now self.now }
+    {
+        if self.invalidations.is_owing() || self.owes_fail_over() {
+            Some(Mark {
+                invalidations: self.invalidations.issued,
+                since: now,
+            })
+        } else {
+            None
+        }
+    }
+
+    // Whether it has acknowledged what its mark holds.
+    pub(crate) fn meets_its_mark(&self) -> bool
+        ensures { result ≡ meets_its_mark self.now }
+    {
+        match self.mark {
+            None => false,
+            Some(mark) => {
+                mark.invalidations <= self.invalidations.acknowledged && !self.owes_fail_over()
+            }
+        }
+    }
+
+    // Whether it was told too long before this Beat of it came.
+    fn is_given_up(&self, lease: u64, beat: Parked) -> bool
+        requires { lease ≤ longest_lease }
+        ensures { result ≡ is_given_up lease beat self.now }
+    {
+        match self.mark {
+            None => false,
+            Some(mark) => beat.received.saturating_sub(mark.since) >= lease + PATIENCE,
+        }
     }
 
     // From when on something may be to be done for it.
@@ -143,19 +217,30 @@ impl<K> Session<K> {
         if self.live { self.timeout } else { u64::MAX }
     }
 
-    // From this moment on its Beat is to be answered.
+    // From this moment on a Beat of it is to be answered.
+    fn due_moment(&self, lease: u64) -> u64
+        requires { lease ≤ longest_lease }
+        ensures { result ≡ due_moment lease self.now }
+    {
+        if self.owes() {
+            0
+        } else {
+            self.nearer_end().saturating_sub(3000 + lease / 16)
+        }
+    }
+
+    // From this moment on its parked Beat is to be answered.
     pub(crate) fn answer_moment(&self, lease: u64) -> u64
         requires { lease ≤ longest_lease }
         ensures { result ≡ answer_moment lease self.now }
     {
-        if !self.live || self.parked.is_none() {
+        let Some(beat) = self.parked else {
+            return u64::MAX;
+        };
+        if !self.live || self.is_given_up(lease, beat) {
             return u64::MAX;
         }
-        if self.owes() {
-            0
-        } else {
-            self.timeout.saturating_sub(3000 + lease / 16)
-        }
+        self.due_moment(lease)
     }
 
     // The number of the last event that it acknowledged.

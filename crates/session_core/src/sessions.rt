@@ -144,6 +144,7 @@ fn recovered_session<K>(
     if let Some(events) = &mut session.events {
         events.push(Event::FailOver);
     }
+    session.taken_over = true;
     Ok(session)
 }
 
@@ -165,13 +166,16 @@ pub(crate) fn session_until<K>(
         principal,
         live,
         timeout,
+        lease_end: timeout,
         newest_beat: 0,
         invalidations: Tally {
             issued: 0,
             acknowledged: 0,
         },
         events,
+        taken_over: false,
         parked: None,
+        mark: None,
         kept: None,
     })
 }

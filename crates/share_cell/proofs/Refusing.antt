@@ -8,8 +8,8 @@ use Rattle.node_core.specs.declared.refusals.Fault.TheVariants as faults
 use Rattle.share_cell.specs.Keeping.{KeeperState, Publishes, unless_last}
 use Rattle.share_cell.specs.declared.keeper.Kept.{Kept}
 use Rattle.node_core.specs.declared.refusals.Fault.{Fault}
-use Rattle.messages_cell.specs.declared.outs.Out.{Out}
-use Rattle.client_parts.specs.declared.asks.Ask.{Ask}
+use Rattle.tags_cell.specs.declared.messages.outs.Out.{Out}
+use Rattle.client_core.specs.declared.parts.asks.Ask.{Ask}
 use Rattle.client_core.specs.State.{ClientState}
 use Rattle.client_core.specs.Asks.{ask_step}
 use Rattle.client_core.specs.Beats.{beat_step}

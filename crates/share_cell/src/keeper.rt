@@ -19,12 +19,12 @@ use client_core::{Ask, Asked, Beaten, Client, Given};
 use core::mem::replace_with;
 use left_right::reader::Factory;
 use left_right::writer::Writer;
-use messages_cell::Out;
 use node_core::{Fault, NUMBER_LIMIT};
 use std::alloc::{AllocError, Global};
 use std::collections::VecDeque;
 use std::mem;
 use std::sync::Wait;
+use tags_cell::Out;
 
 /// So many more readers may be told at a time.
 const TOLD_PLACES: usize = 64;

@@ -9,6 +9,7 @@ mod handle_faults;
 mod handles;
 mod laws;
 mod masks;
+mod messages;
 mod modes;
 mod numbers;
 mod ordinals;
@@ -26,6 +27,10 @@ pub use laws::{
     written_is_read, written_sequencer_is_read,
 };
 pub use masks::Events;
+pub use messages::{
+    AclNames, Alive, Beat, Call, CallMessage, CallResult, Create, Disposition, Invalidation,
+    NewHandle, NewNode, NumberedEvent, Open, Out, Refused, Reply, Request, Start, Started,
+};
 pub use modes::Mode;
 pub use numbers::MessageNumber;
 pub use ordinals::Ordinal;

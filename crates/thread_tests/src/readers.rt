@@ -106,29 +106,42 @@ fn readers(rt: HostRuntime) -> Result<(), Fail> {
 }
 
 fn is_played<W: Threads + Wait + Sync>(rt: &W, alloc: Global, of_two: bool) -> Result<bool, Fail> {
-    let name = Name::parse(alloc, "/ls/c/f")?;
-    let mut stage = Stage::new(alloc)?;
     let mut seats = Seats::new(rt, alloc)?;
-    let played = play(rt, &mut stage, &mut seats, &name, of_two);
+    let played = play(rt, alloc, &mut seats, of_two);
     seats.close(rt);
     Ok(played?)
 }
 
 fn play<W: Threads + Wait + Sync>(
     rt: &W,
+    alloc: Global,
+    seats: &mut Seats,
+    of_two: bool,
+) -> Result<bool, Fault> {
+    let mut stage = Stage::new(alloc)?;
+    let played = look(rt, alloc, &mut stage, seats, of_two);
+    drop(stage);
+    played
+}
+
+fn look<W: Threads + Wait + Sync>(
+    rt: &W,
+    alloc: Global,
     stage: &mut Stage,
     seats: &mut Seats,
-    name: &Name,
     of_two: bool,
 ) -> Result<bool, Fault> {
     stage.go(rt, seats, BEFORE)?;
-    let (Some(mut one), Some(mut two)) = (seats.of_one.pop(), seats.of_one.pop()) else {
+    let name = Name::parse(alloc, "/ls/c/f")?;
+    if of_two {
+        return Ok(are_both_inside(rt, seats.of_one.as_mut_slice(), &name));
+    }
+    let Some(mut viewer) = seats.of_one.pop() else {
         return Ok(false);
     };
-    if of_two {
-        return Ok(are_both_inside(rt, &mut one, &mut two, name));
-    }
-    outlasts(rt, stage, seats, &mut one, name)
+    let seen = outlasts(rt, stage, seats, &mut viewer, &name);
+    drop(viewer);
+    seen
 }
 
 // Whether a publish behind the next one isn't done while a viewer is inside.
@@ -162,12 +175,10 @@ fn publish_two<W: Wait>(
 }
 
 // Whether the first viewer, which waits until the second was answered, sees that.
-fn are_both_inside<W: Threads + Wait + Sync>(
-    rt: &W,
-    one: &mut Viewer,
-    two: &mut Viewer,
-    name: &Name,
-) -> bool {
+fn are_both_inside<W: Threads + Wait + Sync>(rt: &W, viewers: &mut [Viewer], name: &Name) -> bool {
+    let [one, two, ..] = viewers else {
+        return false;
+    };
     let gate = Gate::new(true);
     let (first, second) = join(rt, || one.hit(name, &gate), || answered(two, name, &gate));
     gate.is_in_time() && first.is_ok_and(|hit| is_view(&hit)) && second

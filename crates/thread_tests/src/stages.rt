@@ -2,21 +2,20 @@
 ghost use Rattle.std.specs.Prelude.{◌≡◌, None, IfOk, OnOk};
 ghost use Rattle.cache_core.specs.Caches.{new_cache};
 
-use client_core::{Ask, Asked, Beaten, Client, Outcome};
+use client_core::{Ask, Asked, Beaten, Client, Given, Outcome};
 use live_cell::new_cell;
-use messages_cell::{Out, Request};
 use names_cell::Principal;
 use node_core::{Fault, Line};
-use over_core::Cell;
+use over_core::{Cell, Swept, Taken};
 use plain::Items;
 use rows_cell::{ListRecords, Settings};
+use script_cell::{Parsed, read_step};
 use share_cell::{Keeper, Viewer};
 use std::alloc::Global;
 use std::collections::VecDeque;
 use std::sync::Wait;
-use step_words::{Parsed, read_step};
-use tags_cell::ClientNumber;
-use world_clients::{Step, Ticks};
+use tags_cell::{ClientNumber, Out, Request};
+use world_core::{Step, Ticks};
 
 // A message on its way.
 #[derive(Drop)]
@@ -178,22 +177,34 @@ impl Stage {
     fn beat<W: Wait>(&mut self, rt: &W, keeper: &mut Keeper) -> Result<(), Fault> {
         on_time(keeper)?;
         let Beaten { lines, request } = keeper.beat(rt, self.clock)?;
-        self.print_all(&lines)?;
-        match request {
-            Some(request) => Ok(self.mail.push_back(Letter::In(request))?),
+        let printed = self.print_all(lines);
+        let sent = match request {
+            Some(request) => self.send(Letter::In(request)),
             None => Ok(()),
-        }
+        };
+        printed.and(sent)
     }
 
     fn ask<W: Wait>(&mut self, rt: &W, keeper: &mut Keeper, asked: &Ask) -> Result<(), Fault> {
         on_time(keeper)?;
         let Asked { lines, outcome } = keeper.ask(rt, self.clock, asked)?;
-        self.print_all(&lines)?;
+        let printed = self.print_all(lines);
+        printed.and(self.came(outcome))
+    }
+
+    fn came(&mut self, outcome: Outcome) -> Result<(), Fault> {
         match outcome {
-            Outcome::Sent(request) => Ok(self.mail.push_back(Letter::In(request))?),
+            Outcome::Sent(request) => self.send(Letter::In(request)),
             Outcome::Refused(fault) => self.print(&Line::Refused(fault)),
-            Outcome::Served(_) | Outcome::Answered => Ok(()),
+            other => {
+                drop(other);
+                Ok(())
+            }
         }
+    }
+
+    fn send(&mut self, letter: Letter) -> Result<(), Fault> {
+        Ok(self.mail.push_back(letter)?)
     }
 
     // One message comes, then the master sweeps; until nothing is left to do.
@@ -211,50 +222,59 @@ impl Stage {
 
     fn deliver<W: Wait>(&mut self, rt: &W, seats: &mut Seats, letter: Letter) -> Result<(), Fault> {
         match letter {
-            Letter::In(request) => self.take(&request),
-            Letter::Out(out) => self.give(rt, seats.of(out.client().get()), &out),
+            Letter::In(request) => {
+                let went = self.take(&request);
+                drop(request);
+                went
+            }
+            Letter::Out(out) => {
+                let went = self.give(rt, seats.of(out.client().get()), &out);
+                drop(out);
+                went
+            }
         }
     }
 
     fn take(&mut self, request: &Request) -> Result<(), Fault> {
-        let taken = self.cell.take(self.moment, request)?;
-        self.print_all(&taken.lines)?;
-        self.post(taken.outs)
+        let Taken { lines, outs } = self.cell.take(self.moment, request)?;
+        let printed = self.print_all(lines);
+        printed.and(self.post(outs))
     }
 
     fn give<W: Wait>(&mut self, rt: &W, keeper: &mut Keeper, out: &Out) -> Result<(), Fault> {
         on_time(keeper)?;
-        let given = keeper.give(rt, self.clock, out)?;
-        self.print_all(&given.lines)
+        let Given { lines, .. } = keeper.give(rt, self.clock, out)?;
+        self.print_all(lines)
     }
 
+    // Whether there was nothing to do.
     fn sweep(&mut self) -> Result<bool, Fault> {
-        let swept = self.cell.sweep(self.moment)?;
-        self.print_all(&swept.lines)?;
-        self.post(swept.outs)?;
-        Ok(swept.quiet)
+        let Swept { lines, outs, quiet } = self.cell.sweep(self.moment)?;
+        let printed = self.print_all(lines);
+        printed.and(self.post(outs))?;
+        Ok(quiet)
     }
 
     fn post(&mut self, outs: Items<Out>) -> Result<(), Fault> {
         for out in outs.into_vec() {
-            self.mail.push_back(Letter::Out(out))?;
+            self.send(Letter::Out(out))?;
         }
         Ok(())
     }
 
-    fn print_all(&mut self, lines: &Items<Line>) -> Result<(), Fault> {
+    fn print_all(&mut self, lines: Items<Line>) -> Result<(), Fault> {
+        let mut printed = Ok(());
         for line in lines.as_slice() {
-            self.print(line)?;
+            printed = printed.and(self.print(line));
         }
-        Ok(())
+        drop(lines);
+        printed
     }
 
     fn print(&mut self, line: &Line) -> Result<(), Fault> {
-        let line = format!(in self.alloc; "{line}")?;
         if !self.printed.is_empty() {
             self.printed.push_str("; ")?;
         }
-        self.printed.push_str(line.as_str())?;
-        Ok(())
+        Ok(write!(self.printed, "{line}")?)
     }
 }

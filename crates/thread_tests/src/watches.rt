@@ -2,9 +2,7 @@
 ghost use Rattle.std.specs.Prelude.{◌≡◌, [], IfOk};
 ghost use Rattle.watch_cell.specs.Views.{watched};
 
-use client_core::{Ask, Asked, Client, NodeCall, Outcome};
 use live_cell::{give_up, new_cell, retire};
-use messages_cell::{Create, Disposition, NewNode, Open, Request};
 use names_cell::{Name, Principal};
 use node_core::{Fault, Life};
 use over_core::Cell;
@@ -16,14 +14,16 @@ use std::process::Abort;
 use std::sync::Wait;
 use std::sync::ledger::Ledger;
 use std::test::Fail;
-use sweep_laws::Swept;
-use tags_cell::{ClientNumber, Events, Mode};
+use tags_cell::{
+    Call, CallMessage, ClientNumber, Create, Disposition, Events, MessageNumber, Mode, NewNode,
+    Open, Request, Start,
+};
 use watch_cell::{Blanks, Closed, Event, Opening, Pass, Watch};
 
 // What is done with a watch and its passes.
 #[derive(Clone, Copy)]
 enum Case {
-    // Of two passes, each of which sets a file, one is retired and the other closed: the rows hold both contents.
+    // Of two passes, by each of which a file is made, one is retired and the other closed: the rows hold both contents.
     OneRetired,
     // Of three passes the second is kept back, and comes later.
     KeptBack,
@@ -37,7 +37,7 @@ const CASES: &[(&str, u64, Case)] = &[
     ("full", 1, Case::Full),
 ];
 
-// The file of the client of each pass, and what it is set to.
+// The file of the client of each pass, and what it holds.
 const FILES: &[(&str, &[u8])] = &[("/ls/c/one", b"a"), ("/ls/c/two", b"bc")];
 
 #[test]
@@ -96,14 +96,14 @@ fn one_retired<R: Records + Drop, O: Opening, I: Ledger, A: Ledger, E: Ledger, C
     watch: Watch<R, O, I, A, E, C>,
     mut passes: Vec<Pass<I, A, E, C>>,
 ) -> bool {
-    let set = set_all(rt, alloc, &watch, passes.as_mut_slice());
+    let made = make_all(rt, alloc, &watch, passes.as_mut_slice());
     let Some(second) = passes.pop() else {
         give_up(rt, watch, passes);
         return false;
     };
     retire(rt, &watch, second);
     match watch.close(passes) {
-        Ok(closed) => set && hold(alloc, closed),
+        Ok(closed) => made && hold(alloc, closed),
         Err((_, watch, passes)) => {
             give_up(rt, watch, passes);
             false
@@ -111,67 +111,62 @@ fn one_retired<R: Records + Drop, O: Opening, I: Ledger, A: Ledger, E: Ledger, C
     }
 }
 
-fn set_all<R: Records, O: Opening, I: Ledger, A: Ledger, E: Ledger, C: Ledger, W: Wait>(
+// By each pass its file is made.
+fn make_all<R: Records, O: Opening, I: Ledger, A: Ledger, E: Ledger, C: Ledger, W: Wait>(
     rt: &W,
     alloc: Global,
     watch: &Watch<R, O, I, A, E, C>,
     passes: &mut [Pass<I, A, E, C>],
 ) -> bool {
     for (pass, (name, content)) in passes.iter_mut().zip(FILES) {
-        if set(rt, alloc, watch, pass, name, content).is_err() {
+        let Ok((start, open)) = requests(alloc, pass.number(), name, content) else {
+            return false;
+        };
+        if !goes(rt, watch, pass, start) || !goes(rt, watch, pass, open) {
             return false;
         }
     }
     true
 }
 
-// The client of a pass starts, makes its file, and sets it.
-fn set<R: Records, O: Opening, I: Ledger, A: Ledger, E: Ledger, C: Ledger, W: Wait>(
-    rt: &W,
+// The Start of a client, and its Open that makes a file.
+fn requests(
     alloc: Global,
-    watch: &Watch<R, O, I, A, E, C>,
-    pass: &mut Pass<I, A, E, C>,
+    number: u64,
     name: &str,
     content: &[u8],
-) -> Result<(), Fault> {
-    let mut client = first_client(alloc, pass.number())?;
-    let went = set_by(rt, alloc, watch, pass, &mut client, name, content);
-    drop(client);
-    went
+) -> Result<(Request, Request), Fault> {
+    let client = ClientNumber::new(number).ok_or(Fault::Exhausted)?;
+    let number = MessageNumber::new(1).ok_or(Fault::Exhausted)?;
+    let principal = Principal::parse(alloc, "ann")?;
+    let open = opening(alloc, name, content)?;
+    let start = Request::Start(Start {
+        client,
+        number,
+        principal,
+    });
+    let open = Request::Call(CallMessage {
+        client,
+        epoch: 1,
+        number,
+        call: Call::Open(open),
+        sequencer: None,
+    });
+    Ok((start, open))
 }
 
-fn first_client(alloc: Global, number: u64) -> Result<Client, Fault> {
-    let number = ClientNumber::new(number).ok_or(Fault::Exhausted)?;
-    Ok(Client::new(alloc, number, Principal::parse(alloc, "ann")?))
-}
-
-fn set_by<R: Records, O: Opening, I: Ledger, A: Ledger, E: Ledger, C: Ledger, W: Wait>(
-    rt: &W,
-    alloc: Global,
-    watch: &Watch<R, O, I, A, E, C>,
-    pass: &mut Pass<I, A, E, C>,
-    client: &mut Client,
-    name: &str,
-    content: &[u8],
-) -> Result<(), Fault> {
-    let start = client.beat(0)?.request;
-    send(rt, watch, pass, client, start)?;
-    let open = Ask::Open(opening(alloc, name)?);
-    ask(rt, watch, pass, client, &open)?;
-    let set = Ask::Node(1, NodeCall::Set(Bytes::copy_of(alloc, content)?, None));
-    ask(rt, watch, pass, client, &set)
-}
-
-fn opening(alloc: Global, name: &str) -> Result<Open, Fault> {
+fn opening(alloc: Global, name: &str, content: &[u8]) -> Result<Open, Fault> {
     let mode = Mode::new(true, true, false).ok_or(Fault::Exhausted)?;
+    let name = Name::parse(alloc, name)?;
+    let content = Bytes::copy_of(alloc, content)?;
     let create = Create {
         disposition: Disposition::Must,
-        node: NewNode::File(Bytes::copy_of(alloc, &[])?),
+        node: NewNode::File(content),
         life: Life::Permanent,
         acls: None,
     };
     Ok(Open {
-        name: Name::parse(alloc, name)?,
+        name,
         mode,
         create: Some(create),
         delay: 0,
@@ -179,57 +174,29 @@ fn opening(alloc: Global, name: &str) -> Result<Open, Fault> {
     })
 }
 
-fn ask<R: Records, O: Opening, I: Ledger, A: Ledger, E: Ledger, C: Ledger, W: Wait>(
+// Whether a message is taken through a pass, and what is then to do is done.
+fn goes<R: Records, O: Opening, I: Ledger, A: Ledger, E: Ledger, C: Ledger, W: Wait>(
     rt: &W,
     watch: &Watch<R, O, I, A, E, C>,
     pass: &mut Pass<I, A, E, C>,
-    client: &mut Client,
-    asked: &Ask,
-) -> Result<(), Fault> {
-    let Asked { lines: _, outcome } = client.ask(0, asked)?;
-    match outcome {
-        Outcome::Sent(request) => send(rt, watch, pass, client, Some(request)),
-        _ => Err(Fault::Unknown),
-    }
+    request: Request,
+) -> bool {
+    watch.call(rt, pass, Event::Take(0, request)).is_ok() && sweeps(rt, watch, pass, 4)
 }
 
-// Takes a message, sweeps until the master is quiet, and gives the client what was sent.
-fn send<R: Records, O: Opening, I: Ledger, A: Ledger, E: Ledger, C: Ledger, W: Wait>(
+// So many sweeps through a pass.
+fn sweeps<R: Records, O: Opening, I: Ledger, A: Ledger, E: Ledger, C: Ledger, W: Wait>(
     rt: &W,
     watch: &Watch<R, O, I, A, E, C>,
     pass: &mut Pass<I, A, E, C>,
-    client: &mut Client,
-    request: Option<Request>,
-) -> Result<(), Fault> {
-    let Some(request) = request else {
-        return Err(Fault::Unknown);
-    };
-    call(rt, watch, pass, client, Event::Take(0, request))?;
-    for _ in 0..4 {
-        call(rt, watch, pass, client, Event::Sweep(0))?;
+    count: u64,
+) -> bool {
+    for _ in 0..count {
+        if watch.call(rt, pass, Event::Sweep(0)).is_err() {
+            return false;
+        }
     }
-    Ok(())
-}
-
-// A step through the watch, whose answer the client is given.
-fn call<R: Records, O: Opening, I: Ledger, A: Ledger, E: Ledger, C: Ledger, W: Wait>(
-    rt: &W,
-    watch: &Watch<R, O, I, A, E, C>,
-    pass: &mut Pass<I, A, E, C>,
-    client: &mut Client,
-    event: Event,
-) -> Result<(), Fault> {
-    let receipt = watch.call(rt, pass, event)?;
-    let given = give_all(client, receipt.reply());
-    drop(receipt);
-    given
-}
-
-fn give_all(client: &mut Client, reply: &Swept) -> Result<(), Fault> {
-    for out in reply.outs.as_slice() {
-        drop(client.give(0, out)?);
-    }
-    Ok(())
+    true
 }
 
 // Whether the rows hold each file with its content.
@@ -304,7 +271,7 @@ fn sweep_all<R: Records, O: Opening, I: Ledger, A: Ledger, E: Ledger, C: Ledger,
     passes: &mut [Pass<I, A, E, C>],
 ) -> bool {
     for pass in passes {
-        if watch.call(rt, pass, Event::Sweep(0)).is_err() {
+        if !sweeps(rt, watch, pass, 1) {
             return false;
         }
     }
@@ -330,10 +297,8 @@ fn fills<R: Records, O: Opening, I: Ledger, A: Ledger, E: Ledger, C: Ledger, W: 
     watch: &Watch<R, O, I, A, E, C>,
     pass: &mut Pass<I, A, E, C>,
 ) -> bool {
-    for _ in 0..1_000_000u64 {
-        if watch.call(rt, pass, Event::Sweep(0)).is_err() {
-            return false;
-        }
+    if !sweeps(rt, watch, pass, 1_000_000) {
+        return false;
     }
     let refused = match watch.call(rt, pass, Event::Sweep(0)) {
         Ok(_) => false,

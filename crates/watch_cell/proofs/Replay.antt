@@ -6,7 +6,7 @@ use Rattle.node_core.specs.declared.lines.Line.{Line}
 use Rattle.rights_core.specs.Rights.{is_acknowledged, is_expired}
 use Rattle.rights_core.specs.Grants.{Told, rights_at, told_of, Tells, is_acknowledged_told, is_expired_told, is_granted_line, is_acked_line, is_expired_line}
 use Rattle.rights_core.proofs.ToldLines.{told_both, count_told, told_balanced}
-use Rattle.sweep_laws.specs.declared.swept.Swept.{Swept}
+use Rattle.over_core.specs.declared.swept.Swept.{Swept}
 use Rattle.watch_cell.specs.declared.events.Event.{Event}
 use Rattle.watch_cell.specs.declared.events.Entry.{Entry}
 use Rattle.watch_cell.specs.Views.{WatchedState}

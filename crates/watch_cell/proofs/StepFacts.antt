@@ -3,7 +3,7 @@ use Rattle.std.proofs.Common.{◌≡◌, ◌≢◌, ◌⊎◌, inl, inr, ℕ, Li
 use Rattle.std.specs.Prelude.{◌||◌, IfOk, IfErr}
 use Rattle.node_core.specs.declared.refusals.Fault.{Fault}
 use Rattle.node_core.specs.declared.refusals.Fault.TheVariants as faults
-use Rattle.messages_cell.specs.declared.requests.Request.{Request}
+use Rattle.tags_cell.specs.declared.messages.requests.Request.{Request}
 use Rattle.rows_cell.specs.declared.tables.Rows.{Rows}
 use Rattle.rows_cell.specs.declared.tables.Edit.{Edit}
 use Rattle.rows_cell.specs.Stores.{IsCommitted, IsRefused, MayRefuse, StoreRefuses}
@@ -12,11 +12,11 @@ use Rattle.cell_parts.specs.declared.pending.Taken.{Taken}
 use Rattle.cell_state.specs.State.{MasterState}
 use Rattle.cell_state.specs.Lookups.{noted, is_spent}
 use Rattle.cell_core.specs.Step.{take_step, take_at, is_past_end}
-use Rattle.sweep_laws.specs.declared.swept.Swept.{Swept}
-use Rattle.sweep_laws.specs.Kept.{CellState, IsKept}
-use Rattle.sweep_laws.specs.Sweep.{sweep_step, sweep_edits, swept_as, swept, is_over}
-use Rattle.sweep_plan.specs.Plans.{first_action}
-use Rattle.sweep_laws.proofs.StepsTell.{taken_tells, swept_tells}
+use Rattle.over_core.specs.declared.swept.Swept.{Swept}
+use Rattle.over_core.specs.Kept.{CellState, IsKept}
+use Rattle.over_core.specs.Sweep.{sweep_step, sweep_edits, swept_as, swept, is_over}
+use Rattle.over_core.specs.Plans.{first_action}
+use Rattle.over_core.proofs.StepsTell.{taken_tells, swept_tells}
 use Rattle.over_core.specs.declared.sweeps.SweptThrice.{SweptThrice}
 use Rattle.watch_cell.specs.declared.events.Event.TheVariants.{Take, Sweep}
 use Rattle.watch_cell.specs.Views.{WatchedState, watched}

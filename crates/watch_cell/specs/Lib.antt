@@ -5,8 +5,8 @@ pub use Rattle.rights_core.specs.Rights
 pub use Rattle.rights_core.specs.Grants
 pub use Rattle.cell_state.specs.State
 pub use Rattle.cell_core.specs.Step
-pub use Rattle.sweep_laws.specs.Kept
-pub use Rattle.sweep_laws.specs.Sweep
+pub use Rattle.over_core.specs.Kept
+pub use Rattle.over_core.specs.Sweep
 pub mod Closing
 pub mod Marks
 pub mod Trail

@@ -8,8 +8,8 @@ use Rattle.rights_core.specs.Grants.{Told, rights_at, told_of, totals_by, is_gra
 use Rattle.cell_parts.specs.declared.pending.Taken.{Taken}
 use Rattle.cell_state.specs.State.{MasterState}
 use Rattle.cell_core.specs.Step.{take_step}
-use Rattle.sweep_laws.specs.declared.swept.Swept.{Swept}
-use Rattle.sweep_laws.specs.Sweep.{sweep_step, sweep_edits, swept_as}
+use Rattle.over_core.specs.declared.swept.Swept.{Swept}
+use Rattle.over_core.specs.Sweep.{sweep_step, sweep_edits, swept_as}
 use Rattle.watch_cell.specs.declared.events.Event.{Event}
 use Rattle.watch_cell.specs.declared.events.Event.TheVariants.{Take, Sweep}
 use Rattle.watch_cell.specs.declared.events.Entry.{Entry}

@@ -2,8 +2,8 @@
 use Rattle.std.specs.Prelude.{ℕ, List, [], ◌∷◌, ◌++◌, suc, zero, ◌+◌}
 use Rattle.rows_cell.specs.declared.tables.Rows.{Rows}
 use Rattle.cell_state.specs.State.{MasterState, master_of}
-use Rattle.sweep_laws.specs.Kept.{CellState}
-use Rattle.sweep_laws.specs.declared.swept.Swept.{Swept}
+use Rattle.over_core.specs.Kept.{CellState}
+use Rattle.over_core.specs.declared.swept.Swept.{Swept}
 use Rattle.watch_cell.specs.declared.events.Event.{Event}
 use Rattle.watch_cell.specs.declared.events.Entry.{Entry}
 

@@ -1,11 +1,11 @@
 //! The events of a watch, and the entries of its trail.
 ghost use Rattle.std.specs.Prelude.{◌≡◌, ◌↔◌, IfOk, IsTrue};
 
-use messages_cell::Request;
-use same_cell::Alike;
+use crate::alike::Alike;
+use over_core::Swept;
 use std::alloc::AllocError;
 use std::marker::Model;
-use sweep_laws::Swept;
+use tags_cell::Request;
 
 /// A step that a thread asks for. Moments are in milliseconds.
 #[derive(Drop)]

@@ -3,7 +3,7 @@
 ghost use Rattle.std.specs.Prelude.{◌≡◌, ◌≢◌, ◌<◌, ◌≤◌, ◌+◌, ◌↔◌, ◌++◌, ◌∷◌, [], ℕ, Ok, IfOk, IfErr, OnOk, OnErr, IsErrOf, length, count_by, vec_len, vec_capacity};
 ghost use Rattle.node_core.specs.declared.refusals.Fault.TheVariants.{WatchFull};
 ghost use Rattle.rights_core.specs.Grants.{Tells, is_granted_line, is_acked_line, is_expired_line};
-ghost use Rattle.sweep_laws.specs.Sweep.{swept_as};
+ghost use Rattle.over_core.specs.Sweep.{swept_as};
 ghost use Rattle.watch_cell.specs.Trail.{Kept, Served, step_of};
 ghost use Rattle.watch_cell.specs.Views.{Desk, watched, opened, fresh, fresh_hands};
 ghost use Rattle.watch_cell.specs.Closing.{gathered, places, AllThere, SoundOf, Refuses, Settled};
@@ -13,13 +13,12 @@ use crate::events::{Entry, Event, Events};
 use crate::ledgers::{Blanks, Books, Shares};
 use crate::steps::{count_acked, count_expired, count_granted, step_thrice};
 use node_core::Fault;
-use over_core::{Cell, SweptThrice};
+use over_core::{Cell, Swept, SweptThrice};
 use rights_core::Totals;
 use rows_cell::Records;
 use std::alloc::{AllocError, Global};
 use std::marker::{Brand, Model, PhantomData};
 use std::sync::ledger::Ledger;
-use sweep_laws::Swept;
 
 /// The most entries of a trail.
 const MOST: usize = 1_000_000;

@@ -2,7 +2,7 @@
 ghost use Rattle.std.specs.Prelude.{◌≡◌, ◌≢◌, Some, Ok, IfOk, IfErr, OnErr, count_by, map};
 ghost use Rattle.node_core.specs.declared.refusals.Fault.TheVariants.{WatchFull};
 ghost use Rattle.rights_core.specs.Grants.{Tells, is_granted_line, is_acked_line, is_expired_line};
-ghost use Rattle.sweep_laws.specs.Sweep.{swept_as};
+ghost use Rattle.over_core.specs.Sweep.{swept_as};
 ghost use Rattle.watch_cell.specs.Trail.{step_of};
 ghost use Rattle.watch_cell.specs.Views.{watched};
 

@@ -2,10 +2,10 @@
 use Rattle.std.proofs.Common.{◌≡◌, ℕ, zero, suc, ◌+◌, ◌<◌, ◌≤◌, Bool, true, false, List, [], ◌∷◌, ◌++◌, length, Option, Some, None, Result, Ok, Err, refl, sym, ap, ◌∙◌, arith}
 use Rattle.node_core.specs.declared.events.Event.{Event}
 use Rattle.node_core.specs.declared.events.Event.TheVariants as events
-use Rattle.messages_cell.specs.declared.beats.Beat.{Beat}
-use Rattle.messages_cell.specs.declared.beats.Invalidation.{Invalidation}
-use Rattle.messages_cell.specs.declared.beats.NumberedEvent.{NumberedEvent}
-use Rattle.messages_cell.specs.declared.beats.Alive.{Alive}
+use Rattle.tags_cell.specs.declared.messages.beats.Beat.{Beat}
+use Rattle.tags_cell.specs.declared.messages.beats.Invalidation.{Invalidation}
+use Rattle.tags_cell.specs.declared.messages.beats.NumberedEvent.{NumberedEvent}
+use Rattle.tags_cell.specs.declared.messages.beats.Alive.{Alive}
 use Rattle.wire_core.specs.declared.faults.WireFault.{WireFault}
 use Rattle.wire_core.specs.declared.kinds.EventKind.{EventKind}
 use Rattle.wire_core.specs.declared.kinds.EventKind.TheVariants as of

@@ -3,13 +3,13 @@ use Rattle.std.proofs.Common.{◌≡◌, ℕ, zero, suc, ◌+◌, ◌<◌, ◌�
 use Rattle.node_core.specs.declared.kinds.Kind.{Kind}
 use Rattle.node_core.specs.declared.kinds.Kind.TheVariants as kinds
 use Rattle.node_core.specs.declared.kinds.LockMode.{LockMode}
-use Rattle.messages_cell.specs.declared.calls.AclNames.{AclNames}
-use Rattle.messages_cell.specs.declared.calls.NewNode.{NewNode}
-use Rattle.messages_cell.specs.declared.calls.NewNode.TheVariants as nodes
-use Rattle.messages_cell.specs.declared.calls.Create.{Create}
-use Rattle.messages_cell.specs.declared.calls.Open.{Open}
-use Rattle.messages_cell.specs.declared.calls.Call.{Call}
-use Rattle.messages_cell.specs.declared.calls.Call.TheVariants as calls
+use Rattle.tags_cell.specs.declared.messages.calls.AclNames.{AclNames}
+use Rattle.tags_cell.specs.declared.messages.calls.NewNode.{NewNode}
+use Rattle.tags_cell.specs.declared.messages.calls.NewNode.TheVariants as nodes
+use Rattle.tags_cell.specs.declared.messages.calls.Create.{Create}
+use Rattle.tags_cell.specs.declared.messages.calls.Open.{Open}
+use Rattle.tags_cell.specs.declared.messages.calls.Call.{Call}
+use Rattle.tags_cell.specs.declared.messages.calls.Call.TheVariants as calls
 use Rattle.wire_core.specs.declared.faults.WireFault.{WireFault}
 use Rattle.wire_core.specs.declared.kinds.CallKind.{CallKind}
 use Rattle.wire_core.specs.declared.kinds.CallKind.TheVariants as of

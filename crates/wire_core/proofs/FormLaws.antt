@@ -1,9 +1,9 @@
 -- What was written in a form is read again, and what is read was written, for each way in which forms are put together.
-use Rattle.std.proofs.Common.{◌≡◌, ℕ, zero, suc, ◌+◌, ◌^◌, ◌<◌, ◌≤◌, Bool, true, false, cond, ltb, List, [], ◌∷◌, ◌++◌, length, get_or, take, drop, Option, Some, None, Result, Ok, Err, refl, sym, ap, subst, ◌∙◌, append_assoc, arith, inl, inr}
+use Rattle.std.proofs.Common.{◌≡◌, ℕ, zero, suc, ◌≢◌, ◌+◌, ◌^◌, ◌<◌, ◌≤◌, Bool, true, false, cond, ltb, List, [], ◌∷◌, ◌++◌, length, get_or, take, drop, Option, Some, None, Result, Ok, Err, refl, sym, ap, subst, ◌∙◌, append_assoc, arith, inl, inr}
 use Rattle.std.specs.Prelude.{IfSome, nat_lt, if◌then◌else◌, slice_get, ◌==◌, ◌&&◌}
 use Rattle.std.specs.Int.{w32, w64, from_be_bytes, to_be_bytes}
 use Rattle.std.specs.List.{AllByRecursion}
-use Rattle.std.proofs.lemmas.Bool.{cases_lt, ltb-false, ltb-true, le-ltb, eqb-true}
+use Rattle.std.proofs.lemmas.Bool.{cases_lt, ltb-false, ltb-true, le-ltb, lt-ltb, eqb-true, ne_eqb}
 use Rattle.std.proofs.lemmas.List.{take_at, drop_at, take-append-drop, length-append, length-take, get_or-drop, get_or-take, get_or_past, append-nil, nil_from_length}
 use Rattle.std.proofs.lemmas.Nat.{be_bytes_4, be_bytes_8}
 use Rattle.byteorder.specs.Endian.{big_bytes, big_number}
@@ -433,3 +433,16 @@ read_was_written {f = f} p bytes x fits e =
     ap (λ (u : List ℕ). version ∷ u) (sym (append-nil (f.write a.0.0)) ∙ ap (λ (u : List ℕ). f.write a.0.0 ++ u) (sym none) ∙ sym s.parts) ∙ sym head in
     let P : _ → Type 0 = λ y. f.is y × (written f y ≡ Ok bytes) in
     subst P t.1 (s.holds, ap short_of same ∙ ap (λ (b : Bool). cond b (Ok bytes) (Err TooLong)) g.0)
+
+-- what is written is the version, and then the bytes of the form
+pub written_begins : {X : Type 0} (f : Form X) (x : X) (bytes : List ℕ) → written f x ≡ Ok bytes → bytes ≡ version ∷ f.write x
+written_begins f x bytes e =
+    let g = test_ok (nat_lt (length (version ∷ f.write x)) length_end) TooLong (version ∷ f.write x) bytes e in
+    sym g.1
+
+-- what begins with another byte is of another version
+pub other_version : {X : Type 0} (f : Form X) (first : ℕ) (rest : List ℕ) → first ≢ version → length (first ∷ rest) < length_end
+    → read_whole f (first ∷ rest) ≡ Err BadVersion
+other_version f first rest other short =
+    ap (λ (b : Bool). cond b (version_at (first ∷ rest)) (Err TooLong) >>= λ rest. f.read rest >>= λ y. end_at y.0 y.1) (lt-ltb (length (first ∷ rest)) length_end short)
+    ∙ ap (λ (b : Bool). cond b (Ok rest) (Err BadVersion) >>= λ rest. f.read rest >>= λ y. end_at y.0 y.1) (ne_eqb first version other)

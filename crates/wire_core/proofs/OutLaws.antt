@@ -3,26 +3,26 @@ use Rattle.std.proofs.Common.{◌≡◌, ℕ, zero, suc, ◌+◌, ◌<◌, ◌�
 use Rattle.node_core.specs.declared.nodes.Node.{Node}
 use Rattle.node_core.specs.declared.views.View.{View}
 use Rattle.node_core.specs.declared.stats.Stat.{Stat}
-use Rattle.messages_cell.specs.declared.outs.Started.{Started}
-use Rattle.messages_cell.specs.declared.outs.NewHandle.{NewHandle}
-use Rattle.messages_cell.specs.declared.outs.CallResult.{CallResult}
-use Rattle.messages_cell.specs.declared.outs.CallResult.TheVariants as results
-use Rattle.messages_cell.specs.declared.outs.Reply.{Reply}
-use Rattle.messages_cell.specs.declared.outs.Refused.{Refused}
-use Rattle.messages_cell.specs.declared.outs.Out.{Out}
-use Rattle.messages_cell.specs.declared.outs.Out.TheVariants as outs
+use Rattle.tags_cell.specs.declared.messages.outs.Started.{Started}
+use Rattle.tags_cell.specs.declared.messages.outs.NewHandle.{NewHandle}
+use Rattle.tags_cell.specs.declared.messages.outs.CallResult.{CallResult}
+use Rattle.tags_cell.specs.declared.messages.outs.CallResult.TheVariants as results
+use Rattle.tags_cell.specs.declared.messages.outs.Reply.{Reply}
+use Rattle.tags_cell.specs.declared.messages.outs.Refused.{Refused}
+use Rattle.tags_cell.specs.declared.messages.outs.Out.{Out}
+use Rattle.tags_cell.specs.declared.messages.outs.Out.TheVariants as outs
 use Rattle.wire_core.specs.declared.faults.WireFault.{WireFault}
 use Rattle.wire_core.specs.declared.faults.WireFault.TheVariants.{BadNumber}
 use Rattle.wire_core.specs.declared.kinds.ResultKind.{ResultKind}
 use Rattle.wire_core.specs.declared.kinds.ResultKind.TheVariants as ends
 use Rattle.wire_core.specs.declared.kinds.OutKind.{OutKind}
 use Rattle.wire_core.specs.declared.kinds.OutKind.TheVariants as of
-use Rattle.wire_core.specs.Forms.{Form, nothing, ◌⊗◌, made, tested, choice, of_kind, behind, listed, written, read_whole}
+use Rattle.wire_core.specs.Forms.{Form, nothing, ◌⊗◌, made, tested, choice, of_kind, behind, listed, version, written, read_whole}
 use Rattle.wire_core.specs.Fields.{word, optional_word, client, ordinal, block, component, kind, life}
 use Rattle.wire_core.specs.Faults.{fault}
 use Rattle.wire_core.specs.Beats.{alive}
 use Rattle.wire_core.specs.Outs.{started, new_handle, node, is_view, view, stat, components, has_view, has_bytes, all_results, result_place, result_kind, result_is, result_bytes, result_behind, call_result, reply, refused, all_outs, out_place, out_kind, out_is, out_bytes, out_behind, out_message, out_written}
-use Rattle.wire_core.proofs.FormLaws.{IsBytes, IsShort, IsForm, Takes, TakesKind, TakesRoom, ok_is, number_form_4, number_form_8, byte_form, counted_form, nothing_form, pair_form, made_form, tested_form, choice_form, of_kind_form, behind_takes, behind_again, optional_form, listed_form, written_is_read, read_was_written}
+use Rattle.wire_core.proofs.FormLaws.{IsBytes, IsShort, IsForm, Takes, TakesKind, TakesRoom, ok_is, number_form_4, number_form_8, byte_form, counted_form, nothing_form, pair_form, made_form, tested_form, choice_form, of_kind_form, behind_takes, behind_again, optional_form, listed_form, written_is_read, read_was_written, written_begins}
 use Rattle.wire_core.proofs.FieldLaws.{word_form, optional_word_form, client_form, ordinal_form, block_form, optional_block_form, name_form, component_form, kind_form, life_form, lock_mode_form, disposition_form, mode_form, events_form}
 use Rattle.wire_core.proofs.FaultLaws.{fault_form}
 use Rattle.wire_core.proofs.BeatLaws.{alive_form}
@@ -155,3 +155,6 @@ pub read_out_was_written : (bytes : List ℕ) (x : Out) → IsBytes bytes → re
 read_out_was_written bytes x fits e =
     let w = read_was_written out_message_form bytes x fits e in
     (w.0, form_written x (has_bytes_form x w.0) ∙ w.1)
+
+pub written_out_begins : (x : Out) (bytes : List ℕ) → out_written x ≡ Ok bytes → bytes ≡ version ∷ out_message.write x
+written_out_begins x bytes e = written_begins out_message x bytes (if_written (has_bytes x) (written out_message x) bytes e)

@@ -1,9 +1,9 @@
 -- What a client sends is read as it was written.
 use Rattle.std.proofs.Common.{◌≡◌, ℕ, zero, suc, ◌+◌, ◌<◌, ◌≤◌, Bool, true, false, List, [], ◌∷◌, ◌++◌, length, Option, Some, None, Result, Ok, Err, refl, sym, ap, ◌∙◌, arith}
-use Rattle.messages_cell.specs.declared.requests.Start.{Start}
-use Rattle.messages_cell.specs.declared.requests.CallMessage.{CallMessage}
-use Rattle.messages_cell.specs.declared.requests.Request.{Request}
-use Rattle.messages_cell.specs.declared.requests.Request.TheVariants as requests
+use Rattle.tags_cell.specs.declared.messages.requests.Start.{Start}
+use Rattle.tags_cell.specs.declared.messages.requests.CallMessage.{CallMessage}
+use Rattle.tags_cell.specs.declared.messages.requests.Request.{Request}
+use Rattle.tags_cell.specs.declared.messages.requests.Request.TheVariants as requests
 use Rattle.wire_core.specs.declared.faults.WireFault.{WireFault}
 use Rattle.wire_core.specs.declared.kinds.RequestKind.{RequestKind}
 use Rattle.wire_core.specs.declared.kinds.RequestKind.TheVariants as of

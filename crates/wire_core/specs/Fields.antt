@@ -14,8 +14,8 @@ use Rattle.tags_cell.specs.Handles.{is_ordinal}
 use Rattle.tags_cell.specs.Modes.{Rights, mode_bits, rights_of}
 use Rattle.tags_cell.specs.Masks.{event_bits, events_of}
 use Rattle.tags_cell.specs.declared.masks.Events.{Events}
-use Rattle.messages_cell.specs.declared.calls.Disposition.{Disposition}
-use Rattle.messages_cell.specs.declared.calls.Disposition.TheVariants as dispositions
+use Rattle.tags_cell.specs.declared.messages.calls.Disposition.{Disposition}
+use Rattle.tags_cell.specs.declared.messages.calls.Disposition.TheVariants as dispositions
 use Rattle.wire_core.specs.declared.faults.WireFault.TheVariants.{BadNumber, BadText}
 use Rattle.wire_core.specs.Forms.{Form, number, byte, counted, made, tested, choice, optional}
 

@@ -167,9 +167,9 @@ listed f = record {
 
 -- ---- a whole message
 
--- the version of this format
+-- the version of this format: it rises with each change of what stands behind it
 abbrev pub version : ℕ
-version = 1
+version = 2
 
 -- all bytes together are fewer than this
 abbrev pub length_end : ℕ

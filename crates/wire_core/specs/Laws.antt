@@ -1,8 +1,9 @@
 -- What holds of the bytes of messages.
-use Rattle.std.specs.Prelude.{◌≡◌, ◌<◌, ℕ, List, slice_index, Ok}
-use Rattle.messages_cell.specs.declared.requests.Request.{Request}
-use Rattle.messages_cell.specs.declared.outs.Out.{Out}
-use Rattle.wire_core.specs.Forms.{Form, written, read_whole}
+use Rattle.std.specs.Prelude.{◌≡◌, ◌≢◌, ◌<◌, ℕ, List, ◌∷◌, length, slice_index, Ok, Err}
+use Rattle.tags_cell.specs.declared.messages.requests.Request.{Request}
+use Rattle.tags_cell.specs.declared.messages.outs.Out.{Out}
+use Rattle.wire_core.specs.declared.faults.WireFault.TheVariants.{BadVersion}
+use Rattle.wire_core.specs.Forms.{Form, version, length_end, written, read_whole}
 use Rattle.wire_core.specs.Requests.{request}
 use Rattle.wire_core.specs.Outs.{out_message, out_written}
 
@@ -25,3 +26,21 @@ WrittenOutIsRead = (message : Out) (bytes : List ℕ) → out_message.is message
 abbrev pub ReadOutWasWritten : Type 0
 ReadOutWasWritten =
     (bytes : List ℕ) (message : Out) → AreBytes bytes → read_whole out_message bytes ≡ Ok message → out_message.is message × (out_written message ≡ Ok bytes)
+
+-- a format: its version, and the layout that this version stands for, of what a client sends and of what a master sends
+pub record Format : Type 1 where
+  pub first : ℕ
+  pub requests : Form Request
+  pub outs : Form Out
+
+-- the one that is written and read
+abbrev pub format : Format
+format = record { first = version; requests = request; outs = out_message }
+
+-- what is written begins with the version of the format and goes on by its layout, and what begins with any other byte is of another version
+abbrev pub BytesAreOf : Format → Type 0
+BytesAreOf f =
+    ((message : Request) (bytes : List ℕ) → written request message ≡ Ok bytes → bytes ≡ f.first ∷ f.requests.write message)
+    × ((message : Out) (bytes : List ℕ) → out_written message ≡ Ok bytes → bytes ≡ f.first ∷ f.outs.write message)
+    × ((first : ℕ) (rest : List ℕ) → first ≢ f.first → length (first ∷ rest) < length_end
+    → (read_whole f.requests (first ∷ rest) ≡ Err BadVersion) × (read_whole f.outs (first ∷ rest) ≡ Err BadVersion))

@@ -9,9 +9,9 @@ use crate::inputs::Input;
 use crate::numbers::{put_client, put_message, read_client, read_message};
 use crate::outputs::{put_count, put_word};
 use crate::texts::{put_name, read_name};
-use messages_cell::{Alive, Beat, Invalidation};
 use plain::Items;
 use std::alloc::{AllocError, Global};
+use tags_cell::{Alive, Beat, Invalidation};
 
 #[tactic(auto, unfolding(crate::specs::Beats::beat))]
 pub(crate) fn read_beat(input: &mut Input) -> Result<Beat, WireFault>

@@ -3,7 +3,7 @@ ghost use Rattle.std.specs.Prelude.{◌∷◌, [], ◌++◌, OnOk};
 ghost use Rattle.wire_core.specs.Fields.{block};
 ghost use Rattle.wire_core.specs.Forms.{Reads, Appends, Form, behind};
 ghost use Rattle.wire_core.specs.Calls.{call, call_behind, set_fields, set_acl_fields, lock_fields};
-ghost use Rattle.messages_cell.specs.declared.calls.Call.TheVariants as calls;
+ghost use Rattle.tags_cell.specs.declared.messages.calls.Call.TheVariants as calls;
 
 use crate::choices::{put_lock_mode, read_lock_mode};
 use crate::faults::WireFault;
@@ -13,11 +13,10 @@ use crate::numbers::{put_optional_word, read_optional_word};
 use crate::opens::{put_acl_names, put_open, read_acl_names, read_open};
 use crate::outputs::{put_block, put_byte};
 use crate::texts::{read_bytes, read_handle};
-use messages_cell::{AclNames, Call};
 use node_core::LockMode;
 use plain::Bytes;
 use std::alloc::{AllocError, Global};
-use tags_cell::HandleBytes;
+use tags_cell::{AclNames, Call, HandleBytes};
 
 #[tactic(auto, unfolding(crate::specs::Calls::call))]
 pub(crate) fn read_call(alloc: Global, input: &mut Input) -> Result<Call, WireFault>

@@ -6,10 +6,9 @@ ghost use Rattle.wire_core.specs.Fields.{kind, life, right, lock_mode, dispositi
 use crate::faults::WireFault;
 use crate::inputs::Input;
 use crate::outputs::put_byte;
-use messages_cell::Disposition;
 use node_core::{Kind, Life, LockMode, Right};
 use std::alloc::AllocError;
-use tags_cell::{Events, Mode};
+use tags_cell::{Disposition, Events, Mode};
 
 const KINDS: [Kind; 2] = [Kind::File, Kind::Directory];
 

@@ -9,11 +9,11 @@ use crate::inputs::Input;
 use crate::kinds::{EVENT_KINDS, EventKind};
 use crate::outputs::{put_byte, put_count, put_word};
 use crate::texts::{put_name, read_name};
-use messages_cell::NumberedEvent;
 use names_cell::Name;
 use node_core::Event;
 use plain::Items;
 use std::alloc::{AllocError, Global};
+use tags_cell::NumberedEvent;
 
 #[tactic(auto, unfolding(crate::specs::Beats::event))]
 pub(crate) fn read_event(alloc: Global, input: &mut Input) -> Result<Event, WireFault>

@@ -1,5 +1,5 @@
 //! What holds of the bytes of messages, for every message and all bytes.
-ghost use Rattle.wire_core.specs.Laws.{WrittenRequestIsRead, ReadRequestWasWritten, WrittenOutIsRead, ReadOutWasWritten};
+ghost use Rattle.wire_core.specs.Laws.{WrittenRequestIsRead, ReadRequestWasWritten, WrittenOutIsRead, ReadOutWasWritten, format, BytesAreOf};
 
 /// What a client wrote is read as it was.
 pub fn written_request_is_read()
@@ -19,4 +19,10 @@ pub fn written_out_is_read()
 /// What is read of a master is what would be written: no two messages have the same bytes, and no message two forms.
 pub fn read_out_was_written()
     ensures { ReadOutWasWritten }
+{}
+
+/// The version and the layout are one constant's: what is written begins with the version of the format that it is laid
+/// out by, and what begins with another byte is read as of another version.
+pub fn bytes_are_of_format()
+    ensures { BytesAreOf format }
 {}

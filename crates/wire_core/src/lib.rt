@@ -21,6 +21,7 @@ mod texts;
 
 pub use faults::WireFault;
 pub use laws::{
-    read_out_was_written, read_request_was_written, written_out_is_read, written_request_is_read,
+    bytes_are_of_format, read_out_was_written, read_request_was_written, written_out_is_read,
+    written_request_is_read,
 };
 pub use messages::{VERSION, read_out, read_request, write_out, write_request};

@@ -10,12 +10,12 @@ use crate::inputs::Input;
 use crate::outputs::put_byte;
 use crate::outs::{has_bytes, put_out_body, read_out_body};
 use crate::requests::{put_request_body, read_request_body};
-use messages_cell::{Out, Request};
 use plain::Bytes;
 use std::alloc::Global;
+use tags_cell::{Out, Request};
 
-/// The version of this format, the first byte of each message.
-pub const VERSION: u8 = 1;
+/// The version of this format, the first byte of each message. It rises with each change of what stands behind it.
+pub const VERSION: u8 = 2;
 
 // All bytes of a message are fewer.
 const LENGTH_END: usize = 0x1_0000_0000;

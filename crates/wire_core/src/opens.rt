@@ -11,9 +11,9 @@ use crate::faults::WireFault;
 use crate::inputs::{FLAGS, Input};
 use crate::outputs::{put_block, put_byte, put_word};
 use crate::texts::{put_component, put_name, read_bytes, read_component, read_name};
-use messages_cell::{AclNames, Create, NewNode, Open};
 use node_core::Kind;
 use std::alloc::{AllocError, Global};
+use tags_cell::{AclNames, Create, NewNode, Open};
 
 #[tactic(auto, unfolding(crate::specs::Calls::acl_names))]
 pub(crate) fn read_acl_names(alloc: Global, input: &mut Input) -> Result<AclNames, WireFault>

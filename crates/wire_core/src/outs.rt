@@ -13,8 +13,8 @@ use crate::numbers::{
 use crate::outputs::{put_byte, put_word};
 use crate::refusals::{put_fault, read_fault};
 use crate::results::{has_view, put_result, read_result};
-use messages_cell::{Out, Refused, Reply, Started};
 use std::alloc::{AllocError, Global};
+use tags_cell::{Out, Refused, Reply, Started};
 
 #[tactic(auto, unfolding(crate::specs::Outs::started))]
 fn read_started(input: &mut Input) -> Result<Started, WireFault>

@@ -11,8 +11,8 @@ use crate::kinds::{REQUEST_KINDS, RequestKind};
 use crate::numbers::{put_client, put_message, read_client, read_message};
 use crate::outputs::{put_byte, put_word};
 use crate::texts::{put_optional_bytes, put_principal, read_optional_bytes, read_principal};
-use messages_cell::{CallMessage, Request, Start};
 use std::alloc::{AllocError, Global};
+use tags_cell::{CallMessage, Request, Start};
 
 #[tactic(auto, unfolding(crate::specs::Requests::start))]
 fn read_start(alloc: Global, input: &mut Input) -> Result<Start, WireFault>

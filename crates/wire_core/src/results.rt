@@ -12,11 +12,11 @@ use crate::numbers::{put_ordinal, read_ordinal};
 use crate::outputs::{put_block, put_byte, put_count, put_word};
 use crate::refusals::{put_fault, read_fault};
 use crate::texts::{put_component, read_bytes, read_component, read_handle};
-use messages_cell::{CallResult, NewHandle};
 use names_cell::Component;
 use node_core::{Kind, Listing, Node, Stat, View};
 use plain::Items;
 use std::alloc::{AllocError, Global};
+use tags_cell::{CallResult, NewHandle};
 
 #[tactic(auto, unfolding(crate::specs::Outs::new_handle))]
 fn read_new_handle(alloc: Global, input: &mut Input) -> Result<NewHandle, WireFault>

@@ -4,5 +4,5 @@
 mod runs;
 mod worlds;
 
-pub use world_clients::Step;
+pub use world_core::Step;
 pub use worlds::World;

@@ -18,7 +18,7 @@ use node_core::{Fault, Line};
 use plain::Items;
 use rows_cell::Records;
 use std::alloc::{AllocError, Global};
-use world_clients::Step;
+use world_core::Step;
 
 impl<R: Records + Drop> World<R> {
     /// Steps, one behind the other; a refused step is the one line that says so. Where memory ends, the steps made so

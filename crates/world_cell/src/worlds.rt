@@ -12,8 +12,7 @@ use rows_cell::Records;
 use settings_core::Settings;
 use std::alloc::Global;
 use std::marker::Model;
-use world_clients::{Message, Step};
-use world_core::{SweepResult, WorldParts};
+use world_core::{Message, Step, SweepResult, WorldParts};
 
 /// A cell with all that happens around it: records, at most one master, clients, and every message that was sent. To a
 /// contract, plain lists of these. Where nothing that was read from the records is in doubt, they fit one another always

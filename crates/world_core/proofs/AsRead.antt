@@ -5,8 +5,8 @@ use Rattle.node_core.specs.declared.refusals.Fault.{Fault}
 use Rattle.node_core.specs.declared.lines.Line.{Line}
 use Rattle.node_core.specs.declared.lines.Line.TheVariants as lines
 use Rattle.cell_state.specs.State.{MasterState}
-use Rattle.world_clients.specs.declared.steps.Step.{Step}
-use Rattle.world_clients.specs.declared.steps.Step.TheVariants as steps
+use Rattle.world_core.specs.declared.steps.Step.{Step}
+use Rattle.world_core.specs.declared.steps.Step.TheVariants as steps
 use Rattle.world_core.specs.World.{WorldView, IsUndoubted, store_in, as_read, IsAtUp, IsAt, world_step, step_edits, IsStored, IsLeft, MayRefuseStep}
 use Rattle.world_core.specs.Made.{IsTyped, IsMade, IsRefused, Does, WasMade, WasRefused, AnyStep}
 

@@ -9,10 +9,10 @@ use Rattle.rows_cell.specs.declared.tables.Rows.{Rows}
 use Rattle.rows_cell.specs.Stores.{Store, IsRead, IsUnread}
 use Rattle.cell_state.specs.State.{MasterState}
 use Rattle.cell_core.specs.Step.{is_past_end}
-use Rattle.sweep_laws.specs.Up.{up_step, up_edits, up_commit, ComesUp, StaysDown, CouldComeUp, CouldNotComeUp}
-use Rattle.world_clients.specs.declared.steps.Step.TheVariants as steps
-use Rattle.world_clients.specs.declared.steps.Commit.{Commit}
-use Rattle.world_clients.specs.declared.steps.Commit.TheVariants.{Kept, Lost}
+use Rattle.over_core.specs.Up.{up_step, up_edits, up_commit, ComesUp, StaysDown, CouldComeUp, CouldNotComeUp}
+use Rattle.world_core.specs.declared.steps.Step.TheVariants as steps
+use Rattle.world_core.specs.declared.steps.Commit.{Commit}
+use Rattle.world_core.specs.declared.steps.Commit.TheVariants.{Kept, Lost}
 use Rattle.world_core.specs.World.{WorldState, WorldView, Outcome, store_in, as_read, came_up, cut_up, world_up, world_cut_up, world_step, step_edits, IsStored, IsOutsideRead}
 use Rattle.world_core.specs.Made.{WasMade, WasRefused}
 use Rattle.world_core.proofs.AsRead.{at_now}

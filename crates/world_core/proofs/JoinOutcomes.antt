@@ -3,8 +3,8 @@ use Rattle.std.proofs.Common.{◌≡◌, ℕ, List, Bool, false, Option, Some, N
 use Rattle.std.specs.Prelude.{is_some, Result, Ok, Err, IfErr}
 use Rattle.node_core.specs.declared.refusals.Fault.{Fault}
 use Rattle.node_core.specs.declared.refusals.Fault.TheVariants as faults
-use Rattle.world_clients.specs.Members.{Clients}
-use Rattle.world_clients.specs.declared.steps.Step.TheVariants as steps
+use Rattle.world_core.specs.Members.{Clients}
+use Rattle.world_core.specs.declared.steps.Step.TheVariants as steps
 use Rattle.world_core.specs.World.{WorldView, world_join, member_of, MayRefuseStep}
 
 none_there : {X : Type 0} (o : Option X) → is_some o ≡ false → o ≡ None

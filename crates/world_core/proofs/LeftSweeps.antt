@@ -6,9 +6,9 @@ use Rattle.rows_cell.specs.declared.tables.Edit.{Edit}
 use Rattle.rows_cell.specs.declared.tables.Rows.{Rows}
 use Rattle.rows_cell.specs.Stores.{Store, IsRefused as Uncommitted}
 use Rattle.cell_state.specs.State.{MasterState}
-use Rattle.sweep_laws.specs.Kept.{CellState}
-use Rattle.world_clients.specs.declared.mail.Message.{Message}
-use Rattle.world_clients.specs.Members.{Clients}
+use Rattle.over_core.specs.Kept.{CellState}
+use Rattle.world_core.specs.declared.mail.Message.{Message}
+use Rattle.world_core.specs.Members.{Clients}
 use Rattle.world_core.specs.World.{WorldState, WorldView, view_of, IsLeft}
 use Rattle.world_core.proofs.RefusedUp.{leaves_same}
 

@@ -1,7 +1,10 @@
+pub mod RefusedUp
+pub mod MemberAnswers
+pub mod MembersMove
+pub mod FairTicks
 pub mod OneMessage
 pub mod TickOutcomes
 pub mod JoinOutcomes
 pub mod AsRead
-pub mod RefusedUp
 pub mod CutUps
 pub mod LeftSweeps

@@ -1,7 +1,7 @@
 -- A master that takes a message sends one at most.
 use Rattle.std.proofs.Common.{◌≡◌, ℕ, ◌≤◌, length, Ok, Option, Some, None, rules, ap}
-use Rattle.messages_cell.specs.declared.outs.Reply.{Reply}
-use Rattle.messages_cell.specs.declared.requests.Request.{Request}
+use Rattle.tags_cell.specs.declared.messages.outs.Reply.{Reply}
+use Rattle.tags_cell.specs.declared.messages.requests.Request.{Request}
 use Rattle.cell_parts.specs.declared.pending.Taken.{Taken}
 use Rattle.cell_state.specs.State.{MasterState}
 use Rattle.cell_core.specs.Step.{take_step}

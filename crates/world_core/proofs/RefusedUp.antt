@@ -12,11 +12,11 @@ use Rattle.rows_cell.specs.Rows.{changed_rows}
 use Rattle.rows_cell.specs.Stores.{Store, IsRead, IsUnread, MayLeave, MayRefuse, IsRefused as Uncommitted}
 use Rattle.cell_state.specs.State.{MasterState}
 use Rattle.cell_core.specs.Step.{is_past_end}
-use Rattle.sweep_laws.specs.Kept.{IsKept}
-use Rattle.sweep_laws.specs.Up.{up_step, up_edits, up_commit, ComesUp, IsKeptDown, StaysDown}
-use Rattle.world_clients.specs.declared.mail.Message.{Message}
-use Rattle.world_clients.specs.declared.steps.Step.TheVariants as steps
-use Rattle.world_clients.specs.Members.{Clients, each_member, at_up}
+use Rattle.over_core.specs.Kept.{IsKept}
+use Rattle.over_core.specs.Up.{up_step, up_edits, up_commit, ComesUp, IsKeptDown, StaysDown}
+use Rattle.world_core.specs.declared.mail.Message.{Message}
+use Rattle.world_core.specs.declared.steps.Step.TheVariants as steps
+use Rattle.world_core.specs.Members.{Clients, each_member, at_up}
 use Rattle.world_core.specs.World.{WorldState, WorldView, Outcome, store_in, held, view_of, as_read, came_up, world_step, world_up, came_up_edits, step_edits, IsAtUp, IsStored, IsOutsideUp}
 use Rattle.world_core.specs.Made.{AreInOrder, WasMade, WasRefused}
 use Rattle.world_core.proofs.AsRead.{at_now}

@@ -7,10 +7,10 @@ use Rattle.lease_core.specs.Lease.{moment_limit}
 use Rattle.node_core.specs.declared.refusals.Fault.TheVariants as faults
 use Rattle.rows_cell.specs.Stores.{Store}
 use Rattle.cell_state.specs.State.{MasterState}
-use Rattle.world_clients.specs.declared.mail.Message.{Message}
-use Rattle.world_clients.specs.declared.steps.Step.TheVariants as steps
-use Rattle.world_clients.specs.declared.steps.Ticks.{Ticks as ClockSteps}
-use Rattle.world_clients.specs.Members.{Clients, each_member, moved_beside, moved_alone, clock_then}
+use Rattle.world_core.specs.declared.mail.Message.{Message}
+use Rattle.world_core.specs.declared.steps.Step.TheVariants as steps
+use Rattle.world_core.specs.declared.steps.Ticks.{Ticks as ClockSteps}
+use Rattle.world_core.specs.Members.{Clients, each_member, moved_beside, moved_alone, clock_then}
 use Rattle.world_core.specs.World.{WorldView, world_tick, moves_nobody, are_joined, are_fair, goes_past_end, ticked, view_of, MayRefuseStep}
 
 module _ (old : WorldView) (ticks : ClockSteps) (somebody : moves_nobody old.world.master ticks ≡ false) where

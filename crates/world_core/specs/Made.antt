@@ -10,11 +10,11 @@ use Rattle.node_core.specs.declared.lines.Line.TheVariants as lines
 use Rattle.rows_cell.specs.declared.tables.Rows.{Rows}
 use Rattle.rows_cell.specs.Keys.{lock_order}
 use Rattle.tags_cell.specs.Numbers.{is_client_number}
-use Rattle.messages_cell.specs.declared.requests.Request.{Request}
-use Rattle.messages_cell.specs.Messages.{request_client}
-use Rattle.world_clients.specs.declared.steps.Step.{Step}
-use Rattle.world_clients.specs.declared.steps.Step.TheVariants as steps
-use Rattle.world_clients.specs.Messages.{request_at}
+use Rattle.tags_cell.specs.declared.messages.requests.Request.{Request}
+use Rattle.tags_cell.specs.Messages.{request_client}
+use Rattle.world_core.specs.declared.steps.Step.{Step}
+use Rattle.world_core.specs.declared.steps.Step.TheVariants as steps
+use Rattle.world_core.specs.Messages.{request_at}
 use Rattle.world_core.specs.World.{WorldState, WorldView, world_step, step_edits, IsAt, IsStored, IsLeft, MayRefuseStep}
 
 -- each table of the rows is in the order of its keys

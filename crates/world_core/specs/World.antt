@@ -14,37 +14,37 @@ use Rattle.rows_cell.specs.declared.tables.Rows.{Rows}
 use Rattle.rows_cell.specs.declared.tables.Edit.{Edit}
 use Rattle.rows_cell.specs.Rows.{changed_rows}
 use Rattle.rows_cell.specs.Stores.{Store, left_by, IsWant, MayLeave, MayRefuse, IsRead, IsUnread}
-use Rattle.messages_cell.specs.declared.requests.Request.{Request}
-use Rattle.messages_cell.specs.declared.outs.Out.{Out}
-use Rattle.messages_cell.specs.Messages.{out_client}
+use Rattle.tags_cell.specs.declared.messages.requests.Request.{Request}
+use Rattle.tags_cell.specs.declared.messages.outs.Out.{Out}
+use Rattle.tags_cell.specs.Messages.{out_client}
 use Rattle.cell_parts.specs.declared.pending.Taken.{Taken}
 use Rattle.cell_state.specs.State.{MasterState}
 use Rattle.cell_core.specs.Step.{take_step, is_past_end}
-use Rattle.sweep_laws.specs.declared.swept.Swept.{Swept}
-use Rattle.sweep_laws.specs.Kept.{IsKept}
-use Rattle.sweep_laws.specs.Sweep.{sweep_step, sweep_edits}
-use Rattle.sweep_laws.specs.Up.{up_step, up_edits, up_commit}
-use Rattle.client_parts.specs.declared.asks.Ask.{Ask}
-use Rattle.client_parts.specs.declared.asks.Asked.{Asked}
-use Rattle.client_parts.specs.declared.asks.Outcome.{Outcome as AskOutcome}
-use Rattle.client_parts.specs.declared.asks.Outcome.TheVariants.{Sent, Served, Answered, Refused}
-use Rattle.client_parts.specs.declared.steps.Beaten.{Beaten}
-use Rattle.client_parts.specs.declared.steps.Given.{Given}
+use Rattle.over_core.specs.declared.swept.Swept.{Swept}
+use Rattle.over_core.specs.Kept.{IsKept}
+use Rattle.over_core.specs.Sweep.{sweep_step, sweep_edits}
+use Rattle.over_core.specs.Up.{up_step, up_edits, up_commit}
+use Rattle.client_core.specs.declared.parts.asks.Ask.{Ask}
+use Rattle.client_core.specs.declared.parts.asks.Asked.{Asked}
+use Rattle.client_core.specs.declared.parts.asks.Outcome.{Outcome as AskOutcome}
+use Rattle.client_core.specs.declared.parts.asks.Outcome.TheVariants.{Sent, Served, Answered, Refused}
+use Rattle.client_core.specs.declared.parts.steps.Beaten.{Beaten}
+use Rattle.client_core.specs.declared.parts.steps.Given.{Given}
 use Rattle.client_core.specs.State.{ClientState}
 use Rattle.client_core.specs.Asks.{ask_step}
 use Rattle.client_core.specs.Beats.{beat_step}
 use Rattle.client_core.specs.Gives.{give_step}
-use Rattle.world_clients.specs.declared.mail.Message.{Message}
-use Rattle.world_clients.specs.declared.mail.Message.TheVariants.{ToMaster, ToClient}
-use Rattle.world_clients.specs.declared.members.WorldClient.{WorldClient}
-use Rattle.world_clients.specs.declared.steps.Step.{Step}
-use Rattle.world_clients.specs.declared.steps.Step.TheVariants as steps
+use Rattle.world_core.specs.declared.mail.Message.{Message}
+use Rattle.world_core.specs.declared.mail.Message.TheVariants.{ToMaster, ToClient}
+use Rattle.world_core.specs.declared.members.WorldClient.{WorldClient}
+use Rattle.world_core.specs.declared.steps.Step.{Step}
+use Rattle.world_core.specs.declared.steps.Step.TheVariants as steps
 use Rattle.world_core.specs.declared.parts.SweepResult.{SweepResult}
-use Rattle.world_clients.specs.declared.steps.Ticks.{Ticks}
-use Rattle.world_clients.specs.declared.steps.Commit.{Commit}
-use Rattle.world_clients.specs.declared.steps.Commit.TheVariants.{Kept, Lost}
-use Rattle.world_clients.specs.Members.{Clients, new_member, stepped, each_member, at_up, clock_then, is_fair, moved_beside, moved_alone}
-use Rattle.world_clients.specs.Messages.{request_at, out_at}
+use Rattle.world_core.specs.declared.steps.Ticks.{Ticks}
+use Rattle.world_core.specs.declared.steps.Commit.{Commit}
+use Rattle.world_core.specs.declared.steps.Commit.TheVariants.{Kept, Lost}
+use Rattle.world_core.specs.Members.{Clients, new_member, stepped, each_member, at_up, clock_then, is_fair, moved_beside, moved_alone}
+use Rattle.world_core.specs.Messages.{request_at, out_at}
 
 -- cell: its name, by the settings of its store. rows: those that stand. clock: the master's, in milliseconds. clients: by number, each with its own clock. messages: all that were sent, in
 -- order; they only grow. lease: in milliseconds

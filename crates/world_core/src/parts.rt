@@ -5,6 +5,10 @@ ghost use Rattle.std.specs.Vec.{vec_len, vec_capacity};
 ghost use Rattle.world_core.specs.World.{opened, store_in, with_refusal, world_join, world_ask, world_beat, world_tick, world_take, world_give, world_sweep, world_down, without_master, is_of_commit, world_cut_sweep, moves_nobody, are_fair, goes_past_end, ticked, step_edits, IsStored, IsLeft, MayRefuseStep, Agrees};
 ghost use Rattle.world_core.specs.Made.{IsTyped, WasMade, WasRefused};
 
+use crate::mail;
+use crate::mail::Message;
+use crate::members::WorldClients;
+use crate::steps::{Commit, Step, Ticks};
 use client_core::{Ask, Asked, Beaten, Given, Outcome};
 use lease_core::MOMENT_LIMIT;
 use names_cell::Principal;
@@ -16,7 +20,6 @@ use settings_core::Settings;
 use std::alloc::{AllocError, Global};
 use std::marker::Model;
 use tags_cell::ClientNumber;
-use world_clients::{Commit, Message, Step, Ticks, WorldClients, mail};
 
 /// The most messages that a master sends at once to one that came.
 const MESSAGES_A_TAKE: usize = 1;
@@ -316,7 +319,7 @@ impl<R: Records + Drop> WorldParts<R> {
         Ok(Items::new(self.alloc))
     }
 
-    #[tactic(auto, using(world_clients::proofs::MemberAnswers::ask_few))]
+    #[tactic(auto, using(crate::proofs::MemberAnswers::ask_few))]
     fn ask(&mut self, number: u64, ask: &Ask) -> Result<Items<Line>, Fault>
         ensures ok { IfOk result (λ lines. world_ask self.old.world number ask.now ≡ Ok (self.new.world, lines)) }
         ensures stored { OnOk result (IsStored [] self.old self.new) }
@@ -448,7 +451,7 @@ impl<R: Records + Drop> WorldParts<R> {
         }
     }
 
-    #[tactic(auto, using(world_clients::proofs::MemberAnswers::give_few))]
+    #[tactic(auto, using(crate::proofs::MemberAnswers::give_few))]
     fn give(&mut self, number: u64) -> Result<Items<Line>, Fault>
         ensures ok { IfOk result (λ lines. world_give self.old.world number ≡ Ok (self.new.world, lines)) }
         ensures stored { OnOk result (IsStored [] self.old self.new) }

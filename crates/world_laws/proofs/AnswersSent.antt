@@ -1,22 +1,22 @@
 -- Each reply that is sent is to a call that was sent before, whatever the master takes or sweeps.
 use Rattle.std.proofs.Common.{◌≡◌, ℕ, List, [], ◌∷◌, ◌++◌, Option, Some, None, sym, ap, ◌∙◌, inl, inr, subst, zero, suc}
 use Rattle.std.specs.List.{slice_get}
-use Rattle.messages_cell.specs.declared.calls.Call.{Call}
-use Rattle.messages_cell.specs.declared.requests.CallMessage.{CallMessage}
-use Rattle.messages_cell.specs.declared.outs.CallResult.{CallResult}
-use Rattle.messages_cell.specs.declared.outs.Out.{Out}
-use Rattle.messages_cell.specs.declared.outs.Out.TheVariants as outs
-use Rattle.messages_cell.specs.declared.outs.Reply.{Reply}
+use Rattle.tags_cell.specs.declared.messages.calls.Call.{Call}
+use Rattle.tags_cell.specs.declared.messages.requests.CallMessage.{CallMessage}
+use Rattle.tags_cell.specs.declared.messages.outs.CallResult.{CallResult}
+use Rattle.tags_cell.specs.declared.messages.outs.Out.{Out}
+use Rattle.tags_cell.specs.declared.messages.outs.Out.TheVariants as outs
+use Rattle.tags_cell.specs.declared.messages.outs.Reply.{Reply}
 use Rattle.cell_parts.specs.declared.handles.Note.{Note}
 use Rattle.cell_state.specs.NameSpace.{name_space, caller}
 use Rattle.cell_state.specs.State.{MasterState}
 use Rattle.cell_core.specs.Names.{name_asked}
 use Rattle.cell_core.specs.Cases.{IsAnswered}
-use Rattle.cell_apply.specs.declared.effects.Effect.{Effect}
-use Rattle.cell_apply.specs.Effect.{effect}
-use Rattle.world_clients.specs.declared.mail.Message.{Message}
-use Rattle.world_clients.specs.declared.mail.Message.TheVariants.{ToClient}
-use Rattle.world_clients.specs.Messages.{call_of}
+use Rattle.cell_core.specs.declared.effects.Effect.{Effect}
+use Rattle.cell_core.specs.Effect.{effect}
+use Rattle.world_core.specs.declared.mail.Message.{Message}
+use Rattle.world_core.specs.declared.mail.Message.TheVariants.{ToClient}
+use Rattle.world_core.specs.Messages.{call_of}
 use Rattle.world_laws.specs.Consistent.{OpensAs, IsAnswer}
 use Rattle.world_laws.proofs.MessagesGrow.{call_stays}
 use Rattle.world_laws.proofs.GrantsSent.{none_granted, now_granted, later_granted}

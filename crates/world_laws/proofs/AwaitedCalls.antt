@@ -13,7 +13,7 @@ use Rattle.cell_parts.specs.declared.pending.Task.{Task}
 use Rattle.cell_parts.specs.declared.pending.Task.TheVariants as tasks
 use Rattle.cell_state.specs.State.{MasterState}
 use Rattle.cell_state.specs.Lookups.{kept_of}
-use Rattle.sweep_laws.specs.Kept.{claim_count, waits_count, call_count, is_unanswered, HaveOneCall, IsOwnCall, IsOwnTask, AreOwnCalls}
+use Rattle.over_core.specs.Kept.{claim_count, waits_count, call_count, is_unanswered, HaveOneCall, IsOwnCall, IsOwnTask, AreOwnCalls}
 use Rattle.world_laws.specs.Consistent.{awaits_lock}
 use Rattle.world_laws.proofs.LockWaiters.{or_cases}
 use Rattle.world_laws.proofs.MasterFits.{AreUnanswered, ShowsOwn, waits_as}

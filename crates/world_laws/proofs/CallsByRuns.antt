@@ -17,12 +17,12 @@ use Rattle.node_core.specs.Nodes.{get_node, with_parent}
 use Rattle.tags_cell.specs.Numbers.{is_client_number}
 use Rattle.tags_cell.specs.Handles.{read_handle}
 use Rattle.tags_cell.specs.declared.handles.Handle.{Handle}
-use Rattle.messages_cell.specs.declared.calls.Call.{Call}
-use Rattle.messages_cell.specs.declared.calls.Call.TheVariants as calls
-use Rattle.messages_cell.specs.declared.requests.Request.{Request}
-use Rattle.messages_cell.specs.declared.requests.Request.TheVariants as requests
-use Rattle.messages_cell.specs.declared.requests.CallMessage.{CallMessage}
-use Rattle.messages_cell.specs.declared.outs.CallResult.{CallResult}
+use Rattle.tags_cell.specs.declared.messages.calls.Call.{Call}
+use Rattle.tags_cell.specs.declared.messages.calls.Call.TheVariants as calls
+use Rattle.tags_cell.specs.declared.messages.requests.Request.{Request}
+use Rattle.tags_cell.specs.declared.messages.requests.Request.TheVariants as requests
+use Rattle.tags_cell.specs.declared.messages.requests.CallMessage.{CallMessage}
+use Rattle.tags_cell.specs.declared.messages.outs.CallResult.{CallResult}
 use Rattle.cell_parts.specs.declared.handles.Note.{Note}
 use Rattle.rights_core.specs.declared.endings.Ending.TheVariants as endings
 use Rattle.rights_core.specs.Rights.{numbers_ending}
@@ -31,7 +31,7 @@ use Rattle.lock_core.specs.declared.claims.Claim.{Claim}
 use Rattle.lock_core.specs.State.{LockState}
 use Rattle.lock_core.specs.Turns.{reopened, tried}
 use Rattle.lock_core.specs.Locks.{lock_at}
-use Rattle.cell_update.specs.Updates.{with_locks, with_note}
+use Rattle.cell_state.specs.Updates.{with_locks, with_note}
 use Rattle.cell_parts.specs.Claims.{claim_of}
 use Rattle.cell_parts.specs.declared.pending.Asked.{Asked}
 use Rattle.cell_parts.specs.declared.pending.Idle.{Idle}
@@ -44,20 +44,20 @@ use Rattle.cell_state.specs.State.{MasterState}
 use Rattle.cell_core.specs.Ephemerals.{is_idle_node, is_still_idle}
 use Rattle.cell_core.specs.Step.{queued, names_of, task_of, with_call, asking, asking_for}
 use Rattle.cell_state.specs.Lookups.{noted, lock_under, node_of_handle, answer_on}
-use Rattle.cell_apply.specs.declared.effects.Effect.{Effect}
-use Rattle.cell_apply.specs.Effect.{answered, refused, try_by, try_at, change_at, change_on, handle_effect, effect}
-use Rattle.cell_update.specs.Replies.{locked_line, locked_lines}
-use Rattle.cell_apply.specs.Outcomes.{put_listing, leave_lines, left_put}
-use Rattle.cell_update.specs.Lapses.{lapses_lines, lapses_of}
+use Rattle.cell_core.specs.declared.effects.Effect.{Effect}
+use Rattle.cell_core.specs.Effect.{answered, refused, try_by, try_at, change_at, change_on, handle_effect, effect}
+use Rattle.cell_state.specs.Replies.{locked_line, locked_lines}
+use Rattle.cell_core.specs.Outcomes.{put_listing, leave_lines, left_put}
+use Rattle.cell_state.specs.Lapses.{lapses_lines, lapses_of}
 use Rattle.cell_core.specs.Cases.{TakeCase, taken_by}
-use Rattle.sweep_laws.specs.SweepCase.{IsNextApplied, SweepCase, swept_by, rest, ended, mapped}
+use Rattle.over_core.specs.SweepCase.{IsNextApplied, SweepCase, swept_by, rest, ended, mapped}
 use Rattle.cell_core.specs.Cases.TakeCase.{StartQueued, Answered, Granted, Waits}
-use Rattle.sweep_laws.specs.SweepCase.SweepCase.{Quiet, Recovers, Expires, Reopens, Tidies, Spared, Tidied, AnswersBeat, TurnedAway, StartedAgain, Started as StartedFirst, OfEnded, Ended, Applied, Deleted, Locked, Awaited, Left}
-use Rattle.sweep_laws.specs.Kept.{IsKept, task_fits, waiting_fits}
-use Rattle.world_clients.specs.declared.steps.Step.{Step}
-use Rattle.world_clients.specs.declared.steps.Step.TheVariants.{Take, Sweep, CutSweep}
-use Rattle.world_clients.specs.declared.steps.Commit.TheVariants.{Kept}
-use Rattle.world_clients.specs.Messages.{call_of}
+use Rattle.over_core.specs.SweepCase.SweepCase.{Quiet, Recovers, Expires, Reopens, Tidies, Spared, Tidied, AnswersBeat, TurnedAway, StartedAgain, Started as StartedFirst, OfEnded, Ended, Applied, Deleted, Locked, Awaited, Left}
+use Rattle.over_core.specs.Kept.{IsKept, task_fits, waiting_fits}
+use Rattle.world_core.specs.declared.steps.Step.{Step}
+use Rattle.world_core.specs.declared.steps.Step.TheVariants.{Take, Sweep, CutSweep}
+use Rattle.world_core.specs.declared.steps.Commit.TheVariants.{Kept}
+use Rattle.world_core.specs.Messages.{call_of}
 use Rattle.world_core.specs.World.{WorldState, WorldView, is_of_commit, Agrees}
 use Rattle.world_laws.proofs.StepsHold.{does_holds}
 use Rattle.world_laws.specs.Consistent.{IsConsistent}

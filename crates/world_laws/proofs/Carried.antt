@@ -11,14 +11,14 @@ use Rattle.node_core.specs.declared.events.Event.{Event}
 use Rattle.node_core.specs.declared.events.Event.TheVariants as events
 use Rattle.rows_cell.specs.declared.tables.Session as stored
 use Rattle.tags_cell.specs.Numbers.{is_client_number}
-use Rattle.messages_cell.specs.declared.beats.NumberedEvent.{NumberedEvent}
-use Rattle.messages_cell.specs.declared.calls.Call.{Call}
-use Rattle.messages_cell.specs.declared.requests.Request.{Request}
-use Rattle.messages_cell.specs.declared.outs.CallResult.{CallResult}
-use Rattle.messages_cell.specs.declared.outs.CallResult.TheVariants as results
-use Rattle.messages_cell.specs.declared.outs.Out.{Out}
-use Rattle.messages_cell.specs.declared.outs.Out.TheVariants as outs
-use Rattle.messages_cell.specs.declared.outs.Reply.{Reply}
+use Rattle.tags_cell.specs.declared.messages.beats.NumberedEvent.{NumberedEvent}
+use Rattle.tags_cell.specs.declared.messages.calls.Call.{Call}
+use Rattle.tags_cell.specs.declared.messages.requests.Request.{Request}
+use Rattle.tags_cell.specs.declared.messages.outs.CallResult.{CallResult}
+use Rattle.tags_cell.specs.declared.messages.outs.CallResult.TheVariants as results
+use Rattle.tags_cell.specs.declared.messages.outs.Out.{Out}
+use Rattle.tags_cell.specs.declared.messages.outs.Out.TheVariants as outs
+use Rattle.tags_cell.specs.declared.messages.outs.Reply.{Reply}
 use Rattle.event_core.specs.Queue.{EventQueue, is_full, numbered_from, unacked, queued, pushed, has_lost, with_lost, behind, acknowledged_to}
 use Rattle.lock_core.specs.declared.claims.Claim.{Claim}
 use Rattle.lock_core.specs.declared.turns.Lapse.{Lapse}
@@ -30,7 +30,7 @@ use Rattle.session_core.specs.declared.records.Kept.{Kept}
 use Rattle.session_core.specs.declared.records.Parked.{Parked}
 use Rattle.session_core.specs.declared.records.Session.{Session}
 use Rattle.session_core.specs.Session as of_session
-use Rattle.session_core.specs.Session.{events_of, first_events, session_until, beaten, prolonged, answered, keeping}
+use Rattle.session_core.specs.Session.{events_of, first_events, session_until, beaten, prolonged, answered, keeping, unparked}
 use Rattle.session_core.specs.Sessions.{SessionTable, with_session, with_new, issued_by, unacked_events, session_of as session_in}
 use Rattle.cell_parts.specs.declared.handles.Note.{Note}
 use Rattle.cell_parts.specs.declared.notices.Telling.{Telling}
@@ -41,17 +41,17 @@ use Rattle.cell_state.specs.State.{MasterState}
 use Rattle.cell_parts.specs.StoredSessions.{taken_over}
 use Rattle.cell_state.specs.Lookups.{kept_of, reply_of, stamped_reply, repeated_reply}
 use Rattle.cell_parts.specs.Answered.{answered_by}
-use Rattle.cell_update.specs.Updates.{with_note, with_kept_put}
+use Rattle.cell_state.specs.Updates.{with_note, with_kept_put}
 use Rattle.node_core.specs.Nodes.{with_parent}
 use Rattle.cell_core.specs.Step.{queued as queued_in, with_call, asking, asking_for, names_of}
 use Rattle.cell_core.specs.Cases.{TakeCase, taken_by}
 use Rattle.cell_core.specs.Cases.TakeCase.{StartQueued, BeatParked, Repeated, Recovering, Answered, Granted, Waits}
-use Rattle.cell_apply.specs.declared.effects.Effect.{Effect}
-use Rattle.cell_apply.specs.Effect.{effect}
-use Rattle.cell_update.specs.Replies.{kept_puts, sent, replies_to, reply_to, turn_replies}
-use Rattle.cell_update.specs.Lapses.{lapses_replies, lapses_of}
-use Rattle.sweep_laws.specs.SweepCase.{SweepCase, swept_by, gone_replies}
-use Rattle.sweep_laws.specs.SweepCase.SweepCase.{Quiet, Recovers, Expires, Reopens, Tidies, Spared, Tidied, AnswersBeat, StartedAgain, Started, OfEnded, Ended, Applied, Deleted, Locked, Awaited, Left}
+use Rattle.cell_core.specs.declared.effects.Effect.{Effect}
+use Rattle.cell_core.specs.Effect.{effect}
+use Rattle.cell_state.specs.Replies.{kept_puts, sent, replies_to, reply_to, turn_replies}
+use Rattle.cell_state.specs.Lapses.{lapses_replies, lapses_of}
+use Rattle.over_core.specs.SweepCase.{SweepCase, swept_by, gone_replies}
+use Rattle.over_core.specs.SweepCase.SweepCase.{Quiet, Recovers, Expires, Reopens, Tidies, Spared, Tidied, AnswersBeat, StartedAgain, Started, OfEnded, Ended, Applied, Deleted, Locked, Awaited, Left}
 use Rattle.world_laws.proofs.OneSession.{kept_in, each_session, each_with_new, each_issued}
 use Rattle.world_laws.proofs.EffectContents.{IsShown, IsShownIf, answer_shown, effect_faithful}
 
@@ -131,7 +131,7 @@ module _ (R : Reply → Type 0) (E : Event → Type 0) where
 
   answered_holds : (lease now : ℕ) (session : Session Reply) → OfSession (Some session) → OfSession (Some (answered lease now session))
   answered_holds lease now session h =
-      elim session.parked as (λ o. OfSession (Some (option_map_or (λ (beat : Parked). prolonged (now + lease) (record session { parked = None })) o session))) [ None ↦ h | Some beat ↦ h ]
+      elim session.parked as (λ o. OfSession (Some (option_map_or (λ (beat : Parked). prolonged (now + lease) (unparked now session)) o session))) [ None ↦ h | Some beat ↦ h ]
 
   -- ---- all sessions
 

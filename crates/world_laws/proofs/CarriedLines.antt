@@ -13,42 +13,42 @@ use Rattle.node_core.specs.declared.lines.Line.TheVariants as lines
 use Rattle.cache_core.specs.Standings.{turn_line}
 use Rattle.cache_core.specs.declared.standings.Standing.{Standing}
 use Rattle.cache_core.specs.declared.standings.Standing.TheVariants as standings
-use Rattle.messages_cell.specs.declared.outs.CallResult.{CallResult}
-use Rattle.messages_cell.specs.declared.outs.CallResult.TheVariants as results
-use Rattle.messages_cell.specs.declared.outs.Out.{Out}
-use Rattle.messages_cell.specs.declared.outs.Out.TheVariants as outs
-use Rattle.messages_cell.specs.declared.outs.Reply.{Reply}
-use Rattle.messages_cell.specs.declared.beats.Alive.{Alive}
-use Rattle.messages_cell.specs.declared.beats.NumberedEvent.{NumberedEvent}
-use Rattle.messages_cell.specs.Messages.{request_number, out_client}
+use Rattle.tags_cell.specs.declared.messages.outs.CallResult.{CallResult}
+use Rattle.tags_cell.specs.declared.messages.outs.CallResult.TheVariants as results
+use Rattle.tags_cell.specs.declared.messages.outs.Out.{Out}
+use Rattle.tags_cell.specs.declared.messages.outs.Out.TheVariants as outs
+use Rattle.tags_cell.specs.declared.messages.outs.Reply.{Reply}
+use Rattle.tags_cell.specs.declared.messages.beats.Alive.{Alive}
+use Rattle.tags_cell.specs.declared.messages.beats.NumberedEvent.{NumberedEvent}
+use Rattle.tags_cell.specs.Messages.{request_number, out_client}
 use Rattle.rights_core.specs.declared.endings.Ending.TheVariants as endings
 use Rattle.rights_core.specs.declared.grants.Grant.{Grant}
 use Rattle.rights_core.specs.declared.grants.Grant.TheVariants as grants
 use Rattle.rights_core.specs.Rights.{grant_answer, numbers_ending}
-use Rattle.messages_cell.specs.declared.requests.Request.{Request}
+use Rattle.tags_cell.specs.declared.messages.requests.Request.{Request}
 use Rattle.lock_core.specs.declared.claims.Claim.{Claim}
 use Rattle.lock_core.specs.declared.turns.Lapse.{Lapse}
 use Rattle.lock_core.specs.Turns.{is_nobody, reopened}
 use Rattle.lock_core.specs.Locks.{lock_at}
 use Rattle.cell_state.specs.State.{MasterState}
 use Rattle.cell_state.specs.Lookups.{acknowledgement, granted_lines, repeated_reply, noted}
-use Rattle.cell_update.specs.Updates.{with_note}
+use Rattle.cell_state.specs.Updates.{with_note}
 use Rattle.cell_core.specs.Cases.{TakeCase, taken_by}
 use Rattle.cell_core.specs.Cases.TakeCase.{StartRefused, OldBeat, BeatRefused, BeatParked, OldEpoch, NoSession, Repeated, OlderCall, Outstanding as StillOutstanding, Granted}
-use Rattle.cell_apply.specs.declared.effects.Leave.{Leave}
-use Rattle.cell_update.specs.Replies.{locked_line, locked_lines, line_if}
-use Rattle.cell_apply.specs.Outcomes.{leave_lines}
-use Rattle.cell_update.specs.Lapses.{lapse_lines, lapses_lines, lapses_of}
-use Rattle.sweep_laws.specs.SweepCase.{SweepCase, swept_by}
-use Rattle.sweep_laws.specs.SweepCase.SweepCase.{Recovers, Expires, Reopens, Tidied, Started as StartedFirst, Applied, Deleted, Locked, Left}
-use Rattle.client_parts.specs.declared.asks.Ask.{Ask}
-use Rattle.client_parts.specs.declared.sessions.Session.{Session}
-use Rattle.client_parts.specs.declared.sessions.Session.TheVariants as sessions
-use Rattle.client_parts.specs.declared.targets.Outstanding.{Outstanding}
-use Rattle.client_parts.specs.declared.targets.Target.{Target}
-use Rattle.client_parts.specs.declared.targets.Target.TheVariants as targets
-use Rattle.client_parts.specs.Targets.{is_on, unknown_line, unknown_lines}
-use Rattle.client_parts.specs.Events.{event_lines}
+use Rattle.cell_core.specs.declared.effects.Leave.{Leave}
+use Rattle.cell_state.specs.Replies.{locked_line, locked_lines, line_if}
+use Rattle.cell_core.specs.Outcomes.{leave_lines}
+use Rattle.cell_state.specs.Lapses.{lapse_lines, lapses_lines, lapses_of}
+use Rattle.over_core.specs.SweepCase.{SweepCase, swept_by}
+use Rattle.over_core.specs.SweepCase.SweepCase.{Recovers, Expires, Reopens, Tidied, Started as StartedFirst, Applied, Deleted, Locked, Left}
+use Rattle.client_core.specs.declared.parts.asks.Ask.{Ask}
+use Rattle.client_core.specs.declared.parts.sessions.Session.{Session}
+use Rattle.client_core.specs.declared.parts.sessions.Session.TheVariants as sessions
+use Rattle.client_core.specs.declared.parts.targets.Outstanding.{Outstanding}
+use Rattle.client_core.specs.declared.parts.targets.Target.{Target}
+use Rattle.client_core.specs.declared.parts.targets.Target.TheVariants as targets
+use Rattle.client_core.specs.Targets.{is_on, unknown_line, unknown_lines}
+use Rattle.client_core.specs.Events.{event_lines}
 use Rattle.client_core.specs.State.{ClientState, standing_then, note_live, note_lines_in, note_lines}
 use Rattle.client_core.specs.Poisons.{refused_lines}
 use Rattle.client_core.specs.Gives.{with_processed, takes_offer, is_jeopardy, safe_lines, answer_of}
@@ -56,8 +56,8 @@ use Rattle.client_core.specs.Cases.{noted_moment, AskCase, asked_in, BeatCase, b
 use Rattle.client_core.specs.Cases.AskCase.{AskedTooLate, Unsafe, Refused, ReadServed, AbsenceServed, Shared, OutOfHandles, Released, OutOfCalls, Sent, Poisoned}
 use Rattle.client_core.specs.Cases.BeatCase.{BeatTooLate, OutOfBeats, Starts, Beats as BeatSent, Quiet}
 use Rattle.client_core.specs.Cases.GiveCase.{GivenTooLate, OfAnother, Started, StartedUnfit, StartedDropped, LeaseTaken, LeaseStays, AliveUnfit, AliveDropped, OutOfNumbers, Replied, Installed, ReplyDropped, NotAwaited, Learns, Lost, TurnedAway, RefusalDropped}
-use Rattle.world_clients.specs.declared.steps.Step.{Step}
-use Rattle.world_clients.specs.declared.members.WorldClient.{WorldClient}
+use Rattle.world_core.specs.declared.steps.Step.{Step}
+use Rattle.world_core.specs.declared.members.WorldClient.{WorldClient}
 use Rattle.world_core.specs.World.{WorldState, is_of_commit, with_refusal, asked, beaten, gave}
 use Rattle.world_laws.proofs.Carried.{OfOut}
 use Rattle.world_laws.proofs.CutLines.{cut_lines}

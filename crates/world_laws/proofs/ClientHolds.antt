@@ -16,37 +16,37 @@ use Rattle.node_core.specs.declared.refusals.Fault.TheVariants as faults
 use Rattle.node_core.specs.declared.answers.Answer.{Answer}
 use Rattle.node_core.specs.declared.views.View.{View}
 use Rattle.tags_cell.specs.Handles.{name_in}
-use Rattle.messages_cell.specs.declared.calls.Call.{Call}
-use Rattle.messages_cell.specs.declared.calls.Call.TheVariants as calls
-use Rattle.messages_cell.specs.declared.calls.Open.{Open}
-use Rattle.messages_cell.specs.declared.requests.CallMessage.{CallMessage}
-use Rattle.messages_cell.specs.declared.outs.Out.{Out}
-use Rattle.messages_cell.specs.declared.outs.Reply.{Reply}
-use Rattle.messages_cell.specs.declared.outs.CallResult.{CallResult}
-use Rattle.messages_cell.specs.declared.outs.CallResult.TheVariants as results
-use Rattle.messages_cell.specs.declared.outs.NewHandle.{NewHandle}
-use Rattle.messages_cell.specs.Messages.{request_number}
+use Rattle.tags_cell.specs.declared.messages.calls.Call.{Call}
+use Rattle.tags_cell.specs.declared.messages.calls.Call.TheVariants as calls
+use Rattle.tags_cell.specs.declared.messages.calls.Open.{Open}
+use Rattle.tags_cell.specs.declared.messages.requests.CallMessage.{CallMessage}
+use Rattle.tags_cell.specs.declared.messages.outs.Out.{Out}
+use Rattle.tags_cell.specs.declared.messages.outs.Reply.{Reply}
+use Rattle.tags_cell.specs.declared.messages.outs.CallResult.{CallResult}
+use Rattle.tags_cell.specs.declared.messages.outs.CallResult.TheVariants as results
+use Rattle.tags_cell.specs.declared.messages.outs.NewHandle.{NewHandle}
+use Rattle.tags_cell.specs.Messages.{request_number}
 use Rattle.cache_core.specs.Caches.{AreCacheEntries, entry_limit, entry_of, answer}
 use Rattle.cache_core.specs.Kept.{serving, with_kept}
 use Rattle.cache_core.specs.declared.kept.Kept as shared
 use Rattle.cache_core.proofs.Sharing.{served_is_kept}
-use Rattle.client_parts.specs.Calls.{call_on}
-use Rattle.client_parts.specs.Opens.{is_plain, only_reads, is_shareable, kept_handle, cached_answer}
-use Rattle.client_parts.specs.Targets.{is_on, opening_in, opening_by, dropped, opening_of, sequencer_of}
-use Rattle.client_parts.specs.declared.asks.Ask.{Ask}
-use Rattle.client_parts.specs.declared.asks.Ask.TheVariants as asks
-use Rattle.client_parts.specs.declared.asks.NodeCall.{NodeCall}
-use Rattle.client_parts.specs.declared.asks.NodeCall.TheVariants as node_calls
-use Rattle.client_parts.specs.declared.handles.ClientHandle.{ClientHandle}
-use Rattle.client_parts.specs.declared.sessions.Session.{Session}
-use Rattle.client_parts.specs.declared.sessions.Session.TheVariants as sessions
-use Rattle.client_parts.specs.declared.targets.Outstanding.{Outstanding}
-use Rattle.client_parts.specs.declared.targets.Target.{Target}
-use Rattle.client_parts.specs.declared.targets.Target.TheVariants as targets
+use Rattle.client_core.specs.Calls.{call_on}
+use Rattle.client_core.specs.Opens.{is_plain, only_reads, is_shareable, kept_handle, cached_answer}
+use Rattle.client_core.specs.Targets.{is_on, opening_in, opening_by, dropped, opening_of, sequencer_of}
+use Rattle.client_core.specs.declared.parts.asks.Ask.{Ask}
+use Rattle.client_core.specs.declared.parts.asks.Ask.TheVariants as asks
+use Rattle.client_core.specs.declared.parts.asks.NodeCall.{NodeCall}
+use Rattle.client_core.specs.declared.parts.asks.NodeCall.TheVariants as node_calls
+use Rattle.client_core.specs.declared.parts.handles.ClientHandle.{ClientHandle}
+use Rattle.client_core.specs.declared.parts.sessions.Session.{Session}
+use Rattle.client_core.specs.declared.parts.sessions.Session.TheVariants as sessions
+use Rattle.client_core.specs.declared.parts.targets.Outstanding.{Outstanding}
+use Rattle.client_core.specs.declared.parts.targets.Target.{Target}
+use Rattle.client_core.specs.declared.parts.targets.Target.TheVariants as targets
 use Rattle.client_core.specs.declared.plans.Plan.{Plan}
 use Rattle.client_core.specs.declared.plans.Plan.TheVariants as plans
 use Rattle.client_core.specs.State.{ClientState, new_client, note_in, note_live}
-use Rattle.client_parts.specs.Handles.{handle_of, usable_handle, put_under, handles_behind, kept_behind}
+use Rattle.client_core.specs.Handles.{handle_of, usable_handle, put_under, handles_behind, kept_behind}
 use Rattle.client_core.specs.Serves.{serve_answer, cached_served, read_served, share, entry_served, open_served}
 use Rattle.client_core.specs.Asks.{send_plan, served_or, open_plan, close_plan, poison_plan, node_plan, sequencer_plan, plan_of, message_of, with_call, with_shared, without_handle}
 use Rattle.client_core.specs.Poisons.{poisoned, with_poisoned}
@@ -56,9 +56,9 @@ use Rattle.client_core.proofs.Leases.{LeaseDoes, asked_keeps, beaten_keeps_sessi
 use Rattle.client_core.proofs.Leases.LeaseDoes.{LeaseKept, LeaseLeft, LeaseCarried, LeaseBegun, LeaseBettered, LeasePassed}
 use Rattle.client_core.proofs.OneEntry.{EntryDoes, none_stays, asked_stays, beaten_stays, given_entry}
 use Rattle.client_core.proofs.OneEntry.EntryDoes.{EntryStays, EntryInstalled}
-use Rattle.world_clients.specs.declared.mail.Message.{Message}
-use Rattle.world_clients.specs.declared.mail.Message.TheVariants.{ToMaster}
-use Rattle.world_clients.specs.Messages.{call_of}
+use Rattle.world_core.specs.declared.mail.Message.{Message}
+use Rattle.world_core.specs.declared.mail.Message.TheVariants.{ToMaster}
+use Rattle.world_core.specs.Messages.{call_of}
 use Rattle.world_laws.specs.Consistent.{AreHandles, IsSharedByName, HasAsked, Holds, OpensAs, IsAnswer}
 use Rattle.world_laws.proofs.MessagesGrow.{call_stays, call_new, its_call}
 use Rattle.world_laws.proofs.OneSession.{at_each}

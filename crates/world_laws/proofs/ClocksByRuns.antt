@@ -1,8 +1,8 @@
 -- Why clocks are fair between any two points of a master's life.
 use Rattle.std.proofs.Common.{◌≡◌, ℕ, ◌+◌, ◌*◌, ◌-◌, ◌≤◌, List, [], ◌∷◌, sym, ◌∙◌, inl, inr, arith, subst}
 use Rattle.node_core.specs.declared.lines.Line.{Line}
-use Rattle.world_clients.specs.declared.steps.Step.{Step}
-use Rattle.world_clients.specs.declared.members.WorldClient.{WorldClient}
+use Rattle.world_core.specs.declared.steps.Step.{Step}
+use Rattle.world_core.specs.declared.members.WorldClient.{WorldClient}
 use Rattle.world_core.specs.World.{WorldState, WorldView}
 use Rattle.world_laws.specs.Consistent.{IsConsistent}
 use Rattle.world_laws.specs.Runs.{Run, AreFairClocks, KeepsClocksFair}

@@ -22,16 +22,16 @@ use Rattle.rows_cell.specs.declared.tables.Rows.{Rows}
 use Rattle.rows_cell.specs.declared.tables.Session as stored
 use Rattle.rows_cell.specs.declared.tables.Edit.TheVariants.{NextInstance}
 use Rattle.rows_cell.specs.Rows.{changed_rows, map_of}
-use Rattle.messages_cell.specs.declared.requests.Request.{Request}
-use Rattle.messages_cell.specs.declared.requests.Request.TheVariants as requests
-use Rattle.messages_cell.specs.declared.requests.CallMessage.{CallMessage}
-use Rattle.messages_cell.specs.declared.beats.Beat.{Beat}
-use Rattle.messages_cell.specs.declared.outs.Out.{Out}
-use Rattle.messages_cell.specs.declared.outs.Out.TheVariants as outs
-use Rattle.messages_cell.specs.declared.outs.Started.{Started}
-use Rattle.messages_cell.specs.declared.outs.CallResult.TheVariants as results
-use Rattle.messages_cell.specs.declared.outs.Refused.{Refused}
-use Rattle.messages_cell.specs.declared.outs.Reply.{Reply}
+use Rattle.tags_cell.specs.declared.messages.requests.Request.{Request}
+use Rattle.tags_cell.specs.declared.messages.requests.Request.TheVariants as requests
+use Rattle.tags_cell.specs.declared.messages.requests.CallMessage.{CallMessage}
+use Rattle.tags_cell.specs.declared.messages.beats.Beat.{Beat}
+use Rattle.tags_cell.specs.declared.messages.outs.Out.{Out}
+use Rattle.tags_cell.specs.declared.messages.outs.Out.TheVariants as outs
+use Rattle.tags_cell.specs.declared.messages.outs.Started.{Started}
+use Rattle.tags_cell.specs.declared.messages.outs.CallResult.TheVariants as results
+use Rattle.tags_cell.specs.declared.messages.outs.Refused.{Refused}
+use Rattle.tags_cell.specs.declared.messages.outs.Reply.{Reply}
 use Rattle.cell_parts.specs.declared.handles.Note.{Note}
 use Rattle.session_core.specs.declared.records.Kept.{Kept}
 use Rattle.session_core.specs.declared.records.Session.{Session}
@@ -43,30 +43,30 @@ use Rattle.cell_parts.specs.declared.pending.Task.TheVariants as tasks
 use Rattle.cell_state.specs.State.{MasterState, master_of}
 use Rattle.cell_parts.specs.StoredSessions.{taken_over}
 use Rattle.cell_state.specs.Lookups.{session_of, repeated_reply, noted}
-use Rattle.cell_update.specs.Updates.{with_note, edit_of, lock_changes}
+use Rattle.cell_state.specs.Updates.{with_note, edit_of, lock_changes}
 use Rattle.cell_core.proofs.AskedFor.{asks_only}
 use Rattle.cell_core.specs.Step.{with_call, asking_for, queued, names_of}
 use Rattle.cell_core.specs.Cases.{TakeCase, taken_by}
-use Rattle.sweep_laws.specs.SweepCase.{SweepCase, swept_by, swept_edits, gone_replies}
-use Rattle.sweep_laws.proofs.SweepCases.{first_tellings}
+use Rattle.over_core.specs.SweepCase.{SweepCase, swept_by, swept_edits, gone_replies}
+use Rattle.over_core.proofs.SweepCases.{first_tellings}
 use Rattle.cell_core.specs.Cases.TakeCase.{Repeated, StartQueued, OldBeat, BeatRefused, BeatParked, OldEpoch, Answered, Granted, Waits}
-use Rattle.cell_apply.specs.Outcomes.{left_put}
-use Rattle.cell_update.specs.Replies.{turn_replies, puts_of, replies_to}
-use Rattle.cell_update.specs.Lapses.{lapses_of, lapses_puts, lapses_replies}
-use Rattle.sweep_laws.specs.SweepCase.SweepCase.{Quiet, Recovers, Expires, Reopens, Tidies, Spared, Tidied, StartedAgain, Started as StartedFirst, OfEnded, Ended, Applied, Deleted, Locked, Awaited, Left}
-use Rattle.sweep_laws.specs.Kept.{IsKept}
-use Rattle.sweep_laws.specs.Up.{up_edits}
-use Rattle.client_parts.specs.declared.sessions.Session.TheVariants as sessions
+use Rattle.cell_core.specs.Outcomes.{left_put}
+use Rattle.cell_state.specs.Replies.{turn_replies, puts_of, replies_to}
+use Rattle.cell_state.specs.Lapses.{lapses_of, lapses_puts, lapses_replies}
+use Rattle.over_core.specs.SweepCase.SweepCase.{Quiet, Recovers, Expires, Reopens, Tidies, Spared, Tidied, StartedAgain, Started as StartedFirst, OfEnded, Ended, Applied, Deleted, Locked, Awaited, Left}
+use Rattle.over_core.specs.Kept.{IsKept}
+use Rattle.over_core.specs.Up.{up_edits}
+use Rattle.client_core.specs.declared.parts.sessions.Session.TheVariants as sessions
 use Rattle.client_core.specs.State.{ClientState}
-use Rattle.world_clients.specs.declared.steps.Step.{Step}
-use Rattle.world_clients.specs.declared.steps.Step.TheVariants as steps
-use Rattle.world_clients.specs.declared.steps.Ticks.{Ticks as ClockSteps}
+use Rattle.world_core.specs.declared.steps.Step.{Step}
+use Rattle.world_core.specs.declared.steps.Step.TheVariants as steps
+use Rattle.world_core.specs.declared.steps.Ticks.{Ticks as ClockSteps}
 use Rattle.world_core.specs.declared.parts.SweepResult.{SweepResult}
-use Rattle.world_clients.specs.declared.mail.Message.{Message}
-use Rattle.world_clients.specs.declared.mail.Message.TheVariants.{ToMaster, ToClient}
-use Rattle.world_clients.specs.declared.members.WorldClient.{WorldClient}
-use Rattle.world_clients.specs.Members.{Clients, new_member, stepped, each_member, at_up, clock_then}
-use Rattle.world_clients.specs.Messages.{request_at, out_at, call_of}
+use Rattle.world_core.specs.declared.mail.Message.{Message}
+use Rattle.world_core.specs.declared.mail.Message.TheVariants.{ToMaster, ToClient}
+use Rattle.world_core.specs.declared.members.WorldClient.{WorldClient}
+use Rattle.world_core.specs.Members.{Clients, new_member, stepped, each_member, at_up, clock_then}
+use Rattle.world_core.specs.Messages.{request_at, out_at, call_of}
 use Rattle.world_core.specs.World.{WorldState, WorldView, IsUndoubted, member_of, new_world, world_step, world_sweep, without_quiet, step_edits, IsStored, IsLeft, stays_fair, are_fair, moved, ticked, without_master, Agrees}
 use Rattle.world_laws.specs.Slices.{slice, standing_in}
 use Rattle.world_laws.specs.Contents.{TellsTrue}

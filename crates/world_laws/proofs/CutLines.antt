@@ -10,9 +10,9 @@ use Rattle.rights_core.specs.Rights.{numbers_ending}
 use Rattle.lock_core.specs.Turns.{reopened}
 use Rattle.lock_core.specs.Locks.{lock_at}
 use Rattle.cell_state.specs.State.{MasterState}
-use Rattle.cell_update.specs.Lapses.{lapses_of}
-use Rattle.sweep_laws.specs.SweepCase.{SweepCase, swept_by}
-use Rattle.sweep_laws.specs.SweepCase.SweepCase.{Recovers, Expires, Reopens, Left}
+use Rattle.cell_state.specs.Lapses.{lapses_of}
+use Rattle.over_core.specs.SweepCase.{SweepCase, swept_by}
+use Rattle.over_core.specs.SweepCase.SweepCase.{Recovers, Expires, Reopens, Left}
 use Rattle.world_core.specs.World.{is_of_commit}
 use Rattle.world_laws.proofs.LockLines.{reopened_of_locks, left_of_locks, expiry_kept}
 use Rattle.rights_core.specs.Grants.{Told, rights_by, rights_at}

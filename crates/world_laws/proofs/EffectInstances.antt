@@ -20,28 +20,28 @@ use Rattle.node_core.specs.Nodes.{Nodes, get_node, has_children}
 use Rattle.rows_cell.proofs.SoundGenerations.{any_found}
 use Rattle.tags_cell.specs.Handles.{read_handle}
 use Rattle.tags_cell.specs.declared.handles.Handle.{Handle}
-use Rattle.messages_cell.specs.declared.calls.Open.{Open}
-use Rattle.messages_cell.specs.declared.calls.Create.{Create}
-use Rattle.messages_cell.specs.declared.calls.Disposition.{Disposition}
-use Rattle.messages_cell.specs.declared.calls.Disposition.TheVariants.{May, Must}
-use Rattle.messages_cell.specs.declared.calls.Call.{Call}
-use Rattle.messages_cell.specs.declared.calls.Call.TheVariants as calls
-use Rattle.messages_cell.specs.declared.outs.CallResult.{CallResult}
+use Rattle.tags_cell.specs.declared.messages.calls.Open.{Open}
+use Rattle.tags_cell.specs.declared.messages.calls.Create.{Create}
+use Rattle.tags_cell.specs.declared.messages.calls.Disposition.{Disposition}
+use Rattle.tags_cell.specs.declared.messages.calls.Disposition.TheVariants.{May, Must}
+use Rattle.tags_cell.specs.declared.messages.calls.Call.{Call}
+use Rattle.tags_cell.specs.declared.messages.calls.Call.TheVariants as calls
+use Rattle.tags_cell.specs.declared.messages.outs.CallResult.{CallResult}
 use Rattle.lock_core.specs.declared.claims.Claim.{Claim}
 use Rattle.lock_core.specs.declared.turns.Acquired.{Acquired}
 use Rattle.lock_core.specs.declared.turns.Acquired.TheVariants as asked
 use Rattle.lock_core.specs.declared.turns.Turn.{Turn}
 use Rattle.lock_core.specs.State.{LockState}
 use Rattle.lock_core.specs.Turns.{tried, acquired, released}
-use Rattle.cell_update.specs.declared.updates.Change.{Change}
+use Rattle.cell_state.specs.declared.updates.Change.{Change}
 use Rattle.cell_parts.specs.Claims.{owner_of, claim_of}
 use Rattle.cell_state.specs.NameSpace.{name_space, caller}
 use Rattle.cell_state.specs.State.{MasterState}
 use Rattle.cell_state.specs.Lookups.{missing_right, node_of_handle, new_handle, sequencer_fault, lock_under, answer_on, is_of_cell, may}
 use Rattle.cell_parts.specs.Calls.{create_fault}
-use Rattle.sweep_laws.specs.Kept.{is_there}
-use Rattle.cell_apply.specs.declared.effects.Effect.{Effect}
-use Rattle.cell_apply.specs.Effect.{answered, refused, deleted, create_made, create_numbered, create_permitted, create_in, create_under, create_new, create_over, create_effect, create_under_sequencer, open_effect, generation_fits, is_last, put_at, acquire_by, try_by, release_by, change_at, change_on, effect_on, handle_effect, effect, new_node, acls_of, with_content, with_acls}
+use Rattle.over_core.specs.Kept.{is_there}
+use Rattle.cell_core.specs.declared.effects.Effect.{Effect}
+use Rattle.cell_core.specs.Effect.{answered, refused, deleted, create_made, create_numbered, create_permitted, create_in, create_under, create_new, create_over, create_effect, create_under_sequencer, open_effect, generation_fits, is_last, put_at, acquire_by, try_by, release_by, change_at, change_on, effect_on, handle_effect, effect, new_node, acls_of, with_content, with_acls}
 
 -- the instance of a node that is put
 abbrev pub IsGiven : MasterState → Mod → Type 0

@@ -5,11 +5,11 @@ use Rattle.std.specs.Str.{bytes_eq}
 use Rattle.std.proofs.lemmas.Bool.Decides.{nat_tests}
 use Rattle.plain.proofs.Keys.{bytes_same}
 use Rattle.lease_core.specs.Lease.{LeaseTerms, IsUnexpired, is_unexpired}
-use Rattle.messages_cell.specs.declared.beats.Invalidation.{Invalidation}
+use Rattle.tags_cell.specs.declared.messages.beats.Invalidation.{Invalidation}
 use Rattle.cache_core.specs.Caches.{Entries, CacheState, AreCacheEntries, entry_of, flushed, is_leased, noted}
-use Rattle.client_parts.specs.Invalidations.{all_flushed}
+use Rattle.client_core.specs.Invalidations.{all_flushed}
 use Rattle.client_core.specs.State.{lease_of}
-use Rattle.client_parts.specs.Leased.{under}
+use Rattle.client_core.specs.Leased.{under}
 use Rattle.client_core.proofs.OneEntry.{StaysOrGoes, fits_if, invalidated_goes, noted_stays, all_stay_or_go}
 use Rattle.world_laws.specs.Slices.{Shown, name_number}
 

@@ -8,9 +8,9 @@ use Rattle.node_core.specs.declared.lines.Line.TheVariants as lines
 use Rattle.node_core.specs.declared.views.Mod.{Mod}
 use Rattle.node_core.specs.Nodes.{Nodes, misfit, changed, after}
 use Rattle.rows_cell.specs.Rows.{map_of}
-use Rattle.sweep_laws.specs.Kept.{IsKept}
+use Rattle.over_core.specs.Kept.{IsKept}
 use Rattle.cell_state.specs.State.{MasterState}
-use Rattle.world_clients.specs.declared.steps.Step.{Step}
+use Rattle.world_core.specs.declared.steps.Step.{Step}
 use Rattle.world_core.specs.World.{WorldState, WorldView, Agrees}
 use Rattle.world_laws.specs.Consistent.{IsConsistent}
 use Rattle.world_laws.specs.Runs.{Run, map_by, map_at, after_line, after_lines, IsApplied}

@@ -1,27 +1,27 @@
 -- Of a consistent world, behind each step, each client holds what it should.
 use Rattle.std.proofs.Common.{◌≡◌, ℕ, ◌+◌, true, List, [], ◌∷◌, ◌++◌, Some, None, refl, sym, ap, ◌∙◌, subst}
 use Rattle.node_core.specs.declared.lines.Line.{Line}
-use Rattle.messages_cell.specs.declared.calls.Call.TheVariants as calls
-use Rattle.messages_cell.specs.declared.requests.Request.{Request}
-use Rattle.messages_cell.specs.declared.outs.Out.{Out}
-use Rattle.messages_cell.specs.declared.outs.Out.TheVariants as outs
-use Rattle.messages_cell.specs.declared.outs.Reply.{Reply}
-use Rattle.messages_cell.specs.Messages.{out_client}
-use Rattle.client_parts.specs.declared.asks.Ask.{Ask}
-use Rattle.client_parts.specs.declared.targets.Outstanding.{Outstanding}
-use Rattle.client_parts.specs.Opens.{kept_handle}
+use Rattle.tags_cell.specs.declared.messages.calls.Call.TheVariants as calls
+use Rattle.tags_cell.specs.declared.messages.requests.Request.{Request}
+use Rattle.tags_cell.specs.declared.messages.outs.Out.{Out}
+use Rattle.tags_cell.specs.declared.messages.outs.Out.TheVariants as outs
+use Rattle.tags_cell.specs.declared.messages.outs.Reply.{Reply}
+use Rattle.tags_cell.specs.Messages.{out_client}
+use Rattle.client_core.specs.declared.parts.asks.Ask.{Ask}
+use Rattle.client_core.specs.declared.parts.targets.Outstanding.{Outstanding}
+use Rattle.client_core.specs.Opens.{kept_handle}
 use Rattle.client_core.specs.State.{ClientState, note}
 use Rattle.client_core.specs.Asks.{message_of}
 use Rattle.client_core.specs.Cases.{noted_moment, IsAwaited, AskCase, asked_in, BeatCase, beaten_in, GiveCase, given_in}
 use Rattle.client_core.specs.Cases.AskCase.{AskedTooLate, Unsafe, Refused, ReadServed, AbsenceServed, Shared, OutOfHandles, Released, OutOfCalls, Sent, Poisoned}
 use Rattle.client_core.specs.Cases.BeatCase.{BeatTooLate, OutOfBeats, Starts, Beats as BeatSent, Quiet}
 use Rattle.client_core.specs.Cases.GiveCase.{GivenTooLate, OfAnother, Started, StartedUnfit, StartedDropped, LeaseTaken, LeaseStays, AliveUnfit, AliveDropped, OutOfNumbers, Replied, Installed, ReplyDropped, NotAwaited, Learns, Lost, TurnedAway, RefusalDropped}
-use Rattle.world_clients.specs.declared.steps.Step.{Step}
-use Rattle.world_clients.specs.declared.mail.Message.{Message}
-use Rattle.world_clients.specs.declared.mail.Message.TheVariants.{ToMaster}
-use Rattle.world_clients.specs.declared.members.WorldClient.{WorldClient}
-use Rattle.world_clients.specs.Members.{at_up}
-use Rattle.world_clients.specs.Messages.{out_at, call_of}
+use Rattle.world_core.specs.declared.steps.Step.{Step}
+use Rattle.world_core.specs.declared.mail.Message.{Message}
+use Rattle.world_core.specs.declared.mail.Message.TheVariants.{ToMaster}
+use Rattle.world_core.specs.declared.members.WorldClient.{WorldClient}
+use Rattle.world_core.specs.Members.{at_up}
+use Rattle.world_core.specs.Messages.{out_at, call_of}
 use Rattle.world_core.specs.World.{WorldState, member_of, with_client, sends, asked, beaten, gave, moved}
 use Rattle.world_laws.specs.Consistent.{Holds, IsConsistent}
 use Rattle.world_laws.proofs.MembersFound.{at_members, at_each_member, moves_so}

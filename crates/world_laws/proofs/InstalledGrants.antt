@@ -10,28 +10,28 @@ use Rattle.node_core.specs.declared.refusals.Fault.{Fault}
 use Rattle.node_core.specs.declared.refusals.Fault.TheVariants as faults
 use Rattle.node_core.specs.declared.views.View.{View}
 use Rattle.tags_cell.specs.Handles.{name_in, fields_of, is_handle, handle_bytes, read_handle}
-use Rattle.messages_cell.specs.declared.calls.Call.{Call}
-use Rattle.messages_cell.specs.declared.calls.Call.TheVariants as calls
-use Rattle.messages_cell.specs.declared.calls.Open.{Open}
-use Rattle.messages_cell.specs.declared.requests.CallMessage.{CallMessage}
-use Rattle.messages_cell.specs.declared.outs.Reply.{Reply}
-use Rattle.messages_cell.specs.declared.outs.CallResult.{CallResult}
-use Rattle.messages_cell.specs.declared.outs.CallResult.TheVariants as results
+use Rattle.tags_cell.specs.declared.messages.calls.Call.{Call}
+use Rattle.tags_cell.specs.declared.messages.calls.Call.TheVariants as calls
+use Rattle.tags_cell.specs.declared.messages.calls.Open.{Open}
+use Rattle.tags_cell.specs.declared.messages.requests.CallMessage.{CallMessage}
+use Rattle.tags_cell.specs.declared.messages.outs.Reply.{Reply}
+use Rattle.tags_cell.specs.declared.messages.outs.CallResult.{CallResult}
+use Rattle.tags_cell.specs.declared.messages.outs.CallResult.TheVariants as results
 use Rattle.cell_core.specs.Names.{name_asked, shown_by}
-use Rattle.client_parts.specs.Calls.{call_on}
-use Rattle.client_parts.specs.Opens.{is_plain, Lesson, absent}
-use Rattle.client_parts.specs.Targets.{opening_in, opening_by, opening_of}
-use Rattle.client_parts.specs.declared.asks.NodeCall.{NodeCall}
-use Rattle.client_parts.specs.declared.asks.NodeCall.TheVariants as node_calls
-use Rattle.client_parts.specs.declared.handles.ClientHandle.{ClientHandle}
-use Rattle.client_parts.specs.declared.targets.Outstanding.{Outstanding}
-use Rattle.client_parts.specs.declared.targets.Target.{Target}
-use Rattle.client_parts.specs.declared.targets.Target.TheVariants as targets
+use Rattle.client_core.specs.Calls.{call_on}
+use Rattle.client_core.specs.Opens.{is_plain, Lesson, absent}
+use Rattle.client_core.specs.Targets.{opening_in, opening_by, opening_of}
+use Rattle.client_core.specs.declared.parts.asks.NodeCall.{NodeCall}
+use Rattle.client_core.specs.declared.parts.asks.NodeCall.TheVariants as node_calls
+use Rattle.client_core.specs.declared.parts.handles.ClientHandle.{ClientHandle}
+use Rattle.client_core.specs.declared.parts.targets.Outstanding.{Outstanding}
+use Rattle.client_core.specs.declared.parts.targets.Target.{Target}
+use Rattle.client_core.specs.declared.parts.targets.Target.TheVariants as targets
 use Rattle.client_core.specs.State.{ClientState}
-use Rattle.client_parts.specs.Handles.{handle_of}
+use Rattle.client_core.specs.Handles.{handle_of}
 use Rattle.client_core.specs.Lessons.{viewed, view_taught, absence_taught, taught}
-use Rattle.world_clients.specs.declared.mail.Message.{Message}
-use Rattle.world_clients.specs.Messages.{call_of}
+use Rattle.world_core.specs.declared.mail.Message.{Message}
+use Rattle.world_core.specs.Messages.{call_of}
 use Rattle.world_laws.specs.Slices.{Shown, asks_for, stamped_grant, grants_of}
 use Rattle.world_laws.specs.Consistent.{AreHandles}
 use Rattle.world_laws.proofs.ClientHolds.{IsReplied}

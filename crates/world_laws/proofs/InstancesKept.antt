@@ -17,7 +17,7 @@ use Rattle.rows_cell.specs.Indexes.{lock_generation_in, locks_at}
 use Rattle.rows_cell.specs.LockRows.{is_holding, has_holder}
 use Rattle.rows_cell.proofs.PutEntries.{all_more}
 use Rattle.rows_cell.proofs.SoundParts.{instances, has_instance, numbers_of}
-use Rattle.sweep_laws.specs.Kept.{is_there}
+use Rattle.over_core.specs.Kept.{is_there}
 use Rattle.world_laws.specs.Locks.{holds_by}
 
 -- ---- an instance that is there

@@ -6,10 +6,10 @@ use Rattle.std.specs.List.{AllByRecursion, list_any}
 use Rattle.std.proofs.lemmas.Bool.Decides.{nat_tests}
 use Rattle.node_core.specs.declared.refusals.Fault.TheVariants as faults
 use Rattle.tags_cell.specs.Numbers.{is_client_number}
-use Rattle.messages_cell.specs.declared.calls.Call.{Call}
-use Rattle.messages_cell.specs.declared.outs.CallResult.{CallResult}
-use Rattle.messages_cell.specs.declared.outs.CallResult.TheVariants as results
-use Rattle.messages_cell.specs.declared.outs.Reply.{Reply}
+use Rattle.tags_cell.specs.declared.messages.calls.Call.{Call}
+use Rattle.tags_cell.specs.declared.messages.outs.CallResult.{CallResult}
+use Rattle.tags_cell.specs.declared.messages.outs.CallResult.TheVariants as results
+use Rattle.tags_cell.specs.declared.messages.outs.Reply.{Reply}
 use Rattle.session_core.specs.declared.records.Kept.{Kept}
 use Rattle.lock_core.specs.declared.claims.Claim.{Claim}
 use Rattle.lock_core.specs.declared.turns.Turn.{Turn}
@@ -17,8 +17,8 @@ use Rattle.lock_core.specs.Turns.{is_of_client, any_waits, lapsed, concerns}
 use Rattle.lock_core.specs.Locks.{LockTable, lapses}
 use Rattle.cell_state.specs.State.{MasterState}
 use Rattle.cell_state.specs.Lookups.{kept_of, reply_of}
-use Rattle.cell_update.specs.Replies.{reply_to, replies_to, turn_replies}
-use Rattle.cell_update.specs.Lapses.{lapses_replies}
+use Rattle.cell_state.specs.Replies.{reply_to, replies_to, turn_replies}
+use Rattle.cell_state.specs.Lapses.{lapses_replies}
 use Rattle.world_laws.specs.Consistent.{awaits_lock, OpensAs}
 use Rattle.world_laws.proofs.LockWaiters.{or_left, or_right, ComesFrom, lapsed_comes}
 

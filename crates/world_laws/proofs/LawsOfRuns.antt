@@ -1,7 +1,7 @@
 -- What holds of every run that begins with a consistent world.
 use Rattle.std.proofs.Common.{List}
 use Rattle.node_core.specs.declared.lines.Line.{Line}
-use Rattle.world_clients.specs.declared.steps.Step.{Step}
+use Rattle.world_core.specs.declared.steps.Step.{Step}
 use Rattle.world_core.specs.World.{WorldView, IsUndoubted}
 use Rattle.world_laws.specs.Consistent.{IsConsistent}
 use Rattle.world_laws.specs.Runs.{Run}

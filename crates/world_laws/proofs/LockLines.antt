@@ -7,10 +7,10 @@ use Rattle.lock_core.specs.declared.claims.Claim.{Claim}
 use Rattle.lock_core.specs.declared.turns.Lapse.{Lapse}
 use Rattle.lock_core.specs.declared.turns.Turn.{Turn}
 use Rattle.lock_core.specs.Turns.{is_nobody}
-use Rattle.cell_apply.specs.declared.effects.Leave.{Leave}
-use Rattle.cell_update.specs.Replies.{locked_line, locked_lines, line_if}
-use Rattle.cell_apply.specs.Outcomes.{leave_lines}
-use Rattle.cell_update.specs.Lapses.{lapse_lines, lapses_lines}
+use Rattle.cell_core.specs.declared.effects.Leave.{Leave}
+use Rattle.cell_state.specs.Replies.{locked_line, locked_lines, line_if}
+use Rattle.cell_core.specs.Outcomes.{leave_lines}
+use Rattle.cell_state.specs.Lapses.{lapse_lines, lapses_lines}
 use Rattle.world_core.specs.World.{is_of_commit}
 use Rattle.world_laws.proofs.SilentLines.{IsQuiet, append_quiet, AreOthers, both_others}
 

@@ -6,23 +6,23 @@ use Rattle.std.specs.List.{AllByRecursion}
 use Rattle.node_core.specs.declared.refusals.Fault.TheVariants as faults
 use Rattle.coherence.specs.Slice as one
 use Rattle.tags_cell.specs.Numbers.{is_client_number}
-use Rattle.messages_cell.specs.declared.outs.Out.TheVariants as outs
-use Rattle.messages_cell.specs.declared.outs.CallResult.{CallResult}
-use Rattle.messages_cell.specs.declared.outs.CallResult.TheVariants as results
-use Rattle.messages_cell.specs.declared.outs.Reply.{Reply}
+use Rattle.tags_cell.specs.declared.messages.outs.Out.TheVariants as outs
+use Rattle.tags_cell.specs.declared.messages.outs.CallResult.{CallResult}
+use Rattle.tags_cell.specs.declared.messages.outs.CallResult.TheVariants as results
+use Rattle.tags_cell.specs.declared.messages.outs.Reply.{Reply}
 use Rattle.session_core.specs.declared.records.Kept.{Kept}
 use Rattle.session_core.specs.Session.{keeping}
 use Rattle.session_core.specs.Sessions.{SessionTable, session_of as session_in}
 use Rattle.lock_core.specs.declared.claims.Claim.{Claim}
 use Rattle.lock_core.specs.declared.turns.Lapse.{Lapse}
 use Rattle.lock_core.specs.declared.turns.Turn.{Turn}
-use Rattle.cell_update.specs.declared.updates.KeptPut.{KeptPut}
+use Rattle.cell_state.specs.declared.updates.KeptPut.{KeptPut}
 use Rattle.cell_state.specs.State.{MasterState}
 use Rattle.cell_state.specs.Lookups.{kept_of, reply_of}
-use Rattle.cell_update.specs.Updates.{with_kept_put}
-use Rattle.cell_update.specs.Replies.{sent, reply_to, replies_to, turn_replies}
-use Rattle.cell_update.specs.Lapses.{lapses_replies}
-use Rattle.world_clients.specs.declared.mail.Message.TheVariants.{ToClient}
+use Rattle.cell_state.specs.Updates.{with_kept_put}
+use Rattle.cell_state.specs.Replies.{sent, reply_to, replies_to, turn_replies}
+use Rattle.cell_state.specs.Lapses.{lapses_replies}
+use Rattle.world_core.specs.declared.mail.Message.TheVariants.{ToClient}
 use Rattle.world_laws.specs.Slices.{GrantsSoFar, seen_of, put_offer, grant_of}
 use Rattle.world_laws.proofs.GrantsSent.{unstamped, granted_by}
 use Rattle.world_laws.proofs.Slices.{lease_stays, seen_stays}

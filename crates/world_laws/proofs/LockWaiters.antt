@@ -16,11 +16,11 @@ use Rattle.lock_core.specs.declared.turns.Turn.{Turn}
 use Rattle.lock_core.specs.State.{LockState, lock_of, fits, is_exhausted, hold_of}
 use Rattle.lock_core.specs.Turns.{held_by, served_from, turned_away, served, settled, is_owner, is_of_client, without, any_waits, released, closed_by, reopened, claims_of, greatest_delay, closed_for, is_abandoned, lapsed, concerns}
 use Rattle.lock_core.specs.Locks.{LockTable, lock_at, with_lock, lapses}
-use Rattle.cell_update.specs.declared.updates.LockPut.{LockPut}
+use Rattle.cell_state.specs.declared.updates.LockPut.{LockPut}
 use Rattle.cell_state.specs.State.{MasterState}
-use Rattle.cell_update.specs.Updates.{with_lock_put}
-use Rattle.cell_update.specs.Replies.{name_of, puts_of}
-use Rattle.cell_update.specs.Lapses.{lapses_puts}
+use Rattle.cell_state.specs.Updates.{with_lock_put}
+use Rattle.cell_state.specs.Replies.{name_of, puts_of}
+use Rattle.cell_state.specs.Lapses.{lapses_puts}
 use Rattle.world_laws.specs.Consistent.{awaits_lock}
 
 -- ---- tests

@@ -27,21 +27,21 @@ use Rattle.rows_cell.proofs.SoundParts.{has_instance, parts_of}
 use Rattle.lock_core.specs.State.{LockState, lock_of}
 use Rattle.lock_core.specs.Turns.{lapsed, concerns, reopened}
 use Rattle.lock_core.specs.Locks.{LockTable, lock_at, with_lock}
-use Rattle.cell_update.specs.declared.updates.LockPut.{LockPut}
+use Rattle.cell_state.specs.declared.updates.LockPut.{LockPut}
 use Rattle.cell_parts.specs.Locks.{lock_rows}
 use Rattle.cell_parts.specs.declared.pending.Task.TheVariants as tasks
 use Rattle.cell_state.specs.State.{MasterState}
-use Rattle.cell_update.specs.Updates.{edit_of, with_lock_put}
-use Rattle.cell_apply.specs.declared.effects.Effect.{Effect}
-use Rattle.cell_update.specs.Replies.{name_of, puts_of}
-use Rattle.cell_apply.specs.Outcomes.{left_put}
-use Rattle.cell_update.specs.Lapses.{lapses_of, lapses_puts}
+use Rattle.cell_state.specs.Updates.{edit_of, with_lock_put}
+use Rattle.cell_core.specs.declared.effects.Effect.{Effect}
+use Rattle.cell_state.specs.Replies.{name_of, puts_of}
+use Rattle.cell_core.specs.Outcomes.{left_put}
+use Rattle.cell_state.specs.Lapses.{lapses_of, lapses_puts}
 use Rattle.cell_core.proofs.AskedFor.{asks_only}
 use Rattle.cell_core.specs.Step.{queued}
-use Rattle.sweep_laws.specs.SweepCase.{SweepCase, swept_by, swept_edits}
-use Rattle.sweep_laws.specs.SweepCase.SweepCase.{Quiet, Recovers, Expires, Tidies, Spared, Tidied, AnswersBeat, TurnedAway, StartedAgain, Started, Reopens, OfEnded, Ended, Applied, Deleted, Locked, Awaited, Left}
+use Rattle.over_core.specs.SweepCase.{SweepCase, swept_by, swept_edits}
+use Rattle.over_core.specs.SweepCase.SweepCase.{Quiet, Recovers, Expires, Tidies, Spared, Tidied, AnswersBeat, TurnedAway, StartedAgain, Started, Reopens, OfEnded, Ended, Applied, Deleted, Locked, Awaited, Left}
 use Rattle.cell_state.specs.Lookups.{noted}
-use Rattle.sweep_laws.specs.Kept.{IsKept, is_there}
+use Rattle.over_core.specs.Kept.{IsKept, is_there}
 use Rattle.world_laws.specs.Locks.{AreLegalRows, begins_in, CountsHolds}
 use Rattle.world_laws.proofs.LocksRise.{RisesTo, begins, rises_same, rises_reopened, rises_lapsed}
 use Rattle.world_laws.proofs.LockHolders.{begins_by_rows, legal_rows}

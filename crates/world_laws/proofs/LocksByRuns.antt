@@ -12,10 +12,10 @@ use Rattle.rows_cell.proofs.SoundParts.{has_instance}
 use Rattle.lock_core.specs.Locks.{lock_at}
 use Rattle.cell_state.specs.State.{MasterState}
 use Rattle.cell_state.specs.Lookups.{noted}
-use Rattle.sweep_laws.specs.Kept.{IsKept}
-use Rattle.sweep_laws.proofs.KeptBySweeps.{case_kept}
-use Rattle.world_clients.specs.declared.steps.Step.{Step}
-use Rattle.world_clients.specs.declared.steps.Step.TheVariants as steps
+use Rattle.over_core.specs.Kept.{IsKept}
+use Rattle.over_core.proofs.KeptBySweeps.{case_kept}
+use Rattle.world_core.specs.declared.steps.Step.{Step}
+use Rattle.world_core.specs.declared.steps.Step.TheVariants as steps
 use Rattle.world_core.specs.World.{WorldState, WorldView, IsUndoubted, Agrees}
 use Rattle.world_laws.proofs.StepsHold.{does_holds}
 use Rattle.world_laws.specs.Consistent.{IsConsistent}

@@ -10,16 +10,16 @@ use Rattle.std.proofs.lemmas.List.{append-nil}
 use Rattle.std.proofs.lemmas.List.Folds.{list_any-append}
 use Rattle.tags_cell.specs.Handles.{read_handle}
 use Rattle.tags_cell.specs.declared.handles.Handle.{Handle}
-use Rattle.messages_cell.specs.declared.calls.Call.{Call}
-use Rattle.messages_cell.specs.declared.requests.Request.{Request}
-use Rattle.messages_cell.specs.declared.requests.Request.TheVariants as requests
-use Rattle.messages_cell.specs.declared.requests.CallMessage.{CallMessage}
-use Rattle.messages_cell.specs.declared.outs.CallResult.{CallResult}
-use Rattle.messages_cell.specs.declared.outs.CallResult.TheVariants as results
-use Rattle.messages_cell.specs.declared.beats.Beat.{Beat}
+use Rattle.tags_cell.specs.declared.messages.calls.Call.{Call}
+use Rattle.tags_cell.specs.declared.messages.requests.Request.{Request}
+use Rattle.tags_cell.specs.declared.messages.requests.Request.TheVariants as requests
+use Rattle.tags_cell.specs.declared.messages.requests.CallMessage.{CallMessage}
+use Rattle.tags_cell.specs.declared.messages.outs.CallResult.{CallResult}
+use Rattle.tags_cell.specs.declared.messages.outs.CallResult.TheVariants as results
+use Rattle.tags_cell.specs.declared.messages.beats.Beat.{Beat}
 use Rattle.node_core.specs.declared.refusals.Fault.TheVariants as faults
-use Rattle.messages_cell.specs.declared.outs.Out.TheVariants as outs
-use Rattle.messages_cell.specs.declared.outs.Reply.{Reply}
+use Rattle.tags_cell.specs.declared.messages.outs.Out.TheVariants as outs
+use Rattle.tags_cell.specs.declared.messages.outs.Reply.{Reply}
 use Rattle.rights_core.specs.declared.cache_rights.CacheRight.{CacheRight}
 use Rattle.rights_core.specs.Rights.{granted, clients_to_ask, asked_back}
 use Rattle.rights_core.specs.Rights as of_rights
@@ -34,8 +34,8 @@ use Rattle.session_core.specs.declared.records.Session.{Session}
 use Rattle.session_core.specs.Session.{keeping, beaten, prolonged, answered, session_until, issued_through}
 use Rattle.session_core.specs.Session as of_session
 use Rattle.session_core.specs.Sessions.{with_session, with_new, issued_by}
-use Rattle.cell_update.specs.declared.updates.Change.{Change}
-use Rattle.cell_update.specs.declared.updates.LockPut.{LockPut}
+use Rattle.cell_state.specs.declared.updates.Change.{Change}
+use Rattle.cell_state.specs.declared.updates.LockPut.{LockPut}
 use Rattle.cell_parts.specs.declared.handles.Note.{Note}
 use Rattle.cell_parts.specs.declared.pending.Asked.{Asked}
 use Rattle.cell_parts.specs.declared.pending.Idle.{Idle}
@@ -53,24 +53,24 @@ use Rattle.cell_parts.specs.Answered.{answered_by}
 use Rattle.node_core.specs.Nodes.{with_parent}
 use Rattle.cell_core.specs.declared.asking.Touched.{Touched}
 use Rattle.cell_core.specs.Step.{recorded, queued, names_of, task_of, with_call, with_right, asking_for, parked, replied, granting, waits, asking}
-use Rattle.cell_update.specs.Updates.{with_note, with_locks, without_lock}
+use Rattle.cell_state.specs.Updates.{with_note, with_locks, without_lock}
 use Rattle.cell_core.specs.Ephemerals.{tidied}
 use Rattle.cell_core.specs.Cases.{IsBehind, TakeCase, taken_by}
 use Rattle.cell_core.specs.Names.{name_asked}
 use Rattle.cell_core.proofs.Told.{told_is_shown}
 use Rattle.cell_core.specs.Cases.TakeCase.{StartQueued, BeatParked, Recovering, Answered, Granted, Waits}
-use Rattle.cell_apply.specs.declared.effects.Effect.{Effect}
-use Rattle.cell_apply.specs.declared.effects.Leave.{Leave}
-use Rattle.cell_apply.specs.Effect.{effect}
-use Rattle.sweep_laws.specs.Kept.{is_unanswered}
-use Rattle.cell_update.specs.Replies.{replies_to, turn_replies, puts_of}
-use Rattle.cell_apply.specs.Outcomes.{left_put}
-use Rattle.cell_update.specs.Lapses.{lapses_of, lapses_puts, lapses_replies}
-use Rattle.sweep_laws.specs.SweepCase.{IsNextApplied, SweepCase, swept_by, rest, ended, mapped, told, expired, gone_change, gone_replies}
-use Rattle.sweep_laws.specs.SweepCase.SweepCase.{Quiet, Recovers, Expires, Reopens, Tidies, Spared, Tidied, AnswersBeat, TurnedAway, StartedAgain, Started as StartedFirst, OfEnded, Ended, Applied, Deleted, Locked, Awaited, Left}
-use Rattle.world_clients.specs.declared.mail.Message.{Message}
-use Rattle.world_clients.specs.declared.mail.Message.TheVariants.{ToClient}
-use Rattle.world_clients.specs.Messages.{call_of}
+use Rattle.cell_core.specs.declared.effects.Effect.{Effect}
+use Rattle.cell_core.specs.declared.effects.Leave.{Leave}
+use Rattle.cell_core.specs.Effect.{effect}
+use Rattle.over_core.specs.Kept.{is_unanswered}
+use Rattle.cell_state.specs.Replies.{replies_to, turn_replies, puts_of}
+use Rattle.cell_core.specs.Outcomes.{left_put}
+use Rattle.cell_state.specs.Lapses.{lapses_of, lapses_puts, lapses_replies}
+use Rattle.over_core.specs.SweepCase.{IsNextApplied, SweepCase, swept_by, rest, ended, mapped, told, expired, gone_change, gone_replies}
+use Rattle.over_core.specs.SweepCase.SweepCase.{Quiet, Recovers, Expires, Reopens, Tidies, Spared, Tidied, AnswersBeat, TurnedAway, StartedAgain, Started as StartedFirst, OfEnded, Ended, Applied, Deleted, Locked, Awaited, Left}
+use Rattle.world_core.specs.declared.mail.Message.{Message}
+use Rattle.world_core.specs.declared.mail.Message.TheVariants.{ToClient}
+use Rattle.world_core.specs.Messages.{call_of}
 use Rattle.world_laws.specs.Consistent.{put_waiting, put_task, waiting, IsWaiting, IsLastInTurn, IsInTurn, IsOfMessage, IsTaskOfMessage, AreOfMessages, WasSent, IsReplyTo, awaits_lock, OpensAs, IsAnswer, FitsMessages}
 use Rattle.world_laws.proofs.MessagesGrow.{call_stays}
 use Rattle.world_laws.proofs.LateReplies.{IsLate, AreLate, replies_late, application_late, lapses_late}

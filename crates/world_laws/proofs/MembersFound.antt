@@ -11,9 +11,9 @@ use Rattle.plain.proofs.Keys.{same_key}
 use Rattle.plain.proofs.OneKey.{lookup_set, lookup_set_apart}
 use Rattle.client_core.specs.State.{ClientState}
 use Rattle.cell_state.specs.State.{MasterState}
-use Rattle.world_clients.specs.declared.members.WorldClient.{WorldClient}
-use Rattle.world_clients.specs.declared.steps.Ticks.{Ticks as ClockSteps}
-use Rattle.world_clients.specs.Members.{Clients, stepped, each_member, is_least, is_fair, moved_beside, clock_then}
+use Rattle.world_core.specs.declared.members.WorldClient.{WorldClient}
+use Rattle.world_core.specs.declared.steps.Ticks.{Ticks as ClockSteps}
+use Rattle.world_core.specs.Members.{Clients, stepped, each_member, is_least, is_fair, moved_beside, clock_then}
 use Rattle.world_core.specs.World.{WorldState, moved}
 use Rattle.world_laws.specs.Consistent.{IsFairSince}
 use Rattle.world_laws.proofs.OneSession.{at_each}

@@ -9,20 +9,20 @@ use Rattle.std.proofs.lemmas.List.{append-nil}
 use Rattle.node_core.specs.declared.lines.Line.{Line}
 use Rattle.node_core.specs.declared.lines.Line.TheVariants as lines
 use Rattle.node_core.specs.declared.views.Mod.{Mod}
-use Rattle.messages_cell.specs.declared.requests.Request.{Request}
-use Rattle.messages_cell.specs.declared.requests.Request.TheVariants as requests
-use Rattle.messages_cell.specs.declared.requests.CallMessage.{CallMessage}
-use Rattle.messages_cell.specs.declared.calls.Call.{Call}
-use Rattle.messages_cell.specs.declared.outs.Out.{Out}
-use Rattle.messages_cell.specs.declared.outs.CallResult.{CallResult}
-use Rattle.messages_cell.specs.declared.outs.CallResult.TheVariants as results
+use Rattle.tags_cell.specs.declared.messages.requests.Request.{Request}
+use Rattle.tags_cell.specs.declared.messages.requests.Request.TheVariants as requests
+use Rattle.tags_cell.specs.declared.messages.requests.CallMessage.{CallMessage}
+use Rattle.tags_cell.specs.declared.messages.calls.Call.{Call}
+use Rattle.tags_cell.specs.declared.messages.outs.Out.{Out}
+use Rattle.tags_cell.specs.declared.messages.outs.CallResult.{CallResult}
+use Rattle.tags_cell.specs.declared.messages.outs.CallResult.TheVariants as results
 use Rattle.node_core.specs.declared.refusals.Fault.{Fault}
 use Rattle.node_core.specs.declared.refusals.Fault.TheVariants as faults
 use Rattle.rights_core.specs.declared.grants.Grant.{Grant}
 use Rattle.rights_core.specs.declared.grants.Grant.TheVariants as grants
 use Rattle.rights_core.specs.declared.endings.Ending.TheVariants as endings
 use Rattle.rights_core.specs.Rights.{grant_answer, clients_to_ask, numbers_ending}
-use Rattle.messages_cell.specs.declared.outs.Reply.{Reply}
+use Rattle.tags_cell.specs.declared.messages.outs.Reply.{Reply}
 use Rattle.cell_parts.specs.declared.handles.Note.{Note}
 use Rattle.session_core.specs.declared.records.Kept.{Kept}
 use Rattle.session_core.specs.Session.{beaten, keeping, prolonged, answered, session_until}
@@ -41,26 +41,26 @@ use Rattle.cell_parts.specs.declared.pending.Work.TheVariants as works
 use Rattle.cell_parts.specs.declared.notices.Telling.{Telling}
 use Rattle.cell_state.specs.Notices.{with_tellings}
 use Rattle.cell_state.specs.State.{MasterState}
-use Rattle.cell_update.specs.Updates.{with_locks, with_note}
+use Rattle.cell_state.specs.Updates.{with_locks, with_note}
 use Rattle.cell_state.specs.Lookups.{kept_of, is_live, reply_of, stamped_reply, granted_lines, acknowledgement, repeated_reply, noted}
 use Rattle.cell_parts.specs.Answered.{answered_by}
 use Rattle.node_core.specs.Nodes.{with_parent}
 use Rattle.cell_core.specs.Step.{recorded, queued, with_call, asking, asking_for, names_of}
 use Rattle.cell_core.specs.Cases.{IsBehind, TakeCase, taken_by}
-use Rattle.cell_update.specs.Replies.{replies_to, turn_replies, locked_lines, puts_of}
-use Rattle.cell_apply.specs.Outcomes.{leave_lines, left_put}
-use Rattle.cell_update.specs.Lapses.{lapses_lines, lapses_of, lapses_puts, lapses_replies}
-use Rattle.cell_apply.specs.declared.effects.Leave.{Leave}
-use Rattle.sweep_laws.specs.SweepCase.{IsNextApplied, SweepCase, swept_by, rest, ended, mapped, told, expired, gone_change, gone_replies}
-use Rattle.sweep_laws.proofs.SweepCases.{first_tellings}
+use Rattle.cell_state.specs.Replies.{replies_to, turn_replies, locked_lines, puts_of}
+use Rattle.cell_core.specs.Outcomes.{leave_lines, left_put}
+use Rattle.cell_state.specs.Lapses.{lapses_lines, lapses_of, lapses_puts, lapses_replies}
+use Rattle.cell_core.specs.declared.effects.Leave.{Leave}
+use Rattle.over_core.specs.SweepCase.{IsNextApplied, SweepCase, swept_by, rest, ended, mapped, told, expired, gone_change, gone_replies}
+use Rattle.over_core.proofs.SweepCases.{first_tellings}
 use Rattle.cell_core.specs.Cases.TakeCase.{StartRefused, OldBeat, BeatRefused, BeatParked, OldEpoch, NoSession, Repeated, OlderCall, Outstanding, Recovering, Answered, Granted, Waits}
-use Rattle.sweep_laws.specs.SweepCase.SweepCase.{Quiet, Recovers, Expires, Reopens, Tidies, Spared, Tidied, AnswersBeat, TurnedAway, StartedAgain, Started as StartedFirst, OfEnded, Ended, Applied, Deleted, Locked, Awaited, Left}
-use Rattle.world_clients.specs.declared.steps.Step.{Step}
+use Rattle.over_core.specs.SweepCase.SweepCase.{Quiet, Recovers, Expires, Reopens, Tidies, Spared, Tidied, AnswersBeat, TurnedAway, StartedAgain, Started as StartedFirst, OfEnded, Ended, Applied, Deleted, Locked, Awaited, Left}
+use Rattle.world_core.specs.declared.steps.Step.{Step}
 use Rattle.client_core.specs.State.{ClientState}
-use Rattle.world_clients.specs.declared.members.WorldClient.{WorldClient}
-use Rattle.world_clients.specs.declared.mail.Message.{Message}
-use Rattle.world_clients.specs.declared.mail.Message.TheVariants.{ToMaster, ToClient}
-use Rattle.world_clients.specs.Messages.{call_of}
+use Rattle.world_core.specs.declared.members.WorldClient.{WorldClient}
+use Rattle.world_core.specs.declared.mail.Message.{Message}
+use Rattle.world_core.specs.declared.mail.Message.TheVariants.{ToMaster, ToClient}
+use Rattle.world_core.specs.Messages.{call_of}
 use Rattle.world_core.specs.World.{WorldState, WorldView, member_of}
 use Rattle.world_laws.proofs.StepsHold.{does_holds}
 use Rattle.world_laws.specs.Consistent.{FitsMessages, IsConsistent}

@@ -4,10 +4,10 @@ use Rattle.std.specs.Prelude.{is_some}
 use Rattle.std.specs.Option.{option_map, option_map_or, option_and_then}
 use Rattle.std.proofs.lemmas.Bool.Decides.{nat_tests}
 use Rattle.plain.proofs.OneKey.{lookup_put, lookup_put_apart}
-use Rattle.messages_cell.specs.declared.outs.Reply.{Reply}
+use Rattle.tags_cell.specs.declared.messages.outs.Reply.{Reply}
 use Rattle.session_core.specs.declared.records.Kept.{Kept}
 use Rattle.session_core.specs.declared.records.Session.{Session}
-use Rattle.session_core.specs.Session.{keeping, answered, prolonged, issued_through}
+use Rattle.session_core.specs.Session.{keeping, answered, prolonged, issued_through, unparked}
 use Rattle.session_core.specs.Sessions.{SessionTable, session_of, kept_of, is_live, with_session, with_new, with_issued, issued_by}
 use Rattle.session_core.proofs.OneClient.{own_session, kept_session, other_session}
 
@@ -98,7 +98,7 @@ pub record Answers (session new : Session Reply) : Type 0 where
 
 pub answered_so : (lease now : ℕ) (session : Session Reply) → Answers session (answered lease now session)
 answered_so lease now session =
-    elim session.parked as (λ o. Answers session (option_map_or (λ beat. prolonged (now + lease) (record session { parked = None })) o session)) [
+    elim session.parked as (λ o. Answers session (option_map_or (λ beat. prolonged (now + lease) (unparked now session)) o session)) [
       | None ↦ record { kept = refl; live = refl }
       | Some beat ↦ record { kept = refl; live = refl }
     ]

@@ -13,27 +13,27 @@ use Rattle.node_core.specs.declared.refusals.Fault.TheVariants as faults
 use Rattle.node_core.specs.declared.lines.Line.{Line}
 use Rattle.node_core.specs.declared.lines.Line.TheVariants as lines
 use Rattle.node_core.specs.declared.answers.Answer.TheVariants as answers
-use Rattle.messages_cell.specs.declared.requests.Request.{Request}
-use Rattle.messages_cell.specs.declared.requests.Request.TheVariants as requests
-use Rattle.messages_cell.specs.declared.requests.CallMessage.{CallMessage}
-use Rattle.messages_cell.specs.declared.outs.Out.{Out}
-use Rattle.messages_cell.specs.declared.outs.Out.TheVariants as outs
-use Rattle.messages_cell.specs.declared.outs.Started.{Started as StartedMessage}
-use Rattle.messages_cell.specs.declared.outs.Refused.{Refused as RefusedMessage}
-use Rattle.messages_cell.specs.declared.beats.Alive.{Alive as AliveMessage}
-use Rattle.messages_cell.specs.declared.beats.NumberedEvent.{NumberedEvent}
-use Rattle.messages_cell.specs.declared.outs.CallResult.{CallResult}
-use Rattle.messages_cell.specs.declared.outs.CallResult.TheVariants as results
-use Rattle.messages_cell.specs.Messages.{request_number, out_client}
-use Rattle.client_parts.specs.declared.asks.Ask.{Ask}
-use Rattle.client_parts.specs.declared.sessions.Session.{Session}
-use Rattle.client_parts.specs.declared.sessions.Session.TheVariants as sessions
-use Rattle.client_parts.specs.declared.targets.Target.{Target}
-use Rattle.client_parts.specs.declared.targets.Target.TheVariants as targets
-use Rattle.client_parts.specs.declared.targets.Outstanding.{Outstanding}
-use Rattle.client_parts.specs.Opens.{kept_handle}
-use Rattle.client_parts.specs.Targets.{is_on, unknown_line, unknown_lines}
-use Rattle.client_parts.specs.Events.{event_lines}
+use Rattle.tags_cell.specs.declared.messages.requests.Request.{Request}
+use Rattle.tags_cell.specs.declared.messages.requests.Request.TheVariants as requests
+use Rattle.tags_cell.specs.declared.messages.requests.CallMessage.{CallMessage}
+use Rattle.tags_cell.specs.declared.messages.outs.Out.{Out}
+use Rattle.tags_cell.specs.declared.messages.outs.Out.TheVariants as outs
+use Rattle.tags_cell.specs.declared.messages.outs.Started.{Started as StartedMessage}
+use Rattle.tags_cell.specs.declared.messages.outs.Refused.{Refused as RefusedMessage}
+use Rattle.tags_cell.specs.declared.messages.beats.Alive.{Alive as AliveMessage}
+use Rattle.tags_cell.specs.declared.messages.beats.NumberedEvent.{NumberedEvent}
+use Rattle.tags_cell.specs.declared.messages.outs.CallResult.{CallResult}
+use Rattle.tags_cell.specs.declared.messages.outs.CallResult.TheVariants as results
+use Rattle.tags_cell.specs.Messages.{request_number, out_client}
+use Rattle.client_core.specs.declared.parts.asks.Ask.{Ask}
+use Rattle.client_core.specs.declared.parts.sessions.Session.{Session}
+use Rattle.client_core.specs.declared.parts.sessions.Session.TheVariants as sessions
+use Rattle.client_core.specs.declared.parts.targets.Target.{Target}
+use Rattle.client_core.specs.declared.parts.targets.Target.TheVariants as targets
+use Rattle.client_core.specs.declared.parts.targets.Outstanding.{Outstanding}
+use Rattle.client_core.specs.Opens.{kept_handle}
+use Rattle.client_core.specs.Targets.{is_on, unknown_line, unknown_lines}
+use Rattle.client_core.specs.Events.{event_lines}
 use Rattle.client_core.specs.State.{ClientState, at_moment, standing_then, session_behind, note_in, note, note_live, note_lines_in, note_lines}
 use Rattle.client_core.specs.Asks.{with_call, with_shared, without_handle}
 use Rattle.client_core.specs.Poisons.{refused_lines, poison_lines, with_poisoned}
@@ -45,12 +45,12 @@ use Rattle.client_core.specs.Cases.BeatCase.{BeatTooLate, OutOfBeats, Starts, Be
 use Rattle.client_core.specs.Cases.GiveCase.{GivenTooLate, OfAnother, Started, StartedUnfit, StartedDropped, LeaseTaken, LeaseStays, AliveUnfit, AliveDropped, OutOfNumbers, Replied, Installed, ReplyDropped, NotAwaited, Learns, Lost, TurnedAway, RefusalDropped}
 use Rattle.client_core.proofs.Noting.{unstarted_before, note_number, note_clock, note_epoch, note_session}
 use Rattle.client_core.proofs.Leases.{SessionStays, note_keeps, behind_live}
-use Rattle.world_clients.specs.declared.steps.Step.{Step}
-use Rattle.world_clients.specs.declared.mail.Message.{Message}
-use Rattle.world_clients.specs.declared.mail.Message.TheVariants.{ToMaster}
-use Rattle.world_clients.specs.declared.members.WorldClient.{WorldClient}
-use Rattle.world_clients.specs.Members.{stepped}
-use Rattle.world_clients.specs.Messages.{out_at}
+use Rattle.world_core.specs.declared.steps.Step.{Step}
+use Rattle.world_core.specs.declared.mail.Message.{Message}
+use Rattle.world_core.specs.declared.mail.Message.TheVariants.{ToMaster}
+use Rattle.world_core.specs.declared.members.WorldClient.{WorldClient}
+use Rattle.world_core.specs.Members.{stepped}
+use Rattle.world_core.specs.Messages.{out_at}
 use Rattle.world_core.specs.World.{WorldState, Outcome, member_of, with_client, with_refusal, asked, beaten, gave}
 use Rattle.world_laws.proofs.SilentLines.{IsSilent, IsQuiet, append_quiet, quiet_silent}
 use Rattle.world_laws.proofs.WorldCases.{IsAsk, IsBeat, IsGive}

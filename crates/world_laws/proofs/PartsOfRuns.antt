@@ -6,7 +6,7 @@ use Rattle.std.proofs.lemmas.List.{append-nil}
 use Rattle.node_core.specs.declared.refusals.Fault.{Fault}
 use Rattle.node_core.specs.declared.lines.Line.{Line}
 use Rattle.node_core.specs.declared.lines.Line.TheVariants as lines
-use Rattle.world_clients.specs.declared.steps.Step.{Step}
+use Rattle.world_core.specs.declared.steps.Step.{Step}
 use Rattle.world_core.specs.World.{WorldView, IsUndoubted}
 use Rattle.world_laws.specs.Runs.{AnyRun, Run}
 use Rattle.world_core.specs.Made.{Does, AnyStep, WasRefused}

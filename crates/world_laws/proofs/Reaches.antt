@@ -2,7 +2,7 @@
 use Rattle.std.proofs.Common.{ℕ, List, sym, ap, ◌∙◌, subst}
 use Rattle.coherence.specs.Slice.{Reached}
 use Rattle.node_core.specs.declared.lines.Line.{Line}
-use Rattle.world_clients.specs.declared.steps.Step.{Step}
+use Rattle.world_core.specs.declared.steps.Step.{Step}
 use Rattle.world_core.specs.World.{WorldState}
 use Rattle.world_laws.specs.Slices.{slice}
 use Rattle.world_laws.specs.Consistent.{IsConsistent}

@@ -8,21 +8,21 @@ use Rattle.node_core.specs.declared.views.Mod.TheVariants.{Put, Gone}
 use Rattle.rows_cell.specs.declared.tables.Rows.{Rows}
 use Rattle.rows_cell.specs.declared.tables.Edit.TheVariants.{NextInstance}
 use Rattle.rows_cell.specs.Rows.{changed_rows}
-use Rattle.messages_cell.specs.declared.calls.Call.{Call}
-use Rattle.messages_cell.specs.declared.requests.Request.{Request}
-use Rattle.messages_cell.specs.declared.requests.Request.TheVariants as requests
-use Rattle.messages_cell.specs.declared.requests.CallMessage.{CallMessage}
-use Rattle.messages_cell.specs.declared.outs.CallResult.{CallResult}
-use Rattle.messages_cell.specs.declared.outs.CallResult.TheVariants as results
-use Rattle.messages_cell.specs.declared.outs.Out.{Out}
-use Rattle.messages_cell.specs.declared.outs.Out.TheVariants as outs
-use Rattle.messages_cell.specs.declared.outs.Reply.{Reply}
+use Rattle.tags_cell.specs.declared.messages.calls.Call.{Call}
+use Rattle.tags_cell.specs.declared.messages.requests.Request.{Request}
+use Rattle.tags_cell.specs.declared.messages.requests.Request.TheVariants as requests
+use Rattle.tags_cell.specs.declared.messages.requests.CallMessage.{CallMessage}
+use Rattle.tags_cell.specs.declared.messages.outs.CallResult.{CallResult}
+use Rattle.tags_cell.specs.declared.messages.outs.CallResult.TheVariants as results
+use Rattle.tags_cell.specs.declared.messages.outs.Out.{Out}
+use Rattle.tags_cell.specs.declared.messages.outs.Out.TheVariants as outs
+use Rattle.tags_cell.specs.declared.messages.outs.Reply.{Reply}
 use Rattle.session_core.specs.declared.records.Kept.{Kept}
 use Rattle.cell_core.proofs.Told.{told_is_shown}
 use Rattle.lock_core.specs.Turns.{is_of_client, reopened}
 use Rattle.lock_core.specs.Locks.{lock_at}
 use Rattle.cell_state.specs.State.{MasterState}
-use Rattle.cell_update.specs.Updates.{edit_of, lock_changes, with_note}
+use Rattle.cell_state.specs.Updates.{edit_of, lock_changes, with_note}
 use Rattle.cell_state.specs.Lookups.{kept_of, reply_of, stamped_reply, repeated_reply, noted}
 use Rattle.cell_core.specs.Cases.{TakeCase, taken_by}
 use Rattle.cell_core.specs.Cases.TakeCase.{StartQueued, BeatParked, Repeated, Recovering, Answered, Granted, Waits}
@@ -31,15 +31,15 @@ use Rattle.cell_parts.specs.declared.pending.Task.{Task}
 use Rattle.cell_parts.specs.declared.pending.Task.TheVariants as tasks
 use Rattle.cell_parts.specs.declared.pending.Work.TheVariants as works
 use Rattle.gate_core.specs.declared.pending.Waiting.{Waiting}
-use Rattle.sweep_laws.specs.SweepCase.{IsNextApplied, SweepCase, swept_by, swept_edits, gone_replies}
-use Rattle.cell_apply.specs.Outcomes.{left_put}
-use Rattle.cell_update.specs.Replies.{turn_replies, puts_of, replies_to}
-use Rattle.cell_update.specs.Lapses.{lapses_of, lapses_puts, lapses_replies}
-use Rattle.sweep_laws.specs.SweepCase.SweepCase.{Quiet, Recovers, Expires, Reopens, Tidies, Spared, Tidied, OfEnded, Ended, Applied, Deleted, Locked, Awaited, Left}
-use Rattle.world_clients.specs.declared.mail.Message.{Message}
-use Rattle.world_clients.specs.declared.mail.Message.TheVariants.{ToMaster, ToClient}
-use Rattle.world_clients.specs.declared.steps.Step.{Step}
-use Rattle.world_clients.specs.Messages.{out_at, call_of}
+use Rattle.over_core.specs.SweepCase.{IsNextApplied, SweepCase, swept_by, swept_edits, gone_replies}
+use Rattle.cell_core.specs.Outcomes.{left_put}
+use Rattle.cell_state.specs.Replies.{turn_replies, puts_of, replies_to}
+use Rattle.cell_state.specs.Lapses.{lapses_of, lapses_puts, lapses_replies}
+use Rattle.over_core.specs.SweepCase.SweepCase.{Quiet, Recovers, Expires, Reopens, Tidies, Spared, Tidied, OfEnded, Ended, Applied, Deleted, Locked, Awaited, Left}
+use Rattle.world_core.specs.declared.mail.Message.{Message}
+use Rattle.world_core.specs.declared.mail.Message.TheVariants.{ToMaster, ToClient}
+use Rattle.world_core.specs.declared.steps.Step.{Step}
+use Rattle.world_core.specs.Messages.{out_at, call_of}
 use Rattle.world_core.specs.World.{WorldState}
 use Rattle.world_laws.specs.Consistent.{OpensAs, IsAnswer, FitsMessages, IsConsistent}
 use Rattle.world_laws.proofs.MessagesGrow.{out_more, out_among, one_no_out}

@@ -8,9 +8,9 @@ use Rattle.rights_core.proofs.ToldLines.{AreOfNoRight, told_both, same_rights, t
 use Rattle.cell_state.specs.State.{MasterState}
 use Rattle.cell_state.specs.Lookups.{noted}
 use Rattle.cell_core.specs.Cases.{taken_by}
-use Rattle.sweep_laws.specs.SweepCase.{swept_by}
-use Rattle.sweep_laws.proofs.StepsTell.{take_told, sweep_told}
-use Rattle.world_clients.specs.declared.steps.Step.{Step}
+use Rattle.over_core.specs.SweepCase.{swept_by}
+use Rattle.over_core.proofs.StepsTell.{take_told, sweep_told}
+use Rattle.world_core.specs.declared.steps.Step.{Step}
 use Rattle.world_core.specs.World.{WorldState, WorldView, is_of_commit}
 use Rattle.world_laws.proofs.StepsHold.{does_holds}
 use Rattle.world_laws.specs.Consistent.{IsConsistent}

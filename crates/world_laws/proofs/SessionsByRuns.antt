@@ -23,13 +23,13 @@ use Rattle.lock_core.specs.Turns.{reopened}
 use Rattle.lock_core.specs.Locks.{lock_at}
 use Rattle.cell_state.specs.State.{MasterState}
 use Rattle.cell_state.specs.Lookups.{noted}
-use Rattle.cell_update.specs.Updates.{edit_of, lock_changes}
-use Rattle.cell_update.specs.Replies.{locked_line, locked_lines, puts_of}
-use Rattle.cell_apply.specs.Outcomes.{leave_lines, left_put}
-use Rattle.cell_update.specs.Lapses.{lapses_lines, lapses_of, lapses_puts}
-use Rattle.sweep_laws.specs.SweepCase.{SweepCase, swept_by, swept_edits}
-use Rattle.sweep_laws.specs.SweepCase.SweepCase.{Expires, Reopens, Tidied, Started as StartedFirst, Applied, Deleted, Locked, Awaited, Left}
-use Rattle.world_clients.specs.declared.steps.Step.{Step}
+use Rattle.cell_state.specs.Updates.{edit_of, lock_changes}
+use Rattle.cell_state.specs.Replies.{locked_line, locked_lines, puts_of}
+use Rattle.cell_core.specs.Outcomes.{leave_lines, left_put}
+use Rattle.cell_state.specs.Lapses.{lapses_lines, lapses_of, lapses_puts}
+use Rattle.over_core.specs.SweepCase.{SweepCase, swept_by, swept_edits}
+use Rattle.over_core.specs.SweepCase.SweepCase.{Expires, Reopens, Tidied, Started as StartedFirst, Applied, Deleted, Locked, Awaited, Left}
+use Rattle.world_core.specs.declared.steps.Step.{Step}
 use Rattle.world_core.specs.World.{WorldState, WorldView}
 use Rattle.world_laws.proofs.StepsHold.{does_holds}
 use Rattle.world_laws.specs.Consistent.{IsConsistent}

@@ -13,11 +13,11 @@ use Rattle.node_core.specs.Limits.{number_limit}
 use Rattle.node_core.specs.Nodes.{view_at, with_parent}
 use Rattle.rows_cell.specs.Rows.{map_of}
 use Rattle.plain.proofs.Keys.{same_number, bytes_self, bytes_same, bytes_swap}
-use Rattle.messages_cell.specs.declared.requests.CallMessage.{CallMessage}
-use Rattle.messages_cell.specs.declared.outs.Out.{Out}
-use Rattle.messages_cell.specs.declared.outs.Out.TheVariants as outs
-use Rattle.messages_cell.specs.declared.outs.CallResult.{CallResult}
-use Rattle.messages_cell.specs.declared.outs.Reply.{Reply}
+use Rattle.tags_cell.specs.declared.messages.requests.CallMessage.{CallMessage}
+use Rattle.tags_cell.specs.declared.messages.outs.Out.{Out}
+use Rattle.tags_cell.specs.declared.messages.outs.Out.TheVariants as outs
+use Rattle.tags_cell.specs.declared.messages.outs.CallResult.{CallResult}
+use Rattle.tags_cell.specs.declared.messages.outs.Reply.{Reply}
 use Rattle.session_core.specs.declared.records.Kept.{Kept}
 use Rattle.session_core.specs.declared.records.Session.{Session}
 use Rattle.session_core.specs.Session.{keeping, issued_through}
@@ -46,10 +46,10 @@ use Rattle.cell_core.specs.declared.asking.Touched.{Touched}
 use Rattle.cell_core.specs.Step.{queued, replied, is_cachable, granting, asking, asking_for, names_of, task_of, with_call, waits}
 use Rattle.cell_core.specs.Names.{name_asked, shown_by}
 use Rattle.cell_core.specs.Ephemerals.{tidied}
-use Rattle.sweep_laws.specs.Kept.{AreIssued, AreOwned}
-use Rattle.sweep_laws.proofs.OwnedRights.{none_issued}
-use Rattle.world_clients.specs.declared.mail.Message.TheVariants.{ToClient}
-use Rattle.world_clients.specs.Messages.{call_of}
+use Rattle.over_core.specs.Kept.{AreIssued, AreOwned}
+use Rattle.over_core.proofs.OwnedRights.{none_issued}
+use Rattle.world_core.specs.declared.mail.Message.TheVariants.{ToClient}
+use Rattle.world_core.specs.Messages.{call_of}
 use Rattle.world_core.specs.World.{WorldState}
 use Rattle.world_laws.specs.Slices.{Shown, Grants, SeenRight, standing_so, standing_of, seen_of, heard_from, right_of, start_of, starts_of, put_offer, offers_of, asks_for, stamped_grant, grant_of, grants_of}
 use Rattle.world_laws.specs.Consistent.{HasGranted, IsReplyTo}

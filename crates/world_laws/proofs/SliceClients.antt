@@ -8,18 +8,18 @@ use Rattle.coherence.specs.Slice as one
 use Rattle.coherence.specs.Slice.{IsIn, Slice, Event, SendBeat, StartAnew, Prolong, Process, Invalidate, LearnEpoch, Install, Forget, Reached, Leads}
 use Rattle.coherence.proofs.Runs.{always}
 use Rattle.node_core.specs.declared.lines.Line.{Line}
-use Rattle.messages_cell.specs.declared.requests.Request.{Request}
-use Rattle.messages_cell.specs.declared.outs.Out.{Out}
-use Rattle.messages_cell.specs.declared.outs.Out.TheVariants as outs
-use Rattle.messages_cell.specs.declared.beats.Alive.{Alive}
-use Rattle.messages_cell.specs.declared.outs.Reply.{Reply}
-use Rattle.messages_cell.specs.Messages.{out_client}
+use Rattle.tags_cell.specs.declared.messages.requests.Request.{Request}
+use Rattle.tags_cell.specs.declared.messages.outs.Out.{Out}
+use Rattle.tags_cell.specs.declared.messages.outs.Out.TheVariants as outs
+use Rattle.tags_cell.specs.declared.messages.beats.Alive.{Alive}
+use Rattle.tags_cell.specs.declared.messages.outs.Reply.{Reply}
+use Rattle.tags_cell.specs.Messages.{out_client}
 use Rattle.session_core.proofs.OneClient.{lookup_set, lookup_set_apart}
 use Rattle.cache_core.specs.Caches.{CacheState, entry_of, is_leased, noted as noted_cache}
-use Rattle.client_parts.specs.declared.asks.Ask.{Ask}
-use Rattle.client_parts.specs.declared.sessions.Session.TheVariants as sessions
-use Rattle.client_parts.specs.declared.targets.Outstanding.{Outstanding}
-use Rattle.client_parts.specs.Invalidations.{last_number, all_flushed}
+use Rattle.client_core.specs.declared.parts.asks.Ask.{Ask}
+use Rattle.client_core.specs.declared.parts.sessions.Session.TheVariants as sessions
+use Rattle.client_core.specs.declared.parts.targets.Outstanding.{Outstanding}
+use Rattle.client_core.specs.Invalidations.{last_number, all_flushed}
 use Rattle.client_core.specs.State.{ClientState, lease_of, note, note_live}
 use Rattle.client_core.specs.Asks.{message_of}
 use Rattle.client_core.specs.Beats.{start_message, beat_message}
@@ -34,8 +34,8 @@ use Rattle.client_core.proofs.GiveCases.{taught_if}
 use Rattle.client_core.proofs.OneEntry.{StaysOrGoes, EntryDoes, none_stays, asked_stays, beaten_stays, given_entry}
 use Rattle.client_core.proofs.OneEntry.EntryDoes.{EntryStays, EntryInstalled}
 use Rattle.client_core.specs.Lessons.{may_install, taught}
-use Rattle.world_clients.specs.declared.members.WorldClient.{WorldClient}
-use Rattle.world_clients.specs.Messages.{out_at}
+use Rattle.world_core.specs.declared.members.WorldClient.{WorldClient}
+use Rattle.world_core.specs.Messages.{out_at}
 use Rattle.world_core.specs.World.{WorldState, member_of, with_client, sends, asked, beaten, gave}
 use Rattle.world_laws.specs.Consistent.{IsMember, Holds, IsConsistent}
 use Rattle.world_laws.specs.Slices.{Shown, slice, beat_of, beats_of, name_number, offers_of, grants_of, client_of}

@@ -6,14 +6,14 @@ use Rattle.coherence.specs.Slice as one
 use Rattle.coherence.specs.Slice.{IsIn, Event, GoDown, Reorder, Reached}
 use Rattle.rows_cell.specs.declared.tables.Rows.{Rows}
 use Rattle.rows_cell.specs.Rows.{changed_rows}
-use Rattle.messages_cell.specs.declared.outs.Out.{Out}
-use Rattle.messages_cell.specs.declared.outs.Out.TheVariants as outs
+use Rattle.tags_cell.specs.declared.messages.outs.Out.{Out}
+use Rattle.tags_cell.specs.declared.messages.outs.Out.TheVariants as outs
 use Rattle.cell_state.specs.State.{MasterState}
 use Rattle.cell_state.specs.Lookups.{noted}
-use Rattle.sweep_laws.specs.SweepCase.{SweepCase, swept_by, swept_edits}
-use Rattle.world_clients.specs.declared.mail.Message.TheVariants.{ToClient}
-use Rattle.world_clients.specs.declared.members.WorldClient.{WorldClient}
-use Rattle.world_clients.specs.Members.{at_up}
+use Rattle.over_core.specs.SweepCase.{SweepCase, swept_by, swept_edits}
+use Rattle.world_core.specs.declared.mail.Message.TheVariants.{ToClient}
+use Rattle.world_core.specs.declared.members.WorldClient.{WorldClient}
+use Rattle.world_core.specs.Members.{at_up}
 use Rattle.world_core.specs.World.{WorldState, member_of, without_master}
 use Rattle.world_laws.specs.Slices.{Shown, slice, beats_of, offer_of, put_offer, offers_of, grants_of, client_of}
 use Rattle.world_laws.proofs.GrantsSent.{grants_stay}

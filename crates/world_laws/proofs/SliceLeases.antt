@@ -8,11 +8,11 @@ use Rattle.lease_core.specs.Lease.{IsUnexpired}
 use Rattle.coherence.specs.Slice.{Live}
 use Rattle.coherence.proofs.Reached.{reached_is_joint}
 use Rattle.rows_cell.specs.declared.tables.Session as of_rows
-use Rattle.messages_cell.specs.declared.outs.Reply.{Reply}
+use Rattle.tags_cell.specs.declared.messages.outs.Reply.{Reply}
 use Rattle.session_core.specs.declared.records.Session.{Session}
 use Rattle.cell_state.specs.State.{MasterState}
 use Rattle.cell_state.specs.Lookups.{session_of}
-use Rattle.world_clients.specs.declared.members.WorldClient.{WorldClient}
+use Rattle.world_core.specs.declared.members.WorldClient.{WorldClient}
 use Rattle.world_core.specs.World.{WorldState, member_of}
 use Rattle.world_laws.specs.Slices.{slice, standing_so, standing_of, seen_of, client_of, master_of}
 use Rattle.world_laws.specs.Consistent.{IsConsistent}

@@ -16,8 +16,8 @@ use Rattle.rights_core.specs.Laws.{asked_for, given_back_of, number_or_0}
 use Rattle.rights_core.proofs.OneName.{new_right_is_held, known_right_is_held, asking_numbers_rights, asking_counts, ending_frees}
 use Rattle.rights_core.proofs.GivenBack.{asking_gives_nothing_back, expiry_gives_nothing_back, acknowledgement_gives_back, granting_gives_nothing_back}
 use Rattle.rights_core.proofs.Unacked.{asked_is_issued}
-use Rattle.sweep_laws.specs.Kept.{is_of}
-use Rattle.sweep_laws.proofs.OwnedRights.{none_issued, none_held, none_asked, none_given_back}
+use Rattle.over_core.specs.Kept.{is_of}
+use Rattle.over_core.proofs.OwnedRights.{none_issued, none_held, none_asked, none_given_back}
 use Rattle.world_laws.specs.Slices.{SeenRight, right_of}
 
 pub four_same : {A B C D X : Type 0} (f : A → B → C → D → X) (a e : A) (b g : B) (c h : C) (d i : D) → a ≡ e → b ≡ g → c ≡ h → d ≡ i → f a b c d ≡ f e g h i

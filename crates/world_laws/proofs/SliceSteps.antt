@@ -2,18 +2,18 @@
 use Rattle.std.proofs.Common.{◌≡◌, ℕ, true, false, List, Ok, Some, None, subst}
 use Rattle.coherence.specs.Slice.{Reached}
 use Rattle.node_core.specs.declared.lines.Line.{Line}
-use Rattle.messages_cell.specs.declared.requests.Request.{Request}
-use Rattle.messages_cell.specs.declared.outs.Out.{Out}
-use Rattle.messages_cell.specs.Messages.{out_client}
-use Rattle.client_parts.specs.declared.asks.Ask.{Ask}
+use Rattle.tags_cell.specs.declared.messages.requests.Request.{Request}
+use Rattle.tags_cell.specs.declared.messages.outs.Out.{Out}
+use Rattle.tags_cell.specs.Messages.{out_client}
+use Rattle.client_core.specs.declared.parts.asks.Ask.{Ask}
 use Rattle.client_core.specs.Cases.{AskCase, asked_in, BeatCase, beaten_in, GiveCase, given_in}
 use Rattle.cell_state.specs.State.{MasterState}
 use Rattle.cell_state.specs.Lookups.{noted, is_spent}
 use Rattle.cell_core.specs.Cases.{TakeCase}
-use Rattle.sweep_laws.specs.SweepCase.{SweepCase}
-use Rattle.world_clients.specs.declared.members.WorldClient.{WorldClient}
-use Rattle.world_clients.specs.declared.steps.Ticks.{Ticks}
-use Rattle.world_clients.specs.Messages.{request_at, out_at}
+use Rattle.over_core.specs.SweepCase.{SweepCase}
+use Rattle.world_core.specs.declared.members.WorldClient.{WorldClient}
+use Rattle.world_core.specs.declared.steps.Ticks.{Ticks}
+use Rattle.world_core.specs.Messages.{request_at, out_at}
 use Rattle.world_core.specs.World.{WorldState, member_of, asked, beaten, gave, ticked, are_fair, without_master, Agrees}
 use Rattle.world_laws.specs.Slices.{slice}
 use Rattle.world_laws.specs.Consistent.{IsConsistent, Fits, IsNoted}

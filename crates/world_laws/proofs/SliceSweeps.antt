@@ -20,11 +20,11 @@ use Rattle.rows_cell.specs.declared.tables.Edit.TheVariants.{NextInstance, PutSe
 use Rattle.rows_cell.specs.Rows.{changed_rows, map_of}
 use Rattle.rows_cell.specs.LockRows.{LockChange, locks_edits}
 use Rattle.rows_cell.proofs.RowNodes.{nodes_put, nodes_gone}
-use Rattle.messages_cell.specs.declared.outs.Out.{Out}
-use Rattle.messages_cell.specs.declared.outs.CallResult.{CallResult}
-use Rattle.messages_cell.specs.declared.outs.CallResult.TheVariants as results
-use Rattle.messages_cell.specs.declared.outs.Reply.{Reply}
-use Rattle.messages_cell.specs.declared.calls.Call.{Call}
+use Rattle.tags_cell.specs.declared.messages.outs.Out.{Out}
+use Rattle.tags_cell.specs.declared.messages.outs.CallResult.{CallResult}
+use Rattle.tags_cell.specs.declared.messages.outs.CallResult.TheVariants as results
+use Rattle.tags_cell.specs.declared.messages.outs.Reply.{Reply}
+use Rattle.tags_cell.specs.declared.messages.calls.Call.{Call}
 use Rattle.rights_core.specs.declared.endings.Ending.TheVariants as endings
 use Rattle.rights_core.specs.Rights.{holds, invalidations_of}
 use Rattle.rights_core.specs.Laws.{asked_for, number_or_0}
@@ -37,7 +37,7 @@ use Rattle.session_core.proofs.OneClient.{lookup_put, lookup_put_apart, other_se
 use Rattle.gate_core.specs.declared.pending.Waiting.{Waiting}
 use Rattle.gate_core.specs.Gate.{touches, push_answer}
 use Rattle.gate_core.specs.Laws.{touching}
-use Rattle.cell_update.specs.declared.updates.Change.{Change}
+use Rattle.cell_state.specs.declared.updates.Change.{Change}
 use Rattle.cell_parts.specs.declared.handles.Note.{Note}
 use Rattle.cell_parts.specs.declared.pending.Asked.{Asked}
 use Rattle.cell_parts.specs.declared.pending.Idle.{Idle}
@@ -47,7 +47,7 @@ use Rattle.cell_parts.specs.declared.pending.Work.TheVariants as works
 use Rattle.lock_core.specs.declared.turns.Turn.{Turn}
 use Rattle.lock_core.specs.Turns.{reopened}
 use Rattle.lock_core.specs.Locks.{lock_at}
-use Rattle.cell_update.specs.declared.updates.LockPut.{LockPut}
+use Rattle.cell_state.specs.declared.updates.LockPut.{LockPut}
 use Rattle.cell_state.specs.NameSpace.{name_space, caller}
 use Rattle.cell_state.specs.State.{MasterState}
 use Rattle.cell_parts.specs.StoredSessions.{row_of}
@@ -56,20 +56,20 @@ use Rattle.cell_parts.specs.Answered.{answered_by}
 use Rattle.cell_core.specs.Step.{names_of}
 use Rattle.cell_core.specs.Names.{call_touched, names_touched}
 use Rattle.cell_core.specs.Ephemerals.{is_ok, spared_for}
-use Rattle.cell_update.specs.Updates.{edit_of, with_kept_put, with_locks, without_lock, lock_changes}
-use Rattle.client_parts.specs.Invalidations.{last_number}
-use Rattle.cell_apply.specs.Effect.{effect}
-use Rattle.sweep_plan.specs.Plans.{started_out, alive_out, invalidations_for}
-use Rattle.cell_update.specs.Replies.{sent, kept_puts, replies_to, turn_replies, puts_of}
-use Rattle.cell_apply.specs.Outcomes.{left_put}
-use Rattle.cell_update.specs.Lapses.{lapses_of, lapses_puts, lapses_replies}
-use Rattle.sweep_laws.specs.SweepCase.{IsNextApplied, IsDueToEnd, IsDue, SweepCase, rest, ended, mapped, told, expired, relocking, gone_change, gone_replies, swept_by, swept_edits}
-use Rattle.sweep_laws.specs.SweepCase.SweepCase.{Quiet, Recovers, Expires, Reopens, Tidies, Spared, Tidied, AnswersBeat, TurnedAway, StartedAgain, Started, OfEnded, Ended, Applied, Deleted, Locked, Awaited, Left}
-use Rattle.sweep_laws.specs.Kept.{IsKept}
-use Rattle.sweep_laws.proofs.SweepCases.{first_tellings}
-use Rattle.sweep_laws.proofs.Touching.{change_is_touched}
-use Rattle.sweep_plan.proofs.Unacknowledged.{IsAskedFor, each_is_asked, asked_is_named}
-use Rattle.world_clients.specs.declared.mail.Message.TheVariants.{ToClient}
+use Rattle.cell_state.specs.Updates.{edit_of, with_kept_put, with_locks, without_lock, lock_changes}
+use Rattle.client_core.specs.Invalidations.{last_number}
+use Rattle.cell_core.specs.Effect.{effect}
+use Rattle.over_core.specs.Plans.{started_out, alive_out, invalidations_for}
+use Rattle.cell_state.specs.Replies.{sent, kept_puts, replies_to, turn_replies, puts_of}
+use Rattle.cell_core.specs.Outcomes.{left_put}
+use Rattle.cell_state.specs.Lapses.{lapses_of, lapses_puts, lapses_replies}
+use Rattle.over_core.specs.SweepCase.{IsNextApplied, IsDueToEnd, IsDue, SweepCase, rest, ended, mapped, told, expired, relocking, gone_change, gone_replies, swept_by, swept_edits}
+use Rattle.over_core.specs.SweepCase.SweepCase.{Quiet, Recovers, Expires, Reopens, Tidies, Spared, Tidied, AnswersBeat, TurnedAway, StartedAgain, Started, OfEnded, Ended, Applied, Deleted, Locked, Awaited, Left}
+use Rattle.over_core.specs.Kept.{IsKept}
+use Rattle.over_core.proofs.SweepCases.{first_tellings}
+use Rattle.over_core.proofs.Touching.{change_is_touched}
+use Rattle.over_core.proofs.Unacknowledged.{IsAskedFor, each_is_asked, asked_is_named}
+use Rattle.world_core.specs.declared.mail.Message.TheVariants.{ToClient}
 use Rattle.world_core.specs.World.{WorldState}
 use Rattle.world_laws.specs.Slices.{Shown, slice, standing_so, standing_of, standing_in, parked_list, seen_of, heard_from, right_of, put_start, start_of, starts_of, beats_of, name_number, put_offer, offers_of, grants_of}
 use Rattle.world_laws.proofs.RelockedRows.{IsBeside, HasRow, let_go, relocked_rows}
@@ -305,7 +305,7 @@ module _ (x : List ℕ) (w : WorldState) (s : MasterState) (knows : IsKnown w s)
     with_beat = record session { parked = Some beat }
 
     abbrev without_beat : Session Reply
-    without_beat = record session { parked = None }
+    without_beat = of_session.unparked s.clock with_beat
 
     abbrev answers_beat : MasterState
     answers_beat = record s { sessions = with_session s.sessions client (answered lease s.clock) }

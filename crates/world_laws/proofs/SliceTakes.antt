@@ -8,14 +8,14 @@ use Rattle.coherence.specs.Slice.{IsIn, Event, Receive, KeepReceipts, Acknowledg
 use Rattle.node_core.specs.declared.refusals.Fault.{Fault}
 use Rattle.node_core.specs.declared.refusals.Fault.TheVariants as faults
 use Rattle.node_core.specs.Nodes.{view_at}
-use Rattle.messages_cell.specs.declared.beats.Beat.{Beat}
-use Rattle.messages_cell.specs.declared.requests.Start.{Start}
-use Rattle.messages_cell.specs.declared.requests.CallMessage.{CallMessage}
-use Rattle.messages_cell.specs.declared.requests.Request.{Request}
-use Rattle.messages_cell.specs.declared.requests.Request.TheVariants as requests
-use Rattle.messages_cell.specs.declared.outs.CallResult.{CallResult}
-use Rattle.messages_cell.specs.declared.outs.CallResult.TheVariants as results
-use Rattle.messages_cell.specs.declared.outs.Reply.{Reply}
+use Rattle.tags_cell.specs.declared.messages.beats.Beat.{Beat}
+use Rattle.tags_cell.specs.declared.messages.requests.Start.{Start}
+use Rattle.tags_cell.specs.declared.messages.requests.CallMessage.{CallMessage}
+use Rattle.tags_cell.specs.declared.messages.requests.Request.{Request}
+use Rattle.tags_cell.specs.declared.messages.requests.Request.TheVariants as requests
+use Rattle.tags_cell.specs.declared.messages.outs.CallResult.{CallResult}
+use Rattle.tags_cell.specs.declared.messages.outs.CallResult.TheVariants as results
+use Rattle.tags_cell.specs.declared.messages.outs.Reply.{Reply}
 use Rattle.session_core.specs.declared.records.Kept.{Kept}
 use Rattle.session_core.specs.declared.records.Session.{Session}
 use Rattle.session_core.specs.Session.{beat_fault, live_beat_fault, beaten}
@@ -30,17 +30,17 @@ use Rattle.cell_parts.specs.declared.pending.Work.TheVariants as works
 use Rattle.cell_parts.specs.Keys.{handle_order}
 use Rattle.cell_state.specs.State.{MasterState}
 use Rattle.cell_state.specs.Lookups.{session_of, kept_of, noted, acknowledgement, repeated_reply, is_spent}
-use Rattle.cell_update.specs.Updates.{with_note}
+use Rattle.cell_state.specs.Updates.{with_note}
 use Rattle.cell_core.specs.declared.asking.Touched.{Touched}
 use Rattle.cell_core.specs.Step.{replied, granting, queued, waits, parked, is_cachable}
 use Rattle.cell_core.specs.Names.{name_asked, shown_by}
 use Rattle.cell_core.specs.Cases.{IsHeard, IsGranted, TakeCase, taken_by}
 use Rattle.cell_core.specs.Cases.TakeCase.{StartQueued, BeatParked, Repeated, Recovering, Answered, Granted, Waits}
 use Rattle.cell_core.proofs.Told.{told_is_shown}
-use Rattle.sweep_laws.specs.Kept.{IsKept}
-use Rattle.world_clients.specs.Messages.{request_at, call_of}
+use Rattle.over_core.specs.Kept.{IsKept}
+use Rattle.world_core.specs.Messages.{request_at, call_of}
 use Rattle.world_core.specs.World.{WorldState}
-use Rattle.world_clients.specs.declared.mail.Message.TheVariants.{ToClient}
+use Rattle.world_core.specs.declared.mail.Message.TheVariants.{ToClient}
 use Rattle.world_laws.specs.Slices.{Shown, SeenRight, slice, standing_so, parked_list, seen_of, right_of, start_of, starts_of, beats_of}
 use Rattle.world_laws.specs.Consistent.{FitsMessages, HasGranted}
 use Rattle.world_laws.proofs.SliceRights.{right_of_another, given_back_right, acknowledges, beat_gives_back, beat_leaves, is_asked, is_processed}

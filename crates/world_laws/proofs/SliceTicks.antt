@@ -12,7 +12,7 @@ use Rattle.coherence.specs.Slice.{Slice, Event, TickBeforeJoin, TickAboveLeast, 
 use Rattle.node_core.specs.Nodes.{view_at}
 use Rattle.rows_cell.specs.declared.tables.Session as of_rows
 use Rattle.rows_cell.specs.Rows.{changed_rows, map_of}
-use Rattle.messages_cell.specs.declared.outs.Reply.{Reply}
+use Rattle.tags_cell.specs.declared.messages.outs.Reply.{Reply}
 use Rattle.session_core.specs.declared.records.Session.{Session}
 use Rattle.session_core.specs.Session.{recovered_session, has_heard}
 use Rattle.session_core.specs.Sessions.{all_heard}
@@ -20,10 +20,10 @@ use Rattle.session_core.proofs.OneClient.{lookup_put, lookup_put_apart}
 use Rattle.cell_state.specs.State.{MasterState}
 use Rattle.cell_state.specs.State as of_state
 use Rattle.cell_state.specs.Lookups.{session_of}
-use Rattle.sweep_laws.specs.Up.{up_edits}
-use Rattle.world_clients.specs.declared.members.WorldClient.{WorldClient}
-use Rattle.world_clients.specs.declared.steps.Ticks.{Ticks}
-use Rattle.world_clients.specs.Members.{new_member, each_member, at_up, is_least, is_fair, own_step, clock_then}
+use Rattle.over_core.specs.Up.{up_edits}
+use Rattle.world_core.specs.declared.members.WorldClient.{WorldClient}
+use Rattle.world_core.specs.declared.steps.Ticks.{Ticks}
+use Rattle.world_core.specs.Members.{new_member, each_member, at_up, is_least, is_fair, own_step, clock_then}
 use Rattle.world_core.specs.World.{WorldState, member_of, stays_fair, moved, ticked, are_fair, without_master}
 use Rattle.world_laws.specs.Slices.{Shown, slice, standing_so, standing_of, standing_in, seen_of, heard_from, beats_of, offers_of, grants_of, clocks_of, client_of, master_of}
 use Rattle.world_laws.proofs.SliceRights.{no_right}

@@ -17,12 +17,12 @@ use Rattle.node_core.specs.Nodes.{view_at}
 use Rattle.rows_cell.specs.declared.tables.Rows.{Rows}
 use Rattle.rows_cell.specs.Rows.{map_of}
 use Rattle.rows_cell.proofs.RowNodes.{keys_of_nodes}
-use Rattle.messages_cell.specs.declared.requests.Request.{Request}
-use Rattle.messages_cell.specs.declared.requests.Request.TheVariants as requests
-use Rattle.messages_cell.specs.declared.outs.Out.{Out}
-use Rattle.messages_cell.specs.declared.outs.Out.TheVariants as outs
-use Rattle.messages_cell.specs.declared.outs.Started.{Started}
-use Rattle.messages_cell.specs.declared.outs.Reply.{Reply}
+use Rattle.tags_cell.specs.declared.messages.requests.Request.{Request}
+use Rattle.tags_cell.specs.declared.messages.requests.Request.TheVariants as requests
+use Rattle.tags_cell.specs.declared.messages.outs.Out.{Out}
+use Rattle.tags_cell.specs.declared.messages.outs.Out.TheVariants as outs
+use Rattle.tags_cell.specs.declared.messages.outs.Started.{Started}
+use Rattle.tags_cell.specs.declared.messages.outs.Reply.{Reply}
 use Rattle.session_core.specs.declared.records.Session.{Session}
 use Rattle.session_core.specs.Sessions.{SessionTable, with_session, session_of as session_in}
 use Rattle.session_core.proofs.Keys.{same_key}
@@ -35,12 +35,12 @@ use Rattle.cell_parts.specs.declared.pending.Task.{Task}
 use Rattle.cell_state.specs.State.{MasterState}
 use Rattle.cell_parts.specs.StoredSessions.{row_of, session_rows}
 use Rattle.cell_state.specs.Lookups.{session_of, noted}
-use Rattle.client_parts.specs.Invalidations.{last_number}
-use Rattle.sweep_laws.specs.Kept.{AreByBeats, AreIssued, AreOwned, AreTouching, IsKept}
-use Rattle.world_clients.specs.declared.mail.Message.{Message}
-use Rattle.world_clients.specs.declared.mail.Message.TheVariants.{ToMaster, ToClient}
-use Rattle.world_clients.specs.declared.members.WorldClient.{WorldClient}
-use Rattle.world_clients.specs.Messages.{message_at, as_request, as_out, request_at, out_at}
+use Rattle.client_core.specs.Invalidations.{last_number}
+use Rattle.over_core.specs.Kept.{AreByBeats, AreIssued, AreOwned, AreTouching, IsKept}
+use Rattle.world_core.specs.declared.mail.Message.{Message}
+use Rattle.world_core.specs.declared.mail.Message.TheVariants.{ToMaster, ToClient}
+use Rattle.world_core.specs.declared.members.WorldClient.{WorldClient}
+use Rattle.world_core.specs.Messages.{message_at, as_request, as_out, request_at, out_at}
 use Rattle.world_core.specs.World.{WorldState, member_of}
 use Rattle.world_laws.specs.Slices.{Seen, SeenRight, Shown, Grants, GrantsSoFar, Clocks, slice, standing_of, standing_in, seen_of, heard_from, right_of, start_of, starts_of, beat_of, put_beat, beats_of, name_number, offer_of, put_offer, offers_of, put_grant, grants_of, clocks_of, client_of, master_of}
 use Rattle.world_laws.proofs.GrantsSent.{granted_by, looked_at}

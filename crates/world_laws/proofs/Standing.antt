@@ -28,11 +28,11 @@ use Rattle.rows_cell.specs.Sound.{sound, are_distinct}
 use Rattle.rows_cell.proofs.RowNodes.{keys_of_nodes}
 use Rattle.rows_cell.proofs.SoundParts.{instances, has_instance, parts_of}
 use Rattle.tags_cell.specs.declared.handles.Handle.{Handle}
-use Rattle.cell_update.specs.declared.updates.Change.{Change}
-use Rattle.cell_update.specs.declared.updates.Update.{Update}
-use Rattle.cell_update.specs.declared.updates.LockPut.{LockPut}
-use Rattle.cell_update.specs.declared.updates.SessionUpdate.{SessionUpdate}
-use Rattle.cell_update.specs.declared.updates.SessionUpdate.TheVariants.{Begins, Prolongs, Ends, Answers}
+use Rattle.cell_state.specs.declared.updates.Change.{Change}
+use Rattle.cell_state.specs.declared.updates.Update.{Update}
+use Rattle.cell_state.specs.declared.updates.LockPut.{LockPut}
+use Rattle.cell_state.specs.declared.updates.SessionUpdate.{SessionUpdate}
+use Rattle.cell_state.specs.declared.updates.SessionUpdate.TheVariants.{Begins, Prolongs, Ends, Answers}
 use Rattle.cell_parts.specs.declared.handles.HandleKey.{HandleKey}
 use Rattle.cell_parts.specs.declared.handles.HandleState.{HandleState}
 use Rattle.cell_parts.specs.declared.handles.HandleState.TheVariants as states
@@ -45,18 +45,18 @@ use Rattle.cell_parts.specs.declared.pending.Task.TheVariants as tasks
 use Rattle.cell_state.specs.NameSpace.{name_space}
 use Rattle.cell_state.specs.Notices.{event_if, event_here, event_on, event_for, is_noted, telling_as, telling_by}
 use Rattle.cell_state.specs.State.{MasterState}
-use Rattle.cell_update.specs.Updates.{with_note, new_generation, with_begun, with_put, with_locks, gone_of, session_rest, with_session_rest, with_kept, with_map, without_lock, recovered, left, done}
+use Rattle.cell_state.specs.Updates.{with_note, new_generation, with_begun, with_put, with_locks, gone_of, session_rest, with_session_rest, with_kept, with_map, without_lock, recovered, left, done}
 use Rattle.cell_state.specs.Lookups.{holds_lock}
 use Rattle.lock_core.specs.Locks.{LockTable, lock_at}
-use Rattle.cell_apply.specs.declared.effects.Effect.{Effect}
-use Rattle.sweep_plan.specs.declared.plans.Plan.{Plan}
+use Rattle.cell_core.specs.declared.effects.Effect.{Effect}
+use Rattle.over_core.specs.declared.plans.Plan.{Plan}
 use Rattle.cell_core.proofs.AskedFor.{asks_only}
 use Rattle.cell_core.specs.Step.{queued}
-use Rattle.sweep_laws.specs.Kept.{IsKept}
-use Rattle.cell_apply.specs.Notices.{above, put_notices, gone_notices, mod_notices, change_notices, lock_notices, locks_notices, contest_notices}
-use Rattle.sweep_plan.specs.Plans.{notices_of, tellings_of}
-use Rattle.sweep_laws.specs.SweepCase.{SweepCase, swept_by, swept_edits, gone_change}
-use Rattle.sweep_laws.specs.SweepCase.SweepCase.{Quiet, Recovers, Expires, Reopens, Tidies, Spared, Tidied, AnswersBeat, TurnedAway, StartedAgain, Started, OfEnded, Ended, Applied, Deleted, Locked, Awaited, Left}
+use Rattle.over_core.specs.Kept.{IsKept}
+use Rattle.cell_core.specs.ChangeNotices.{above, put_notices, gone_notices, mod_notices, change_notices, lock_notices, locks_notices, contest_notices}
+use Rattle.over_core.specs.Plans.{notices_of, tellings_of}
+use Rattle.over_core.specs.SweepCase.{SweepCase, swept_by, swept_edits, gone_change}
+use Rattle.over_core.specs.SweepCase.SweepCase.{Quiet, Recovers, Expires, Reopens, Tidies, Spared, Tidied, AnswersBeat, TurnedAway, StartedAgain, Started, OfEnded, Ended, Applied, Deleted, Locked, Awaited, Left}
 use Rattle.world_laws.specs.Contents.{IsNoOlder, Stands, IsTrue}
 use Rattle.world_laws.proofs.EffectContents.{IsRenewed, Renews, IsFaithful, effect_faithful}
 use Rattle.world_laws.proofs.EffectInstances.{GivesBy, effect_gives}

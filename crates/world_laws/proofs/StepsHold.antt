@@ -13,23 +13,23 @@ use Rattle.rows_cell.specs.Sound.{sound}
 use Rattle.rows_cell.specs.Stores.{Store, left_by}
 use Rattle.rows_cell.proofs.SoundChanges.{epoch_sound}
 use Rattle.tags_cell.specs.Numbers.{is_client_number}
-use Rattle.messages_cell.specs.declared.requests.Request.{Request}
-use Rattle.messages_cell.specs.Messages.{request_client}
+use Rattle.tags_cell.specs.declared.messages.requests.Request.{Request}
+use Rattle.tags_cell.specs.Messages.{request_client}
 use Rattle.cell_parts.specs.declared.pending.Taken.{Taken}
 use Rattle.cell_state.specs.State.{MasterState, master_of}
 use Rattle.cell_core.specs.Step.{take_step}
-use Rattle.cell_apply.specs.Effect.{is_last}
-use Rattle.sweep_laws.specs.declared.swept.Swept.{Swept}
-use Rattle.sweep_laws.specs.Kept.{IsKept}
-use Rattle.sweep_laws.specs.Sweep.{sweep_step, sweep_edits}
-use Rattle.sweep_laws.specs.Up.{up_edits}
-use Rattle.sweep_laws.proofs.KeptByUps.{up_kept}
-use Rattle.sweep_laws.proofs.KeptByTakes.{taken_kept}
-use Rattle.sweep_laws.proofs.KeptBySweeps.{swept_kept}
-use Rattle.world_clients.specs.declared.steps.Step.{Step}
-use Rattle.world_clients.specs.declared.steps.Step.TheVariants as steps
-use Rattle.world_clients.specs.declared.mail.Message.TheVariants.{ToClient}
-use Rattle.world_clients.specs.Messages.{request_at}
+use Rattle.cell_core.specs.Effect.{is_last}
+use Rattle.over_core.specs.declared.swept.Swept.{Swept}
+use Rattle.over_core.specs.Kept.{IsKept}
+use Rattle.over_core.specs.Sweep.{sweep_step, sweep_edits}
+use Rattle.over_core.specs.Up.{up_edits}
+use Rattle.over_core.proofs.KeptByUps.{up_kept}
+use Rattle.over_core.proofs.KeptByTakes.{taken_kept}
+use Rattle.over_core.proofs.KeptBySweeps.{swept_kept}
+use Rattle.world_core.specs.declared.steps.Step.{Step}
+use Rattle.world_core.specs.declared.steps.Step.TheVariants as steps
+use Rattle.world_core.specs.declared.mail.Message.TheVariants.{ToClient}
+use Rattle.world_core.specs.Messages.{request_at}
 use Rattle.world_core.specs.World.{WorldState, WorldView, world_step, world_take, world_sweep, took, swept, without_quiet, Agrees}
 use Rattle.world_core.specs.Made.{AreInOrder, IsTyped, Does}
 use Rattle.world_laws.specs.Consistent.{IsConsistent}

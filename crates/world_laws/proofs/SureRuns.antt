@@ -1,7 +1,7 @@
 -- Where nothing is in doubt at the end of a run, each of its steps is by the world of before.
 use Rattle.std.proofs.Common.{List, [], ◌∷◌, ◌≤◌, ◌≡◌, sym, subst, arith}
 use Rattle.node_core.specs.declared.lines.Line.{Line}
-use Rattle.world_clients.specs.declared.steps.Step.{Step}
+use Rattle.world_core.specs.declared.steps.Step.{Step}
 use Rattle.world_core.specs.World.{WorldView, IsUndoubted}
 use Rattle.world_laws.specs.Runs.{AnyRun, Run}
 use Rattle.world_core.proofs.AsRead.{step_doubts, step_sure}

@@ -18,7 +18,7 @@ use Rattle.plain.proofs.Keys.{bytes_self, bytes_same}
 use Rattle.node_core.specs.Nodes.{Nodes, get_node, changed, name_of}
 use Rattle.node_core.specs.declared.views.Mod.{Mod}
 use Rattle.node_core.specs.declared.views.Mod.TheVariants.{Put, Gone}
-use Rattle.messages_cell.specs.declared.beats.Invalidation.{Invalidation}
+use Rattle.tags_cell.specs.declared.messages.beats.Invalidation.{Invalidation}
 use Rattle.rights_core.specs.declared.cache_rights.CacheRight.{CacheRight}
 use Rattle.rights_core.specs.Rights.{holds, held_on, invalidations_of}
 use Rattle.rights_core.specs.Laws.{asked_for}
@@ -27,8 +27,8 @@ use Rattle.gate_core.specs.declared.pending.Waiting.{Waiting}
 use Rattle.gate_core.specs.Gate.{touches, is_free}
 use Rattle.gate_core.specs.Laws.{touching}
 use Rattle.cell_parts.specs.declared.pending.Task.{Task}
-use Rattle.client_parts.specs.Invalidations.{last_number}
-use Rattle.sweep_plan.proofs.Unacknowledged.{IsAskedFor}
+use Rattle.client_core.specs.Invalidations.{last_number}
+use Rattle.over_core.proofs.Unacknowledged.{IsAskedFor}
 use Rattle.world_laws.specs.Slices.{name_number}
 
 -- ---- a change leaves the gate

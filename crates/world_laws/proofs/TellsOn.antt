@@ -7,37 +7,37 @@ use Rattle.node_core.specs.declared.lines.Line.{Line}
 use Rattle.node_core.specs.Nodes.{Nodes, get_node, with_parent}
 use Rattle.rows_cell.specs.declared.tables.Rows.{Rows}
 use Rattle.rows_cell.specs.Rows.{changed_rows}
-use Rattle.messages_cell.specs.declared.beats.Alive.{Alive}
-use Rattle.messages_cell.specs.declared.beats.NumberedEvent.{NumberedEvent}
-use Rattle.messages_cell.specs.declared.requests.Request.{Request}
-use Rattle.messages_cell.specs.declared.outs.Out.{Out}
-use Rattle.messages_cell.specs.declared.outs.Out.TheVariants as outs
-use Rattle.messages_cell.specs.declared.outs.Reply.{Reply}
+use Rattle.tags_cell.specs.declared.messages.beats.Alive.{Alive}
+use Rattle.tags_cell.specs.declared.messages.beats.NumberedEvent.{NumberedEvent}
+use Rattle.tags_cell.specs.declared.messages.requests.Request.{Request}
+use Rattle.tags_cell.specs.declared.messages.outs.Out.{Out}
+use Rattle.tags_cell.specs.declared.messages.outs.Out.TheVariants as outs
+use Rattle.tags_cell.specs.declared.messages.outs.Reply.{Reply}
 use Rattle.event_core.specs.Queue.{EventQueue}
 use Rattle.session_core.specs.declared.records.Kept.{Kept}
 use Rattle.session_core.specs.declared.records.Session.{Session}
 use Rattle.session_core.specs.Sessions.{session_of}
 use Rattle.cell_parts.specs.declared.notices.Telling.{Telling}
-use Rattle.cell_update.specs.Updates.{done}
+use Rattle.cell_state.specs.Updates.{done}
 use Rattle.cell_state.specs.State.{MasterState}
 use Rattle.cell_state.specs.Lookups.{noted}
 use Rattle.cell_core.specs.Cases.{taken_by}
 use Rattle.cell_parts.specs.declared.pending.Task.TheVariants as tasks
 use Rattle.cell_core.specs.Step.{queued}
 use Rattle.cell_core.proofs.AskedFor.{asks_only}
-use Rattle.sweep_laws.specs.Kept.{IsKept}
-use Rattle.sweep_plan.specs.declared.actions.Action.{Action}
-use Rattle.sweep_plan.specs.declared.actions.Action.TheVariants.{Tidy}
-use Rattle.sweep_laws.specs.Sweep.{acted}
-use Rattle.sweep_plan.specs.Plans.{first_action, plan_of}
-use Rattle.sweep_laws.specs.SweepCase.{swept_by, swept_edits}
-use Rattle.sweep_laws.proofs.KeptBySweeps.{case_kept}
-use Rattle.sweep_laws.proofs.SweepCases.{first_tellings}
-use Rattle.world_clients.specs.declared.mail.Message.{Message}
-use Rattle.world_clients.specs.declared.mail.Message.TheVariants.{ToMaster, ToClient}
-use Rattle.world_clients.specs.declared.steps.Step.{Step}
-use Rattle.world_clients.specs.declared.steps.Step.TheVariants as steps
-use Rattle.world_clients.specs.Messages.{out_at}
+use Rattle.over_core.specs.Kept.{IsKept}
+use Rattle.over_core.specs.declared.actions.Action.{Action}
+use Rattle.over_core.specs.declared.actions.Action.TheVariants.{Tidy}
+use Rattle.over_core.specs.Sweep.{acted}
+use Rattle.over_core.specs.Plans.{first_action, plan_of}
+use Rattle.over_core.specs.SweepCase.{swept_by, swept_edits}
+use Rattle.over_core.proofs.KeptBySweeps.{case_kept}
+use Rattle.over_core.proofs.SweepCases.{first_tellings}
+use Rattle.world_core.specs.declared.mail.Message.{Message}
+use Rattle.world_core.specs.declared.mail.Message.TheVariants.{ToMaster, ToClient}
+use Rattle.world_core.specs.declared.steps.Step.{Step}
+use Rattle.world_core.specs.declared.steps.Step.TheVariants as steps
+use Rattle.world_core.specs.Messages.{out_at}
 use Rattle.world_core.specs.World.{WorldState, Agrees}
 use Rattle.world_laws.specs.Contents.{Stands, IsTrue, AreTrue, TellsTrue}
 use Rattle.world_laws.proofs.Carried.{IfReply, IfKept, IfQueue, OfSession, OfSessions, OfOut, OfOuts, Shows, out_holds, tellings_hold, taken_over_hold, taken_hold, taken_outs_hold, swept_hold, swept_outs_hold}

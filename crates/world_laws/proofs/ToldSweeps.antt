@@ -4,15 +4,15 @@ use Rattle.std.specs.Prelude.{fold}
 use Rattle.std.specs.Option.{option_and_then}
 use Rattle.coherence.specs.Slice.{Leads}
 use Rattle.rows_cell.specs.declared.tables.Rows.{Rows}
-use Rattle.messages_cell.specs.declared.outs.Out.{Out}
-use Rattle.messages_cell.specs.declared.outs.Reply.{Reply}
+use Rattle.tags_cell.specs.declared.messages.outs.Out.{Out}
+use Rattle.tags_cell.specs.declared.messages.outs.Reply.{Reply}
 use Rattle.session_core.specs.declared.records.Session.{Session}
 use Rattle.session_core.specs.Sessions.{session_of as session_in}
 use Rattle.cell_parts.specs.declared.notices.Telling.{Telling}
 use Rattle.cell_state.specs.Notices.{with_telling, with_tellings}
 use Rattle.cell_state.specs.State.{MasterState}
 use Rattle.cell_state.specs.Lookups.{kept_of}
-use Rattle.sweep_laws.proofs.ToldSessions.{reads_told, lease_told}
+use Rattle.over_core.proofs.ToldSessions.{reads_told, lease_told}
 use Rattle.world_core.specs.World.{WorldState}
 use Rattle.world_laws.specs.Slices.{seen_of, heard_from}
 use Rattle.world_laws.proofs.Slices.{AreSame, Goes, there, shown, here, same_parts}

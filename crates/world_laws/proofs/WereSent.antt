@@ -8,9 +8,9 @@ use Rattle.node_core.specs.declared.refusals.Fault.TheVariants as faults
 use Rattle.node_core.specs.declared.lines.Line.{Line}
 use Rattle.cell_state.specs.State.{MasterState}
 use Rattle.cell_core.specs.Step.{take_step}
-use Rattle.world_clients.specs.declared.steps.Step.TheVariants as steps
-use Rattle.world_clients.specs.declared.mail.Message.{Message}
-use Rattle.world_clients.specs.Messages.{message_at, as_request, as_out}
+use Rattle.world_core.specs.declared.steps.Step.TheVariants as steps
+use Rattle.world_core.specs.declared.mail.Message.{Message}
+use Rattle.world_core.specs.Messages.{message_at, as_request, as_out}
 use Rattle.world_core.specs.World.{WorldState, took, given_to, world_take, world_step}
 use Rattle.world_laws.proofs.WorldCases.{step_takes, step_gives}
 

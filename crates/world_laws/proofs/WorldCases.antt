@@ -14,41 +14,41 @@ use Rattle.node_core.specs.declared.lines.Line.TheVariants as lines
 use Rattle.rows_cell.specs.declared.tables.Edit.{Edit}
 use Rattle.rows_cell.specs.Rows.{changed_rows}
 use Rattle.rows_cell.specs.Sound.{sound}
-use Rattle.messages_cell.specs.declared.requests.Request.{Request}
-use Rattle.messages_cell.specs.declared.outs.Out.{Out}
-use Rattle.messages_cell.specs.Messages.{out_client}
+use Rattle.tags_cell.specs.declared.messages.requests.Request.{Request}
+use Rattle.tags_cell.specs.declared.messages.outs.Out.{Out}
+use Rattle.tags_cell.specs.Messages.{out_client}
 use Rattle.cell_parts.specs.declared.pending.Taken.{Taken}
-use Rattle.sweep_laws.specs.declared.swept.Swept.{Swept}
+use Rattle.over_core.specs.declared.swept.Swept.{Swept}
 use Rattle.cell_state.specs.State.{MasterState, master_of}
 use Rattle.cell_parts.specs.StoredSessions.{row_of}
 use Rattle.cell_state.specs.Notices.{with_tellings}
 use Rattle.cell_core.specs.Step.{take_step, is_past_end}
 use Rattle.cell_state.specs.Lookups.{is_spent, noted}
-use Rattle.cell_apply.specs.Effect.{is_last}
-use Rattle.sweep_plan.specs.Plans.{first_action}
-use Rattle.sweep_laws.specs.Sweep.{acted, telling, is_over, sweep_step, sweep_edits}
+use Rattle.cell_core.specs.Effect.{is_last}
+use Rattle.over_core.specs.Plans.{first_action}
+use Rattle.over_core.specs.Sweep.{acted, telling, is_over, sweep_step, sweep_edits}
 use Rattle.cell_core.specs.Cases.{TakeCase, taken_by}
-use Rattle.sweep_laws.specs.SweepCase.{SweepCase, swept_by, swept_edits}
+use Rattle.over_core.specs.SweepCase.{SweepCase, swept_by, swept_edits}
 use Rattle.cell_core.proofs.TakeCases.{taken_case, taken_unspent}
-use Rattle.sweep_laws.proofs.SweepCases.{first_tellings, swept_case, does_first}
-use Rattle.sweep_laws.specs.Kept.{IsKept}
-use Rattle.sweep_laws.specs.Up.{up_step, up_edits, master_by}
-use Rattle.client_parts.specs.declared.asks.Ask.{Ask}
+use Rattle.over_core.proofs.SweepCases.{first_tellings, swept_case, does_first}
+use Rattle.over_core.specs.Kept.{IsKept}
+use Rattle.over_core.specs.Up.{up_step, up_edits, master_by}
+use Rattle.client_core.specs.declared.parts.asks.Ask.{Ask}
 use Rattle.client_core.specs.Asks.{ask_step}
 use Rattle.client_core.specs.Beats.{beat_step}
 use Rattle.client_core.specs.Gives.{give_step}
 use Rattle.client_core.specs.Cases.{AskCase, asked_in, BeatCase, beaten_in, GiveCase, given_in}
 use Rattle.client_core.proofs.AskCases.{ask_case, beat_case}
 use Rattle.client_core.proofs.GiveCases.{give_case}
-use Rattle.world_clients.specs.declared.steps.Step.{Step}
-use Rattle.world_clients.specs.declared.steps.Step.TheVariants as steps
-use Rattle.world_clients.specs.declared.steps.Ticks.{Ticks as ClockSteps}
-use Rattle.world_clients.specs.declared.steps.Commit.{Commit}
-use Rattle.world_clients.specs.declared.steps.Commit.TheVariants.{Kept, Lost}
-use Rattle.world_clients.specs.declared.mail.Message.TheVariants.{ToClient}
-use Rattle.world_clients.specs.declared.members.WorldClient.{WorldClient}
-use Rattle.world_clients.specs.Members.{new_member, each_member, at_up}
-use Rattle.world_clients.specs.Messages.{request_at, out_at}
+use Rattle.world_core.specs.declared.steps.Step.{Step}
+use Rattle.world_core.specs.declared.steps.Step.TheVariants as steps
+use Rattle.world_core.specs.declared.steps.Ticks.{Ticks as ClockSteps}
+use Rattle.world_core.specs.declared.steps.Commit.{Commit}
+use Rattle.world_core.specs.declared.steps.Commit.TheVariants.{Kept, Lost}
+use Rattle.world_core.specs.declared.mail.Message.TheVariants.{ToClient}
+use Rattle.world_core.specs.declared.members.WorldClient.{WorldClient}
+use Rattle.world_core.specs.Members.{new_member, each_member, at_up}
+use Rattle.world_core.specs.Messages.{request_at, out_at}
 use Rattle.world_core.specs.World.{Agrees, WorldState, Outcome, world_step, world_up, came_up, member_of, asked, beaten, took, world_take, world_give, gave, given_to, swept, world_sweep, without_quiet, without_master, world_down, is_of_commit, cut_sweep, world_cut_sweep, cut_up, world_cut_up, moves_nobody, are_joined, are_fair, goes_past_end, ticked}
 
 -- ---- the rows

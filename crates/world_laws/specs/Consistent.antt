@@ -5,33 +5,33 @@ use Rattle.std.specs.List.Sorted.{IsStrictlySortedBy}
 use Rattle.std.specs.Map.{keys_of}
 use Rattle.std.specs.Ordering.{nat_cmp}
 use Rattle.tags_cell.specs.Handles.{name_in}
-use Rattle.messages_cell.specs.declared.calls.Call.{Call}
-use Rattle.messages_cell.specs.declared.calls.Call.TheVariants as calls
-use Rattle.messages_cell.specs.declared.calls.Open.{Open}
-use Rattle.messages_cell.specs.declared.requests.Request.TheVariants as requests
-use Rattle.messages_cell.specs.declared.requests.CallMessage.{CallMessage}
-use Rattle.messages_cell.specs.declared.outs.Out.TheVariants as outs
-use Rattle.messages_cell.specs.declared.outs.CallResult.{CallResult}
-use Rattle.messages_cell.specs.declared.outs.CallResult.TheVariants as results
-use Rattle.messages_cell.specs.declared.outs.NewHandle.{NewHandle}
-use Rattle.messages_cell.specs.declared.outs.Started.{Started}
-use Rattle.messages_cell.specs.declared.outs.Refused.{Refused}
+use Rattle.tags_cell.specs.declared.messages.calls.Call.{Call}
+use Rattle.tags_cell.specs.declared.messages.calls.Call.TheVariants as calls
+use Rattle.tags_cell.specs.declared.messages.calls.Open.{Open}
+use Rattle.tags_cell.specs.declared.messages.requests.Request.TheVariants as requests
+use Rattle.tags_cell.specs.declared.messages.requests.CallMessage.{CallMessage}
+use Rattle.tags_cell.specs.declared.messages.outs.Out.TheVariants as outs
+use Rattle.tags_cell.specs.declared.messages.outs.CallResult.{CallResult}
+use Rattle.tags_cell.specs.declared.messages.outs.CallResult.TheVariants as results
+use Rattle.tags_cell.specs.declared.messages.outs.NewHandle.{NewHandle}
+use Rattle.tags_cell.specs.declared.messages.outs.Started.{Started}
+use Rattle.tags_cell.specs.declared.messages.outs.Refused.{Refused}
 use Rattle.node_core.specs.declared.refusals.Fault.TheVariants as faults
 use Rattle.session_core.specs.declared.records.Kept.{Kept}
 use Rattle.session_core.specs.declared.records.Session.{Session}
-use Rattle.messages_cell.specs.declared.outs.Reply.{Reply}
+use Rattle.tags_cell.specs.declared.messages.outs.Reply.{Reply}
 use Rattle.lease_core.specs.Lease.{longest_lease}
 use Rattle.coherence.specs.Slice as one
 use Rattle.coherence.specs.Slice.{Reached}
 use Rattle.cache_core.specs.Caches.{AreCacheEntries, entry_of}
 use Rattle.cache_core.specs.declared.kept.Kept as shared
-use Rattle.client_parts.specs.declared.asks.NodeCall.{NodeCall}
-use Rattle.client_parts.specs.declared.handles.ClientHandle.{ClientHandle}
-use Rattle.client_parts.specs.declared.sessions.Session.TheVariants as sessions
-use Rattle.client_parts.specs.declared.targets.Outstanding.{Outstanding}
-use Rattle.client_parts.specs.declared.targets.Target.TheVariants as targets
-use Rattle.client_parts.specs.Calls.{call_on}
-use Rattle.client_parts.specs.Handles.{handle_of}
+use Rattle.client_core.specs.declared.parts.asks.NodeCall.{NodeCall}
+use Rattle.client_core.specs.declared.parts.handles.ClientHandle.{ClientHandle}
+use Rattle.client_core.specs.declared.parts.sessions.Session.TheVariants as sessions
+use Rattle.client_core.specs.declared.parts.targets.Outstanding.{Outstanding}
+use Rattle.client_core.specs.declared.parts.targets.Target.TheVariants as targets
+use Rattle.client_core.specs.Calls.{call_on}
+use Rattle.client_core.specs.Handles.{handle_of}
 use Rattle.client_core.specs.State.{ClientState}
 use Rattle.gate_core.specs.declared.pending.Waiting.{Waiting}
 use Rattle.lock_core.specs.Turns.{is_of_client, any_waits}
@@ -43,10 +43,10 @@ use Rattle.cell_parts.specs.declared.pending.Work.TheVariants as works
 use Rattle.cell_state.specs.State.{MasterState}
 use Rattle.cell_core.specs.Names.{name_asked}
 use Rattle.cell_state.specs.Lookups.{session_of, kept_of}
-use Rattle.world_clients.specs.declared.mail.Message.{Message}
-use Rattle.world_clients.specs.declared.members.WorldClient.{WorldClient}
-use Rattle.world_clients.specs.Messages.{request_at, out_at, call_of}
-use Rattle.world_clients.specs.Members.{is_fair}
+use Rattle.world_core.specs.declared.mail.Message.{Message}
+use Rattle.world_core.specs.declared.members.WorldClient.{WorldClient}
+use Rattle.world_core.specs.Messages.{request_at, out_at, call_of}
+use Rattle.world_core.specs.Members.{is_fair}
 use Rattle.world_core.specs.World.{WorldState, member_of, Agrees}
 use Rattle.world_laws.specs.Slices.{Shown, grant_of, grants_of, slice}
 use Rattle.world_laws.specs.Contents.{TellsTrue}

@@ -7,14 +7,14 @@ use Rattle.node_core.specs.declared.nodes.Node.{Node}
 use Rattle.node_core.specs.Nodes.{get_node}
 use Rattle.rows_cell.specs.declared.tables.Rows.{Rows}
 use Rattle.rows_cell.specs.Rows.{map_of}
-use Rattle.messages_cell.specs.declared.beats.Alive.{Alive}
-use Rattle.messages_cell.specs.declared.outs.Out.TheVariants as outs
-use Rattle.messages_cell.specs.declared.outs.Reply.{Reply}
+use Rattle.tags_cell.specs.declared.messages.beats.Alive.{Alive}
+use Rattle.tags_cell.specs.declared.messages.outs.Out.TheVariants as outs
+use Rattle.tags_cell.specs.declared.messages.outs.Reply.{Reply}
 use Rattle.event_core.specs.Queue.{EventQueue}
 use Rattle.session_core.specs.declared.records.Session.{Session}
 use Rattle.cell_state.specs.State.{MasterState}
 use Rattle.cell_state.specs.Lookups.{session_of}
-use Rattle.world_clients.specs.Messages.{out_at}
+use Rattle.world_core.specs.Messages.{out_at}
 use Rattle.world_core.specs.World.{WorldState}
 
 -- the view of another node, or of this one with no older content

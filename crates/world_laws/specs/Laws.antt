@@ -5,7 +5,7 @@ use Rattle.node_core.specs.declared.lines.Line.TheVariants as lines
 use Rattle.node_core.specs.declared.views.Mod.{Mod}
 use Rattle.rows_cell.specs.Rows.{map_of}
 use Rattle.rows_cell.specs.Sound.{is_live_in}
-use Rattle.world_clients.specs.declared.steps.Step.{Step}
+use Rattle.world_core.specs.declared.steps.Step.{Step}
 use Rattle.world_core.specs.World.{WorldView, IsUndoubted}
 use Rattle.world_laws.specs.Runs.{AnyRun, map_at, after_lines, epoch_at, live_at, LeasesKeepSessions, AreJoint, KeepsClocksFair, AreRecordedOnce, applied, Rises, IsOfCall, IsOfIdle}
 use Rattle.world_laws.specs.Served.{ServesPresentByThen}

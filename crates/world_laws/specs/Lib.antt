@@ -9,12 +9,12 @@ pub use Rattle.rights_core.specs.Laws as RightsLaws
 pub use Rattle.cell_state.specs.State
 pub use Rattle.cell_state.specs.Lookups
 pub use Rattle.cell_core.specs.Cases
-pub use Rattle.cell_apply.specs.Effect
-pub use Rattle.sweep_laws.specs.SweepCase
-pub use Rattle.sweep_laws.specs.Kept
+pub use Rattle.cell_core.specs.Effect
+pub use Rattle.over_core.specs.SweepCase
+pub use Rattle.over_core.specs.Kept
 pub use Rattle.client_core.specs.State as Clients
-pub use Rattle.world_clients.specs.Messages
-pub use Rattle.world_clients.specs.Members
+pub use Rattle.world_core.specs.Messages
+pub use Rattle.world_core.specs.Members
 pub use Rattle.world_core.specs.World
 pub use Rattle.world_core.specs.Made
 pub mod Slices

@@ -12,8 +12,8 @@ use Rattle.rows_cell.specs.LockRows.{is_holding, has_holder, are_together}
 use Rattle.lock_core.specs.State.{IsLegal}
 use Rattle.lock_core.specs.Locks.{lock_at}
 use Rattle.cell_state.specs.State.{MasterState}
-use Rattle.sweep_laws.specs.Kept.{AreGenerations, AreLockRows}
-use Rattle.world_clients.specs.declared.steps.Step.{Step}
+use Rattle.over_core.specs.Kept.{AreGenerations, AreLockRows}
+use Rattle.world_core.specs.declared.steps.Step.{Step}
 use Rattle.world_core.specs.World.{WorldState, WorldView}
 use Rattle.world_laws.specs.Runs.{Run}
 

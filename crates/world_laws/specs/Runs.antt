@@ -7,10 +7,10 @@ use Rattle.node_core.specs.declared.views.Mod.{Mod}
 use Rattle.node_core.specs.declared.views.Mod.TheVariants.{Gone}
 use Rattle.node_core.specs.declared.nodes.Node.{Node}
 use Rattle.node_core.specs.Nodes.{Nodes, changed, after, get_node}
-use Rattle.messages_cell.specs.declared.calls.Call.{Call}
-use Rattle.messages_cell.specs.declared.requests.Request.TheVariants as requests
+use Rattle.tags_cell.specs.declared.messages.calls.Call.{Call}
+use Rattle.tags_cell.specs.declared.messages.requests.Request.TheVariants as requests
 use Rattle.rows_cell.specs.Rows.{map_of}
-use Rattle.cell_apply.specs.declared.effects.Effect.{Effect}
+use Rattle.cell_core.specs.declared.effects.Effect.{Effect}
 use Rattle.rights_core.specs.Rights.{totals_of}
 use Rattle.rights_core.specs.Grants.{Told, rights_at, told_of, totals_by}
 use Rattle.gate_core.specs.declared.pending.Waiting.{Waiting}
@@ -20,20 +20,20 @@ use Rattle.cell_parts.specs.declared.pending.Work.TheVariants as works
 use Rattle.cell_state.specs.NameSpace.{name_space, caller}
 use Rattle.cell_state.specs.State.{MasterState}
 use Rattle.cell_core.specs.Ephemerals.{is_idle_node}
-use Rattle.cell_apply.specs.Effect.{effect}
-use Rattle.cell_apply.specs.Outcomes.{put_listing}
-use Rattle.world_clients.specs.declared.steps.Step.{Step}
-use Rattle.world_clients.specs.declared.steps.Step.TheVariants.{Take, Sweep, CutSweep}
-use Rattle.world_clients.specs.declared.steps.Commit.TheVariants.{Kept}
-use Rattle.world_clients.specs.Messages.{request_at, call_of}
+use Rattle.cell_core.specs.Effect.{effect}
+use Rattle.cell_core.specs.Outcomes.{put_listing}
+use Rattle.world_core.specs.declared.steps.Step.{Step}
+use Rattle.world_core.specs.declared.steps.Step.TheVariants.{Take, Sweep, CutSweep}
+use Rattle.world_core.specs.declared.steps.Commit.TheVariants.{Kept}
+use Rattle.world_core.specs.Messages.{request_at, call_of}
 use Rattle.lease_core.specs.Lease.{IsUnexpired}
 use Rattle.coherence.specs.Joint.{IsJoint}
 use Rattle.rows_cell.specs.Sound.{is_live_in}
-use Rattle.messages_cell.specs.declared.outs.Reply.{Reply}
+use Rattle.tags_cell.specs.declared.messages.outs.Reply.{Reply}
 use Rattle.session_core.specs.declared.records.Session.{Session}
 use Rattle.cell_state.specs.Lookups.{session_of}
 use Rattle.client_core.specs.State.{lease_of}
-use Rattle.world_clients.specs.declared.members.WorldClient.{WorldClient}
+use Rattle.world_core.specs.declared.members.WorldClient.{WorldClient}
 use Rattle.world_core.specs.World.{WorldState, WorldView, member_of}
 use Rattle.world_core.specs.Made.{IsMade, Does, AnyStep}
 use Rattle.world_laws.specs.Slices.{slice}

@@ -7,7 +7,7 @@ use Rattle.node_core.specs.declared.events.Event.TheVariants as events
 use Rattle.node_core.specs.declared.lines.Line.{Line}
 use Rattle.node_core.specs.declared.lines.Line.TheVariants as lines
 use Rattle.node_core.specs.declared.views.View.{View}
-use Rattle.world_clients.specs.declared.steps.Step.{Step}
+use Rattle.world_core.specs.declared.steps.Step.{Step}
 use Rattle.world_core.specs.World.{WorldState, WorldView, member_of}
 use Rattle.world_laws.specs.Contents.{IsNoOlder}
 use Rattle.world_laws.specs.Runs.{Run}

@@ -1,9 +1,9 @@
 use Rattle.std.proofs.Common.{◌≡◌, ℕ, false, Ok, rules, inr}
-use Rattle.sweep_laws.proofs.KeptByUps.{up_stands}
+use Rattle.over_core.proofs.KeptByUps.{up_stands}
 use Rattle.node_core.specs.declared.refusals.Fault.{Fault}
 use Rattle.rows_cell.specs.declared.tables.Rows.{Rows}
 use Rattle.rows_cell.specs.Stores.{Store, IsRefused}
-use Rattle.sweep_laws.specs.Up.{up_edits, up_step, up_commit, next_epoch}
+use Rattle.over_core.specs.Up.{up_edits, up_step, up_commit, next_epoch}
 use Rattle.cell_core.specs.Step.{is_past_end}
 use Rattle.over_core.proofs.cells.next_master.Goals as goal
 

@@ -1,6 +1,6 @@
 use Rattle.std.proofs.Common.{ap, ◌∙◌}
-use Rattle.sweep_laws.specs.Sweep.{is_over}
-use Rattle.sweep_laws.proofs.SweepSteps.{stepped}
+use Rattle.over_core.specs.Sweep.{is_over}
+use Rattle.over_core.proofs.SweepSteps.{stepped}
 use Rattle.over_core.proofs.sweeps.sweep_as.Goals as goal
 
 pub returns-in-Ok-clause-ok : goal.returns-in-Ok-clause-ok

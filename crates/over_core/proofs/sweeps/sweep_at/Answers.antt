@@ -1,5 +1,5 @@
 use Rattle.std.proofs.Common.{sym, ◌∙◌}
-use Rattle.sweep_laws.proofs.SweepSteps.{tidied_first}
+use Rattle.over_core.proofs.SweepSteps.{tidied_first}
 use Rattle.over_core.proofs.sweeps.sweep_at.Goals as goal
 
 pub returns-in_ok-tidy-in-Tidy-clause-ok : goal.returns-in_ok-tidy-in-Tidy-clause-ok

@@ -1,5 +1,5 @@
 use Rattle.std.specs.Prelude.{◌≡◌, ◌++◌}
-use Rattle.rows_edits.specs.Creation.{puts_of}
+use Rattle.rows_sql.specs.Creation.{puts_of}
 use Rattle.rows_sql.proofs.adoption.edits_of.Given as goal
 
 abbrev pub invariant-loop-name : goal.invariant-loop-name

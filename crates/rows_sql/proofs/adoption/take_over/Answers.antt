@@ -1,6 +1,6 @@
 use Rattle.std.proofs.Common.{subst}
 use Rattle.sqlite.specs.Held.{state}
-use Rattle.rows_schema.specs.Versions.{IsVersionOf}
+use Rattle.rows_sql.specs.Versions.{IsVersionOf}
 use Rattle.rows_sql.proofs.Adoptions.{foreign_none}
 use Rattle.rows_sql.proofs.adoption.take_over.Goals as goal
 

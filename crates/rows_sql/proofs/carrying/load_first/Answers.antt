@@ -2,9 +2,9 @@ use Rattle.std.proofs.Common.{◌≡◌, ℕ, List, [], false, sym, ap, ◌∙�
 use Rattle.sqlite.specs.Held.{state}
 use Rattle.rows_cell.specs.declared.tables.Rows.{Rows}
 use Rattle.rows_cell.specs.Sound.{sound}
-use Rattle.rows_schema.specs.declared.ours.Version.TheVariants.{First}
-use Rattle.rows_read.specs.Ready.{tables_as}
-use Rattle.rows_read.proofs.SaidTables.{one_said}
+use Rattle.rows_sql.specs.declared.schema.ours.Version.TheVariants.{First}
+use Rattle.rows_sql.specs.Ready.{tables_as}
+use Rattle.rows_sql.proofs.SaidTables.{one_said}
 use Rattle.rows_sql.proofs.carrying.load_first.Goals as goal
 
 pub returns-then-not-branch-clause-damaged : goal.returns-then-not-branch-clause-damaged

@@ -2,10 +2,10 @@ use Rattle.std.proofs.Common.{◌≡◌, false, sym, ◌∙◌, subst}
 use Rattle.sqlite.specs.Held.{state}
 use Rattle.rows_cell.specs.declared.tables.Rows.{Rows}
 use Rattle.rows_cell.specs.Sound.{sound}
-use Rattle.rows_schema.specs.declared.ours.Version.TheVariants.{Second}
-use Rattle.rows_read.specs.Children.{children_of}
-use Rattle.rows_read.specs.Ready.{tables_of}
-use Rattle.rows_read.proofs.SaidTables.{one_said}
+use Rattle.rows_sql.specs.declared.schema.ours.Version.TheVariants.{Second}
+use Rattle.rows_sql.specs.Children.{children_of}
+use Rattle.rows_sql.specs.Ready.{tables_of}
+use Rattle.rows_sql.proofs.SaidTables.{one_said}
 use Rattle.rows_sql.proofs.steps.load_sound.Goals as goal
 
 pub returns-then-not-branch-clause-damaged : goal.returns-then-not-branch-clause-damaged

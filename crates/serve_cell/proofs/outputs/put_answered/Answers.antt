@@ -1,6 +1,6 @@
-use Rattle.serve_core.specs.declared.answers.Answered.TheVariants.{Taken}
+use Rattle.serve_cell.specs.declared.answers.Answered.TheVariants.{Taken}
 use Rattle.serve_cell.specs.Replies.{step_told, settled_told}
-use Rattle.serve_cell.proofs.Blocks.{then_puts, step_at, same_answer}
+use Rattle.serve_cell.proofs.Streaming.{then_puts, step_at, same_answer}
 use Rattle.serve_cell.proofs.outputs.put_answered.Goals as goal
 
 pub returns-in_ok-put_step-in-Taken : goal.returns-in_ok-put_step-in-Taken

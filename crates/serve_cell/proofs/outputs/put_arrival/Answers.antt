@@ -1,7 +1,7 @@
 use Rattle.std.proofs.Common.{[], ◌∷◌}
 use Rattle.node_core.specs.declared.lines.Line.TheVariants as lines
 use Rattle.serve_cell.specs.Replies.{line_told, settled_told}
-use Rattle.serve_cell.proofs.Blocks.{then_puts}
+use Rattle.serve_cell.proofs.Streaming.{then_puts}
 use Rattle.serve_cell.proofs.outputs.put_arrival.Goals as goal
 
 pub returns : goal.returns

@@ -1,6 +1,6 @@
 use Rattle.std.proofs.Common.{arith}
 use Rattle.serve_cell.specs.Replies.{line_told}
-use Rattle.serve_cell.proofs.Blocks.{puts_none, puts_next, puts_all}
+use Rattle.serve_cell.proofs.Streaming.{puts_none, puts_next, puts_all}
 use Rattle.serve_cell.proofs.outputs.put_lines.Goals as goal
 
 pub loop-line-init : goal.loop-line-init

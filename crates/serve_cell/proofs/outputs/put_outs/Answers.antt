@@ -1,6 +1,6 @@
 use Rattle.std.proofs.Common.{arith}
 use Rattle.serve_cell.specs.Replies.{out_told}
-use Rattle.serve_cell.proofs.Blocks.{puts_none, puts_next, puts_all}
+use Rattle.serve_cell.proofs.Streaming.{puts_none, puts_next, puts_all}
 use Rattle.serve_cell.proofs.outputs.put_outs.Goals as goal
 
 pub loop-message-init : goal.loop-message-init

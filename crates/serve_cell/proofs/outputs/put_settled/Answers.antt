@@ -1,5 +1,5 @@
 use Rattle.serve_cell.specs.Replies.{sweeps_told, end_told}
-use Rattle.serve_cell.proofs.Blocks.{then_puts, sweeps_at}
+use Rattle.serve_cell.proofs.Streaming.{then_puts, sweeps_at}
 use Rattle.serve_cell.proofs.outputs.put_settled.Goals as goal
 
 pub returns : goal.returns

@@ -1,6 +1,6 @@
 use Rattle.std.proofs.Common.{map}
 use Rattle.serve_cell.specs.Replies.{line_told, out_told}
-use Rattle.serve_cell.proofs.Blocks.{then_puts}
+use Rattle.serve_cell.proofs.Streaming.{then_puts}
 use Rattle.serve_cell.proofs.outputs.put_step.Goals as goal
 
 pub returns : goal.returns

@@ -1,5 +1,5 @@
 use Rattle.std.proofs.Common.{arith}
-use Rattle.serve_cell.proofs.Blocks.{puts_none, puts_sweep, puts_sweeps, step_at}
+use Rattle.serve_cell.proofs.Streaming.{puts_none, puts_sweep, puts_sweeps, step_at}
 use Rattle.serve_cell.proofs.outputs.put_sweeps.Goals as goal
 
 pub loop-swept-init : goal.loop-swept-init

@@ -1,5 +1,5 @@
 use Rattle.serve_cell.specs.Replies.{reply_told, mark_told, all_told}
-use Rattle.serve_cell.proofs.Blocks.{puts_behind, all_put}
+use Rattle.serve_cell.proofs.Streaming.{puts_behind, all_put}
 use Rattle.serve_cell.proofs.outputs.write_reply.Goals as goal
 
 pub returns : goal.returns

@@ -1,4 +1,4 @@
-use Rattle.serve_cell.proofs.Runs.{found_turn, stopped_turn}
+use Rattle.serve_cell.proofs.Served.{found_turn, stopped_turn}
 use Rattle.serve_cell.proofs.streams.serve_frame.Goals as goal
 
 pub returns-in-Ok : goal.returns-in-Ok

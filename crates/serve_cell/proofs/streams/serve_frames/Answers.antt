@@ -1,4 +1,4 @@
-use Rattle.serve_cell.proofs.Runs.{served_none, served_on, ends_at, stops_at, ends_late}
+use Rattle.serve_cell.proofs.Served.{served_none, served_on, ends_at, stops_at, ends_late}
 use Rattle.serve_cell.proofs.streams.serve_frames.Goals as goal
 
 pub loop-turn-init : goal.loop-turn-init

@@ -1,5 +1,5 @@
 use Rattle.serve_cell.specs.Seats.{hosted}
-use Rattle.serve_cell.proofs.Runs.{ends_roomless}
+use Rattle.serve_cell.proofs.Served.{ends_roomless}
 use Rattle.serve_cell.proofs.streams.serve_on.Goals as goal
 
 pub returns-in-Err : goal.returns-in-Err

@@ -36,7 +36,7 @@ use Rattle.core.proofs.alloc.Calls.{token}
 use Rattle.std_alloc.proofs.VecSteps.Shapes.{after}
 use Rattle.std_alloc.proofs.BoxSteps.Form.{D, τ, word, handle}
 use Rattle.std_alloc.proofs.BoxSteps.Steps.{box_out, box_in}
-use Rattle.held_cell.specs.contracts.held.Held as Held
+use Rattle.cell_client.specs.contracts.held.Held as Held
 use Rattle.cell_client.specs.Follows.{with_value}
 use Rattle.cell_client.specs.contracts.handles.Handle as Handle
 use Rattle.cell_client.proofs.AsBox.{E}

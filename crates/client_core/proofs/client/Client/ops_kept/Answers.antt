@@ -1,6 +1,6 @@
 use Rattle.std.proofs.Common.{rules, ◌≡◌, true, false, ◌++◌, ap, ◌∙◌}
 use Rattle.cache_core.specs.Changes.{applied_all}
-use Rattle.client_parts.specs.Ops.{with_flushes, lease_ops}
+use Rattle.client_core.specs.PartOps.{with_flushes, lease_ops}
 use Rattle.client_core.specs.State.{note}
 use Rattle.client_core.specs.Gives.{takes_offer}
 use Rattle.client_core.proofs.Leading.{if_ok, stays_under, goes_under}

@@ -1,9 +1,9 @@
 use Rattle.std.proofs.Common.{◌≡◌, subst, rules}
 use Rattle.std.specs.Prelude.{◌⊎◌, Err, IfErr, OnOk}
 use Rattle.rows_cell.specs.Stores.{IsCommitted, IsRefused}
-use Rattle.sweep_laws.specs.Kept.{CellState}
-use Rattle.sweep_laws.specs.Sweep.{sweep_edits, sweep_step}
-use Rattle.sweep_laws.proofs.KeptBySweeps.{sweep_sound}
+use Rattle.over_core.specs.Kept.{CellState}
+use Rattle.over_core.specs.Sweep.{sweep_edits, sweep_step}
+use Rattle.over_core.proofs.KeptBySweeps.{sweep_sound}
 use Rattle.over_core.proofs.KeptThrice.{thrice_kept, refused_as}
 use Rattle.over_core.proofs.cells.Cell.sweep_thrice.Goals as goal
 

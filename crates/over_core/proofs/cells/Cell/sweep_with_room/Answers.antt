@@ -1,10 +1,10 @@
 use Rattle.std.proofs.Common.{◌≡◌, subst, rules}
 use Rattle.std.specs.Prelude.{◌⊎◌, Err, IfErr, OnOk}
 use Rattle.rows_cell.specs.Stores.{IsCommitted, IsRefused}
-use Rattle.sweep_laws.specs.Kept.{CellState}
-use Rattle.sweep_laws.specs.Sweep.{sweep_edits, sweep_step}
-use Rattle.sweep_laws.proofs.SweepRefused.{refused_so}
-use Rattle.sweep_laws.proofs.KeptBySweeps.{sweep_sound, swept_kept}
+use Rattle.over_core.specs.Kept.{CellState}
+use Rattle.over_core.specs.Sweep.{sweep_edits, sweep_step}
+use Rattle.over_core.proofs.SweepRefused.{refused_so}
+use Rattle.over_core.proofs.KeptBySweeps.{sweep_sound, swept_kept}
 use Rattle.over_core.proofs.cells.Cell.sweep_with_room.Goals as goal
 
 pub sweep_by-requires : goal.sweep_by-requires

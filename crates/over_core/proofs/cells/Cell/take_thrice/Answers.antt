@@ -1,5 +1,5 @@
 use Rattle.std.proofs.Common.{◌∙◌, rules}
-use Rattle.sweep_laws.proofs.KeptByTakes.{taken_kept, client_is_number}
+use Rattle.over_core.proofs.KeptByTakes.{taken_kept, client_is_number}
 use Rattle.over_core.proofs.cells.Cell.take_thrice.Goals as goal
 
 pub invariant_of-self : goal.invariant_of-self

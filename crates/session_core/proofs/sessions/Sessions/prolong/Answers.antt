@@ -4,5 +4,5 @@ use Rattle.session_core.proofs.sessions.Sessions.prolong.Goals as goal
 
 pub invariant_of-self-2 : goal.invariant_of-self-2
 invariant_of-self-2 g c =
-    kept_changed c.self.inside.lease c.self.inside.bounds c.change.new.self c.get-number.result c.in-Some.session.now (record c.in-Some.session.now { timeout = c.max-session.result }) c.moments-before.result c.moments-after.result c.event_count.result c.self.inside.map.entries (c.get_mut.follows.lender (record c.in-Some.session.now { timeout = c.max-session.result })).entries c.self.invariant
+    kept_changed c.self.inside.lease c.self.inside.bounds c.change.new.self c.get-number.result c.in-Some.session.now c.prolong.new.self c.moments-before.result c.moments-after.result c.event_count.result c.self.inside.map.entries (c.get_mut.follows.lender c.prolong.new.self).entries c.self.invariant
     (search rules) c.moments-before.ensures c.moments-after.ensures c.event_count.ensures c.change.ensures.events c.change.ensures.own c.change.ensures.others (search rules)

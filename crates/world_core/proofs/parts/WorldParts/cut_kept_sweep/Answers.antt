@@ -1,8 +1,8 @@
 use denote.Param.{param}
 use Rattle.std.proofs.Common.{[], Option, Some, subst, sym}
 use Rattle.std.specs.Option.{option_map_or}
-use Rattle.sweep_laws.specs.Kept.{CellState}
-use Rattle.sweep_laws.specs.Sweep.{sweep_step, sweep_edits}
+use Rattle.over_core.specs.Kept.{CellState}
+use Rattle.over_core.specs.Sweep.{sweep_step, sweep_edits}
 use Rattle.world_core.specs.World.{WorldView, IsLeft}
 use Rattle.world_core.specs.contracts.parts.WorldParts.{the_view}
 use Rattle.world_core.proofs.LeftSweeps.{sweep_left, whenever}

@@ -1,8 +1,8 @@
 use denote.Param.{param}
 use Rattle.std.proofs.Common.{◌≡◌, None, true, subst, ap, ◌∙◌, rules}
 use Rattle.std.specs.Prelude.{is_some}
-use Rattle.sweep_laws.specs.Kept.{CellState}
-use Rattle.world_clients.specs.declared.steps.Commit.TheVariants.{Lost}
+use Rattle.over_core.specs.Kept.{CellState}
+use Rattle.world_core.specs.declared.steps.Commit.TheVariants.{Lost}
 use Rattle.world_core.specs.World.{WorldView}
 use Rattle.world_core.specs.contracts.parts.WorldParts.{the_view}
 use Rattle.world_core.proofs.RefusedUp.{of_records, is_up_then}

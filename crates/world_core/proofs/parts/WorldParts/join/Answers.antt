@@ -1,7 +1,7 @@
 use denote.Param.{param}
 use Rattle.std.proofs.Common.{◌≡◌, subst, rules}
 use Rattle.std.specs.Prelude.{is_some}
-use Rattle.world_clients.specs.Members.{Clients}
+use Rattle.world_core.specs.Members.{Clients}
 use Rattle.world_core.specs.World.{WorldView, member_of}
 use Rattle.world_core.specs.contracts.parts.WorldParts.{the_view}
 use Rattle.world_core.proofs.JoinOutcomes.{refused_new}

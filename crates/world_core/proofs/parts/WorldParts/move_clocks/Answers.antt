@@ -1,7 +1,7 @@
 use denote.Param.{param}
 use Rattle.std.proofs.Common.{◌≡◌, false, subst, rules}
 use Rattle.std.specs.Option.{option_map}
-use Rattle.sweep_laws.specs.Kept.{CellState}
+use Rattle.over_core.specs.Kept.{CellState}
 use Rattle.world_core.specs.World.{WorldView, goes_past_end, ticked, held}
 use Rattle.world_core.specs.contracts.parts.WorldParts.{the_view}
 use Rattle.world_core.proofs.TickOutcomes.{left_alone, left_beside}

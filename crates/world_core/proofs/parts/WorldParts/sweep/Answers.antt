@@ -1,9 +1,9 @@
 use denote.Param.{param}
 use Rattle.std.proofs.Common.{[], Option, Some, List, subst, sym}
 use Rattle.std.specs.Option.{option_map_or}
-use Rattle.sweep_laws.specs.Kept.{CellState}
-use Rattle.sweep_laws.specs.Sweep.{sweep_step, sweep_edits}
-use Rattle.world_clients.specs.declared.mail.Message.{Message}
+use Rattle.over_core.specs.Kept.{CellState}
+use Rattle.over_core.specs.Sweep.{sweep_step, sweep_edits}
+use Rattle.world_core.specs.declared.mail.Message.{Message}
 use Rattle.world_core.specs.World.{WorldView, IsLeft}
 use Rattle.world_core.specs.contracts.parts.WorldParts.{the_view}
 use Rattle.world_core.proofs.LeftSweeps.{sweep_left, whenever, world_of}

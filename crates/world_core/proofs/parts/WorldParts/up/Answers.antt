@@ -2,7 +2,7 @@ use denote.Param.{param}
 use Rattle.std.proofs.Common.{◌≡◌, None, true, subst, ap, ◌∙◌, rules}
 use Rattle.std.specs.Prelude.{is_some}
 use Rattle.std.specs.Option.{option_map}
-use Rattle.sweep_laws.specs.Kept.{CellState}
+use Rattle.over_core.specs.Kept.{CellState}
 use Rattle.world_core.specs.World.{WorldView}
 use Rattle.world_core.specs.contracts.parts.WorldParts.{the_view}
 use Rattle.world_core.proofs.RefusedUp.{of_records, with_master, came_up_made, refused_up, is_up_then, refused_twice, up_view}

@@ -1,5 +1,0 @@
-use Rattle.std.proofs.Common.{rules}
-use Rattle.cell_apply.proofs.creates.made_change.Goals as goal
-
-pub returns : goal.returns
-returns c = search rules

@@ -1,0 +1,29 @@
+//! A new client for a holder.
+ghost use Rattle.std.specs.Prelude.{◌≡◌};
+ghost use Rattle.plain.specs.Results.{Gives};
+ghost use Rattle.cell_client.specs.Opens.{opened};
+
+use crate::held::Held;
+use crate::statuses::Status;
+use client_core::Client;
+use names_cell::{NameFault, Principal};
+use node_core::Fault;
+use std::alloc::Global;
+use std::str;
+use tags_cell::ClientNumber;
+use wire_core::WireFault;
+
+impl Held {
+    /// Holds a new client of this number, 1 to 2^53-1, for this principal. Bad as BadNumber for another number, and as BadText
+    /// for a text that isn't a principal.
+    pub fn open(alloc: Global, number: u64, principal: &[u8]) -> Result<Held, WireFault>
+        ensures { Gives WireFault.NoMemory result (opened number principal.now) }
+    {
+        let number = ClientNumber::new(number).ok_or(WireFault::BadNumber)?;
+        let Ok(text) = str::from_utf8(principal) else {
+            return Err(WireFault::BadText);
+        };
+        let principal = Principal::parse(alloc, text)?;
+        Ok(Held::new(alloc, Client::new(alloc, number, principal)))
+    }
+}

@@ -1,0 +1,106 @@
+//! The ephemeral nodes that are to go by themselves.
+ghost use Rattle.std.specs.Prelude.{◌≡◌, find, IfOk};
+ghost use Rattle.std.specs.Option.{option_map};
+ghost use Rattle.cell_parts.specs.Ephemerals.{is_left, tidies, has_its_turn, goes, idle_of, idle_at, first_idle};
+
+use crate::nodes::is_ephemeral;
+use crate::pending::{Idle, Task};
+use crate::tables::Tables;
+use names_cell::Name;
+use node_core::Node;
+use plain::Table;
+use std::alloc::AllocError;
+
+// The first of these names whose node is to go.
+pub(crate) fn first_among(
+    tables: &Tables,
+    names: &Table<Name, ()>,
+) -> Result<Option<Idle>, AllocError>
+    ensures { IfOk result (λ idle. idle ≡ first_idle tables.now names.now) }
+{
+    for (name, _) in names.as_map() {
+        if let Some(idle) = idle_at(tables, name)? {
+            return Ok(Some(idle));
+        }
+    }
+    Ok(None)
+}
+
+pub(crate) fn first_of_all(tables: &Tables) -> Result<Option<Idle>, AllocError>
+    ensures { IfOk result (λ idle. idle ≡ option_map idle_of (find (goes tables.now) tables.now.nodes)) }
+{
+    for (name, node) in tables.nodes().map().as_map() {
+        if goes(tables, name, node)? {
+            return Ok(Some(idle_of(name, node)?));
+        }
+    }
+    Ok(None)
+}
+
+// The node of a name, where it is to go.
+pub(crate) fn idle_at(tables: &Tables, name: &Name) -> Result<Option<Idle>, AllocError>
+    ensures { IfOk result (λ idle. idle ≡ idle_at tables.now name.now) }
+{
+    let Some(node) = tables.nodes().map().get(name) else {
+        return Ok(None);
+    };
+    if goes(tables, name, node)? {
+        Ok(Some(idle_of(name, node)?))
+    } else {
+        Ok(None)
+    }
+}
+
+fn goes(tables: &Tables, name: &Name, node: &Node) -> Result<bool, AllocError>
+    ensures { IfOk result (λ goes_so. goes_so ≡ goes tables.now (name.now, node.now)) }
+{
+    if is_left(tables, name, node)? {
+        Ok(!has_its_turn(tables, node.instance))
+    } else {
+        Ok(false)
+    }
+}
+
+// Whether it is an ephemeral node that nobody holds open.
+pub(crate) fn is_left(tables: &Tables, name: &Name, node: &Node) -> Result<bool, AllocError>
+    ensures { IfOk result (λ left. left ≡ is_left tables.now name.now node.now) }
+{
+    if !is_ephemeral(node.life) {
+        return Ok(false);
+    }
+    if tables.is_held_open(node.instance) {
+        return Ok(false);
+    }
+    Ok(!tables.must_stay(name)?)
+}
+
+// Whether the cell waits to delete the node already.
+fn has_its_turn(tables: &Tables, instance: u64) -> bool
+    ensures { result ≡ has_its_turn tables.now instance }
+{
+    tables
+        .queue()
+        .gate()
+        .changes()
+        .as_map()
+        .values()
+        .any(|waiting| tidies(instance, &waiting.change.body))
+}
+
+pub(crate) fn tidies(instance: u64, task: &Task) -> bool
+    ensures { result ≡ tidies instance task.now }
+{
+    match task {
+        Task::Asked(_) => false,
+        Task::Tidies(idle) => idle.instance == instance,
+    }
+}
+
+fn idle_of(name: &Name, node: &Node) -> Result<Idle, AllocError>
+    ensures { IfOk result (λ idle. idle ≡ idle_of (name.now, node.now)) }
+{
+    Ok(Idle {
+        name: name.clone()?,
+        instance: node.instance,
+    })
+}

@@ -1,5 +1,0 @@
-mod Noted
-mod Kept
-mod Looked
-mod Moved
-mod FirstIdle

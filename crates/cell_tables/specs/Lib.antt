@@ -1,4 +1,0 @@
-pub use Rattle.plain.specs.Tables
-pub mod State
-pub mod Ephemerals
-pub mod Candidates

@@ -1,8 +1,0 @@
-use Rattle.std.proofs.Common.{◌≡◌, drop}
-use Rattle.client_parts.specs.InOrder.{follow}
-use Rattle.client_parts.specs.Invalidations.{invalidation_numbers}
-use Rattle.client_parts.proofs.invalidations.follow.Given as goal
-
--- what is left follows the last one exactly where all of them follow the first
-abbrev pub invariant-loop-next : goal.invariant-loop-next
-invariant-loop-next l = follow l.last (invalidation_numbers (drop l.next-index l.invalidations)) ≡ follow l.fn.last (invalidation_numbers l.invalidations)

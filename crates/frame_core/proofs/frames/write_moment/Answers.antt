@@ -1,5 +1,0 @@
-use Rattle.frame_core.proofs.Writings.{moment_framed}
-use Rattle.frame_core.proofs.frames.write_moment.Goals as goal
-
-pub returns : goal.returns
-returns c = moment_framed _ _ _ _ c.bytes_of.ensures c.write_framed.ensures

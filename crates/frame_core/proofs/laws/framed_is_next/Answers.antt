@@ -1,5 +1,0 @@
-use Rattle.frame_core.proofs.BlockLaws.{framed_next}
-use Rattle.frame_core.proofs.laws.framed_is_next.Goals as goal
-
-pub returns : goal.returns
-returns c = λ bytes rest le. framed_next bytes rest le

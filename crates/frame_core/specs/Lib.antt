@@ -1,4 +1,0 @@
-pub mod Blocks
-pub mod Frames
-pub mod Told
-pub mod Laws

@@ -1,6 +1,0 @@
-//! A history that only proofs read.
-#![tactic(auto)]
-
-mod history;
-
-pub use history::GhostLog;

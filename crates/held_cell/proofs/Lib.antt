@@ -1,7 +1,0 @@
-mod Staying
-mod Refusals
-mod Ending
-mod Reading
-mod Lasting
-mod Opening
-mod Showing

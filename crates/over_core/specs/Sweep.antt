@@ -1,0 +1,63 @@
+-- A sweep: what is planned for its first action is done and committed, and the clients are told of it.
+use Rattle.std.specs.Prelude.{List, ℕ, Bool, true, false, ◌||◌, [], Result, Ok, Err, if◌then◌else◌}
+use Rattle.cell_parts.specs.declared.notices.Telling.{Telling}
+use Rattle.cell_parts.specs.declared.pending.Taken.{Taken}
+use Rattle.cell_state.specs.Notices.{with_tellings}
+use Rattle.cell_state.specs.State.{MasterState}
+use Rattle.over_core.specs.declared.plans.Plan.{Plan}
+use Rattle.node_core.specs.declared.refusals.Fault.{Fault}
+use Rattle.rows_cell.specs.declared.tables.Edit.{Edit}
+use Rattle.session_core.specs.Sessions.{has_spent_events}
+use Rattle.cell_state.specs.Lookups.{noted}
+use Rattle.cell_core.specs.Step.{is_past_end}
+use Rattle.cell_state.specs.Updates.{done, edits_of}
+use Rattle.cell_core.specs.Ephemerals.{tidied}
+use Rattle.over_core.specs.declared.actions.Action.{Action}
+use Rattle.over_core.specs.declared.actions.Action.TheVariants.{Tidy, Quiet}
+use Rattle.over_core.specs.declared.swept.Swept.{Swept}
+use Rattle.over_core.specs.Plans.{tellings_of, first_action, plan_of}
+use Rattle.node_core.specs.declared.refusals.Fault.TheVariants as faults
+
+-- ---- the step
+
+abbrev pub is_quiet : Action → Bool
+is_quiet Quiet = true
+is_quiet _ = false
+
+-- what is printed and sent, and whether there was nothing to do
+abbrev pub swept_as : Taken → Bool → Swept
+swept_as taken quiet = record { lines = taken.lines; outs = taken.outs; quiet = quiet }
+
+-- what is planned stands
+abbrev pub swept_by_plan : MasterState → Plan → Bool → MasterState × Swept
+swept_by_plan s plan quiet = (done s plan.update, swept_as plan.taken quiet)
+
+-- what is queued commits nothing yet
+abbrev pub acted : MasterState → Action → MasterState × Swept
+acted s (Tidy idle) = (tidied s idle, record { lines = []; outs = []; quiet = false })
+acted s action = swept_by_plan s (plan_of s action) (is_quiet action)
+
+-- behind all else the clients of open handles are told of it
+abbrev pub telling : List Telling → MasterState × Swept → MasterState × Swept
+telling tellings done = (with_tellings done.0 tellings, done.1)
+
+abbrev pub swept : MasterState → Action → MasterState × Swept
+swept s action = telling (tellings_of s (plan_of s action)) (acted s action)
+
+abbrev pub done_and_told : MasterState → Plan → Bool → MasterState × Swept
+done_and_told s plan quiet = telling (tellings_of s plan) (swept_by_plan s plan quiet)
+
+-- what an action commits
+abbrev pub action_edits : MasterState → Action → List Edit
+action_edits s action = edits_of s (plan_of s action).update
+
+-- a moment past the end of moments, or a session whose count of events is at its end
+abbrev pub is_over : MasterState → ℕ → Bool
+is_over s now = is_past_end now || has_spent_events s.sessions
+
+-- what a sweep at a moment commits
+abbrev pub sweep_edits : MasterState → ℕ → List Edit
+sweep_edits s now = if is_over s now then [] else action_edits (noted s now) (first_action (noted s now))
+
+unfoldable pub sweep_step : MasterState → ℕ → Result (MasterState × Swept) Fault
+sweep_step s now = if is_over s now then Err faults.Exhausted else Ok (swept (noted s now) (first_action (noted s now)))

@@ -1,8 +1,0 @@
-use Rattle.sqlite.specs.Held.{state}
-use Rattle.rows_edits.proofs.Steps.{ok_then}
-use Rattle.rows_edits.proofs.NumbersSaid.{version_done}
-use Rattle.rows_edits.proofs.carrying.set_version.Goals as goal
-
-pub returns-clause-ok : goal.returns-clause-ok
-returns-clause-ok g c clean =
-    ok_then c.run.result (version_done c.in_ok-epoch.epoch c.args.epoch c.in_ok-epoch.ensures (state g.S.Store c.args.tx.now.conn.now) (state g.S.Store c.run.new.tx.conn.now)) (c.run.ensures.ok clean)

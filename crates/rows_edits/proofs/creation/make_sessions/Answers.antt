@@ -1,7 +1,0 @@
-use Rattle.sqlite.specs.Held.{state}
-use Rattle.rows_edits.proofs.Steps.{ok_then}
-use Rattle.rows_edits.proofs.Creates.{makes_sessions}
-use Rattle.rows_edits.proofs.creation.make_sessions.Goals as goal
-
-pub returns-clause-ok : goal.returns-clause-ok
-returns-clause-ok g c clean = ok_then c.run.result (makes_sessions (state g.S.Store c.args.tx.now.conn.now) (state g.S.Store c.run.new.tx.conn.now)) (c.run.ensures.ok clean)

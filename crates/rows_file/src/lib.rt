@@ -1,8 +1,0 @@
-//! A store in SQL as the bytes of its files.
-#![tactic(auto)]
-
-mod file;
-mod verdicts;
-
-pub use file::inspect_file;
-pub use verdicts::verdict;

@@ -1,6 +1,0 @@
-use Rattle.std.proofs.Common.{take}
-use Rattle.rows_read.specs.Held.{HoldsNodes}
-use Rattle.rows_read.proofs.entries.nodes_of.Given as goal
-
-abbrev pub invariant-loop-row : goal.invariant-loop-row
-invariant-loop-row l = HoldsNodes (take l.row-index l.rows) l.nodes

@@ -1,5 +1,0 @@
-use Rattle.rows_schema.proofs.FieldLemmas.{ours_told}
-use Rattle.rows_schema.proofs.ours.is_ours.Goals as goal
-
-pub returns : goal.returns
-returns c = ours_told c.has_all.result c.args.schema.now c.has_all.ensures

@@ -1,3 +1,0 @@
-pub mod OurSchema
-pub mod Fields
-pub mod Versions

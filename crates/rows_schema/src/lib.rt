@@ -1,8 +1,0 @@
-//! The tables of a cell's store, and whether a schema is theirs, in each version.
-#![tactic(auto)]
-
-mod columns;
-mod keys;
-mod ours;
-
-pub use ours::{Version, is_first, is_ours, version_of};

@@ -1,0 +1,109 @@
+-- What the tables say once a number of the cell was set.
+use Rattle.std.proofs.Common.{◌≡◌, ℕ, ℤ, pos, Bool, true, ◌&&◌, List, [], ◌∷◌, map, Option, Some, refl, sym, ap, ◌∙◌, cond, subst}
+use Rattle.std.specs.Ordering.{int_eq}
+use Rattle.std.proofs.lemmas.Bool.{and_parts}
+use Rattle.std.proofs.Common.{inl}
+use Rattle.sqlite_value.specs.declared.value.ValueRef.{ValueRef}
+use Rattle.sqlite_value.specs.Order.{Row, column}
+use Rattle.sqlite.specs.Values.{bound}
+use Rattle.sqlite.specs.Edit.{id_in}
+use Rattle.sqlite.specs.Effect.{Database}
+use Rattle.sqlite.specs.State.{State}
+use Rattle.sqlite.specs.Term.{Term}
+use Rattle.sqlite_trees.proofs.ListLemmas.{map-map}
+use Rattle.sqlite_rules.specs.Lists.{Has}
+use Rattle.rows_cell.specs.declared.tables.Edit.TheVariants.{Epoch, NextInstance}
+use Rattle.rows_sql.specs.declared.reading.stored.Meta.{Meta}
+use Rattle.rows_sql.specs.declared.schema.ours.Version.{Version}
+use Rattle.rows_sql.specs.declared.schema.ours.Version.TheVariants.{First, Second}
+use Rattle.rows_sql.specs.Versions.{number_of}
+use Rattle.rows_sql.specs.Children.{children_of}
+use Rattle.rows_sql.specs.Decode.{count_in, secret_in, component_in, meta_from, meta_as}
+use Rattle.rows_sql.specs.Held.{meta_of}
+use Rattle.rows_sql.specs.Ready.{meta_shown}
+use Rattle.rows_sql.specs.WriteTexts.{set_epoch_text, set_next_instance_text}
+use Rattle.rows_sql.specs.Numbers.{IsNumber}
+use Rattle.rows_sql.specs.Carrying.{set_version_text, SetsVersion}
+use Rattle.rows_sql.specs.Ongoing.{IsStore, RanInside, Changed}
+use Rattle.rows_sql.proofs.Query.{passes}
+use Rattle.rows_sql.proofs.Trees.{renewed}
+use Rattle.rows_sql.proofs.Stores.{metas_say}
+use Rattle.rows_sql.proofs.SetNumbers.{terms, epoch_project, next_project, version_project, params, with_epoch, with_next, with_version, goes_is, set_epoch_done, set_next_done, set_version_done}
+
+one_mapped : {A B : Type 0} (f : A → B) (xs : List A) (y : B) → map f xs ≡ y ∷ [] → (x : A) × (xs ≡ x ∷ []) × (f x ≡ y)
+one_mapped f [] y e = absurd cc
+one_mapped f (x ∷ []) y e = (x, refl, let is : f x ≡ y = cc in is)
+one_mapped f (x ∷ z ∷ xs) y e = absurd cc
+
+epoch_from : (b : Bool) (o p : Option ℕ) (s c : Option (List ℕ)) (m : Meta) (n : ℕ) → meta_from b o p s c ≡ Some m → (b ≡ true) × (meta_from b (Some n) p s c ≡ Some (record m { epoch = n }))
+epoch_from true (Some x) (Some y) (Some s) (Some c) m n h = (refl, let is : record { cell = c; secret = s; epoch = x; next_instance = y } ≡ m = cc in ap (λ (k : Meta). Some (record k { epoch = n })) is)
+epoch_from _ _ _ _ _ m n h = absurd cc
+
+next_from : (b : Bool) (o p : Option ℕ) (s c : Option (List ℕ)) (m : Meta) (n : ℕ) → meta_from b o p s c ≡ Some m → (b ≡ true) × (meta_from b o (Some n) s c ≡ Some (record m { next_instance = n }))
+next_from true (Some x) (Some y) (Some s) (Some c) m n h = (refl, let is : record { cell = c; secret = s; epoch = x; next_instance = y } ≡ m = cc in ap (λ (k : Meta). Some (record k { next_instance = n })) is)
+next_from _ _ _ _ _ m n h = absurd cc
+
+version_from : (b c : Bool) (o p : Option ℕ) (s k : Option (List ℕ)) (m : Meta) (n : ℕ) → meta_from (b && c) o p s k ≡ Some m → ((b && c) ≡ true) × (meta_from (b && true) (Some n) p s k ≡ Some (record m { epoch = n }))
+version_from true true (Some x) (Some y) (Some s) (Some c) m n h = (refl, let is : record { cell = c; secret = s; epoch = x; next_instance = y } ≡ m = cc in ap (λ (k : Meta). Some (record k { epoch = n })) is)
+version_from _ _ _ _ _ _ m n h = absurd cc
+
+-- it is the row of the cell, with the number of this version
+abbrev is_row : Version → Row → Bool
+is_row version r = int_eq (id_in (column r 0)) (pos 1) && int_eq (id_in (column r 2)) (number_of version)
+
+-- the row says the cell's numbers, and is the one that is set
+module _ (old : Database) (store : IsStore old) (before now : Version) (n : ℤ) (project : List Term) (becomes : Row → Row) (m after : Meta) where
+  set_says : ((r : Row) → Has (old.trees 0) r → meta_as before (meta_shown r) ≡ Some m → (is_row before r ≡ true) × (meta_as now (meta_shown (becomes r)) ≡ Some after)) → map (meta_as before) (map meta_shown (old.trees 0)) ≡ Some m ∷ []
+      → map (meta_as now) (map meta_shown (map (renewed (passes 0 terms project (params n)) becomes) (old.trees 0))) ≡ Some after ∷ []
+  set_says changes said =
+      let one = one_mapped (λ r. meta_as before (meta_shown r)) (old.trees 0) (Some m) (sym (map-map (meta_as before) meta_shown (old.trees 0)) ∙ said) in
+      let there : Has (old.trees 0) one.0 = subst (λ xs. Has xs one.0) (sym one.1) (inl refl) in
+      let became = changes one.0 there one.2 in
+      let goes : passes 0 terms project (params n) one.0 ≡ true = goes_is n old store project one.0 there ∙ (and_parts _ _ became.0).0 in
+      ap (λ xs. map (meta_as now) (map meta_shown (map (renewed (passes 0 terms project (params n)) becomes) xs))) one.1
+      ∙ ap (λ b. meta_as now (meta_shown (cond b (becomes one.0) one.0)) ∷ []) goes ∙ ap (λ o. o ∷ []) became.1
+
+pub epoch_done : (v : ValueRef) (n : ℕ) → IsNumber v n → (old new : State) → RanInside set_epoch_text (bound (v ∷ [])) old new → Changed (Epoch n ∷ []) old new
+epoch_done v n is old new run =
+    let e = is.0 in
+    let r = rw is.1 at run in
+    let done = λ (store : IsStore old.now). set_epoch_done e old new r.count store r.ran in
+    record {
+      store = λ store. (done store).store;
+      says = λ store rows h. metas_say old.now new.now _ Second rows (children_of rows.nodes) h (done store) Second (record rows { epoch = n }) refl refl refl
+          (set_says old.now store Second Second e epoch_project (with_epoch e) (meta_of rows) (record (meta_of rows) { epoch = n })
+          (λ x there said.
+          let s = epoch_from (is_row Second x) (count_in (column x 5)) (count_in (column x 6)) (secret_in (column x 4)) (component_in (column x 3)) (meta_of rows) n said in
+          (s.0, ap (λ o. meta_from (is_row Second x) o (count_in (column x 6)) (secret_in (column x 4)) (component_in (column x 3))) is.2 ∙ s.1))
+          h.meta);
+    }
+
+pub next_done : (v : ValueRef) (n : ℕ) → IsNumber v n → (old new : State) → RanInside set_next_instance_text (bound (v ∷ [])) old new → Changed (NextInstance n ∷ []) old new
+next_done v n is old new run =
+    let e = is.0 in
+    let r = rw is.1 at run in
+    let done = λ (store : IsStore old.now). set_next_done e old new r.count store r.ran in
+    record {
+      store = λ store. (done store).store;
+      says = λ store rows h. metas_say old.now new.now _ Second rows (children_of rows.nodes) h (done store) Second (record rows { next_instance = n }) refl refl refl
+          (set_says old.now store Second Second e next_project (with_next e) (meta_of rows) (record (meta_of rows) { next_instance = n })
+          (λ x there said.
+          let s = next_from (is_row Second x) (count_in (column x 5)) (count_in (column x 6)) (secret_in (column x 4)) (component_in (column x 3)) (meta_of rows) n said in
+          (s.0, ap (λ o. meta_from (is_row Second x) (count_in (column x 5)) o (secret_in (column x 4)) (component_in (column x 3))) is.2 ∙ s.1))
+          h.meta);
+    }
+
+pub version_done : (v : ValueRef) (n : ℕ) → IsNumber v n → (old new : State) → RanInside set_version_text (bound (v ∷ [])) old new → SetsVersion n old new
+version_done v n is old new run =
+    let e = is.0 in
+    let r = rw is.1 at run in
+    let done = λ (store : IsStore old.now). set_version_done e old new r.count store r.ran in
+    record {
+      store = λ store. (done store).store;
+      says = λ store rows children h. metas_say old.now new.now _ First rows children h (done store) Second (record rows { epoch = n }) refl refl refl
+          (set_says old.now store First Second e version_project (with_version e) (meta_of rows) (record (meta_of rows) { epoch = n })
+          (λ x there said.
+          let s = version_from (int_eq (id_in (column x 0)) (pos 1)) (int_eq (id_in (column x 2)) (pos 1)) (count_in (column x 5)) (count_in (column x 6)) (secret_in (column x 4)) (component_in (column x 3)) (meta_of rows) n said in
+          (s.0, ap (λ o. meta_from (int_eq (id_in (column x 0)) (pos 1) && true) o (count_in (column x 6)) (secret_in (column x 4)) (component_in (column x 3))) is.2 ∙ s.1))
+          h.meta);
+    }

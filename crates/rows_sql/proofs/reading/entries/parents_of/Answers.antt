@@ -1,0 +1,25 @@
+use Rattle.std.proofs.Common.{◌≡◌, ◌<◌, length, Some, None, rules}
+use Rattle.std.specs.Ordering.{nat_cmp}
+use Rattle.std.specs.Cmp.Lexicographic.{slice_cmp}
+use Rattle.std.proofs.lemmas.Cmp.{nat_list_cmp_total}
+use Rattle.rows_sql.specs.Decode.{child_in}
+use Rattle.rows_sql.proofs.ReadLoops.{none_at, twice_at, more_at}
+use Rattle.rows_sql.proofs.reading.entries.parents_of.Goals as goal
+
+pub returns-in_default : goal.returns-in_default
+returns-in_default c =
+    let low : c.loop-row.row-index < length c.args.rows.now = search rules in
+    let none : child_in c.row-item.result ≡ None = search rules in
+    none_at (slice_cmp nat_cmp) nat_list_cmp_total child_in c.args.rows.now c.loop-row.row-index c.row-item.result low c.row-item.is none
+
+pub returns-then-is_some : goal.returns-then-is_some
+returns-then-is_some c =
+    let low : c.loop-row.row-index < length c.args.rows.now = search rules in
+    let said : child_in c.row-item.result ≡ Some (c.in-Some.child, c.in-Some.parent) = search rules in
+    twice_at (slice_cmp nat_cmp) nat_list_cmp_total child_in c.args.rows.now c.loop-row.row-index c.row-item.result low c.row-item.is c.loop-row.parents c.in-Some.child c.in-Some.parent c.in_ok-put.field-0 c.loop-row.invariant said c.in_ok-put.ensures.former (search rules)
+
+pub loop-row-preserved : goal.loop-row-preserved
+loop-row-preserved c =
+    let low : c.loop-row.row-index < length c.args.rows.now = search rules in
+    let said : child_in c.row-item.result ≡ Some (c.in-Some.child, c.in-Some.parent) = search rules in
+    more_at (slice_cmp nat_cmp) nat_list_cmp_total child_in c.args.rows.now c.loop-row.row-index c.row-item.result low c.row-item.is c.loop-row.parents c.put.new.self c.in-Some.child c.in-Some.parent c.in_ok-put.field-0 c.loop-row.invariant said c.in_ok-put.ensures.former (search rules) c.in_ok-put.ensures.ok

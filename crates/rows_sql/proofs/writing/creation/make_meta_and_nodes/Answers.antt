@@ -1,0 +1,15 @@
+use Rattle.sqlite.specs.Held.{state}
+use Rattle.rows_sql.proofs.WriteSteps.{ok_then}
+use Rattle.rows_sql.proofs.Creates.{stays_then, clean_before}
+use Rattle.rows_sql.proofs.writing.creation.make_meta_and_nodes.Goals as goal
+
+pub returns-clause-ok : goal.returns-clause-ok
+returns-clause-ok g c clean =
+    let mid = state g.S.Store c.make_meta.new.tx.conn.now in
+    let last = state g.S.Store c.make_nodes.new.tx.conn.now in
+    let first = c.in_ok-make_meta.ensures.ok (clean_before mid last c.make_nodes.ensures.stays clean) in
+    ok_then c.make_nodes.result (λ second none. second (first none).0) (c.make_nodes.ensures.ok clean)
+
+pub returns-clause-stays : goal.returns-clause-stays
+returns-clause-stays g c =
+    stays_then (state g.S.Store c.args.tx.now.conn.now) (state g.S.Store c.make_meta.new.tx.conn.now) (state g.S.Store c.make_nodes.new.tx.conn.now) c.make_meta.ensures.stays c.make_nodes.ensures.stays

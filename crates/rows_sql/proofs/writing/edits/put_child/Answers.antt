@@ -1,0 +1,15 @@
+use Rattle.std.proofs.Common.{ap, ◌∙◌}
+use Rattle.sqlite_value.specs.declared.value.Value.TheVariants.{Text}
+use Rattle.sqlite_value.specs.declared.value.ValueRef.TheVariants as given
+use Rattle.sqlite.specs.Held.{state}
+use Rattle.rows_sql.proofs.WriteSteps.{ok_then}
+use Rattle.rows_sql.proofs.PutChild.{child_there}
+use Rattle.rows_sql.proofs.writing.edits.put_child.Goals as goal
+
+pub returns-clause-ok : goal.returns-clause-ok
+returns-clause-ok g c clean =
+    ok_then c.run.result
+    (child_there c.args.child.now c.args.parent.now c.as_str-2.ensures.name c.as_str.ensures.name (given.Text c.as_bytes.result) (given.Text c.as_bytes-2.result)
+    (ap Text (c.as_bytes.ensures.value ∙ c.as_str.ensures.text)) (ap Text (c.as_bytes-2.ensures.value ∙ c.as_str-2.ensures.text))
+    (state g.S.Store c.args.tx.now.conn.now) (state g.S.Store c.run.new.tx.conn.now))
+    (c.run.ensures.ok clean)

@@ -1,0 +1,94 @@
+-- A transaction that does edits.
+use Rattle.std.specs.Prelude.{◌≡◌, ◌⊎◌, ℕ, true, List, IsTrue, Ok, IfSome}
+use Rattle.std.specs.Map.{lookup, remove_entry}
+use Rattle.std.specs.BTreeMap.{is_at, insert_entry}
+use Rattle.std.specs.Cmp.Lexicographic.{slice_cmp}
+use Rattle.std.specs.Ordering.{nat_cmp}
+use Rattle.sqlite.specs.Tree.{Trees}
+use Rattle.sqlite.specs.Order.{Row}
+use Rattle.sqlite.specs.Effect.{Database, IsDatabase}
+use Rattle.sqlite.specs.View.{IsShaped}
+use Rattle.sqlite.specs.State.{State, Shows, Executes}
+use Rattle.sqlite_trees.specs.declared.store.Shape.TheVariants.{Table}
+use Rattle.rows_cell.specs.declared.tables.Rows.{Rows}
+use Rattle.rows_cell.specs.declared.tables.Edit.{Edit}
+use Rattle.rows_cell.specs.declared.tables.Edit.TheVariants.{PutNode, RemoveNode}
+use Rattle.rows_cell.specs.Rows.{changed_rows, edited}
+use Rattle.node_core.specs.declared.nodes.Node.{Node}
+use Rattle.rows_sql.specs.declared.schema.ours.Version.{Version}
+use Rattle.rows_sql.specs.declared.schema.ours.Version.TheVariants.{Second}
+use Rattle.rows_sql.specs.OurSchema.{the_schema}
+use Rattle.rows_sql.specs.Children.{Parents, children_of}
+use Rattle.rows_sql.specs.Held.{Says, SaysWith}
+use Rattle.rows_sql.specs.Ready.{tables_of}
+
+-- it has the schema of a cell's store and obeys it, and the rowids of each table rise
+pub record IsStore (db : Database) : Type 0 where
+  pub schema : db.schema ≡ the_schema
+  pub sound : IsDatabase db
+  pub metas : IsShaped Table (db.trees 0)
+  pub nodes : IsShaped Table (db.trees 1)
+  pub sessions : IsShaped Table (db.trees 4)
+  pub locks : IsShaped Table (db.trees 5)
+  pub children : IsShaped Table (db.trees 7)
+
+-- a statement was run in a transaction, and did not end it
+pub record RanInside (sql : List ℕ) (params : Row) (old new : State) : Type 0 where
+  pub count : ℕ
+  pub inside : IsTrue old.in_transaction
+  pub ran : Executes sql params old new (Ok count)
+  pub shown : Shows old new new.now old.committed true
+
+-- whatever rows the tables said, they say the changed ones
+abbrev pub SaysChanged : List Edit → Trees → Trees → Type 0
+SaysChanged change old new = (rows : Rows) → Says (tables_of old) rows → Says (tables_of new) (changed_rows rows change)
+
+-- the edits were done, and a store is a store still
+pub record Changed (change : List Edit) (old new : State) : Type 0 where
+  pub store : IsStore old.now → IsStore new.now
+  pub says : IsStore old.now → SaysChanged change old.now.trees new.now.trees
+
+-- the same, and they are committed
+pub record Committed (change : List Edit) (old new : State) : Type 0 where
+  pub store : IsStore old.now → IsStore new.now
+  pub says : IsStore old.now → SaysChanged change old.now.trees new.now.trees
+  pub is_open : IsTrue new.is_open
+  pub committed : new.committed ≡ new.now
+
+-- what a crash may find beside what it could before
+abbrev pub MayCommit : List Edit → State → Trees → Type 0
+MayCommit change old db = IsStore old.now → SaysChanged change old.now.trees db
+
+-- ---- a put of a node, in its two statements
+
+-- the node was put, and its name not yet under its parent
+pub record PutsEntry (name : List ℕ) (node : Node) (old new : State) : Type 0 where
+  pub store : IsStore old.now → IsStore new.now
+  pub says : IsStore old.now → (rows : Rows) → Says (tables_of old.now.trees) rows → SaysWith Second (tables_of new.now.trees) (edited rows (PutNode name node)) (children_of rows.nodes)
+
+-- it has no other parent there
+abbrev pub HasNoOther : Parents → List ℕ → List ℕ → Type 0
+HasNoOther children child parent = IfSome (lookup (is_at (slice_cmp nat_cmp child)) children) (λ other. other ≡ parent)
+
+-- a name was put under its parent: whatever the tables said, they say it too
+pub record PutsChild (child parent : List ℕ) (old new : State) : Type 0 where
+  pub store : IsStore old.now → IsStore new.now
+  pub says : IsStore old.now → (version : Version) (rows : Rows) (children : Parents) → HasNoOther children child parent → SaysWith version (tables_of old.now.trees) rows children
+      → SaysWith version (tables_of new.now.trees) rows (insert_entry (slice_cmp nat_cmp) children child parent)
+
+-- ---- a removal of a node, in its two statements
+
+-- a name was taken from under its parent: whatever else the tables said, they say it still
+pub record TakesChild (child parent : List ℕ) (old new : State) : Type 0 where
+  pub store : IsStore old.now → IsStore new.now
+  pub says : IsStore old.now → (version : Version) (rows : Rows) (children : Parents) → HasNoOther children child parent → SaysWith version (tables_of old.now.trees) rows children
+      → SaysWith version (tables_of new.now.trees) rows (remove_entry (is_at (slice_cmp nat_cmp child)) children)
+
+-- all children are there, or all but this name
+abbrev pub MayLack : List ℕ → Parents → Parents → Type 0
+MayLack name children all = (children ≡ all) ⊎ (children ≡ remove_entry (is_at (slice_cmp nat_cmp name)) all)
+
+-- the node was removed, and its name from under its parent, if it was still there
+pub record RemovesEntry (name : List ℕ) (old new : State) : Type 0 where
+  pub store : IsStore old.now → IsStore new.now
+  pub says : IsStore old.now → (rows : Rows) (children : Parents) → MayLack name children (children_of rows.nodes) → SaysWith Second (tables_of old.now.trees) rows children → Says (tables_of new.now.trees) (edited rows (RemoveNode name))

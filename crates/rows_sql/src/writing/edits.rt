@@ -1,0 +1,271 @@
+//! The eight edits, in a transaction: each is one statement, but a put and a removal of a node, which are two.
+ghost use Rattle.std.specs.Prelude.{◌≡◌, ◌∷◌, [], OnOk, Some};
+ghost use Rattle.sqlite.specs.Values.{bound};
+ghost use Rattle.sqlite.specs.State.{HasCleanDisk, KeepsCommit, Survives};
+ghost use Rattle.sqlite.specs.Held.{state};
+ghost use Rattle.names_cell.specs.Text.{parent_of};
+ghost use Rattle.rows_cell.specs.declared.tables.Edit.TheVariants.{Epoch, NextInstance, PutNode, LockGeneration, RemoveNode, PutSession, PutLock, RemoveLock};
+ghost use Rattle.rows_sql.specs.Ongoing.{RanInside, Changed, PutsEntry, PutsChild, TakesChild, RemovesEntry};
+
+use crate::writing::values::{kind_as, life_as, live_as, mode_as, number};
+use names_cell::Name;
+use node_core::Node;
+use rows_cell::{LockKey, LockRow, Session};
+use sqlite::{Alter, Error, Transaction};
+use sqlite_value::value::ValueRef;
+
+/// Runs one statement in a transaction.
+pub(crate) fn run<S: Alter>(
+    tx: &mut Transaction<'_, S>,
+    sql: &str,
+    params: &[ValueRef<'_>],
+) -> Result<(), Error>
+    ensures same { tx.new.conn.ghost_name ≡ tx.old.conn.ghost_name }
+    ensures ok { HasCleanDisk (state S.Store tx.new.conn.now) → OnOk result (RanInside sql.now (bound params.now) (state S.Store tx.old.conn.now) (state S.Store tx.new.conn.now)) }
+    ensures kept { HasCleanDisk (state S.Store tx.new.conn.now) → KeepsCommit (state S.Store tx.old.conn.now) (state S.Store tx.new.conn.now) }
+    ensures survives { Survives (state S.Store tx.old.conn.now) (state S.Store tx.new.conn.now) (λ _. ⊥) }
+{
+    tx.execute(sql, params)?;
+    Ok(())
+}
+
+/// Sets the epoch.
+pub(crate) fn set_epoch<S: Alter>(tx: &mut Transaction<'_, S>, epoch: u64) -> Result<(), Error>
+    ensures same { tx.new.conn.ghost_name ≡ tx.old.conn.ghost_name }
+    ensures ok { HasCleanDisk (state S.Store tx.new.conn.now) → OnOk result (Changed (Epoch epoch ∷ []) (state S.Store tx.old.conn.now) (state S.Store tx.new.conn.now)) }
+    ensures kept { HasCleanDisk (state S.Store tx.new.conn.now) → KeepsCommit (state S.Store tx.old.conn.now) (state S.Store tx.new.conn.now) }
+    ensures survives { Survives (state S.Store tx.old.conn.now) (state S.Store tx.new.conn.now) (λ _. ⊥) }
+{
+    let epoch = number(epoch)?;
+    run(tx, "UPDATE meta SET epoch = ?1 WHERE id = 1", &[epoch])
+}
+
+/// Sets the instance of the next node.
+pub(crate) fn set_next_instance<S: Alter>(
+    tx: &mut Transaction<'_, S>,
+    next: u64,
+) -> Result<(), Error>
+    ensures same { tx.new.conn.ghost_name ≡ tx.old.conn.ghost_name }
+    ensures ok { HasCleanDisk (state S.Store tx.new.conn.now) → OnOk result (Changed (NextInstance next ∷ []) (state S.Store tx.old.conn.now) (state S.Store tx.new.conn.now)) }
+    ensures kept { HasCleanDisk (state S.Store tx.new.conn.now) → KeepsCommit (state S.Store tx.old.conn.now) (state S.Store tx.new.conn.now) }
+    ensures survives { Survives (state S.Store tx.old.conn.now) (state S.Store tx.new.conn.now) (λ _. ⊥) }
+{
+    let next = number(next)?;
+    run(
+        tx,
+        "UPDATE meta SET next_instance = ?1 WHERE id = 1",
+        &[next],
+    )
+}
+
+/// Puts a node, and its name under its parent: a node that is there keeps the generation of its lock.
+pub(crate) fn put_node<S: Alter>(
+    tx: &mut Transaction<'_, S>,
+    name: &Name,
+    node: &Node,
+) -> Result<(), Error>
+    ensures same { tx.new.conn.ghost_name ≡ tx.old.conn.ghost_name }
+    ensures ok { HasCleanDisk (state S.Store tx.new.conn.now) → OnOk result (Changed (PutNode name.now node.now ∷ []) (state S.Store tx.old.conn.now) (state S.Store tx.new.conn.now)) }
+    ensures kept { HasCleanDisk (state S.Store tx.new.conn.now) → KeepsCommit (state S.Store tx.old.conn.now) (state S.Store tx.new.conn.now) }
+    ensures survives { Survives (state S.Store tx.old.conn.now) (state S.Store tx.new.conn.now) (λ _. ⊥) }
+{
+    let parent = name.parent()?;
+    put_entry(tx, name, node)?;
+    match parent {
+        Some(parent) => put_child(tx, &parent, name),
+        None => Ok(()),
+    }
+}
+
+/// Puts a name under its parent, where it isn't there yet.
+pub(crate) fn put_child<S: Alter>(
+    tx: &mut Transaction<'_, S>,
+    parent: &Name,
+    child: &Name,
+) -> Result<(), Error>
+    ensures same { tx.new.conn.ghost_name ≡ tx.old.conn.ghost_name }
+    ensures ok { HasCleanDisk (state S.Store tx.new.conn.now) → OnOk result (PutsChild child.now parent.now (state S.Store tx.old.conn.now) (state S.Store tx.new.conn.now)) }
+    ensures kept { HasCleanDisk (state S.Store tx.new.conn.now) → KeepsCommit (state S.Store tx.old.conn.now) (state S.Store tx.new.conn.now) }
+    ensures survives { Survives (state S.Store tx.old.conn.now) (state S.Store tx.new.conn.now) (λ _. ⊥) }
+{
+    run(
+        tx,
+        "INSERT INTO children (parent, child) VALUES (?1, ?2) ON CONFLICT (parent, child) DO NOTHING",
+        &[
+            ValueRef::Text(parent.as_str().as_bytes()),
+            ValueRef::Text(child.as_str().as_bytes()),
+        ],
+    )
+}
+
+// Puts the row of a node.
+fn put_entry<S: Alter>(tx: &mut Transaction<'_, S>, name: &Name, node: &Node) -> Result<(), Error>
+    ensures same { tx.new.conn.ghost_name ≡ tx.old.conn.ghost_name }
+    ensures ok { HasCleanDisk (state S.Store tx.new.conn.now) → OnOk result (PutsEntry name.now node.now (state S.Store tx.old.conn.now) (state S.Store tx.new.conn.now)) }
+    ensures kept { HasCleanDisk (state S.Store tx.new.conn.now) → KeepsCommit (state S.Store tx.old.conn.now) (state S.Store tx.new.conn.now) }
+    ensures survives { Survives (state S.Store tx.old.conn.now) (state S.Store tx.new.conn.now) (λ _. ⊥) }
+{
+    let instance = number(node.instance)?;
+    let content_generation = number(node.content_generation)?;
+    let acl_generation = number(node.acl_generation)?;
+    run(
+        tx,
+        "INSERT INTO nodes (name, instance, kind, life, content_gen, acl_gen, lock_gen, acl_read, acl_write, acl_change, content) VALUES (?1, ?2, ?3, ?4, ?5, ?6, 0, ?7, ?8, ?9, ?10) ON CONFLICT (name) DO UPDATE SET instance = excluded.instance, kind = excluded.kind, life = excluded.life, content_gen = excluded.content_gen, acl_gen = excluded.acl_gen, acl_read = excluded.acl_read, acl_write = excluded.acl_write, acl_change = excluded.acl_change, content = excluded.content",
+        &[
+            ValueRef::Text(name.as_str().as_bytes()),
+            instance,
+            kind_as(node.kind),
+            life_as(node.life),
+            content_generation,
+            acl_generation,
+            ValueRef::Text(node.read.as_str().as_bytes()),
+            ValueRef::Text(node.write.as_str().as_bytes()),
+            ValueRef::Text(node.change.as_str().as_bytes()),
+            ValueRef::Blob(node.content.as_slice()),
+        ],
+    )
+}
+
+/// Sets the generation of a node's lock, where the node is there.
+pub(crate) fn set_lock_generation<S: Alter>(
+    tx: &mut Transaction<'_, S>,
+    name: &Name,
+    generation: u64,
+) -> Result<(), Error>
+    ensures same { tx.new.conn.ghost_name ≡ tx.old.conn.ghost_name }
+    ensures ok { HasCleanDisk (state S.Store tx.new.conn.now) → OnOk result (Changed (LockGeneration name.now generation ∷ []) (state S.Store tx.old.conn.now) (state S.Store tx.new.conn.now)) }
+    ensures kept { HasCleanDisk (state S.Store tx.new.conn.now) → KeepsCommit (state S.Store tx.old.conn.now) (state S.Store tx.new.conn.now) }
+    ensures survives { Survives (state S.Store tx.old.conn.now) (state S.Store tx.new.conn.now) (λ _. ⊥) }
+{
+    let generation = number(generation)?;
+    run(
+        tx,
+        "UPDATE nodes SET lock_gen = ?2 WHERE name = ?1",
+        &[ValueRef::Text(name.as_str().as_bytes()), generation],
+    )
+}
+
+/// Removes a node: its name from under its parent, and then its row, with its locks.
+pub(crate) fn remove_node<S: Alter>(tx: &mut Transaction<'_, S>, name: &Name) -> Result<(), Error>
+    ensures same { tx.new.conn.ghost_name ≡ tx.old.conn.ghost_name }
+    ensures ok { HasCleanDisk (state S.Store tx.new.conn.now) → OnOk result (Changed (RemoveNode name.now ∷ []) (state S.Store tx.old.conn.now) (state S.Store tx.new.conn.now)) }
+    ensures kept { HasCleanDisk (state S.Store tx.new.conn.now) → KeepsCommit (state S.Store tx.old.conn.now) (state S.Store tx.new.conn.now) }
+    ensures survives { Survives (state S.Store tx.old.conn.now) (state S.Store tx.new.conn.now) (λ _. ⊥) }
+{
+    match name.parent()? {
+        Some(parent) => remove_under(tx, &parent, name),
+        None => remove_entry(tx, name),
+    }
+}
+
+// Removes the node of a name that has this parent.
+fn remove_under<S: Alter>(
+    tx: &mut Transaction<'_, S>,
+    parent: &Name,
+    name: &Name,
+) -> Result<(), Error>
+    requires { parent_of name.now ≡ Some parent.now }
+    ensures same { tx.new.conn.ghost_name ≡ tx.old.conn.ghost_name }
+    ensures ok { HasCleanDisk (state S.Store tx.new.conn.now) → OnOk result (Changed (RemoveNode name.now ∷ []) (state S.Store tx.old.conn.now) (state S.Store tx.new.conn.now)) }
+    ensures kept { HasCleanDisk (state S.Store tx.new.conn.now) → KeepsCommit (state S.Store tx.old.conn.now) (state S.Store tx.new.conn.now) }
+    ensures survives { Survives (state S.Store tx.old.conn.now) (state S.Store tx.new.conn.now) (λ _. ⊥) }
+{
+    remove_child(tx, parent, name)?;
+    remove_entry(tx, name)
+}
+
+// Takes a name from under its parent.
+fn remove_child<S: Alter>(
+    tx: &mut Transaction<'_, S>,
+    parent: &Name,
+    child: &Name,
+) -> Result<(), Error>
+    ensures same { tx.new.conn.ghost_name ≡ tx.old.conn.ghost_name }
+    ensures ok { HasCleanDisk (state S.Store tx.new.conn.now) → OnOk result (TakesChild child.now parent.now (state S.Store tx.old.conn.now) (state S.Store tx.new.conn.now)) }
+    ensures kept { HasCleanDisk (state S.Store tx.new.conn.now) → KeepsCommit (state S.Store tx.old.conn.now) (state S.Store tx.new.conn.now) }
+    ensures survives { Survives (state S.Store tx.old.conn.now) (state S.Store tx.new.conn.now) (λ _. ⊥) }
+{
+    run(
+        tx,
+        "DELETE FROM children WHERE parent = ?1 AND child = ?2",
+        &[
+            ValueRef::Text(parent.as_str().as_bytes()),
+            ValueRef::Text(child.as_str().as_bytes()),
+        ],
+    )
+}
+
+// Removes the row of a node, and its locks with it.
+fn remove_entry<S: Alter>(tx: &mut Transaction<'_, S>, name: &Name) -> Result<(), Error>
+    ensures same { tx.new.conn.ghost_name ≡ tx.old.conn.ghost_name }
+    ensures ok { HasCleanDisk (state S.Store tx.new.conn.now) → OnOk result (RemovesEntry name.now (state S.Store tx.old.conn.now) (state S.Store tx.new.conn.now)) }
+    ensures kept { HasCleanDisk (state S.Store tx.new.conn.now) → KeepsCommit (state S.Store tx.old.conn.now) (state S.Store tx.new.conn.now) }
+    ensures survives { Survives (state S.Store tx.old.conn.now) (state S.Store tx.new.conn.now) (λ _. ⊥) }
+{
+    run(
+        tx,
+        "DELETE FROM nodes WHERE name = ?1",
+        &[ValueRef::Text(name.as_str().as_bytes())],
+    )
+}
+
+/// Puts a session, also to end it.
+pub(crate) fn put_session<S: Alter>(
+    tx: &mut Transaction<'_, S>,
+    client: u64,
+    session: &Session,
+) -> Result<(), Error>
+    ensures same { tx.new.conn.ghost_name ≡ tx.old.conn.ghost_name }
+    ensures ok { HasCleanDisk (state S.Store tx.new.conn.now) → OnOk result (Changed (PutSession client session.now ∷ []) (state S.Store tx.old.conn.now) (state S.Store tx.new.conn.now)) }
+    ensures kept { HasCleanDisk (state S.Store tx.new.conn.now) → KeepsCommit (state S.Store tx.old.conn.now) (state S.Store tx.new.conn.now) }
+    ensures survives { Survives (state S.Store tx.old.conn.now) (state S.Store tx.new.conn.now) (λ _. ⊥) }
+{
+    let client = number(client)?;
+    let principal = session.principal.as_str().as_bytes();
+    let live = live_as(session.live);
+    run(
+        tx,
+        "INSERT INTO sessions (client, principal, live) VALUES (?1, ?2, ?3) ON CONFLICT (client) DO UPDATE SET principal = excluded.principal, live = excluded.live",
+        &[client, ValueRef::Text(principal), live],
+    )
+}
+
+/// Puts a holder of a lock, or a lapsed lock.
+pub(crate) fn put_lock<S: Alter>(
+    tx: &mut Transaction<'_, S>,
+    key: &LockKey,
+    row: &LockRow,
+) -> Result<(), Error>
+    ensures same { tx.new.conn.ghost_name ≡ tx.old.conn.ghost_name }
+    ensures ok { HasCleanDisk (state S.Store tx.new.conn.now) → OnOk result (Changed (PutLock key.now row.now ∷ []) (state S.Store tx.old.conn.now) (state S.Store tx.new.conn.now)) }
+    ensures kept { HasCleanDisk (state S.Store tx.new.conn.now) → KeepsCommit (state S.Store tx.old.conn.now) (state S.Store tx.new.conn.now) }
+    ensures survives { Survives (state S.Store tx.old.conn.now) (state S.Store tx.new.conn.now) (λ _. ⊥) }
+{
+    let instance = number(key.instance)?;
+    let client = number(key.client)?;
+    let handle = number(key.handle)?;
+    let mode = mode_as(row.state);
+    let delay = number(row.delay)?;
+    run(
+        tx,
+        "INSERT INTO locks (instance, client, handle, mode, delay) VALUES (?1, ?2, ?3, ?4, ?5) ON CONFLICT (instance, client, handle) DO UPDATE SET mode = excluded.mode, delay = excluded.delay",
+        &[instance, client, handle, mode, delay],
+    )
+}
+
+/// Removes a holder of a lock, or a lapsed lock.
+pub(crate) fn remove_lock<S: Alter>(tx: &mut Transaction<'_, S>, key: &LockKey) -> Result<(), Error>
+    ensures same { tx.new.conn.ghost_name ≡ tx.old.conn.ghost_name }
+    ensures ok { HasCleanDisk (state S.Store tx.new.conn.now) → OnOk result (Changed (RemoveLock key.now ∷ []) (state S.Store tx.old.conn.now) (state S.Store tx.new.conn.now)) }
+    ensures kept { HasCleanDisk (state S.Store tx.new.conn.now) → KeepsCommit (state S.Store tx.old.conn.now) (state S.Store tx.new.conn.now) }
+    ensures survives { Survives (state S.Store tx.old.conn.now) (state S.Store tx.new.conn.now) (λ _. ⊥) }
+{
+    let instance = number(key.instance)?;
+    let client = number(key.client)?;
+    let handle = number(key.handle)?;
+    run(
+        tx,
+        "DELETE FROM locks WHERE instance = ?1 AND client = ?2 AND handle = ?3",
+        &[instance, client, handle],
+    )
+}

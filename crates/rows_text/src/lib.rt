@@ -1,6 +1,0 @@
-//! Rows as texts, for tests.
-#![tactic(auto)]
-
-mod texts;
-
-pub use texts::text_of;

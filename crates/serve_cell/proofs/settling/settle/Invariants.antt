@@ -1,0 +1,9 @@
+use Rattle.std.proofs.Common.{◌≡◌, length}
+use Rattle.serve_cell.proofs.Sweeps.{Going}
+use Rattle.serve_cell.proofs.settling.settle.Given as goal
+
+abbrev pub invariant-loop-done : goal.invariant-loop-done
+invariant-loop-done g l = record {
+  going : Going l.now l.fn.cell l.sweeps.items l.cell;
+  counted : length l.sweeps.items ≡ l._done;
+}

@@ -1,0 +1,121 @@
+//! What a program reads of what a master tells it.
+ghost use Rattle.std.specs.Prelude.{◌≡◌, ◌<◌, ◌^◌, length, Ok, IfOk};
+ghost use Rattle.plain.specs.Results.{Gives};
+ghost use Rattle.wire_core.specs.Forms.{Form, written, read_whole};
+ghost use Rattle.serve_cell.specs.Frames.{all_of};
+ghost use Rattle.serve_cell.specs.Told.{told, told_behind};
+
+use crate::frames::{fields_of, read_moment};
+use crate::kinds::{FLAGS, TOLD_KINDS, ToldKind, WIRE_FAULTS};
+use crate::tellings::Told;
+use byteorder::{BigEndian, ByteOrder};
+use plain::Bytes;
+use std::alloc::Global;
+use tags_cell::ClientNumber;
+use wire_core::{WireFault, read_out};
+
+/// What is told in all of these bytes, without the number in front; or what is wrong with them, the first from the left.
+pub fn read_told(alloc: Global, bytes: &[u8]) -> Result<Told, WireFault>
+    ensures told { Gives WireFault.NoMemory result (read_whole told bytes.now) }
+    ensures back { IfOk result (λ x. written told x ≡ Ok bytes.now) }
+{
+    match fields_of(bytes) {
+        Ok(rest) => read_fields(alloc, rest),
+        Err(fault) => Err(fault),
+    }
+}
+
+// The kind of what is told, and its fields.
+#[tactic(auto, unfolding(crate::specs::Told::told))]
+fn read_fields(alloc: Global, bytes: &[u8]) -> Result<Told, WireFault>
+    requires { length bytes.now < 2 ^ 32 }
+    ensures { Gives WireFault.NoMemory result (all_of (told.read bytes.now)) }
+{
+    let [place, rest @ ..] = bytes else {
+        return Err(WireFault::Cut);
+    };
+    let Some(kind) = TOLD_KINDS.get(usize::from(*place)) else {
+        return Err(WireFault::BadKind);
+    };
+    read_fields_of(alloc, *kind, rest)
+}
+
+fn read_fields_of(alloc: Global, kind: ToldKind, bytes: &[u8]) -> Result<Told, WireFault>
+    requires { length bytes.now < 2 ^ 32 }
+    ensures { Gives WireFault.NoMemory result (all_of (told_behind kind bytes.now)) }
+{
+    match kind {
+        ToldKind::Line => read_line(alloc, bytes),
+        ToldKind::Message => read_message(alloc, bytes),
+        ToldKind::Bad => read_bad(bytes),
+        ToldKind::End => read_end(bytes),
+    }
+}
+
+// The number of a text's bytes in four, and the text.
+fn read_line(alloc: Global, bytes: &[u8]) -> Result<Told, WireFault>
+    ensures { Gives WireFault.NoMemory result (all_of (told_behind ToldKind.Line bytes.now)) }
+{
+    if bytes.len() < 4 {
+        return Err(WireFault::Cut);
+    }
+    let (front, text) = bytes.split_at(4);
+    let count = BigEndian::read_u32(front) as usize;
+    if text.len() < count {
+        return Err(WireFault::Cut);
+    }
+    if text.len() > count {
+        return Err(WireFault::Extra);
+    }
+    Ok(Told::Line(Bytes::copy_of(alloc, text)?))
+}
+
+// A client, and behind it all bytes of a message.
+fn read_message(alloc: Global, bytes: &[u8]) -> Result<Told, WireFault>
+    requires { length bytes.now < 2 ^ 32 }
+    ensures { Gives WireFault.NoMemory result (all_of (told_behind ToldKind.Message bytes.now)) }
+{
+    if bytes.len() < 8 {
+        return Err(WireFault::Cut);
+    }
+    let (front, back) = bytes.split_at(8);
+    let Some(client) = ClientNumber::new(BigEndian::read_u64(front)) else {
+        return Err(WireFault::BadNumber);
+    };
+    match read_out(alloc, back) {
+        Ok(message) => Ok(Told::Message(client, message)),
+        Err(fault) => Err(fault),
+    }
+}
+
+// The place of a fault among all of them.
+fn read_bad(bytes: &[u8]) -> Result<Told, WireFault>
+    ensures { result ≡ all_of (told_behind ToldKind.Bad bytes.now) }
+{
+    let [place, rest @ ..] = bytes else {
+        return Err(WireFault::Cut);
+    };
+    let Some(fault) = WIRE_FAULTS.get(usize::from(*place)) else {
+        return Err(WireFault::BadKind);
+    };
+    if !rest.is_empty() {
+        return Err(WireFault::Extra);
+    }
+    Ok(Told::Bad(*fault))
+}
+
+// Whether there is a moment, and the moment.
+#[tactic(auto, unfolding(wire_core::specs::Fields::optional_word))]
+fn read_end(bytes: &[u8]) -> Result<Told, WireFault>
+    ensures { result ≡ all_of (told_behind ToldKind.End bytes.now) }
+{
+    let [place, rest @ ..] = bytes else {
+        return Err(WireFault::Cut);
+    };
+    match FLAGS.get(usize::from(*place)) {
+        Some(true) => Ok(Told::End(Some(read_moment(rest)?))),
+        Some(false) if rest.is_empty() => Ok(Told::End(None)),
+        Some(false) => Err(WireFault::Extra),
+        None => Err(WireFault::BadKind),
+    }
+}

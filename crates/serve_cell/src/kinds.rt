@@ -1,0 +1,68 @@
+//! Of which kind a frame is: the byte behind its version.
+ghost use Rattle.std.specs.Prelude.{◌≡◌};
+ghost use Rattle.serve_cell.specs.Told.{fault_place};
+
+use wire_core::WireFault;
+
+/// Of which kind a frame is that a master is sent.
+#[derive(Clone, Copy)]
+pub enum FrameKind {
+    Up,
+    Message,
+    Tick,
+    Down,
+}
+
+pub(crate) const FRAME_KINDS: [FrameKind; 4] = [
+    FrameKind::Up,
+    FrameKind::Message,
+    FrameKind::Tick,
+    FrameKind::Down,
+];
+
+/// Of which kind a frame is that a master sends.
+#[derive(Clone, Copy)]
+pub enum ToldKind {
+    Line,
+    Message,
+    Bad,
+    End,
+}
+
+pub(crate) const TOLD_KINDS: [ToldKind; 4] = [
+    ToldKind::Line,
+    ToldKind::Message,
+    ToldKind::Bad,
+    ToldKind::End,
+];
+
+// What may be wrong with a frame, each at its place.
+pub(crate) const WIRE_FAULTS: [WireFault; 8] = [
+    WireFault::NoMemory,
+    WireFault::TooLong,
+    WireFault::Cut,
+    WireFault::Extra,
+    WireFault::BadVersion,
+    WireFault::BadKind,
+    WireFault::BadNumber,
+    WireFault::BadText,
+];
+
+// Whether something that may be missing is there.
+pub(crate) const FLAGS: [bool; 2] = [false, true];
+
+// The place of a fault among all of them.
+pub(crate) fn place_of(fault: WireFault) -> u8
+    ensures { result ≡ fault_place fault }
+{
+    match fault {
+        WireFault::NoMemory => 0,
+        WireFault::TooLong => 1,
+        WireFault::Cut => 2,
+        WireFault::Extra => 3,
+        WireFault::BadVersion => 4,
+        WireFault::BadKind => 5,
+        WireFault::BadNumber => 6,
+        WireFault::BadText => 7,
+    }
+}

@@ -1,8 +1,0 @@
-mod Contents
-mod Cuts
-mod Decimals
-mod Lifts
-mod LineWords
-mod Options
-mod Ticks
-mod Written

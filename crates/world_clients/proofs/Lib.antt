@@ -1,3 +1,0 @@
-pub mod MemberAnswers
-pub mod MembersMove
-pub mod FairTicks
