@@ -3,7 +3,7 @@
 #![tactic(auto)]
 
 mod laws;
-mod mail;
+pub mod mail;
 mod members;
 mod parts;
 mod steps;
