@@ -374,6 +374,12 @@ impl Tables {
         self.sessions.note_moment(now);
     }
 
+    /// The first moment behind the one noted last at which something may be to be done for a session; `u64::MAX` stands for
+    /// never. It says where to look first.
+    pub fn next_moment(&self) -> u64 {
+        self.sessions.next_moment()
+    }
+
     /// A client that wasn't heard from is noted, so that nobody looks for one while it isn't.
     pub fn note_unheard(&mut self)
         ensures { self.new ≡ self.old }

@@ -160,6 +160,12 @@ impl Master {
         before
     }
 
+    /// The first moment behind the one noted last at which something may be to be done for a session or a lock by itself;
+    /// `u64::MAX` stands for never. It says where to look first.
+    pub fn next_moment(&self) -> u64 {
+        self.tables.next_moment().min(self.locks.next_moment())
+    }
+
     /// Notes what isn't ready, to go or heard from, so that nobody looks at it again before something changes. To be called
     /// where nothing is to be done; elsewhere it does no harm. Takes no memory that it can't do without.
     pub fn note_quiet(&mut self)

@@ -16,6 +16,47 @@ impl Locks {
         ensures { self.new ≡ self.old }
     {
         self.openings.turn(now);
+        self.put_openings_off(now);
+    }
+
+    fn put_openings_off(&mut self, now: u64)
+        ensures { self.new ≡ self.old }
+    {
+        for _ in 0..self.openings.count() {
+            if !self.put_opening_off(now) {
+                return;
+            }
+        }
+    }
+
+    // The first lock that may be due isn't to be looked at before its own moment. False where that has come.
+    fn put_opening_off(&mut self, now: u64) -> bool
+        ensures { self.new ≡ self.old }
+    {
+        let Some(instance) = self.openings.first() else {
+            return false;
+        };
+        let moment = self.opening_of(instance);
+        if moment <= now {
+            return false;
+        }
+        self.openings.put_off(instance, moment);
+        true
+    }
+
+    fn opening_of(&self, instance: u64) -> u64
+        ensures { result ≡ opens_at (lock_at self.now instance).closed }
+    {
+        match self.locks.get(&instance) {
+            None => u64::MAX,
+            Some(lock) => lock.opens_at(),
+        }
+    }
+
+    /// The first moment behind the one noted last at which a lock may be due; `u64::MAX` stands for never. It says where to
+    /// look first: whether a lock is due there is for `due` to tell.
+    pub fn next_moment(&self) -> u64 {
+        self.openings.first_moment().unwrap_or(u64::MAX)
     }
 
     /// Where `due` looked at locks though none was due, notes anew from when on each is, which walks over all: memory was

@@ -22,6 +22,17 @@ pub record IsAfter (s : MasterState) (from moment : ℕ) : Type 0 where
   pub before : (t : ℕ) → from ≤ t → t < moment → quiet_at s t ≡ true
   pub busy : (t : ℕ) → moment ≤ t → quiet_at s t ≡ false
 
+-- a moment from another one on at which there is nothing to do
+pub record IsQuietBy (s : MasterState) (from moment : ℕ) : Type 0 where
+  pub is : IsMoment moment
+  pub later : from ≤ moment
+  pub quiet : quiet_at s moment ≡ true
+
+-- a moment at which there is something to do; none where there isn't at the last moment of all
+abbrev pub IsBusyBy : MasterState → Option ℕ → Type 0
+IsBusyBy s None = quiet_at s 9007199254740991 ≡ true
+IsBusyBy s (Some moment) = (IsMoment moment) × (quiet_at s moment ≡ false)
+
 -- the earliest moment, from now on, at which there is something to do; none where there isn't any
 abbrev pub IsDeadline : MasterState → Option ℕ → Type 0
 IsDeadline s None = (t : ℕ) → IsMoment t → quiet_at s t ≡ true

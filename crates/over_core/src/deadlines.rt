@@ -1,7 +1,7 @@
 //! The earliest moment at which a sweep has something to do.
-ghost use Rattle.std.specs.Prelude.{◌≡◌, ◌<◌, ◌≤◌, true, false, IfOk};
+ghost use Rattle.std.specs.Prelude.{◌≡◌, IfOk, Some};
 ghost use Rattle.lease_core.specs.Lease.{IsMoment};
-ghost use Rattle.over_core.specs.Deadlines.{quiet_at, IsDeadline, IsAfter};
+ghost use Rattle.over_core.specs.Deadlines.{quiet_at, IsDeadline, IsAfter, IsQuietBy, IsBusyBy};
 ghost use Rattle.over_core.specs.Sweep.{is_quiet};
 
 use crate::actions::{Action, first_action};
@@ -11,7 +11,8 @@ use std::alloc::AllocError;
 
 /// The earliest moment, from the last one that the master was told on, at which a sweep would do something: at every
 /// one before it a sweep is quiet, and at no later one. None where a sweep would be quiet at every moment there is. The
-/// master stays as it is; it is lent to be asked as of other moments. That costs 54 times what a sweep looks at.
+/// master stays as it is; it is lent to be asked as of other moments. Where the moment is a session's or a lock's own, that
+/// costs three times what a sweep looks at, whatever the cell holds; else twice the logarithm of the milliseconds till then.
 pub fn next_deadline(cell: &mut Cell) -> Result<Option<u64>, AllocError>
     ensures deadline { IfOk result (IsDeadline cell.old) }
     ensures same { cell.new ≡ cell.old }
@@ -20,23 +21,55 @@ pub fn next_deadline(cell: &mut Cell) -> Result<Option<u64>, AllocError>
     if !is_quiet_at(cell, now)? {
         return Ok(Some(now));
     }
-    if is_quiet_at(cell, MOMENT_LIMIT - 1)? {
+    let near = cell.next_moment().min(MOMENT_LIMIT - 1);
+    let quiet = later_quiet(cell, now, near.saturating_sub(1))?;
+    let Some(busy) = busy_from(cell, near)? else {
         return Ok(None);
-    }
-    let found = search(cell, now)?;
+    };
+    let found = search(cell, now, quiet, busy)?;
     Ok(Some(found))
 }
 
-// The first moment behind a quiet one that isn't quiet, where the last moment of all isn't.
-fn search(cell: &mut Cell, now: u64) -> Result<u64, AllocError>
-    requires moment { IsMoment now }
-    requires quiet { quiet_at cell.old now ≡ true }
-    requires busy { quiet_at cell.old 9007199254740991 ≡ false }
+// The later of two moments of which the first is quiet, where the second is quiet too; else the first.
+fn later_quiet(cell: &mut Cell, quiet: u64, moment: u64) -> Result<u64, AllocError>
+    requires first { IsQuietBy cell.old quiet quiet }
+    ensures later { IfOk result (IsQuietBy cell.old quiet) }
+    ensures same { cell.new ≡ cell.old }
+{
+    if moment <= quiet || moment >= MOMENT_LIMIT {
+        return Ok(quiet);
+    }
+    if is_quiet_at(cell, moment)? {
+        Ok(moment)
+    } else {
+        Ok(quiet)
+    }
+}
+
+// A moment that isn't quiet, the one told where it isn't, else the last of all; none where that is quiet.
+fn busy_from(cell: &mut Cell, moment: u64) -> Result<Option<u64>, AllocError>
+    requires { IsMoment moment }
+    ensures busy { IfOk result (IsBusyBy cell.old) }
+    ensures same { cell.new ≡ cell.old }
+{
+    if !is_quiet_at(cell, moment)? {
+        return Ok(Some(moment));
+    }
+    if is_quiet_at(cell, MOMENT_LIMIT - 1)? {
+        return Ok(None);
+    }
+    Ok(Some(MOMENT_LIMIT - 1))
+}
+
+// The first moment that isn't quiet, behind one that is and not behind one that isn't.
+fn search(cell: &mut Cell, now: u64, from: u64, until: u64) -> Result<u64, AllocError>
+    requires quiet { IsQuietBy cell.old now from }
+    requires busy { IsBusyBy cell.old (Some until) }
     ensures after { IfOk result (IsAfter cell.old now) }
     ensures same { cell.new ≡ cell.old }
 {
-    let mut quiet = now;
-    let mut busy = MOMENT_LIMIT - 1;
+    let mut quiet = from;
+    let mut busy = until;
     while quiet + 1 < busy {
         let middle = quiet + (busy - quiet) / 2;
         if is_quiet_at(cell, middle)? {

@@ -59,6 +59,13 @@ impl Bounds {
         self.answers.change(client, before.answer, after.answer);
     }
 
+    // From this moment on something may be to be done for one of those that aren't to be looked at yet.
+    pub(crate) fn next_moment(&self) -> u64 {
+        let end = self.ends.first_moment().unwrap_or(u64::MAX);
+        let answer = self.answers.first_moment().unwrap_or(u64::MAX);
+        end.min(answer)
+    }
+
     // Finds those for whom something may be to be done now.
     pub(crate) fn turn(&mut self, now: u64)
         ensures events { self.new.most_events ≡ self.old.most_events }

@@ -20,6 +20,12 @@ impl<K> Sessions<K> {
         self.put_answers_off(now);
     }
 
+    /// The first moment behind the one noted last at which something may be to be done for a session; `u64::MAX` stands for
+    /// never. It says where to look first: whether something is to be done there is for `expired` and `due` to tell.
+    pub fn next_moment(&self) -> u64 {
+        self.bounds.next_moment()
+    }
+
     fn put_ends_off(&mut self, now: u64)
         ensures { self.new ≡ self.old }
     {

@@ -128,6 +128,11 @@ impl Timers {
         }
     }
 
+    /// The first moment at which a key may be due that isn't to be looked at yet.
+    pub fn first_moment(&self) -> Option<u64> {
+        self.later.first().map(|entry| entry.0)
+    }
+
     /// The first of the keys to look at.
     pub fn first(&self) -> Option<u64> {
         self.soon.first().copied()

@@ -1,6 +1,5 @@
 use Rattle.std.proofs.Common.{◌≡◌, sym, ap, ◌∙◌}
 use Rattle.cell_state.specs.State.{MasterState}
-use Rattle.over_core.specs.Deadlines.{quiet_at}
 use Rattle.over_core.proofs.Later.{busy_now, quiet_always}
 use Rattle.over_core.proofs.deadlines.next_deadline.Goals as goal
 
@@ -8,8 +7,3 @@ pub returns-then-not-branch-clause-deadline : goal.returns-then-not-branch-claus
 returns-then-not-branch-clause-deadline c =
     let clock : c.clock-now.result ≡ c.args.cell.now.clock = c.clock-now.ensures.value ∙ ap (λ (m : MasterState). m.clock) c.master.ensures in
     busy_now c.args.cell.now c.clock-now.result clock c.clock-now.ensures.moment (sym c.in_ok-is_quiet_at.ensures.quiet ∙ c.if-not-branch.true)
-
-pub returns-then-branch-clause-deadline : goal.returns-then-branch-clause-deadline
-returns-then-branch-clause-deadline c =
-    quiet_always c.args.cell.now
-    (ap (λ (m : MasterState). quiet_at m 9007199254740991) (sym c.is_quiet_at.ensures.same) ∙ sym c.in_ok-is_quiet_at-2.ensures.quiet ∙ c.if-branch.true)
