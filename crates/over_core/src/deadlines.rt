@@ -12,7 +12,7 @@ use std::alloc::AllocError;
 /// The earliest moment, from the last one that the master was told on, at which a sweep would do something: at every
 /// one before it a sweep is quiet, and at no later one. None where a sweep would be quiet at every moment there is. The
 /// master stays as it is; it is lent to be asked as of other moments. Where the moment is a session's or a lock's own, that
-/// costs three times what a sweep looks at, whatever the cell holds; else twice the logarithm of the milliseconds till then.
+/// costs three times what a sweep looks at, whatever the cell holds; else up to 55 times.
 pub fn next_deadline(cell: &mut Cell) -> Result<Option<u64>, AllocError>
     ensures deadline { IfOk result (IsDeadline cell.old) }
     ensures same { cell.new ≡ cell.old }
