@@ -28,7 +28,7 @@ use Rattle.node_core.specs.declared.refusals.Fault.TheVariants as faults
 use Rattle.lease_core.specs.Lease.{IsMoment}
 use Rattle.over_core.specs.declared.swept.Swept.{Swept}
 use Rattle.over_core.specs.Sweep.{is_quiet, is_over, swept, sweep_step}
-use Rattle.over_core.specs.Deadlines.{quiet_at, IsAfter, IsDeadline, QuietTellsOfSweeps}
+use Rattle.over_core.specs.Deadlines.{quiet_at, IsAfter, IsBusyBy, IsDeadline, QuietTellsOfSweeps}
 
 -- ---- nothing to do, part by part
 
@@ -173,6 +173,13 @@ false_of false h = refl
 pub busy_later : (s : MasterState) (t u : ℕ) → t ≤ u → quiet_at s t ≡ false → quiet_at s u ≡ false
 busy_later s t u le h = false_of (quiet_at s u) (λ q. let p = quiet_before s t u le q in absurd cc)
 
+-- what is quiet isn't behind what isn't
+pub ordered : (s : MasterState) (quiet busy : ℕ) → quiet_at s quiet ≡ true → quiet_at s busy ≡ false → quiet ≤ busy
+ordered s quiet busy before behind = elim (cases_lt busy quiet) [
+  | inl lt ↦ let late = busy_later s busy quiet (omega arith) behind in absurd cc
+  | inr ge ↦ omega arith
+]
+
 -- ---- deadlines
 
 -- what there is to do now
@@ -182,6 +189,10 @@ busy_now s now same is h = (is, omega (arith, same), (λ t from lt. absurd (omeg
 -- nothing to do at the last moment of all
 pub quiet_always : (s : MasterState) → quiet_at s 9007199254740991 ≡ true → IsDeadline s None
 quiet_always s h = λ t is. quiet_before s t 9007199254740991 (omega (arith, is)) h
+
+pub never_busy : (s t : MasterState) (moment : Option ℕ) → t ≡ s → moment ≡ None → IsBusyBy t moment → IsDeadline s None
+never_busy s t None same none quiet = quiet_always s (sym (ap (λ m. quiet_at m 9007199254740991) same) ∙ quiet)
+never_busy s t (Some moment) same none busy = absurd cc
 
 -- the two moments between which it changes have met
 pub after_of : (s : MasterState) (from quiet busy : ℕ) → from ≤ quiet → quiet ≤ busy → busy ≤ 9007199254740991 → quiet_at s quiet ≡ true → quiet_at s busy ≡ false → busy ≤ quiet + 1

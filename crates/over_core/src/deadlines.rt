@@ -23,11 +23,13 @@ pub fn next_deadline(cell: &mut Cell) -> Result<Option<u64>, AllocError>
     }
     let near = cell.next_moment().min(MOMENT_LIMIT - 1);
     let quiet = later_quiet(cell, now, near.saturating_sub(1))?;
-    let Some(busy) = busy_from(cell, near)? else {
-        return Ok(None);
-    };
-    let found = search(cell, now, quiet, busy)?;
-    Ok(Some(found))
+    match busy_from(cell, near)? {
+        None => Ok(None),
+        Some(busy) => {
+            let found = search(cell, now, quiet, busy)?;
+            Ok(Some(found))
+        }
+    }
 }
 
 // The later of two moments of which the first is quiet, where the second is quiet too; else the first.
