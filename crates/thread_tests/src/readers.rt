@@ -134,7 +134,7 @@ fn look<W: Threads + Wait + Sync>(
     stage.go(rt, seats, BEFORE)?;
     let name = Name::parse(alloc, "/ls/c/f")?;
     if of_two {
-        return Ok(are_both_inside(rt, seats.of_one.as_mut_slice(), &name));
+        return Ok(are_two_inside(rt, seats.of_one.as_mut_slice(), &name));
     }
     let Some(mut viewer) = seats.of_one.pop() else {
         return Ok(false);
@@ -174,11 +174,20 @@ fn publish_two<W: Wait>(
     went
 }
 
+fn are_two_inside<W: Threads + Wait + Sync>(rt: &W, viewers: &mut [Viewer], name: &Name) -> bool {
+    match viewers {
+        [one, two, ..] => are_both_inside(rt, one, two, name),
+        _ => false,
+    }
+}
+
 // Whether the first viewer, which waits until the second was answered, sees that.
-fn are_both_inside<W: Threads + Wait + Sync>(rt: &W, viewers: &mut [Viewer], name: &Name) -> bool {
-    let [one, two, ..] = viewers else {
-        return false;
-    };
+fn are_both_inside<W: Threads + Wait + Sync>(
+    rt: &W,
+    one: &mut Viewer,
+    two: &mut Viewer,
+    name: &Name,
+) -> bool {
     let gate = Gate::new(true);
     let (first, second) = join(rt, || one.hit(name, &gate), || answered(two, name, &gate));
     gate.is_in_time() && first.is_ok_and(|hit| is_view(&hit)) && second
