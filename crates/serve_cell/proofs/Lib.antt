@@ -9,3 +9,4 @@ pub mod Hearings
 pub mod Streaming
 pub mod Passages
 pub mod Served
+pub mod Standings

@@ -15,6 +15,7 @@ use Rattle.wire_core.specs.Fields.{word, client}
 use Rattle.wire_core.specs.Requests.{request}
 use Rattle.wire_core.specs.Outs.{out_message, has_bytes, out_written}
 use Rattle.serve_cell.specs.declared.frames.Frame.TheVariants as frames
+use Rattle.serve_cell.specs.declared.standing.Counts.{Counts}
 use Rattle.serve_cell.specs.declared.tellings.Told.TheVariants as tells
 use Rattle.serve_cell.specs.Blocks.{framed, framed_by}
 use Rattle.serve_cell.specs.Frames.{frame}
@@ -100,6 +101,24 @@ pub gives_out : (number : ℕ) (message : Out) (front bytes : List ℕ) (r : Res
 gives_out number message front bytes r e was given =
     let P : Result (List ℕ) WireFault → Type 0 = λ w. Gives NoMemory r w in
     subst P (ap (λ (u : List ℕ). framed_by (1 ∷ (u ++ bytes))) e ∙ sym (told_framed number message bytes was)) given
+
+-- ---- counts
+
+-- five parts, each put behind those before it
+parts_of : (a b c d e : List ℕ) → ((((([] ++ a) ++ b) ++ c) ++ d) ++ e) ≡ a ++ (b ++ (c ++ (d ++ e)))
+parts_of a b c d e =
+    append_assoc ((a ++ b) ++ c) d e ∙ append_assoc (a ++ b) c (d ++ e) ∙ append_assoc a b (c ++ (d ++ e))
+
+pub gives_counts : (counts : Counts) (w0 w1 w2 w3 w4 w5 p q s t u front : List ℕ) (r : Result (List ℕ) WireFault)
+    → w0 ≡ [] → w1 ≡ w0 ++ p → w2 ≡ w1 ++ q → w3 ≡ w2 ++ s → w4 ≡ w3 ++ t → w5 ≡ w4 ++ u
+    → p ≡ big_bytes 8 counts.epoch → q ≡ big_bytes 8 counts.sessions → s ≡ big_bytes 8 counts.nodes → t ≡ big_bytes 8 counts.rights → u ≡ big_bytes 8 counts.changes
+    → front ≡ w5 → Gives NoMemory r (framed_by (4 ∷ (front ++ []))) → Gives NoMemory r (framed told (tells.Counts counts))
+unfolding told word
+gives_counts counts w0 w1 w2 w3 w4 w5 p q s t u front r e0 e1 e2 e3 e4 e5 ep eq es et eu e given =
+    let P : List ℕ → Type 0 = λ l. Gives NoMemory r (framed_by (4 ∷ l)) in
+    let parts : w5 ≡ ((((([] ++ p) ++ q) ++ s) ++ t) ++ u) = cc in
+    let words : p ++ (q ++ (s ++ (t ++ u))) ≡ big_bytes 8 counts.epoch ++ (big_bytes 8 counts.sessions ++ (big_bytes 8 counts.nodes ++ (big_bytes 8 counts.rights ++ big_bytes 8 counts.changes))) = cc in
+    subst P (append-nil front ∙ e ∙ parts ∙ parts_of p q s t u ∙ words) given
 
 -- ---- where a message may have no bytes
 

@@ -3,6 +3,7 @@ pub mod Runs
 pub mod Blocks
 pub mod Frames
 pub mod Told
+pub mod Standing
 pub mod Laws
 pub mod Seats
 pub mod Replies

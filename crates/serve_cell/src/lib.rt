@@ -13,6 +13,7 @@ mod outputs;
 mod runs;
 mod seats;
 mod settling;
+mod standing;
 mod stops;
 mod streams;
 mod tellings;
@@ -30,6 +31,10 @@ pub use outputs::write_reply;
 pub use runs::{Asked, serve};
 pub use seats::{Reply, Seat};
 pub use settling::{End, Settled, settle};
+pub use standing::{Counts, Delay, LONGEST_LIMIT, Recovery, Standing, standing_of};
 pub use stops::Stop;
 pub use streams::{Turned, serve_on};
-pub use tellings::{Told, write_bad, write_end, write_line, write_message};
+pub use tellings::{
+    Told, write_awaited, write_bad, write_counts, write_end, write_line, write_message,
+    write_recovers, write_touches, write_waits,
+};
