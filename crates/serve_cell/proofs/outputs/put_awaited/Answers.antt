@@ -1,4 +1,5 @@
-use Rattle.std.proofs.Common.{arith}
+use Rattle.std.proofs.Common.{◌<◌, length, get_or, arith}
+use Rattle.std.proofs.lemmas.List.{get_or_default}
 use Rattle.serve_cell.specs.declared.tellings.Told.TheVariants.{Awaited}
 use Rattle.serve_cell.proofs.Streaming.{puts_none, puts_next, puts_all}
 use Rattle.serve_cell.proofs.outputs.put_awaited.Goals as goal
@@ -8,7 +9,10 @@ loop-client-init c = puts_none _
 
 pub loop-client-preserved : goal.loop-client-preserved
 loop-client-preserved c =
-    puts_next Awaited c.args.clients.now c.loop-client.client-index c.client-item.result _ _ _ (omega arith) c.client-item.is c.loop-client.invariant c.in_ok-put_client.ensures
+    let xs = c.args.clients.now in
+    let i = c.loop-client.client-index in
+    let lt : i < length xs = omega arith in
+    puts_next Awaited xs i (get_or xs i 0) _ _ _ lt (get_or_default xs i 0 (get_or xs i 0) lt) c.loop-client.invariant c.in_ok-put_client.ensures
 
 pub returns : goal.returns
 returns c = puts_all Awaited c.args.clients.now c.loop-client.client-index _ _ (omega arith) c.loop-client.invariant

@@ -1,8 +1,13 @@
-use Rattle.std.proofs.Common.{[], ◌∷◌, map}
+use Rattle.std.proofs.Common.{[], ◌∷◌, map, Option, sym, subst}
+use Rattle.std.specs.Prelude.{OnOk}
+use Rattle.serve_cell.specs.declared.standing.Recovery.{Recovery}
 use Rattle.serve_cell.specs.declared.tellings.Told.TheVariants.{Recovers, Awaited}
+use Rattle.serve_cell.specs.Replies.{Puts, recovery_told}
 use Rattle.serve_cell.proofs.Streaming.{then_puts, puts_if_at}
 use Rattle.serve_cell.proofs.outputs.put_recovery.Goals as goal
 
 pub returns-in_ok-put_until-in-Some : goal.returns-in_ok-put_until-in-Some
 returns-in_ok-put_until-in-Some c =
-    then_puts _ (Recovers c.in-Some.recovery.until ∷ []) (map Awaited c.in-Some.recovery.awaited) _ _ _ c.in_ok-put_until-in-Some.ensures (puts_if_at _ Awaited _ _ _ _ c.as_slice-in-Some.ensures c.put_awaited.ensures)
+    let P : Option Recovery → Type 0 = λ asked. OnOk c.put_awaited.result (Puts (recovery_told asked) c.args.out.now.items c.put_awaited.new.out.items) in
+    subst P (sym c.in-Some.is)
+    (then_puts _ (Recovers c.in-Some.recovery.until ∷ []) (map Awaited c.in-Some.recovery.awaited) _ _ _ c.in_ok-put_until-in-Some.ensures (puts_if_at _ Awaited _ _ _ _ c.as_slice.ensures c.put_awaited.ensures))
