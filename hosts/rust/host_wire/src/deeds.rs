@@ -1,11 +1,11 @@
 //! What a call asks for, as far as a server has to know it: for its limits, and to show who waits for what.
 
 use crate::fields::Fields;
+use crate::messages::VERSION;
+use crate::messages::of_client::CALL;
+use crate::messages::of_master::{REFUSED, REPLY};
 
-const VERSION: u8 = 2;
-
-/// The kinds of messages and of calls, as `docs/FORMATS.md` numbers them.
-const CALL: u8 = 2;
+/// The kinds of calls, as `docs/FORMATS.md` numbers them.
 const OPEN: u8 = 0;
 const SET: u8 = 5;
 const SET_ACL: u8 = 6;
@@ -110,7 +110,7 @@ fn of_handle<'a>(kind: u8, fields: &mut Fields<'a>) -> Option<(&'a str, Act)> {
 #[must_use]
 pub fn ended_call(message: &[u8]) -> Option<(u64, u64)> {
     let mut fields = Fields(message);
-    if !matches!(fields.take(2)?, [VERSION, 2 | 3]) {
+    if !matches!(fields.take(2)?, [VERSION, REPLY | REFUSED]) {
         return None;
     }
     let (client, _epoch, number) = (fields.word()?, fields.word()?, fields.word()?);

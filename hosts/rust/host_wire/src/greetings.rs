@@ -15,7 +15,8 @@ use crate::fields::Fields;
 use crate::heads::is_component;
 use thiserror::Error;
 
-const VERSION: u8 = 1;
+/// The version of greetings.
+const GREETING: u8 = 1;
 
 /// The longest greeting, in bytes.
 pub const GREETING_LIMIT: usize = 256;
@@ -115,7 +116,7 @@ impl Hello {
     #[must_use]
     pub fn write(&self) -> Vec<u8> {
         let kind = u8::from(matches!(self, Hello::Again { .. }));
-        let mut out = vec![VERSION, kind];
+        let mut out = vec![GREETING, kind];
         put_bytes(&mut out, self.principal().as_bytes());
         if let Hello::Again { client, token, .. } = self {
             out.extend_from_slice(&client.to_be_bytes());
@@ -136,7 +137,7 @@ impl Hello {
 
     fn fields(bytes: &[u8]) -> Option<Hello> {
         let mut fields = Fields(bytes);
-        if fields.byte()? != VERSION {
+        if fields.byte()? != GREETING {
             return None;
         }
         let kind = fields.byte()?;
@@ -156,12 +157,12 @@ impl Welcome {
     pub fn write(answer: &Result<Welcome, TurnedAway>) -> Vec<u8> {
         match answer {
             Ok(welcome) => {
-                let mut out = vec![VERSION, 0];
+                let mut out = vec![GREETING, 0];
                 out.extend_from_slice(&welcome.client.to_be_bytes());
                 out.extend_from_slice(&welcome.token.to_be_bytes());
                 out
             }
-            Err(reason) => vec![VERSION, 1, *reason as u8],
+            Err(reason) => vec![GREETING, 1, *reason as u8],
         }
     }
 
@@ -176,7 +177,7 @@ impl Welcome {
 
     fn fields(bytes: &[u8]) -> Option<Result<Welcome, TurnedAway>> {
         let mut fields = Fields(bytes);
-        if fields.byte()? != VERSION {
+        if fields.byte()? != GREETING {
             return None;
         }
         let answer = match fields.byte()? {

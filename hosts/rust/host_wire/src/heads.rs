@@ -1,15 +1,8 @@
 //! The head of a message that a client sends: what a server has to know of it to test from whom it is.
 
 use crate::fields::Fields;
-
-/// The version of the bytes of messages.
-const VERSION: u8 = 2;
-
-/// The number of the kind of a Start.
-const START: u8 = 0;
-
-/// The number of the last kind of a client's blocks: a Start, a Beat, a call, a last Beat.
-const LAST_KIND: u8 = 3;
+use crate::messages::VERSION;
+use crate::messages::of_client::{LAST_BEAT, START};
 
 /// What stands at the front of a client's message, and of a Start all that it has.
 #[derive(Clone, Debug, PartialEq, Eq)]
@@ -27,7 +20,7 @@ impl<'a> Head<'a> {
     pub fn read(bytes: &'a [u8]) -> Option<Head<'a>> {
         let mut fields = Fields(bytes);
         let (version, kind) = (fields.byte()?, fields.byte()?);
-        if version != VERSION || kind > LAST_KIND {
+        if version != VERSION || kind > LAST_BEAT {
             return None;
         }
         let client = fields.word()?;

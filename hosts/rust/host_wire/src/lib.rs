@@ -11,6 +11,7 @@ mod deeds;
 mod fields;
 mod greetings;
 mod heads;
+pub mod messages;
 mod names;
 mod notices;
 mod partings;

@@ -1,15 +1,10 @@
 //! What a server says by itself to a client behind the greeting: that it doesn't hand a call on to the master, and why.
 
 use crate::fields::Fields;
+use crate::messages::of_master::{NOTICE, REPLY};
+use crate::messages::{REFUSAL, VERSION};
 
-const VERSION: u8 = 2;
-
-/// The kinds of messages of a master, as `docs/FORMATS.md` numbers them; and behind them that of a notice.
-const REPLY: u8 = 2;
-const NOTICE: u8 = 4;
-
-/// A refusal as the result of a call, and the byte of the refusal 15, that the store refused.
-const REFUSED: u8 = 7;
+/// The byte of the refusal 15, that the store refused.
 const STORE_REFUSED: u8 = 14;
 
 /// Why a server doesn't hand the call of this number on to its master: a block before the reply, which then is that the store
@@ -48,7 +43,7 @@ impl Notice {
 pub fn write_store_refused(client: u64, epoch: u64, number: u64) -> Vec<u8> {
     let mut out = vec![VERSION, REPLY];
     out.extend([client, epoch, number].iter().flat_map(|word| word.to_be_bytes()));
-    out.extend_from_slice(&[0, REFUSED, STORE_REFUSED]);
+    out.extend_from_slice(&[0, REFUSAL, STORE_REFUSED]);
     out
 }
 

@@ -3,15 +3,9 @@
 //! master asks back.
 
 use crate::fields::Fields;
-
-const VERSION: u8 = 2;
-
-/// The kinds of messages, as `docs/FORMATS.md` numbers them.
-const BEAT: u8 = 1;
-const ALIVE: u8 = 1;
-
-/// In the place of a Beat's kind: the client's last one.
-const LAST_BEAT: u8 = 3;
+use crate::messages::VERSION;
+use crate::messages::of_client::{BEAT, LAST_BEAT};
+use crate::messages::of_master::ALIVE;
 
 /// The length of a Beat in bytes.
 const BEAT_LENGTH: usize = 42;

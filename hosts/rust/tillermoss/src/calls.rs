@@ -3,11 +3,8 @@
 
 use crate::events::Events;
 use crate::nodes::{LockMode, Mode};
-
-const VERSION: u8 = 2;
-
-/// The number of the kind of a call's message.
-const CALL: u8 = 2;
+use host_wire::messages::VERSION;
+use host_wire::messages::of_client::CALL;
 
 /// Whether a new node goes by itself.
 ///
@@ -86,6 +83,16 @@ impl Opening {
     #[must_use]
     pub fn new(name: &str, mode: Mode) -> Opening {
         Opening { name: name.to_owned(), mode, create: None, lock_delay: 0, events: Events::NONE }
+    }
+
+    // Whether it may be made, and may be there already.
+    pub(crate) fn may_find(&self) -> bool {
+        self.create.as_ref().is_some_and(|create| !create.must)
+    }
+
+    // The same of a node that is there.
+    pub(crate) fn plain(&self) -> Opening {
+        Opening { lock_delay: self.lock_delay, events: self.events, ..Opening::new(&self.name, self.mode) }
     }
 }
 
@@ -245,9 +252,8 @@ mod tests {
     const HEAD: &str = "0202 0000000000000001 0000000000000000 0000000000000001 ";
     const HANDLE_3: &str = " 00000008 0000000000000003 ";
 
-    fn bytes_of(hex: &str) -> Vec<u8> {
-        let digits: Vec<u32> = hex.chars().filter_map(|letter| letter.to_digit(16)).collect();
-        digits.chunks(2).map(|pair| (pair[0] << 4 | pair[1]) as u8).collect()
+    fn bytes_of(digits: &str) -> Vec<u8> {
+        hex::decode(digits.replace(' ', "")).unwrap()
     }
 
     fn opening(create: Option<Create>) -> Opening {

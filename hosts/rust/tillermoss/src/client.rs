@@ -238,7 +238,19 @@ impl Client {
         reply.ok_or_else(|| Error::Malformed("an answer to another call".to_owned()))
     }
 
+    // An Open that may make a node waits until all who cache the node, or its directory, have let it go, also where the node is there.
+    // So it is opened plainly first, and asked for so only where that finds none.
     fn open_for(&self, opening: &Opening, watcher: Option<&Sender<Event>>) -> Result<Handle, Error> {
+        if opening.may_find() {
+            match self.open_as(&opening.plain(), watcher) {
+                Err(Error::Refused(Refusal::NotFound)) => {}
+                opened => return opened,
+            }
+        }
+        self.open_as(opening, watcher)
+    }
+
+    fn open_as(&self, opening: &Opening, watcher: Option<&Sender<Event>>) -> Result<Handle, Error> {
         match self.call(&Call::Open(opening), watcher)?.answer {
             Answer::Opened(number) => Ok(Handle { client: self.number, number }),
             other => Err(unfit(&other)),
@@ -258,7 +270,8 @@ impl Client {
         }
     }
 
-    /// Opens a node, as it is asked for.
+    /// Opens a node, as it is asked for. Where it may be made it is opened plainly first, so that one which is there waits for nobody's
+    /// cache.
     ///
     /// ```
     /// # trials::with_client(|client| {

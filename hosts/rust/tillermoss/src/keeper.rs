@@ -4,6 +4,7 @@ use crate::clock;
 use crate::core::{Core, End};
 use crate::errors::Error;
 use crate::reaching::{Reach, Stream};
+use host_wire::messages::of_master::{ALIVE, REFUSED, STARTED};
 use host_wire::{ANSWER_LIMIT, Blocks, Hello, Welcome, framed};
 use std::io::{self, ErrorKind};
 use std::sync::Arc;
@@ -29,11 +30,6 @@ const AGAIN: (u64, u64) = (200, 10_000);
 
 /// The length in bytes of an Alive that has neither invalidations nor events.
 const EMPTY_ALIVE: usize = 42;
-
-/// The kinds of a master's messages.
-const STARTED: u8 = 0;
-const ALIVE: u8 = 1;
-const REFUSED: u8 = 3;
 
 /// A connection that is bound to a client, with what was read of it behind the welcome.
 pub struct Connection {

@@ -74,7 +74,7 @@ fn answer(words: &str) -> Option<Answer> {
         "view" => Answer::Viewed(view(rest)?),
         "stat" => Answer::Stated(stat(rest)?),
         "names" => Answer::Names(rest.split(' ').filter(|name| !name.is_empty()).map(str::to_owned).collect()),
-        "sequencer" => Answer::Sequencer(hex(rest)?),
+        "sequencer" => Answer::Sequencer(hex::decode(rest).ok()?),
         "ok" => Answer::Done,
         "refused" => Answer::Refused(Refusal::read(rest)?),
         _ => return None,
@@ -128,13 +128,6 @@ fn life(word: &str) -> Option<bool> {
         "ephemeral" => Some(true),
         _ => None,
     }
-}
-
-fn hex(digits: &str) -> Option<Vec<u8>> {
-    if !digits.len().is_multiple_of(2) {
-        return None;
-    }
-    (0..digits.len()).step_by(2).map(|at| u8::from_str_radix(digits.get(at..at + 2)?, 16).ok()).collect()
 }
 
 #[cfg(test)]

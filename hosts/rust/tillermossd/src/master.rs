@@ -7,6 +7,8 @@ use crate::settings::Settings;
 use crate::store::{self, Identity};
 use crate::told::{Frame, Next, Told};
 use anyhow::{Context, Result, bail};
+use host_wire::messages::of_master::{ALIVE, REPLY, STARTED};
+use host_wire::messages::{REFUSAL, VERSION};
 use host_wire::{ANSWER_LIMIT, Blocks, Fields, ended_call, framed};
 use std::collections::VecDeque;
 use std::io;
@@ -30,14 +32,6 @@ const PATIENCE: Duration = Duration::from_secs(10);
 
 /// So long it may take to come up: it reads the whole store.
 const COMING_UP: Duration = Duration::from_secs(600);
-
-/// The kinds of a master's messages: two that give a lease, and one that has the result of a call.
-const STARTED: u8 = 0;
-const ALIVE: u8 = 1;
-const REPLY: u8 = 2;
-
-/// The kind of the result of a call that was refused.
-const REFUSED: u8 = 7;
 
 /// What is asked of the task.
 #[derive(Debug)]
@@ -367,7 +361,7 @@ impl Master {
 // For how long a message gives its client a lease.
 fn lease(message: &[u8]) -> Option<Duration> {
     let mut fields = Fields(message);
-    if !matches!(fields.take(2)?, [2, STARTED | ALIVE]) {
+    if !matches!(fields.take(2)?, [VERSION, STARTED | ALIVE]) {
         return None;
     }
     fields.take(24)?;
@@ -377,14 +371,14 @@ fn lease(message: &[u8]) -> Option<Duration> {
 // The number of the refusal that is the result of a call.
 fn refusal(message: &[u8]) -> Option<u8> {
     let mut fields = Fields(message);
-    if fields.take(2)? != [2, REPLY] {
+    if fields.take(2)? != [VERSION, REPLY] {
         return None;
     }
     fields.take(24)?;
     if fields.byte()? == 1 {
         fields.word()?;
     }
-    if fields.byte()? != REFUSED {
+    if fields.byte()? != REFUSAL {
         return None;
     }
     fields.byte()?.checked_add(1)

@@ -1,9 +1,8 @@
 //! The frames between the server and its master, as `docs/FORMATS.md` lays them out.
 
 use host_wire::Fields;
+use host_wire::messages::VERSION;
 use std::io::{self, ErrorKind};
-
-const VERSION: u8 = 2;
 
 /// What a server sends to its master.
 #[derive(Clone, Copy, Debug)]

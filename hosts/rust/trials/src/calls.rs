@@ -1,10 +1,10 @@
 //! Calls by bytes, as `docs/FORMATS.md` lays them out.
 
 use crate::plain::{Plain, message};
+use host_wire::messages::REFUSAL;
+use host_wire::messages::of_client::CALL;
+use host_wire::messages::of_master::{REFUSED, REPLY};
 use sha2::{Digest, Sha256};
-
-/// The kind of a call's message.
-const CALL: u8 = 2;
 
 fn counted(bytes: &[u8]) -> Vec<u8> {
     [&(bytes.len() as u32).to_be_bytes(), bytes].concat()
@@ -39,10 +39,10 @@ pub fn ask(connection: &mut Plain, bytes: &[u8]) -> Option<Vec<u8>> {
     connection.send(bytes).ok()?;
     loop {
         let block = connection.next_block()?;
-        match block.get(1)? {
-            2 if block[26] == 1 => return Some(block[35..].to_vec()),
-            2 => return Some(block[27..].to_vec()),
-            3 => return Some([&[7], &block[26..]].concat()),
+        match *block.get(1)? {
+            REPLY if block[26] == 1 => return Some(block[35..].to_vec()),
+            REPLY => return Some(block[27..].to_vec()),
+            REFUSED => return Some([&[REFUSAL], &block[26..]].concat()),
             _ => {}
         }
     }

@@ -1,6 +1,8 @@
 //! What server, clients and command line are tested with.
 
 mod calls;
+mod fail_overs;
+mod far;
 mod history;
 mod holds;
 mod plain;
@@ -8,6 +10,8 @@ mod proxy;
 mod servers;
 
 pub use calls::{ask, call, forged, handle, open_call, read_call, set_call};
+pub use fail_overs::{Noticed, fail_over, write_beside_one_that_keeps, write_beside_one_that_stays_behind};
+pub use far::far_from;
 pub use history::{Read, Write, check_history};
 pub use holds::{Hold, check_holds};
 pub use plain::{Plain, again, message, new, start};

@@ -1,5 +1,8 @@
 //! Connections by bytes, without the client library.
 
+use host_wire::messages::VERSION;
+use host_wire::messages::of_client::START;
+use host_wire::messages::of_master::STARTED;
 use host_wire::{Blocks, Hello, TurnedAway, Welcome, write_block};
 use std::io::{self, Write};
 use std::net::TcpStream;
@@ -58,7 +61,7 @@ impl Plain {
         let (mut connection, welcome) = Plain::greet(place, &new(principal))?;
         let client = welcome.map_err(|reason| io::Error::other(reason.to_string()))?.client;
         connection.send(&start(client, principal))?;
-        let started = connection.next_block().filter(|block| block.starts_with(&[2, 0]));
+        let started = connection.next_block().filter(|block| block.starts_with(&[VERSION, STARTED]));
         let started = started.ok_or_else(|| io::Error::other("no session began"))?;
         let epoch = started[10..18].try_into().map_or(0, u64::from_be_bytes);
         Ok((connection, client, epoch))
@@ -114,7 +117,7 @@ pub fn again(principal: &str, welcome: Welcome) -> Hello {
 /// The bytes of a message, of its kind, words, and what stands behind.
 #[must_use]
 pub fn message(kind: u8, words: &[u64], rest: &[u8]) -> Vec<u8> {
-    let mut out = vec![2, kind];
+    let mut out = vec![VERSION, kind];
     out.extend(words.iter().flat_map(|word| word.to_be_bytes()));
     out.extend_from_slice(rest);
     out
@@ -124,5 +127,5 @@ pub fn message(kind: u8, words: &[u64], rest: &[u8]) -> Vec<u8> {
 #[must_use]
 pub fn start(client: u64, principal: &str) -> Vec<u8> {
     let length = [0, 0, 0, principal.len() as u8];
-    message(0, &[client, 1], &[&length[..], principal.as_bytes()].concat())
+    message(START, &[client, 1], &[&length[..], principal.as_bytes()].concat())
 }

@@ -3,7 +3,7 @@
 use nix::sys::signal::{Signal, kill};
 use nix::unistd::Pid;
 use std::fs::{self, File};
-use std::io::{self, BufRead, BufReader};
+use std::io::{self, BufRead, BufReader, Read, Seek, SeekFrom};
 use std::path::{Path, PathBuf};
 use std::process::{Child, Command, ExitStatus, Stdio};
 use std::thread;
@@ -70,11 +70,8 @@ pub fn master_program() -> PathBuf {
 /// Where it can't be made.
 #[must_use]
 pub fn folder(test: &str) -> PathBuf {
-    let folder = std::env::temp_dir().join(format!("tillermoss-{test}-{}", std::process::id()));
-    // (there is one only where an earlier process had the same number)
-    let _ = fs::remove_dir_all(&folder);
-    fs::create_dir(&folder).expect("a folder can be made");
-    folder
+    let made = tempfile::Builder::new().prefix(&format!("tillermoss-{test}-")).tempdir();
+    made.expect("a folder can be made").into_path()
 }
 
 /// A folder with certificates of an authority for tests: `server`, and these principals.
@@ -149,6 +146,7 @@ impl Start {
     /// Where it can't be started, or ends first: then what it logged is told.
     pub fn start(&self) -> io::Result<Server> {
         let log = File::options().create(true).append(true).open(&self.log)?;
+        let begun = log.metadata()?.len();
         let mut child = self.command().stdout(Stdio::piped()).stderr(log).spawn()?;
         let (mut addresses, mut admin) = (Vec::new(), None);
         let lines = child.stdout.take().map(|out| BufReader::new(out).lines()).into_iter().flatten();
@@ -165,7 +163,11 @@ impl Start {
             Some(address) => Ok(Server { child, address, addresses, admin, log: self.log.clone() }),
             None => {
                 let status = child.wait()?;
-                Err(io::Error::other(format!("the server didn't come up: {status}: {}", fs::read_to_string(&self.log)?)))
+                let mut logged = String::new();
+                let mut log = File::open(&self.log)?;
+                log.seek(SeekFrom::Start(begun))?;
+                log.read_to_string(&mut logged)?;
+                Err(io::Error::other(format!("the server didn't come up: {status}: {logged}")))
             }
         }
     }

@@ -9,11 +9,11 @@ use rand::{Rng, SeedableRng};
 use std::fs;
 use std::io::Write;
 use std::path::{Path, PathBuf};
-use std::process::{Command, Stdio};
+use std::process::{Child, Command, Stdio};
 use std::sync::atomic::{AtomicBool, Ordering};
 use std::thread;
 use std::time::{Duration, Instant};
-use tillermoss::{Client, Error, Handle, Mode, Options};
+use tillermoss::{Admin, Client, Error, Handle, Mode, Options};
 use trials::{
     Kill, Plain, Server, Start, again, ask, call, certificates, folder, forged, handle, message, new, open_call, read_call, set_call, start,
 };
@@ -24,16 +24,27 @@ const SEED: u64 = 20_061_106;
 const SETTINGS: &str = "principals = [\"ann\", \"bob\"]\n[limits]\nsilence = 30\ngreetings = 200\nconnections = 300\n\
                         connections_of_a_principal = 250\nnodes = 20\nbytes = 2000000\nbytes_of_a_principal = 1000000\n";
 
-/// A cell that is attacked, and a client of it that isn't to notice.
+/// A client that isn't to notice, and its file.
+struct Witness {
+    client: Client,
+    file: Handle,
+    turn: u64,
+}
+
+/// A cell that is attacked, and its witness.
 struct Stage {
     folder: PathBuf,
     store: PathBuf,
     certificates: PathBuf,
     server: Server,
-    witness: Client,
-    file: Handle,
-    turn: u64,
+    witness: Witness,
+    /// The files of the store as they were when the server went down in order for the first time.
+    old: Option<Files>,
 }
+
+/// What the files of a store hold, by the ends of their names; None where there is no such file.
+type Files = [Option<Vec<u8>>; 3];
+const ENDS: [&str; 3] = ["", "-wal", "-numbers"];
 
 /// An attack: what is to be refused, as it is told, and what does it.
 type Attack = (&'static str, &'static str, fn(&mut Stage) -> String);
@@ -43,14 +54,32 @@ fn begin(store: &Path, certificates: &Path) -> Start {
     Start::new(store).with(&["tcp:0", &socket, "--admin", "tcp:0"]).tls(certificates).settings(SETTINGS)
 }
 
+impl Witness {
+    fn new(address: &str) -> Witness {
+        let client = Client::connect(&Options::new(address, "ann")).unwrap();
+        let file = client.create("/ls/c/witness", b"0").unwrap();
+        Witness { client, file, turn: 0 }
+    }
+
+    // It goes on, and another comes.
+    fn check(&mut self, address: &str, what: &str) {
+        self.turn += 1;
+        let content = self.turn.to_string().into_bytes();
+        self.client.set(self.file, &content, None).unwrap_or_else(|error| panic!("{what}: the witness' write: {error}"));
+        assert_eq!(self.client.read(self.file).unwrap().content, content, "{what}");
+        let options = Options { patience: Duration::from_secs(20), ..Options::new(address, "bob") };
+        let other = Client::connect(&options).unwrap_or_else(|error| panic!("{what}: another client: {error}"));
+        assert_eq!(other.read(other.open("/ls/c/witness", Mode::READ).unwrap()).unwrap().content, content, "{what}");
+    }
+}
+
 impl Stage {
     fn new(test: &str) -> Stage {
         let folder = folder(test);
         let (store, certificates) = (folder.join("store.db"), certificates(&folder, &["ann", "mallory", "Mallory"]));
         let server = begin(&store, &certificates).start().unwrap();
-        let witness = Client::connect(&Options::new(&server.address, "ann")).unwrap();
-        let file = witness.create("/ls/c/witness", b"0").unwrap();
-        Stage { folder, store, certificates, server, witness, file, turn: 0 }
+        let witness = Witness::new(&server.address);
+        Stage { folder, store, certificates, server, witness, old: None }
     }
 
     fn place(&self) -> &str {
@@ -72,15 +101,35 @@ impl Stage {
         }))
     }
 
-    // The witness goes on, and another comes.
     fn check(&mut self, what: &str) {
-        self.turn += 1;
-        let content = self.turn.to_string().into_bytes();
-        self.witness.set(self.file, &content, None).unwrap_or_else(|error| panic!("{what}: the witness' write: {error}"));
-        assert_eq!(self.witness.read(self.file).unwrap().content, content, "{what}");
-        let options = Options { patience: Duration::from_secs(20), ..Options::new(&self.server.address, "bob") };
-        let other = Client::connect(&options).unwrap_or_else(|error| panic!("{what}: another client: {error}"));
-        assert_eq!(other.read(other.open("/ls/c/witness", Mode::READ).unwrap()).unwrap().content, content, "{what}");
+        self.witness.check(&self.server.address, what);
+    }
+
+    // How the server is started once more, at the addresses that it has.
+    fn again(&self) -> Start {
+        let file = |name: &str| self.certificates.join(name).display().to_string();
+        let mut words: Vec<&str> = self.server.addresses.iter().map(String::as_str).collect();
+        words.extend(["--admin", self.server.admin.as_deref().unwrap()]);
+        let start = Start::new(&self.store).with(&words);
+        start.with(&["--cert", &file("server.pem"), "--key", &file("server.key"), "--client-ca", &file("ca.pem")]).settings(SETTINGS)
+    }
+
+    // Waits until the sessions of all but the witness are over: a new master would wait for them.
+    fn wait_until_alone(&self) {
+        let admin = Admin::new(self.server.admin.as_deref().unwrap()).unwrap();
+        let is_alone = (0..900).any(|_| {
+            thread::sleep(Duration::from_millis(100));
+            admin.status().unwrap().sessions == 1
+        });
+        assert!(is_alone, "{:?}", admin.sessions());
+    }
+
+    // The server goes in order.
+    fn stop(&mut self) {
+        self.wait_until_alone();
+        assert!(self.server.kill(Kill::InOrder).unwrap().success());
+        let files = files(&self.store);
+        self.old.get_or_insert(files);
     }
 }
 
@@ -151,7 +200,7 @@ fn another_user(stage: &mut Stage) -> String {
 }
 
 fn another_number(stage: &mut Stage) -> String {
-    let hello = again("ann", host_wire::Welcome { client: stage.witness.number(), token: 7 });
+    let hello = again("ann", host_wire::Welcome { client: stage.witness.client.number(), token: 7 });
     Plain::greet(stage.place(), &hello).unwrap().1.map_or_else(|reason| format!("{reason:?}"), |_| "let in".to_owned())
 }
 
@@ -167,14 +216,8 @@ fn another_principal_in_a_start(stage: &mut Stage) -> String {
 
 // A handle as a master of the first epoch would have given it, had the store the secret that everybody knows.
 fn forged_handle(stage: &mut Stage) -> String {
-    stage.server.kill(Kill::InOrder).unwrap();
-    let tls = stage.server.addresses[2].clone();
-    let tcp = stage.server.address.clone();
-    let socket = stage.server.addresses[1].clone();
-    let again = Start::new(&stage.store).with(&[&tcp, &socket, "--admin", stage.server.admin.as_deref().unwrap()]);
-    let file = |name: &str| stage.certificates.join(name).display().to_string();
-    let again = again.with(&[&tls, "--cert", &file("server.pem"), "--key", &file("server.key"), "--client-ca", &file("ca.pem")]);
-    stage.server = again.settings(SETTINGS).start().unwrap();
+    stage.stop();
+    stage.server = stage.again().start().unwrap();
     overwrite_by_forging(&stage.server)
 }
 
@@ -248,7 +291,7 @@ fn time_of_a_write(stage: &Stage) -> u128 {
     let mut times: Vec<u128> = (0..200_u32)
         .map(|turn| {
             let begun = Instant::now();
-            stage.witness.set(stage.file, &turn.to_be_bytes(), None).unwrap();
+            stage.witness.client.set(stage.witness.file, &turn.to_be_bytes(), None).unwrap();
             begun.elapsed().as_micros()
         })
         .collect();
@@ -336,12 +379,12 @@ fn too_many_connections(stage: &mut Stage) -> String {
 
 fn too_many_nodes(stage: &mut Stage) -> String {
     for number in 0..30 {
-        match stage.witness.create(&format!("/ls/c/n{number}"), b"") {
+        match stage.witness.client.create(&format!("/ls/c/n{number}"), b"") {
             Ok(_) => {}
             Err(Error::Limited(reason)) => {
                 (0..number).for_each(|number| {
-                    let opened = stage.witness.open(&format!("/ls/c/n{number}"), Mode::WRITE).unwrap();
-                    stage.witness.delete(opened).unwrap();
+                    let opened = stage.witness.client.open(&format!("/ls/c/n{number}"), Mode::WRITE).unwrap();
+                    stage.witness.client.delete(opened).unwrap();
                 });
                 return reason;
             }
@@ -352,10 +395,10 @@ fn too_many_nodes(stage: &mut Stage) -> String {
 }
 
 fn too_many_bytes(stage: &mut Stage) -> String {
-    let refused = (0..5).find_map(|number| stage.witness.create(&format!("/ls/c/b{number}"), &vec![0; 250_000]).err());
+    let refused = (0..5).find_map(|number| stage.witness.client.create(&format!("/ls/c/b{number}"), &vec![0; 250_000]).err());
     for number in 0..5 {
-        if let Ok(opened) = stage.witness.open(&format!("/ls/c/b{number}"), Mode::WRITE) {
-            stage.witness.delete(opened).unwrap();
+        if let Ok(opened) = stage.witness.client.open(&format!("/ls/c/b{number}"), Mode::WRITE) {
+            stage.witness.client.delete(opened).unwrap();
         }
     }
     refused.map_or_else(|| "let in".to_owned(), |error| error.to_string())
@@ -404,6 +447,13 @@ fn attacks_are_refused_and_the_cell_stands() {
         ("a page of another site", "403", requests_of_other_sites),
         ("a forged handle of an earlier epoch", "refused 17", forged_handle),
         ("a master that doesn't answer", "replaced", a_master_that_hangs),
+        ("a store that is taken away", "stopped, and nothing more is written: the store went away", store_taken_away),
+        ("a store that is replaced", "stopped, and nothing more is written: the store was replaced by another file", store_replaced),
+        ("a store that is rolled back", "not started, and nothing is written: the store is an older copy", store_rolled_back),
+        ("a store that is gone", "not started, and nothing is written: the numbers are there, but not the store", store_gone),
+        ("numbers that are gone", "not started, and nothing is written: the store has no numbers", numbers_gone),
+        ("numbers that are rolled back", "not started, and nothing is written: they are an older copy", numbers_rolled_back),
+        ("a full disk", "a write waits until there is room again", full_disk),
     ];
     let mut stage = Stage::new("attacks");
     for (what, wanted, attack) in attacks {
@@ -432,80 +482,87 @@ fn a_store_with_a_known_secret_is_taken_with_a_warning() {
     fs::remove_dir_all(folder).unwrap();
 }
 
-/// What happens to a store, while its server runs or between two, and why the server doesn't serve it.
-type Loss = (&'static str, &'static str, fn(&Path));
+fn beside(store: &Path, end: &str) -> PathBuf {
+    PathBuf::from(format!("{}{end}", store.display()))
+}
 
-fn put_back(copy: &Path, store: &Path) {
-    for name in ["", "-wal"] {
-        let (from, to) = (format!("{}{name}", copy.display()), format!("{}{name}", store.display()));
-        // (a store that was closed has no log)
-        let _ = fs::remove_file(&to);
-        if Path::new(&from).exists() {
-            fs::copy(from, to).unwrap();
+fn files(store: &Path) -> Files {
+    ENDS.map(|end| fs::read(beside(store, end)).ok())
+}
+
+fn put(store: &Path, files: &Files) {
+    for (end, file) in ENDS.iter().zip(files) {
+        match file {
+            Some(bytes) => fs::write(beside(store, end), bytes).unwrap(),
+            // (one that isn't there can't be removed)
+            None => _ = fs::remove_file(beside(store, end)),
         }
     }
 }
 
-fn beside(store: &Path, what: &str) -> PathBuf {
-    PathBuf::from(format!("{}-{what}", store.display()))
-}
-
-#[test]
-fn a_store_that_is_not_the_same_stops_the_server() {
-    let losses: &[Loss] = &[
-        ("taken away", "went away", |store| fs::remove_file(store).unwrap()),
-        ("replaced", "was replaced by another file", |store| {
-            fs::copy(store, store.with_extension("new")).unwrap();
-            fs::rename(store.with_extension("new"), store).unwrap();
-        }),
-    ];
-    for (what, wanted, lose) in losses {
-        let folder = folder(&format!("store-{}", what.replace(' ', "-")));
-        let store = folder.join("store.db");
-        let mut server = Server::start(&store).unwrap();
-        let client = Client::connect(&Options::new(&server.address, "ann")).unwrap();
-        client.create("/ls/c/f", b"kept").unwrap();
-        lose(&store);
-        let left = fs::read(&store).ok();
-        assert!(!server.wait().unwrap().success(), "{what}");
-        assert!(server.has_logged(wanted), "{what}");
-        assert_eq!(fs::read(&store).ok(), left, "{what}: nothing is written");
-        println!("attack: a store that is {what}: the server stops, and nothing more is written");
-        drop(client);
-        fs::remove_dir_all(folder).unwrap();
+// The store is moved away while its server runs, and there is another in its place or none; then it is put back, and served again.
+fn lost_while_served(stage: &mut Stage, lose: fn(&Path, &Path), wanted: &str) -> String {
+    stage.wait_until_alone();
+    let aside = stage.store.with_extension("aside");
+    lose(&stage.store, &aside);
+    let left = || (files(&stage.store), fs::read(&aside).ok());
+    let before = left();
+    let (has_failed, is_same) = (!stage.server.wait().unwrap().success(), left() == before);
+    fs::rename(&aside, &stage.store).unwrap();
+    let has_said = stage.server.logged().contains(wanted);
+    stage.server = stage.again().start().unwrap();
+    match (has_failed, is_same, has_said) {
+        (true, true, true) => format!("stopped, and nothing more is written: the store {wanted}"),
+        other => format!("failed, left as it was, said: {other:?}"),
     }
 }
 
-#[test]
-fn a_store_that_does_not_go_with_its_numbers_is_refused() {
-    let losses: &[Loss] = &[
-        ("rolled back", "the store is an older copy", |store| put_back(&store.with_extension("copy"), store)),
-        ("gone, and its numbers are there", "but not its store", |store| fs::remove_file(store).unwrap()),
-        ("there, and its numbers are gone", "the store has no", |store| fs::remove_file(beside(store, "numbers")).unwrap()),
-        ("newer than its numbers", "they are an older copy", |store| {
-            fs::copy(store.with_extension("numbers"), beside(store, "numbers")).map(|_| ()).unwrap();
-        }),
-    ];
-    for (what, wanted, lose) in losses {
-        let folder = folder(&format!("numbers-{}", what.replace([' ', ','], "-")));
-        let store = folder.join("store.db");
-        for turn in 0..3_u8 {
-            let mut server = Server::start(&store).unwrap();
-            server.kill(Kill::InOrder).unwrap();
-            if turn == 0 {
-                fs::copy(&store, store.with_extension("copy")).unwrap();
-                fs::copy(beside(&store, "numbers"), store.with_extension("numbers")).unwrap();
-            }
-        }
-        lose(&store);
-        let files = || [fs::read(&store).ok(), fs::read(beside(&store, "numbers")).ok(), fs::read(beside(&store, "wal")).ok()];
-        let before = files();
-        let error = Server::start(&store).unwrap_err().to_string();
-        assert!(error.contains(wanted), "{what}: {error}");
-        assert!(files() == before, "{what}: nothing is written");
-        println!("attack: a store that is {what}: refused, and nothing is written");
-        fs::remove_dir_all(folder).unwrap();
+fn store_taken_away(stage: &mut Stage) -> String {
+    lost_while_served(stage, |store, aside| fs::rename(store, aside).unwrap(), "went away")
+}
+
+fn store_replaced(stage: &mut Stage) -> String {
+    let replace = |store: &Path, aside: &Path| {
+        fs::rename(store, aside).unwrap();
+        fs::copy(aside, store).map(|_| ()).unwrap();
+    };
+    lost_while_served(stage, replace, "was replaced by another file")
+}
+
+// Between two servers the files are made others; then they are put back, and served again.
+fn lost_between(stage: &mut Stage, lose: fn(&Path, &Files), said: &str, wanted: &str) -> String {
+    stage.stop();
+    let present = files(&stage.store);
+    let old = stage.old.as_ref().unwrap();
+    assert!(present[0] != old[0] && present[2] != old[2]);
+    lose(&stage.store, old);
+    let before = files(&stage.store);
+    let error = stage.again().start().map_or_else(|error| error.to_string(), |_| "started".to_owned());
+    let is_same = files(&stage.store) == before;
+    put(&stage.store, &present);
+    stage.server = stage.again().start().unwrap();
+    match (error.contains(said), is_same) {
+        (true, true) => format!("not started, and nothing is written: {wanted}"),
+        (_, is_same) => format!("left as it was: {is_same}; {error}"),
     }
+}
+
+fn store_rolled_back(stage: &mut Stage) -> String {
+    let lose = |store: &Path, old: &Files| fs::write(store, old[0].as_ref().unwrap()).unwrap();
+    lost_between(stage, lose, "the store is an older copy", "the store is an older copy")
+}
+
+fn store_gone(stage: &mut Stage) -> String {
+    lost_between(stage, |store, _| fs::remove_file(store).unwrap(), "but not its store", "the numbers are there, but not the store")
+}
+
+fn numbers_gone(stage: &mut Stage) -> String {
+    lost_between(stage, |store, _| fs::remove_file(beside(store, "-numbers")).unwrap(), "the store has no", "the store has no numbers")
+}
+
+fn numbers_rolled_back(stage: &mut Stage) -> String {
+    let lose = |store: &Path, old: &Files| fs::write(beside(store, "-numbers"), old[2].as_ref().unwrap()).unwrap();
+    lost_between(stage, lose, "they are an older copy", "they are an older copy")
 }
 
 // Reads a log up to a line that has this; gives what stands behind it.
@@ -519,49 +576,63 @@ fn read_until<R: std::io::Read>(log: R, text: &str) -> std::io::BufReader<R> {
     log
 }
 
-// A disk of its own, of 2 MB; a user may make one within its own namespaces.
-#[test]
-fn a_full_disk_refuses_until_it_has_room_again() {
-    let folder = folder("full-disk");
-    let disk = folder.join("disk");
-    fs::create_dir(&disk).unwrap();
-    let store = disk.join("store.db");
-    let command = Start::new(&store).command();
-    let mut inside = Command::new("unshare");
-    inside.args(["--map-root-user", "--mount", "sh", "-c", "mount -t tmpfs -o size=2m none \"$0\" && exec \"$@\""]);
-    inside.arg(&disk).arg(command.get_program()).args(command.get_args());
-    let mut child = inside.stdout(Stdio::piped()).stderr(Stdio::piped()).spawn().unwrap();
-    let mut line = String::new();
-    std::io::BufRead::read_line(&mut std::io::BufReader::new(child.stdout.take().unwrap()), &mut line).unwrap();
-    let address = line.trim_end().strip_prefix("listening ").unwrap_or_else(|| panic!("no server came up: {line}"));
+/// A server on a disk of its own, of 2 MB; a user may make one within its own namespaces.
+struct OnDisk {
+    child: Child,
+    address: String,
+    /// A file on the disk.
+    filler: PathBuf,
+    folder: PathBuf,
+}
 
-    let client = Client::connect(&Options::new(address, "ann")).unwrap();
-    let file = client.create("/ls/c/f", b"first").unwrap();
-    let filler = PathBuf::from(format!("/proc/{}/root{}/filler", child.id(), disk.display()));
-    let mut out = fs::File::create(&filler).unwrap();
-    let filled = (0..10_000).find(|_| out.write_all(&[0; 1024]).is_err());
-    assert!(filled.is_some());
-    drop(out);
-    let log = thread::scope(|scope| {
-        let large = vec![b'a'; 200_000];
-        let (client, begun) = (&client, Instant::now());
-        let written = scope.spawn(move || client.set(file, &large, None).map(|()| begun.elapsed()));
-        let refused = read_until(child.stderr.take().unwrap(), "the store refuses");
+impl OnDisk {
+    fn new() -> OnDisk {
+        let folder = folder("full-disk");
+        let disk = folder.join("disk");
+        fs::create_dir(&disk).unwrap();
+        let command = Start::new(&disk.join("store.db")).command();
+        let mut inside = Command::new("unshare");
+        inside.args(["--map-root-user", "--mount", "sh", "-c", "mount -t tmpfs -o size=2m none \"$0\" && exec \"$@\""]);
+        inside.arg(&disk).arg(command.get_program()).args(command.get_args());
+        let mut child = inside.stdout(Stdio::piped()).stderr(Stdio::piped()).spawn().unwrap();
+        let mut line = String::new();
+        std::io::BufRead::read_line(&mut std::io::BufReader::new(child.stdout.take().unwrap()), &mut line).unwrap();
+        let address = line.trim_end().strip_prefix("listening ").unwrap_or_else(|| panic!("no server came up: {line}")).to_owned();
+        let filler = PathBuf::from(format!("/proc/{}/root{}/filler", child.id(), disk.display()));
+        OnDisk { child, address, filler, folder }
+    }
+
+    fn fill(&self) {
+        let mut out = fs::File::create(&self.filler).unwrap();
+        assert!((0..10_000).any(|_| out.write_all(&[0; 1024]).is_err()));
+    }
+}
+
+// A cell of its own: a write waits while its disk is full, and is done when there is room again.
+fn full_disk(_: &mut Stage) -> String {
+    let mut cell = OnDisk::new();
+    let mut witness = Witness::new(&cell.address);
+    let file = witness.client.create("/ls/c/f", b"first").unwrap();
+    cell.fill();
+    let (log, waited) = thread::scope(|scope| {
+        let (client, begun) = (&witness.client, Instant::now());
+        let written = scope.spawn(move || client.set(file, &[b'a'; 200_000], None).map(|()| begun.elapsed()));
+        let log = read_until(cell.child.stderr.take().unwrap(), "the store refuses");
         thread::sleep(Duration::from_secs(2));
         assert!(!written.is_finished());
-        fs::remove_file(&filler).unwrap();
-        assert!(written.join().unwrap().unwrap() >= Duration::from_secs(2));
-        refused
+        fs::remove_file(&cell.filler).unwrap();
+        (log, written.join().unwrap().unwrap())
     });
-    assert_eq!(client.read(file).unwrap().stat.length, 200_000);
+    assert!(waited >= Duration::from_secs(2));
+    assert_eq!(witness.client.read(file).unwrap().stat.length, 200_000);
     let mut log = read_until(log, "the store takes writes again");
-    println!("attack: a full disk: a write waits, and is done when there is room again; the same session stands");
-    drop(client);
-    nix::sys::signal::kill(nix::unistd::Pid::from_raw(child.id().cast_signed()), Signal::SIGTERM).unwrap();
-    let (mut rest, status) = (String::new(), child.wait().unwrap());
+    witness.check(&cell.address, "a full disk");
+    nix::sys::signal::kill(nix::unistd::Pid::from_raw(cell.child.id().cast_signed()), Signal::SIGTERM).unwrap();
+    let (mut rest, status) = (String::new(), cell.child.wait().unwrap());
     std::io::Read::read_to_string(&mut log, &mut rest).unwrap();
     assert!(status.success(), "{status}: {rest}");
-    fs::remove_dir_all(folder).unwrap();
+    fs::remove_dir_all(&cell.folder).unwrap();
+    "a write waits until there is room again".to_owned()
 }
 
 #[test]

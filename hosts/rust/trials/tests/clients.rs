@@ -3,7 +3,7 @@
 use std::path::PathBuf;
 use std::time::{Duration, Instant};
 use tillermoss::{Client, Create, Error, Event, Events, Handle, Kind, Life, LockMode, Mode, Opening, Options, Refusal, Right};
-use trials::{Server, folder};
+use trials::{Plain, Server, ask, call, folder, handle, open_call, read_call};
 
 const BOTH: Mode = Mode::READ.and(Mode::WRITE);
 
@@ -146,6 +146,29 @@ fn a_closed_client_lets_no_write_wait() {
     let begun = Instant::now();
     other.set(file, b"new", None).unwrap();
     assert!(begun.elapsed() < Duration::from_secs(6), "{:?}", begun.elapsed());
+}
+
+// (who caches a name and acknowledges nothing lets a change of it wait for a lease, 12 s)
+#[test]
+fn to_open_what_may_be_made_waits_for_nobody_where_it_is_there() {
+    let cell = Cell::new("may-make");
+    let client = cell.client("ann");
+    client.create("/ls/c/f", b"kept").unwrap();
+    let (mut other, number, epoch) = Plain::begin(cell.server.place(), "bob").unwrap();
+    let opened = ask(&mut other, &call(number, epoch, 1, &open_call("/ls/c/f", b""))).unwrap();
+    let view = ask(&mut other, &call(number, epoch, 2, &read_call(&handle(&opened).unwrap()))).unwrap();
+    assert_eq!(view[0], 2);
+    let create = Create { content: Some(Vec::new()), ..Create::default() };
+    let opening = |name| Opening { create: Some(create.clone()), ..Opening::new(name, BOTH) };
+    let begun = Instant::now();
+    let file = client.open_with(&opening("/ls/c/f")).unwrap();
+    assert!(begun.elapsed() < Duration::from_secs(6), "{:?}", begun.elapsed());
+    assert_eq!(client.read(file).unwrap().content, b"kept");
+    let made = client.open_with(&opening("/ls/c/g")).unwrap();
+    assert_eq!(client.read(made).unwrap().content, b"");
+    let begun = Instant::now();
+    client.set(file, b"new", None).unwrap();
+    assert!(begun.elapsed() > Duration::from_secs(6), "the other client cached it: {:?}", begun.elapsed());
 }
 
 #[test]

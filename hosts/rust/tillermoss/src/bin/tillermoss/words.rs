@@ -1,6 +1,7 @@
 //! The words of the command line.
 
 use clap::{Args, Parser, Subcommand, ValueEnum};
+use host_wire::is_component;
 use std::ffi::OsString;
 use std::path::PathBuf;
 use std::time::Duration;
@@ -88,11 +89,6 @@ impl Reach {
 /// Whether it is a name: `/ls` and components of 1 to 64 of `a-z 0-9 . _ -`, neither `.` nor `..`, with 512 bytes at most.
 pub fn is_name(name: &str) -> bool {
     name.len() <= 512 && name.strip_prefix("/ls/").is_some_and(|rest| rest.split('/').all(is_component))
-}
-
-fn is_component(word: &str) -> bool {
-    let fits = |letter: char| matches!(letter, 'a'..='z' | '0'..='9' | '.' | '_' | '-');
-    !matches!(word, "." | "..") && (1..=64).contains(&word.len()) && word.chars().all(fits)
 }
 
 /// How answers are printed.

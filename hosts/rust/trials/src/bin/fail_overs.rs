@@ -1,0 +1,30 @@
+//! Measures what clients notice of a fail-over, and how long one is waited for that never acknowledges, under the lease of 12 s: with
+//! servers of its own, in five minutes.
+
+use std::time::Duration;
+use tillermoss::Error;
+use trials::{fail_over, write_beside_one_that_keeps, write_beside_one_that_stays_behind};
+
+/// The lease of a cell whose settings say none, in milliseconds.
+const LEASE: u64 = 12_000;
+
+/// Longer than a session lasts that no master hears of.
+const LOOKED_AT: Duration = Duration::from_secs(75);
+
+fn main() -> Result<(), Error> {
+    for (clients, one_way) in [(5, Duration::ZERO), (20, Duration::from_millis(120))] {
+        let noticed = fail_over(clients, one_way, LOOKED_AT)?;
+        println!(
+            "{clients} clients, {} ms away: a write of each answered {} ms behind the start of the next server, {} ms behind SIGTERM",
+            one_way.as_millis(),
+            noticed.answered.as_millis(),
+            noticed.answered_since_the_end.as_millis()
+        );
+        println!("  for {} s from then on: {} in jeopardy, {} lost", LOOKED_AT.as_secs(), noticed.jeopardies, noticed.lost);
+    }
+    let kept = write_beside_one_that_keeps(LEASE)?;
+    println!("a write beside a client that caches the file, beats and never acknowledges: {:.1} s", kept.as_secs_f64());
+    let behind = write_beside_one_that_stays_behind(LEASE)?;
+    println!("a write behind a new master beside a client that beats and never acknowledges it: {:.1} s", behind.as_secs_f64());
+    Ok(())
+}

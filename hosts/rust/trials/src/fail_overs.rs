@@ -1,0 +1,181 @@
+//! What clients notice of a fail-over, and how long a client that doesn't let go is waited for.
+
+use crate::calls::{ask, call, handle, open_call, read_call};
+use crate::far::far_from;
+use crate::plain::{Plain, again, message, new, start as start_of};
+use crate::servers::{Kill, Start, folder};
+use host_wire::messages::of_client::BEAT;
+use std::io;
+use std::net::Shutdown;
+use std::sync::atomic::{AtomicBool, Ordering};
+use std::thread;
+use std::time::{Duration, Instant};
+use tillermoss::{Client, Create, Error, Event, Events, Handle, LockMode, Mode, Opening, Options, Refusal, Watch};
+
+/// So long clients do nothing before their server goes: then their Beats wait for answers.
+const QUIET: Duration = Duration::from_secs(5);
+
+/// So long a writer tries again while it is refused for now: longer than any is waited for.
+const PATIENCE: Duration = Duration::from_secs(180);
+
+/// Between two Beats of a client that doesn't wait for answers.
+const PACE: Duration = Duration::from_millis(100);
+
+/// What clients noticed of a server that went, and of the next one.
+#[derive(Clone, Debug, Default)]
+pub struct Noticed {
+    /// So long after the next one was started a call of each was answered; the last of them.
+    pub answered: Duration,
+    /// So long after the first one was told to go; it includes its going.
+    pub answered_since_the_end: Duration,
+    /// So often a lease ended before it was given again.
+    pub jeopardies: usize,
+    /// So many sessions were lost.
+    pub lost: usize,
+}
+
+/// A client, its file that it caches, and whose lock it holds.
+struct Guest {
+    client: Client,
+    watch: Watch,
+}
+
+impl Guest {
+    fn new(address: &str, number: usize) -> Result<Guest, Error> {
+        let client = Client::connect(&Options::new(address, "ann"))?;
+        let file = Create { must: true, content: Some(Vec::new()), ..Create::default() };
+        let (name, mode) = (format!("/ls/c/f{number}"), Mode::READ.and(Mode::WRITE));
+        let opening = Opening { create: Some(file), events: Events::CONTENTS, ..Opening::new(&name, mode) };
+        let watch = client.watch_with(&opening)?;
+        client.acquire(watch.handle, LockMode::Exclusive)?;
+        client.read(watch.handle)?;
+        Ok(Guest { client, watch })
+    }
+
+    // How often its lease ended; and whether its session is lost, or the lock with it.
+    fn noticed(&self) -> (usize, bool) {
+        let jeopardies = self.watch.events.try_iter().filter(|event| *event == Event::Jeopardy).count();
+        let still = self.client.sequencer(self.watch.handle).and_then(|held| self.client.check_sequencer(&held));
+        (jeopardies, self.client.is_lost() || still.is_err())
+    }
+}
+
+// A write, again where another master came up before the answer.
+fn write(client: &Client, file: Handle) -> Result<(), Error> {
+    loop {
+        match client.set(file, b"written", None) {
+            Err(Error::Refused(Refusal::Unknown)) => {}
+            result => return result,
+        }
+    }
+}
+
+/// So many clients, each so far from the server one way, who hold locks and cache files and do nothing; the server goes by SIGTERM, and
+/// another comes up at once. They are looked at for so long behind it.
+///
+/// # Errors
+///
+/// Where the server can't be started, or a client is refused.
+pub fn fail_over(clients: usize, one_way: Duration, looked_at: Duration) -> Result<Noticed, Error> {
+    let folder = folder("fail-over");
+    let mut server = Start::new(&folder.join("store.db")).start()?;
+    let mut address = server.address.clone();
+    if !one_way.is_zero() {
+        let place = server.place().parse().map_err(|_| Error::Malformed("the server's address".to_owned()))?;
+        address = format!("tcp:{}", far_from(place, one_way)?);
+    }
+    let guests = (0..clients).map(|number| Guest::new(&address, number)).collect::<Result<Vec<_>, _>>()?;
+    thread::sleep(QUIET);
+    let ended = Instant::now();
+    server.kill(Kill::InOrder)?;
+    let begun = Instant::now();
+    let (again, last) = thread::scope(|scope| {
+        let writers = guests.iter().map(|guest| (&guest.client, guest.watch.handle));
+        let writing: Vec<_> = writers.map(|(client, file)| scope.spawn(move || write(client, file).map(|()| Instant::now()))).collect();
+        let again = Start::new(&folder.join("store.db")).with(&[&server.address]).start();
+        let answers = writing.into_iter().map(|writing| writing.join().unwrap_or(Err(Error::Closed)));
+        (again, answers.collect::<Result<Vec<Instant>, Error>>().map(|answers| answers.into_iter().max()))
+    });
+    let (_again, last) = (again?, last?.unwrap_or(begun));
+    let mut noticed = Noticed { answered: last - begun, answered_since_the_end: last - ended, ..Noticed::default() };
+    thread::sleep(looked_at);
+    for guest in &guests {
+        let (jeopardies, is_lost) = guest.noticed();
+        noticed.jeopardies += jeopardies;
+        noticed.lost += usize::from(is_lost);
+    }
+    drop(guests);
+    std::fs::remove_dir_all(folder)?;
+    Ok(noticed)
+}
+
+// Beats until it is over, and acknowledges nothing. What the master sends is read, or the connection would be cut off.
+fn beat_on(mut connection: Plain, client: u64, epoch: u64, is_over: &AtomicBool) -> io::Result<()> {
+    let mut heard = connection.stream.try_clone()?;
+    thread::spawn(move || io::copy(&mut heard, &mut io::sink()));
+    let mut number = 1;
+    while !is_over.load(Ordering::Relaxed) {
+        number += 1;
+        connection.send(&message(BEAT, &[client, epoch, number, 0, 0], b""))?;
+        thread::sleep(PACE);
+    }
+    connection.stream.shutdown(Shutdown::Both)
+}
+
+// How long a write lasts beside a client that beats so.
+fn write_beside(writer: &Client, file: Handle, connection: Plain, client: u64, epoch: u64) -> Result<Duration, Error> {
+    let is_over = AtomicBool::new(false);
+    thread::scope(|scope| {
+        let beating = scope.spawn(|| beat_on(connection, client, epoch, &is_over));
+        let begun = Instant::now();
+        let written = write(writer, file);
+        let waited = begun.elapsed();
+        is_over.store(true, Ordering::Relaxed);
+        beating.join().unwrap_or_else(|_| Err(io::Error::other("the client that beats failed")))?;
+        written.map(|()| waited)
+    })
+}
+
+/// How long a write waits for a client that has the file in its cache, beats, and never acknowledges; under this lease in milliseconds.
+///
+/// # Errors
+///
+/// As `fail_over`.
+pub fn write_beside_one_that_keeps(lease: u64) -> Result<Duration, Error> {
+    let folder = folder("keeps");
+    let server = Start::new(&folder.join("store.db")).settings(&format!("lease = {lease}\n")).start()?;
+    let writer = Client::connect(&Options { patience: PATIENCE, ..Options::new(&server.address, "ann") })?;
+    let file = writer.create("/ls/c/f", b"")?;
+    let (mut connection, client, epoch) = Plain::begin(server.place(), "bob")?;
+    let opened = ask(&mut connection, &call(client, epoch, 1, &open_call("/ls/c/f", b"")));
+    let opened = opened.as_deref().and_then(handle).ok_or_else(|| Error::Malformed("an opened file".to_owned()))?;
+    ask(&mut connection, &call(client, epoch, 2, &read_call(&opened)));
+    let waited = write_beside(&writer, file, connection, client, epoch)?;
+    std::fs::remove_dir_all(folder)?;
+    Ok(waited)
+}
+
+/// How long a write waits behind a new master for a client that beats there, and never acknowledges that it is another; under this lease
+/// in milliseconds.
+///
+/// # Errors
+///
+/// As `fail_over`.
+pub fn write_beside_one_that_stays_behind(lease: u64) -> Result<Duration, Error> {
+    let folder = folder("behind");
+    let start = Start::new(&folder.join("store.db")).settings(&format!("lease = {lease}\n"));
+    let mut server = start.start()?;
+    let writer = Client::connect(&Options { patience: PATIENCE, ..Options::new(&server.address, "ann") })?;
+    let file = writer.create("/ls/c/f", b"")?;
+    let (mut connection, welcome) = Plain::greet(server.place(), &new("bob"))?;
+    let welcome = welcome.map_err(Error::TurnedAway)?;
+    connection.send(&start_of(welcome.client, "bob"))?;
+    connection.next_block();
+    server.kill(Kill::InOrder)?;
+    let server = start.with(&[&server.address]).start()?;
+    let (connection, _) = Plain::greet(server.place(), &again("bob", welcome))?;
+    // (the second master of a store has the second epoch)
+    let waited = write_beside(&writer, file, connection, welcome.client, 2)?;
+    std::fs::remove_dir_all(folder)?;
+    Ok(waited)
+}

@@ -1,0 +1,43 @@
+//! What clients notice where their server goes and another comes, and how long one is waited for that never acknowledges.
+
+use std::time::Duration;
+use trials::{fail_over, write_beside_one_that_keeps};
+
+/// So long an answer may take behind the start of the next server.
+const SOON: Duration = Duration::from_secs(3);
+
+/// So long clients are looked at behind a fail-over: as long as two leases of 12 s, in which one that isn't given again ends.
+const LOOKED_AT: Duration = Duration::from_secs(26);
+
+fn nobody_notices(clients: usize, one_way: Duration) {
+    let noticed = fail_over(clients, one_way, LOOKED_AT).unwrap();
+    println!(
+        "fail-over: {clients} clients, {} ms away: a write of each was answered within {} ms of the start, {} ms of SIGTERM; \
+         in jeopardy {}, lost {}",
+        one_way.as_millis(),
+        noticed.answered.as_millis(),
+        noticed.answered_since_the_end.as_millis(),
+        noticed.jeopardies,
+        noticed.lost
+    );
+    assert_eq!((noticed.jeopardies, noticed.lost), (0, 0));
+    assert!(noticed.answered < SOON, "{noticed:?}");
+}
+
+#[test]
+fn five_clients_notice_no_fail_over() {
+    nobody_notices(5, Duration::ZERO);
+}
+
+#[test]
+fn twenty_clients_far_away_notice_no_fail_over() {
+    nobody_notices(20, Duration::from_millis(120));
+}
+
+// Two leases and 48 s are the most that a master waits; and a lease and 48 s it does.
+#[test]
+fn a_client_that_never_acknowledges_is_given_up() {
+    let waited = write_beside_one_that_keeps(1000).unwrap();
+    println!("fail-over: a write beside a client that never acknowledges, lease 1 s: {:.1} s", waited.as_secs_f64());
+    assert!((Duration::from_secs(49)..Duration::from_secs(51)).contains(&waited), "{waited:?}");
+}
