@@ -25,7 +25,8 @@ const PAUSES: (u64, u64) = (20, 500);
 /// So many milliseconds at least between two Beats that have nothing to acknowledge.
 const PACE: u64 = 20;
 
-/// So many milliseconds at least before a Beat that wasn't answered is sent anew, and at most.
+/// So many milliseconds at least before a Beat that wasn't answered is sent anew, and at most. The answer to an earlier one counts no
+/// more then, so each time in a row it is twice as many at least: else a session couldn't go on where an answer takes longer.
 const AGAIN: (u64, u64) = (200, 10_000);
 
 /// The length in bytes of an Alive that has neither invalidations nor events.
@@ -61,15 +62,22 @@ async fn welcomed(mut stream: Box<dyn Stream>, hello: &Hello) -> Result<Connecti
 struct Schedule {
     sent: u64,
     due: u64,
+    /// So many milliseconds an answer is waited for at least.
+    pause: u64,
     /// Whether an answer came.
     is_answered: bool,
 }
 
 impl Schedule {
     // One was sent now, under a lease until that moment. Where no answer comes the next goes when half of what is left is over.
-    fn sent(now: u64, leased_until: u64) -> Schedule {
+    fn sent(now: u64, leased_until: u64, pause: u64) -> Schedule {
         let left = leased_until.saturating_sub(now) / 2;
-        Schedule { sent: now, due: now.saturating_add(left.clamp(AGAIN.0, AGAIN.1)), is_answered: false }
+        Schedule { sent: now, due: now.saturating_add(left.clamp(pause, AGAIN.1)), pause, is_answered: false }
+    }
+
+    // How long an answer to the next one is waited for at least.
+    fn next_pause(&self) -> u64 {
+        if self.is_answered { AGAIN.0 } else { (2 * self.pause).min(AGAIN.1) }
     }
 
     // A message came. Behind the answer to a Beat the next one goes: at once where there is something to acknowledge.
@@ -146,7 +154,7 @@ impl Keeper {
     }
 
     async fn hear(&self, mut read: impl AsyncRead + Unpin, mut blocks: Blocks, has_heard: &mut bool) -> io::Result<()> {
-        let mut schedule = self.beat(true);
+        let mut schedule = self.beat(true, AGAIN.0);
         loop {
             let rest = schedule.due.saturating_sub(clock::now()).max(1);
             match timeout(Duration::from_millis(rest), blocks.next_of(&mut read)).await {
@@ -160,7 +168,7 @@ impl Keeper {
             }
             // (of a client that is closed the last Beat is written first)
             if self.core.lock().goes_on() && clock::now() >= schedule.due {
-                schedule = self.beat(!schedule.is_answered);
+                schedule = self.beat(!schedule.is_answered, schedule.next_pause());
             }
         }
     }
@@ -172,7 +180,7 @@ impl Keeper {
     }
 
     // Beats; and sends the call that has no reply yet again, where its message or the reply may be lost.
-    fn beat(&self, is_again: bool) -> Schedule {
+    fn beat(&self, is_again: bool, pause: u64) -> Schedule {
         let mut state = self.core.lock();
         let now = clock::now();
         let leased_until = state.beat();
@@ -181,7 +189,7 @@ impl Keeper {
         }
         drop(state);
         self.core.tell();
-        Schedule::sent(now, leased_until)
+        Schedule::sent(now, leased_until, pause)
     }
 }
 
@@ -209,8 +217,21 @@ mod tests {
     fn a_beat_without_an_answer_is_sent_anew() {
         let rows = [(0, 1200), (900, 1200), (1300, 1200), (5000, 3000), (100_000, 11_000)];
         for (leased_until, due) in rows {
-            assert_eq!(Schedule::sent(1000, leased_until).due, due, "{leased_until}");
+            assert_eq!(Schedule::sent(1000, leased_until, AGAIN.0).due, due, "{leased_until}");
         }
+    }
+
+    #[test]
+    fn an_answer_that_takes_long_is_waited_for() {
+        let mut schedule = Schedule::sent(0, 0, AGAIN.0);
+        let mut dues = Vec::new();
+        for _ in 0..8 {
+            dues.push(schedule.due);
+            schedule = Schedule::sent(schedule.due, 0, schedule.next_pause());
+        }
+        assert_eq!(dues, [200, 600, 1400, 3000, 6200, 12_600, 22_600, 32_600]);
+        schedule.give(40_000, &message(ALIVE, EMPTY_ALIVE));
+        assert_eq!(Schedule::sent(40_020, 0, schedule.next_pause()).due, 40_220);
     }
 
     #[test]
@@ -224,7 +245,7 @@ mod tests {
             (1005, message(2, 30), 3000),
         ];
         for (now, message, due) in rows {
-            let mut schedule = Schedule::sent(1000, 5000);
+            let mut schedule = Schedule::sent(1000, 5000, AGAIN.0);
             schedule.give(now, &message);
             assert_eq!(schedule.due, due, "{message:?}");
         }

@@ -13,7 +13,7 @@ use std::process::{Child, Command, Stdio};
 use std::sync::atomic::{AtomicBool, Ordering};
 use std::thread;
 use std::time::{Duration, Instant};
-use tillermoss::{Admin, Client, Error, Handle, Mode, Options};
+use tillermoss::{Admin, Client, Error, Handle, Mode, Options, Refusal, own_principal};
 use trials::{
     Kill, Plain, Server, Start, again, ask, call, certificates, folder, forged, handle, message, new, open_call, read_call, set_call, start,
 };
@@ -61,11 +61,13 @@ impl Witness {
         Witness { client, file, turn: 0 }
     }
 
-    // It goes on, and another comes.
+    // It goes on, and another comes. (A write on whose way another master came up is written again.)
     fn check(&mut self, address: &str, what: &str) {
         self.turn += 1;
         let content = self.turn.to_string().into_bytes();
-        self.client.set(self.file, &content, None).unwrap_or_else(|error| panic!("{what}: the witness' write: {error}"));
+        while let Err(error) = self.client.set(self.file, &content, None) {
+            assert_eq!(error.refusal(), Some(Refusal::Unknown), "{what}: the witness' write: {error}");
+        }
         assert_eq!(self.client.read(self.file).unwrap().content, content, "{what}");
         let options = Options { patience: Duration::from_secs(20), ..Options::new(address, "bob") };
         let other = Client::connect(&options).unwrap_or_else(|error| panic!("{what}: another client: {error}"));
@@ -188,6 +190,7 @@ fn no_certificate(stage: &mut Stage) -> String {
 }
 
 fn own_certificate_of_another(stage: &mut Stage) -> String {
+    assert_eq!(stage.over_tls("mallory", "ca", "mallory"), "let in");
     stage.over_tls("mallory", "ca", "ann")
 }
 
@@ -196,7 +199,9 @@ fn name_outside_the_grammar(stage: &mut Stage) -> String {
 }
 
 fn another_user(stage: &mut Stage) -> String {
-    told(Client::connect(&Options::new(&stage.server.addresses[1], "not-this-user")))
+    let socket = &stage.server.addresses[1];
+    assert_eq!(told(Client::connect(&Options::new(socket, &own_principal(socket, None).unwrap()))), "let in");
+    told(Client::connect(&Options::new(socket, "not-this-user")))
 }
 
 fn another_number(stage: &mut Stage) -> String {

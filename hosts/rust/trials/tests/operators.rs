@@ -85,7 +85,10 @@ fn whom_a_write_waits_for_is_shown() {
         wait_until(|| get(&server, "/all").1.contains("\"act\":\"set\",\"name\":\"/ls/c/f\""));
         let all = get(&server, "/all").1;
         assert!(all.contains(&format!("\"waits_for\":[{}]", writer.number() + 1)), "{all}");
-        assert!(get(&server, "/metrics").1.contains("tillermoss_cell{of=\"changes_waiting\"} 1\n"));
+        let metrics = get(&server, "/metrics").1;
+        assert!(metrics.contains("tillermoss_cell{of=\"changes_waiting\"} 1\n"));
+        let oldest = metrics.lines().find_map(|line| line.strip_prefix("tillermoss_oldest_change_seconds ")).unwrap();
+        assert!(oldest.parse::<f64>().unwrap() > 0.0, "{oldest}");
         written.join().unwrap().unwrap();
     });
     reader.kill().unwrap();
