@@ -1,4 +1,6 @@
-//! How a message begins, and a frame that carries one: its version, and its kind, as `docs/FORMATS.md` numbers them.
+//! How a message begins, and a frame that carries one: its version, its kind, as `docs/FORMATS.md` numbers them, and its number.
+
+use crate::fields::Fields;
 
 /// The version of messages and of frames.
 pub const VERSION: u8 = 2;
@@ -31,3 +33,45 @@ pub mod of_master {
 
 /// Of the results of calls the kind of a refusal.
 pub const REFUSAL: u8 = 7;
+
+/// The number of a client's message of these bytes: it stands behind the client, and behind the epoch where a message has one. None
+/// where the bytes end before.
+#[must_use]
+pub fn number_of_client(message: &[u8]) -> Option<u64> {
+    let mut fields = Fields(message);
+    let (_version, kind, _client) = (fields.byte()?, fields.byte()?, fields.word()?);
+    if kind != of_client::START {
+        fields.word()?;
+    }
+    fields.word()
+}
+
+/// The number of the client's message that a master's message of these bytes answers.
+#[must_use]
+pub fn number_of_master(message: &[u8]) -> Option<u64> {
+    let mut fields = Fields(message);
+    fields.take(18)?;
+    fields.word()
+}
+
+#[cfg(test)]
+mod tests {
+    use super::*;
+
+    #[test]
+    fn numbers_are_read() {
+        let words = |kind: u8, words: &[u64]| [vec![VERSION, kind], words.iter().flat_map(|word| word.to_be_bytes()).collect()].concat();
+        let start = [words(of_client::START, &[7, 5]), b"\0\0\0\x03ann".to_vec()].concat();
+        let rows = [
+            (number_of_client(&start), Some(5)),
+            (number_of_client(&words(of_client::BEAT, &[7, 2, 6, 3, 1])), Some(6)),
+            (number_of_client(&words(of_client::CALL, &[7, 2])), None),
+            (number_of_master(&words(of_master::STARTED, &[7, 2, 5, 12_000])), Some(5)),
+            (number_of_master(&words(of_master::REFUSED, &[7, 2, 6])), Some(6)),
+            (number_of_master(&words(of_master::REFUSED, &[7, 2])), None),
+        ];
+        for (found, wanted) in rows {
+            assert_eq!(found, wanted);
+        }
+    }
+}

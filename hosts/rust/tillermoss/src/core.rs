@@ -7,6 +7,7 @@ use crate::events::Event;
 use crate::library::{Library, Status};
 use crate::lines::{Answer, Line, Shown};
 use crate::refusals::Refusal;
+use host_wire::messages::number_of_client;
 use host_wire::{Notice, TurnedAway, write_parting};
 use std::sync::mpsc::{Receiver, Sender, channel};
 use std::sync::{Condvar, Mutex, MutexGuard, PoisonError};
@@ -205,15 +206,14 @@ impl State {
         }
     }
 
-    /// Sends a Start or a Beat, which notes the time; gives the moment until which the client trusts its lease.
-    pub fn beat(&mut self) -> u64 {
+    /// Sends a Start or a Beat, which notes the time; gives its number, and the moment until which the client trusts its lease.
+    pub fn beat(&mut self) -> (Option<u64>, u64) {
         let status = self.library.beat(clock::now());
         self.learn(status);
-        if status == Status::Send {
-            let message = self.library.message();
-            self.send(message);
-        }
-        self.library.leased_until()
+        let message = if status == Status::Send { self.library.message() } else { None };
+        let number = message.as_deref().and_then(number_of_client);
+        self.send(message);
+        (number, self.library.leased_until())
     }
 
     /// Sends the outstanding call again, where there is one.

@@ -4,6 +4,7 @@ use crate::clock;
 use crate::core::{Core, End};
 use crate::errors::Error;
 use crate::reaching::{Reach, Stream};
+use host_wire::messages::number_of_master;
 use host_wire::messages::of_master::{ALIVE, REFUSED, STARTED};
 use host_wire::{ANSWER_LIMIT, Blocks, Hello, Welcome, framed};
 use std::io::{self, ErrorKind};
@@ -60,6 +61,8 @@ async fn welcomed(mut stream: Box<dyn Stream>, hello: &Hello) -> Result<Connecti
 /// When the next Beat is due.
 #[derive(Debug)]
 struct Schedule {
+    /// The number of the last one.
+    number: Option<u64>,
     sent: u64,
     due: u64,
     /// So many milliseconds an answer is waited for at least.
@@ -70,9 +73,9 @@ struct Schedule {
 
 impl Schedule {
     // One was sent now, under a lease until that moment. Where no answer comes the next goes when half of what is left is over.
-    fn sent(now: u64, leased_until: u64, pause: u64) -> Schedule {
+    fn sent(now: u64, (number, leased_until): (Option<u64>, u64), pause: u64) -> Schedule {
         let left = leased_until.saturating_sub(now) / 2;
-        Schedule { sent: now, due: now.saturating_add(left.clamp(pause, AGAIN.1)), pause, is_answered: false }
+        Schedule { number, sent: now, due: now.saturating_add(left.clamp(pause, AGAIN.1)), pause, is_answered: false }
     }
 
     // How long an answer to the next one is waited for at least.
@@ -80,15 +83,18 @@ impl Schedule {
         if self.is_answered { AGAIN.0 } else { (2 * self.pause).min(AGAIN.1) }
     }
 
-    // A message came. Behind the answer to a Beat the next one goes: at once where there is something to acknowledge.
+    // A message came. Behind the answer to the last Beat the next one goes: at once where there is something to acknowledge. The answer
+    // to an earlier one gives no lease, and the one to the last is on its way. Where anything is refused another master may be up.
     fn give(&mut self, now: u64, message: &[u8]) {
+        let is_answer = self.number.is_some() && number_of_master(message) == self.number;
         let paced = now.max(self.sent.saturating_add(PACE));
         self.due = match message.get(1) {
-            Some(&ALIVE) if message.len() > EMPTY_ALIVE => now,
-            Some(&(STARTED | ALIVE | REFUSED)) => self.due.min(paced),
+            Some(&ALIVE) if is_answer && message.len() > EMPTY_ALIVE => now,
+            Some(&(STARTED | ALIVE)) if is_answer => self.due.min(paced),
+            Some(&REFUSED) => self.due.min(paced),
             _ => return,
         };
-        self.is_answered = true;
+        self.is_answered |= is_answer;
     }
 }
 
@@ -183,13 +189,13 @@ impl Keeper {
     fn beat(&self, is_again: bool, pause: u64) -> Schedule {
         let mut state = self.core.lock();
         let now = clock::now();
-        let leased_until = state.beat();
+        let beaten = state.beat();
         if is_again {
             state.send_again();
         }
         drop(state);
         self.core.tell();
-        Schedule::sent(now, leased_until, pause)
+        Schedule::sent(now, beaten, pause)
     }
 }
 
@@ -207,9 +213,10 @@ async fn write_all(mut write: impl AsyncWrite + Unpin, mut waiting: UnboundedRec
 mod tests {
     use super::*;
 
-    fn message(kind: u8, length: usize) -> Vec<u8> {
+    fn message(kind: u8, number: u8, length: usize) -> Vec<u8> {
         let mut message = vec![0; length];
         message[..2].copy_from_slice(&[2, kind]);
+        message[25] = number;
         message
     }
 
@@ -217,37 +224,40 @@ mod tests {
     fn a_beat_without_an_answer_is_sent_anew() {
         let rows = [(0, 1200), (900, 1200), (1300, 1200), (5000, 3000), (100_000, 11_000)];
         for (leased_until, due) in rows {
-            assert_eq!(Schedule::sent(1000, leased_until, AGAIN.0).due, due, "{leased_until}");
+            assert_eq!(Schedule::sent(1000, (Some(7), leased_until), AGAIN.0).due, due, "{leased_until}");
         }
     }
 
     #[test]
     fn an_answer_that_takes_long_is_waited_for() {
-        let mut schedule = Schedule::sent(0, 0, AGAIN.0);
+        let mut schedule = Schedule::sent(0, (Some(0), 0), AGAIN.0);
         let mut dues = Vec::new();
-        for _ in 0..8 {
+        for number in 1..9 {
             dues.push(schedule.due);
-            schedule = Schedule::sent(schedule.due, 0, schedule.next_pause());
+            schedule = Schedule::sent(schedule.due, (Some(number), 0), schedule.next_pause());
         }
         assert_eq!(dues, [200, 600, 1400, 3000, 6200, 12_600, 22_600, 32_600]);
-        schedule.give(40_000, &message(ALIVE, EMPTY_ALIVE));
-        assert_eq!(Schedule::sent(40_020, 0, schedule.next_pause()).due, 40_220);
+        schedule.give(40_000, &message(ALIVE, 8, EMPTY_ALIVE));
+        assert_eq!(Schedule::sent(40_020, (Some(9), 0), schedule.next_pause()).due, 40_220);
     }
 
     #[test]
     fn the_next_beat_goes_behind_an_answer() {
         let rows = [
-            (1005, message(ALIVE, EMPTY_ALIVE), 1020),
-            (1050, message(ALIVE, EMPTY_ALIVE), 1050),
-            (1005, message(ALIVE, EMPTY_ALIVE + 1), 1005),
-            (1005, message(STARTED, 34), 1020),
-            (1005, message(REFUSED, 30), 1020),
-            (1005, message(2, 30), 3000),
+            (1005, message(ALIVE, 7, EMPTY_ALIVE), 1020, true),
+            (1050, message(ALIVE, 7, EMPTY_ALIVE), 1050, true),
+            (1005, message(ALIVE, 7, EMPTY_ALIVE + 1), 1005, true),
+            (1005, message(STARTED, 7, 34), 1020, true),
+            (1005, message(REFUSED, 7, 30), 1020, true),
+            (1005, message(REFUSED, 6, 30), 1020, false),
+            (1005, message(STARTED, 6, 34), 3000, false),
+            (1005, message(ALIVE, 6, EMPTY_ALIVE + 1), 3000, false),
+            (1005, message(2, 7, 30), 3000, false),
         ];
-        for (now, message, due) in rows {
-            let mut schedule = Schedule::sent(1000, 5000, AGAIN.0);
+        for (now, message, due, is_answered) in rows {
+            let mut schedule = Schedule::sent(1000, (Some(7), 5000), AGAIN.0);
             schedule.give(now, &message);
-            assert_eq!(schedule.due, due, "{message:?}");
+            assert_eq!((schedule.due, schedule.is_answered), (due, is_answered), "{message:?}");
         }
     }
 }

@@ -70,6 +70,13 @@ fn write(client: &Client, file: Handle) -> Result<(), Error> {
     }
 }
 
+fn come(address: &str, clients: usize) -> Result<Vec<Guest>, Error> {
+    thread::scope(|scope| {
+        let coming: Vec<_> = (0..clients).map(|number| scope.spawn(move || Guest::new(address, number))).collect();
+        coming.into_iter().map(|guest| guest.join().unwrap_or(Err(Error::Closed))).collect()
+    })
+}
+
 /// So many clients, each so far from the server one way, who hold locks and cache files and do nothing; the server goes by SIGTERM, and
 /// another comes up at once. They are looked at for so long behind it.
 ///
@@ -84,7 +91,7 @@ pub fn fail_over(clients: usize, one_way: Duration, looked_at: Duration) -> Resu
         let place = server.place().parse().map_err(|_| Error::Malformed("the server's address".to_owned()))?;
         address = format!("tcp:{}", far_from(place, one_way)?);
     }
-    let guests = (0..clients).map(|number| Guest::new(&address, number)).collect::<Result<Vec<_>, _>>()?;
+    let guests = come(&address, clients)?;
     thread::sleep(QUIET);
     let ended = Instant::now();
     server.kill(Kill::InOrder)?;
