@@ -1,4 +1,5 @@
-//! What a server says by itself to a client behind the greeting: that it doesn't hand a call on to the master, and why.
+//! What a server says by itself to a client behind the greeting: that it doesn't hand a call on to the master, and why; or that another
+//! master is up.
 
 use crate::fields::Fields;
 use crate::messages::of_master::{NOTICE, REPLY};
@@ -8,7 +9,7 @@ use crate::messages::{REFUSAL, VERSION};
 const STORE_REFUSED: u8 = 14;
 
 /// Why a server doesn't hand the call of this number on to its master: a block before the reply, which then is that the store
-/// refused.
+/// refused. With the number 0, which no call has, that another master is up: what the client sent to the last one may be lost.
 #[derive(Clone, Debug, PartialEq, Eq)]
 pub struct Notice {
     /// The call's number.
@@ -18,6 +19,18 @@ pub struct Notice {
 }
 
 impl Notice {
+    /// That another master is up.
+    #[must_use]
+    pub fn of_new_master() -> Notice {
+        Notice { number: 0, reason: "another master is up".to_owned() }
+    }
+
+    /// Whether it says that another master is up.
+    #[must_use]
+    pub fn is_of_new_master(&self) -> bool {
+        self.number == 0
+    }
+
     /// Its bytes.
     #[must_use]
     pub fn write(&self) -> Vec<u8> {

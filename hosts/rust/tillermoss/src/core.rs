@@ -225,7 +225,8 @@ impl State {
     /// Gives the client a message of its master; or what the server says by itself.
     pub fn give(&mut self, message: &[u8]) {
         if let Some(notice) = Notice::read(message) {
-            self.notice = Some(notice);
+            // (of another master the keeper hears)
+            self.notice = Some(notice).filter(|notice| !notice.is_of_new_master()).or(self.notice.take());
             return;
         }
         let status = self.library.give(clock::now(), message);

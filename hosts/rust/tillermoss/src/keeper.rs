@@ -5,8 +5,8 @@ use crate::core::{Core, End};
 use crate::errors::Error;
 use crate::reaching::{Reach, Stream};
 use host_wire::messages::number_of_master;
-use host_wire::messages::of_master::{ALIVE, REFUSED, STARTED};
-use host_wire::{ANSWER_LIMIT, Blocks, Hello, Welcome, framed};
+use host_wire::messages::of_master::{ALIVE, NOTICE, REFUSED, STARTED};
+use host_wire::{ANSWER_LIMIT, Blocks, Hello, Notice, Welcome, framed};
 use std::io::{self, ErrorKind};
 use std::sync::Arc;
 use std::time::Duration;
@@ -26,12 +26,19 @@ const PAUSES: (u64, u64) = (20, 500);
 /// So many milliseconds at least between two Beats that have nothing to acknowledge.
 const PACE: u64 = 20;
 
-/// So many milliseconds at least before a Beat that wasn't answered is sent anew, and at most. The answer to an earlier one counts no
-/// more then, so each time in a row it is twice as many at least: else a session couldn't go on where an answer takes longer.
+/// So many milliseconds an answer is waited for at least, and so many at most where the lease has ended: each time in a row twice as
+/// many, else a session couldn't go on where an answer takes longer.
 const AGAIN: (u64, u64) = (200, 10_000);
+
+/// So many milliseconds a master has kept a Beat where the next one is sent once more in the middle.
+const LONG: u64 = 20_000;
 
 /// The length in bytes of an Alive that has neither invalidations nor events.
 const EMPTY_ALIVE: usize = 42;
+
+/// Where a message of a master that refuses one says why, and the byte of the refusal 28, that another master is up.
+const REFUSAL_AT: usize = 26;
+const OLD_EPOCH: u8 = 27;
 
 /// A connection that is bound to a client, with what was read of it behind the welcome.
 pub struct Connection {
@@ -63,38 +70,50 @@ async fn welcomed(mut stream: Box<dyn Stream>, hello: &Hello) -> Result<Connecti
 struct Schedule {
     /// The number of the last one.
     number: Option<u64>,
+    /// When that was sent, and when the first one behind an answer.
     sent: u64,
+    first: u64,
     due: u64,
     /// So many milliseconds an answer is waited for at least.
     pause: u64,
+    /// So many milliseconds the last answer took: a master keeps a Beat until the lease is near its end.
+    usual: u64,
     /// Whether an answer came.
     is_answered: bool,
 }
 
 impl Schedule {
-    // One was sent now, under a lease until that moment. Where no answer comes the next goes when half of what is left is over.
-    fn sent(now: u64, (number, leased_until): (Option<u64>, u64), pause: u64) -> Schedule {
-        let left = leased_until.saturating_sub(now) / 2;
-        Schedule { number, sent: now, due: now.saturating_add(left.clamp(pause, AGAIN.1)), pause, is_answered: false }
+    // None was sent yet.
+    fn new() -> Schedule {
+        Schedule { number: None, sent: 0, first: 0, due: 0, pause: AGAIN.0, usual: 0, is_answered: true }
     }
 
-    // How long an answer to the next one is waited for at least.
-    fn next_pause(&self) -> u64 {
-        if self.is_answered { AGAIN.0 } else { (2 * self.pause).min(AGAIN.1) }
+    // One is sent now, under a lease until that moment. An answer to it counts only until the next one is sent: so that goes when an
+    // answer has come, else when the lease has ended; and once in the middle, where the master keeps a Beat for long, since what a clock
+    // may lose meanwhile is taken off the lease.
+    fn sent(&self, now: u64, (number, leased_until): (Option<u64>, u64)) -> Schedule {
+        let (first, pause) = if self.is_answered { (now, AGAIN.0) } else { (self.first, (2 * self.pause).min(AGAIN.1)) };
+        let left = leased_until.saturating_sub(now);
+        let wait = if self.is_answered && self.usual >= LONG { left.min(self.usual / 2) } else { left };
+        Schedule { number, sent: now, first, due: now.saturating_add(wait.max(pause)), pause, usual: self.usual, is_answered: false }
     }
 
-    // A message came. Behind the answer to the last Beat the next one goes: at once where there is something to acknowledge. The answer
-    // to an earlier one gives no lease, and the one to the last is on its way. Where anything is refused another master may be up.
+    // A message came. Behind the answer to the last Beat the next one goes: at once where there is something to acknowledge. Where another
+    // master is up the last one is lost.
     fn give(&mut self, now: u64, message: &[u8]) {
         let is_answer = self.number.is_some() && number_of_master(message) == self.number;
         let paced = now.max(self.sent.saturating_add(PACE));
         self.due = match message.get(1) {
             Some(&ALIVE) if is_answer && message.len() > EMPTY_ALIVE => now,
-            Some(&(STARTED | ALIVE)) if is_answer => self.due.min(paced),
-            Some(&REFUSED) => self.due.min(paced),
+            Some(&(STARTED | ALIVE | REFUSED)) if is_answer => self.due.min(paced),
+            Some(&REFUSED) if message.get(REFUSAL_AT) == Some(&OLD_EPOCH) => self.due.min(paced),
+            Some(&NOTICE) if Notice::read(message).is_some_and(|notice| notice.is_of_new_master()) => now,
             _ => return,
         };
-        self.is_answered |= is_answer;
+        if is_answer {
+            self.usual = now.saturating_sub(self.first);
+            self.is_answered = true;
+        }
     }
 }
 
@@ -160,7 +179,7 @@ impl Keeper {
     }
 
     async fn hear(&self, mut read: impl AsyncRead + Unpin, mut blocks: Blocks, has_heard: &mut bool) -> io::Result<()> {
-        let mut schedule = self.beat(true, AGAIN.0);
+        let mut schedule = self.beat(true, &Schedule::new());
         loop {
             let rest = schedule.due.saturating_sub(clock::now()).max(1);
             match timeout(Duration::from_millis(rest), blocks.next_of(&mut read)).await {
@@ -174,7 +193,7 @@ impl Keeper {
             }
             // (of a client that is closed the last Beat is written first)
             if self.core.lock().goes_on() && clock::now() >= schedule.due {
-                schedule = self.beat(!schedule.is_answered, schedule.next_pause());
+                schedule = self.beat(!schedule.is_answered, &schedule);
             }
         }
     }
@@ -186,7 +205,7 @@ impl Keeper {
     }
 
     // Beats; and sends the call that has no reply yet again, where its message or the reply may be lost.
-    fn beat(&self, is_again: bool, pause: u64) -> Schedule {
+    fn beat(&self, is_again: bool, before: &Schedule) -> Schedule {
         let mut state = self.core.lock();
         let now = clock::now();
         let beaten = state.beat();
@@ -195,7 +214,7 @@ impl Keeper {
         }
         drop(state);
         self.core.tell();
-        Schedule::sent(now, beaten, pause)
+        before.sent(now, beaten)
     }
 }
 
@@ -222,40 +241,59 @@ mod tests {
 
     #[test]
     fn a_beat_without_an_answer_is_sent_anew() {
-        let rows = [(0, 1200), (900, 1200), (1300, 1200), (5000, 3000), (100_000, 11_000)];
-        for (leased_until, due) in rows {
-            assert_eq!(Schedule::sent(1000, (Some(7), leased_until), AGAIN.0).due, due, "{leased_until}");
+        let kept_for = |usual| Schedule { usual, ..Schedule::new() };
+        let rows = [
+            (0, 0, 1200),
+            (0, 900, 1200),
+            (0, 1100, 1200),
+            (0, 5000, 5000),
+            (8000, 12_000, 12_000),
+            (0, 60_000, 60_000),
+            (50_000, 60_000, 26_000),
+            (50_000, 9000, 9000),
+        ];
+        for (usual, leased_until, due) in rows {
+            let schedule = kept_for(usual).sent(1000, (Some(7), leased_until));
+            assert_eq!(schedule.due, due, "{usual} {leased_until}");
+            let next = schedule.sent(due, (Some(8), leased_until));
+            assert_eq!(next.due, leased_until.max(due + 400), "{usual} {leased_until}");
         }
     }
 
     #[test]
     fn an_answer_that_takes_long_is_waited_for() {
-        let mut schedule = Schedule::sent(0, (Some(0), 0), AGAIN.0);
+        let mut schedule = Schedule::new().sent(0, (Some(0), 0));
         let mut dues = Vec::new();
         for number in 1..9 {
             dues.push(schedule.due);
-            schedule = Schedule::sent(schedule.due, (Some(number), 0), schedule.next_pause());
+            schedule = schedule.sent(schedule.due, (Some(number), 0));
         }
         assert_eq!(dues, [200, 600, 1400, 3000, 6200, 12_600, 22_600, 32_600]);
         schedule.give(40_000, &message(ALIVE, 8, EMPTY_ALIVE));
-        assert_eq!(Schedule::sent(40_020, (Some(9), 0), schedule.next_pause()).due, 40_220);
+        assert_eq!((schedule.usual, schedule.sent(40_020, (Some(9), 0)).due), (40_000, 40_220));
     }
 
     #[test]
     fn the_next_beat_goes_behind_an_answer() {
+        let mut refused = message(REFUSED, 6, 35);
+        refused[REFUSAL_AT] = OLD_EPOCH;
+        let notice = |number| Notice { number, reason: String::new() }.write();
         let rows = [
             (1005, message(ALIVE, 7, EMPTY_ALIVE), 1020, true),
             (1050, message(ALIVE, 7, EMPTY_ALIVE), 1050, true),
             (1005, message(ALIVE, 7, EMPTY_ALIVE + 1), 1005, true),
             (1005, message(STARTED, 7, 34), 1020, true),
             (1005, message(REFUSED, 7, 30), 1020, true),
-            (1005, message(REFUSED, 6, 30), 1020, false),
-            (1005, message(STARTED, 6, 34), 3000, false),
-            (1005, message(ALIVE, 6, EMPTY_ALIVE + 1), 3000, false),
-            (1005, message(2, 7, 30), 3000, false),
+            (1005, refused, 1020, false),
+            (1005, notice(0), 1005, false),
+            (1005, notice(7), 5000, false),
+            (1005, message(REFUSED, 6, 30), 5000, false),
+            (1005, message(STARTED, 6, 34), 5000, false),
+            (1005, message(ALIVE, 6, EMPTY_ALIVE + 1), 5000, false),
+            (1005, message(2, 7, 30), 5000, false),
         ];
         for (now, message, due, is_answered) in rows {
-            let mut schedule = Schedule::sent(1000, (Some(7), 5000), AGAIN.0);
+            let mut schedule = Schedule::new().sent(1000, (Some(7), 5000));
             schedule.give(now, &message);
             assert_eq!((schedule.due, schedule.is_answered), (due, is_answered), "{message:?}");
         }

@@ -43,6 +43,13 @@ impl Routes {
         }
     }
 
+    /// Sends a block to all clients that have a connection.
+    pub fn send_to_all(&self, block: &[u8]) {
+        for (_, outgoing) in self.table().open.values() {
+            outgoing.send(block.to_vec());
+        }
+    }
+
     /// Whether this binding is the client's present one.
     pub fn is_bound(&self, client: u64, binding: u64) -> bool {
         self.table().open.get(&client).is_some_and(|(bound, _)| *bound == binding)
@@ -103,6 +110,8 @@ mod tests {
         assert_eq!(routes.send(8, b"lost".to_vec()), None);
         assert_eq!(routes.send(7, b"here".to_vec()), None);
         assert_eq!(blocks.next_of(&mut new).await.unwrap(), Some(b"here".to_vec()));
+        routes.send_to_all(b"all");
+        assert_eq!(blocks.next_of(&mut new).await.unwrap(), Some(b"all".to_vec()));
         assert_eq!(Blocks::new(9).next_of(&mut old).await.unwrap(), None);
         routes.unbind(7, second);
         assert!(!routes.is_bound(7, second));

@@ -12,7 +12,7 @@ use crate::settings::Settings;
 use crate::showing::Showing;
 use crate::store::{self, Head, beside};
 use anyhow::{Context, Result, bail};
-use host_wire::Address;
+use host_wire::{Address, Notice};
 use nix::sys::resource::{Resource, getrlimit, setrlimit};
 use nix::sys::stat::{Mode, umask};
 use sd_notify::NotifyState;
@@ -186,6 +186,8 @@ async fn keep(mut master: Master, making: Making, hall: Arc<Hall>, mut orders: m
             bail!("the master is gone again and again: {reason}");
         }
         master = up(&making, &hall).await?;
+        // (what was on its way to the last one is lost, also Beats that it kept)
+        hall.routes.send_to_all(&Notice::of_new_master().write());
     }
 }
 
