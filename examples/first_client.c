@@ -6,7 +6,7 @@
 
 /* The answer to its first message: a Started of client 1, epoch 1, number 1, with a lease of 12,000 ms. */
 static const uint8_t started[] = {
-    1, 0,
+    2, 0,
     0, 0, 0, 0, 0, 0, 0, 1,
     0, 0, 0, 0, 0, 0, 0, 1,
     0, 0, 0, 0, 0, 0, 0, 1,

@@ -50,6 +50,13 @@ pub struct Options {
 
 impl Options {
     /// To this server for this principal, with a patience of 90 s: longer than any recovery.
+    ///
+    /// ```
+    /// use tillermoss::Options;
+    ///
+    /// let options = Options::new("127.0.0.1:7171", "ann");
+    /// assert_eq!((options.patience.as_secs(), options.certificate), (90, None));
+    /// ```
     #[must_use]
     pub fn new(server: &str, principal: &str) -> Options {
         let (server, principal, patience) = (server.to_owned(), principal.to_owned(), Duration::from_secs(90));

@@ -13,17 +13,74 @@ pub struct Events(pub(crate) u8);
 
 impl Events {
     /// Of none.
+    ///
+    /// ```
+    /// # trials::with_client(|client| {
+    /// # use tillermoss::*;
+    /// let file = client.create("/ls/c/f", b"")?;
+    /// let watch = client.watch("/ls/c/f", Events::NONE)?;
+    /// client.set(file, b"a", None)?;
+    /// assert!(watch.events.try_recv().is_err());
+    /// # Ok(()) });
+    /// ```
     pub const NONE: Events = Events(0);
     /// The content was set.
+    ///
+    /// ```
+    /// # trials::with_client(|client| {
+    /// # use tillermoss::*;
+    /// let file = client.create("/ls/c/f", b"")?;
+    /// let watch = client.watch("/ls/c/f", Events::CONTENTS)?;
+    /// client.set(file, b"a", None)?;
+    /// assert!(matches!(watch.events.recv(), Ok(Event::Contents { generation: 2, .. })));
+    /// # Ok(()) });
+    /// ```
     pub const CONTENTS: Events = Events(1);
     /// A child came, went, or was set.
+    ///
+    /// ```
+    /// # trials::with_client(|client| {
+    /// # use tillermoss::*;
+    /// let file = client.create("/ls/c/f", b"")?;
+    /// let watch = client.watch("/ls/c", Events::CHILDREN)?;
+    /// client.set(file, b"a", None)?;
+    /// assert_eq!(watch.events.recv(), Ok(Event::ChildModified("/ls/c/f".to_owned())));
+    /// # Ok(()) });
+    /// ```
     pub const CHILDREN: Events = Events(2);
     /// The lock went from free to held.
+    ///
+    /// ```
+    /// # trials::with_client(|client| {
+    /// # use tillermoss::*;
+    /// let file = client.create("/ls/c/f", b"")?;
+    /// let watch = client.watch("/ls/c/f", Events::LOCK)?;
+    /// client.acquire(file, LockMode::Shared)?;
+    /// assert_eq!(watch.events.recv(), Ok(Event::Locked));
+    /// # Ok(()) });
+    /// ```
     pub const LOCK: Events = Events(4);
     /// Another wants the lock that the handle holds.
+    ///
+    /// ```
+    /// # trials::with_client(|client| {
+    /// # use tillermoss::*;
+    /// client.create("/ls/c/f", b"")?;
+    /// let watch = client.watch_with(&Opening { events: Events::CONFLICT, ..Opening::new("/ls/c/f", Mode::WRITE) })?;
+    /// client.acquire(watch.handle, LockMode::Exclusive)?;
+    /// let other = client.open("/ls/c/f", Mode::WRITE)?;
+    /// client.try_acquire(other, LockMode::Exclusive).unwrap_err();
+    /// assert_eq!(watch.events.recv(), Ok(Event::Conflict));
+    /// # Ok(()) });
+    /// ```
     pub const CONFLICT: Events = Events(8);
 
     /// Of those of either.
+    ///
+    /// ```
+    /// # use tillermoss::Events;
+    /// assert_eq!(Events::LOCK.and(Events::CONFLICT), Events::CONFLICT.and(Events::LOCK));
+    /// ```
     #[must_use]
     pub const fn and(self, other: Events) -> Events {
         Events(self.0 | other.0)

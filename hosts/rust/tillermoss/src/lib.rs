@@ -37,7 +37,53 @@ pub use calls::{Create, Life, Opening};
 pub use client::{Client, Handle, Options, Watch};
 pub use errors::Error;
 pub use events::{Event, Events};
-pub use host_wire::{Address, LockShown, SessionShown, Status, TurnedAway};
+/// ```
+/// use tillermoss::Address;
+///
+/// let address: Address = "127.0.0.1:7171".parse().unwrap();
+/// assert_eq!(address.to_string(), "tcp:127.0.0.1:7171");
+/// assert!(address.is_local() && "127.0.0.1".parse::<Address>().is_err());
+/// ```
+pub use host_wire::Address;
+/// ```
+/// # use tillermoss::*;
+/// # let server = trials::server_of_its_own();
+/// # let (address, admin) = (server.address.as_str(), server.admin.as_deref().unwrap());
+/// let client = Client::connect(&Options::new(address, "ann"))?;
+/// client.acquire(client.create("/ls/c/f", b"")?, LockMode::Exclusive)?;
+/// let locks: Vec<LockShown> = Admin::new(admin)?.locks()?;
+/// assert_eq!((locks[0].name.as_str(), &locks[0].holders[..]), ("/ls/c/f", &[client.number()][..]));
+/// # Ok::<(), Error>(())
+/// ```
+pub use host_wire::LockShown;
+/// ```
+/// # use tillermoss::*;
+/// # let server = trials::server_of_its_own();
+/// # let (address, admin) = (server.address.as_str(), server.admin.as_deref().unwrap());
+/// let client = Client::connect(&Options::new(address, "bob"))?;
+/// let sessions: Vec<SessionShown> = Admin::new(admin)?.sessions()?;
+/// assert_eq!((sessions[0].client, sessions[0].principal.as_str()), (client.number(), "bob"));
+/// # Ok::<(), Error>(())
+/// ```
+pub use host_wire::SessionShown;
+/// ```
+/// # use tillermoss::*;
+/// # let server = trials::server_of_its_own();
+/// # let admin = server.admin.as_deref().unwrap();
+/// let status: Status = Admin::new(admin)?.status()?;
+/// assert_eq!((status.epoch, status.locks), (1, 0));
+/// # Ok::<(), Error>(())
+/// ```
+pub use host_wire::Status;
+/// ```
+/// # use tillermoss::*;
+/// # let server = trials::server_of_its_own();
+/// # let address = server.address.as_str();
+/// let refused = Client::connect(&Options::new(address, "not a principal"));
+/// assert!(matches!(refused, Err(Error::TurnedAway(TurnedAway::BadPrincipal))));
+/// # Ok::<(), Error>(())
+/// ```
+pub use host_wire::TurnedAway;
 pub use nodes::{Kind, LockMode, Mode, Right, Stat, View};
 pub use reaching::own_principal;
 pub use refusals::Refusal;

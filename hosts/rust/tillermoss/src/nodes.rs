@@ -72,13 +72,43 @@ pub struct Mode(pub(crate) u8);
 
 impl Mode {
     /// To read, and to list.
+    ///
+    /// ```
+    /// # trials::with_client(|client| {
+    /// # use tillermoss::*;
+    /// assert_eq!(client.list(client.open("/ls/c", Mode::READ)?)?, ["acl"]);
+    /// # Ok(()) });
+    /// ```
     pub const READ: Mode = Mode(1);
     /// To set, to delete, and to take the lock.
+    ///
+    /// ```
+    /// # trials::with_client(|client| {
+    /// # use tillermoss::*;
+    /// client.create("/ls/c/f", b"")?;
+    /// let file = client.open("/ls/c/f", Mode::WRITE)?;
+    /// client.set(file, b"hello", None)?;
+    /// assert_eq!(client.read(file).unwrap_err().refusal(), Some(Refusal::Denied(Right::Read)));
+    /// # Ok(()) });
+    /// ```
     pub const WRITE: Mode = Mode(2);
     /// To change the names of the ACLs.
+    ///
+    /// ```
+    /// # trials::with_client(|client| {
+    /// # use tillermoss::*;
+    /// client.create("/ls/c/f", b"")?;
+    /// client.set_acl(client.open("/ls/c/f", Mode::CHANGE)?, &["base", "base", "base"].map(str::to_owned), None)?;
+    /// # Ok(()) });
+    /// ```
     pub const CHANGE: Mode = Mode(4);
 
     /// For what either is for.
+    ///
+    /// ```
+    /// # use tillermoss::Mode;
+    /// assert_eq!(Mode::READ.and(Mode::WRITE), Mode::WRITE.and(Mode::READ));
+    /// ```
     #[must_use]
     pub const fn and(self, other: Mode) -> Mode {
         Mode(self.0 | other.0)

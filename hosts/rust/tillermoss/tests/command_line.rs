@@ -1,6 +1,6 @@
 //! The program's answers to its command line. (What it does with a cell is tested with its server.)
 
-use std::ffi::OsStr;
+use std::ffi::{OsStr, OsString};
 use std::fs::File;
 use std::os::unix::ffi::OsStrExt;
 use std::process::{Command, Output, Stdio};
@@ -27,8 +27,29 @@ fn help_and_wrong_words_are_told() {
 
 #[test]
 fn words_that_are_no_text_are_refused() {
-    let output = Command::new(env!("CARGO_BIN_EXE_tillermoss")).arg("get").arg(OsStr::from_bytes(b"\xff")).output().unwrap();
-    assert_eq!(output.status.code(), Some(2));
+    let no_text = OsStr::from_bytes(b"\xff");
+    let words = |words: &[&str]| words.iter().map(OsString::from).collect::<Vec<_>>();
+    let rows = [words(&["get"]), words(&["get", "f", "--server"]), words(&["get", "f", "--as"]), words(&["-o"]), vec![]];
+    for words in rows {
+        let output = Command::new(env!("CARGO_BIN_EXE_tillermoss")).args(&words).arg(no_text).output().unwrap();
+        assert_eq!((output.status.code(), output.stdout), (Some(2), vec![]), "{words:?}");
+        assert!(!String::from_utf8(output.stderr).unwrap().contains("panicked"), "{words:?}");
+    }
+    for variable in ["TILLERMOSS_SERVER", "TILLERMOSS_PRINCIPAL", "TILLERMOSS_CELL"] {
+        let output = Command::new(env!("CARGO_BIN_EXE_tillermoss")).args(["get", "f"]).env(variable, no_text).output().unwrap();
+        assert_eq!((output.status.code(), output.stdout), (Some(2), vec![]), "{variable}");
+    }
+}
+
+// (they get as far as the server, which isn't there)
+#[test]
+fn contents_commands_and_paths_are_any_bytes() {
+    let no_text = OsStr::from_bytes(b"\xff");
+    for words in [&["put", "f"][..], &["lock", "f", "--"], &["elect", "f"], &["register", "f"], &["--admin", "unix:/no/such", "backup"]] {
+        let mut program = Command::new(env!("CARGO_BIN_EXE_tillermoss"));
+        let output = program.args(["--server", "127.0.0.1:1"]).args(words).arg(no_text).output().unwrap();
+        assert_eq!((output.status.code(), output.stdout), (Some(4), vec![]), "{words:?}");
+    }
 }
 
 #[test]

@@ -8,7 +8,7 @@ use std::path::PathBuf;
 #[derive(Debug, PartialEq, Eq, Parser)]
 #[command(version, args_conflicts_with_subcommands = true, subcommand_negates_reqs = true, after_help = AFTER)]
 pub struct Options {
-    /// Where to listen: unix:PATH, tls:[HOST:]PORT, tcp:[HOST:]PORT or [HOST:]PORT; without a host loopback; port 0 for any free one
+    /// Where to listen: unix:PATH, tls:HOST:PORT or tcp:HOST:PORT. PORT alone is tcp: on loopback, and so is tcp:PORT; 0 is any free one
     #[arg(required = true)]
     pub listen: Vec<Address>,
     /// The SQLite file of the store, which is made where there is none

@@ -29,8 +29,8 @@ pub fn run(words: &Words) -> Result<u8, Fault> {
         Verb::Rm { name } => remove(&connect(reach)?, &reach.whole(name))?,
         Verb::Stat { name } => stat(reach, *output, &reach.whole(name))?,
         Verb::Lock(asked) => return lock(&connect(reach)?, &reach.whole(&asked.name), asked),
-        Verb::Elect(asked) => return elect(&connect(reach)?, &reach.whole(&asked.name), asked),
-        Verb::Register(asked) => return register(&connect(reach)?, &reach.whole(&asked.name), asked),
+        Verb::Elect(asked) => return elect(&connect(reach)?, *output, &reach.whole(&asked.name), asked),
+        Verb::Register(asked) => return register(&connect(reach)?, *output, &reach.whole(&asked.name), asked),
         Verb::Watch { name, prev, count } => watch(&connect(reach)?, *output, &reach.whole(name), *prev, *count)?,
         Verb::Status => match &reach.admin {
             Some(admin) => status_of(admin, *output)?,

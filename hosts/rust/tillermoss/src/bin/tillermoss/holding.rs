@@ -1,9 +1,10 @@
 //! What is held while a command runs: a lock, an election, a file that says that somebody is there.
 
 use crate::faults::Fault;
-use crate::output::{print, say};
+use crate::output::{print, print_json, say};
 use crate::running::{run, signals, wait_for};
-use crate::words::{Hold, Lock};
+use crate::words::{Hold, Lock, Output};
+use serde_json::json;
 use signal_hook::iterator::Signals;
 use std::os::unix::ffi::OsStrExt;
 use std::time::Duration;
@@ -28,14 +29,14 @@ pub fn lock(client: &Client, name: &str, asked: &Lock) -> Result<u8, Fault> {
 
 /// Waits for the lock of a file, writes the value into it, runs the command, empties the file and lets the lock go; gives the
 /// command's status.
-pub fn elect(client: &Client, name: &str, asked: &Hold) -> Result<u8, Fault> {
+pub fn elect(client: &Client, output: Output, name: &str, asked: &Hold) -> Result<u8, Fault> {
     let mut signals = signals()?;
     let watch = client.watch_with(&candidate(name))?;
     let held = watch.handle;
     let ended = take(client, held, LockMode::Exclusive, asked.no_wait, &mut signals).and_then(|()| {
         client.set(held, asked.value.as_bytes(), None)?;
         let sequencer = client.sequencer(held)?;
-        announce(asked, "elected", name)?;
+        announce(output, asked, "elected", name)?;
         let ended = run(&asked.command, Some(&sequencer), &watch, &mut signals);
         if !client.is_lost() {
             client.set(held, b"", None)?;
@@ -47,10 +48,10 @@ pub fn elect(client: &Client, name: &str, asked: &Hold) -> Result<u8, Fault> {
 }
 
 /// Makes a file that goes with this program, runs the command, and deletes the file; gives the command's status.
-pub fn register(client: &Client, name: &str, asked: &Hold) -> Result<u8, Fault> {
+pub fn register(client: &Client, output: Output, name: &str, asked: &Hold) -> Result<u8, Fault> {
     let mut signals = signals()?;
     let watch = make(client, name, asked, &mut signals)?;
-    announce(asked, "registered", name)?;
+    announce(output, asked, "registered", name)?;
     let ended = run(&asked.command, None, &watch, &mut signals);
     if !client.is_lost() {
         // (one that somebody else deleted is gone already)
@@ -67,9 +68,11 @@ fn candidate(name: &str) -> Opening {
 }
 
 // Without a command nothing else tells that it begins.
-fn announce(asked: &Hold, word: &str, name: &str) -> Result<(), Fault> {
-    if asked.command.is_empty() {
-        print(format!("{word} {name}").as_bytes())?;
+fn announce(output: Output, asked: &Hold, word: &str, name: &str) -> Result<(), Fault> {
+    match output {
+        _ if !asked.command.is_empty() => {}
+        Output::Text => print(format!("{word} {name}").as_bytes())?,
+        Output::Json => print_json(&json!({ "event": word, "name": name }))?,
     }
     Ok(())
 }
