@@ -76,7 +76,7 @@ impl Service<'_> {
 fn main() -> Measured<()> {
     let words: Vec<_> = std::env::args().skip(1).collect();
     let [service, address, measure, count, seconds] = &words[..] else {
-        return Err("usage: peers cell|etcd|zookeeper ADDRESS sets|reads|told|locks|cached|fill|first COUNT SECONDS".into());
+        return Err("usage: peers cell|etcd|zookeeper ADDRESS sets|reads|told|locks|cached|fill|ready|first COUNT SECONDS".into());
     };
     let service = match service.as_str() {
         "cell" => Service::Cell(address),
@@ -92,7 +92,8 @@ fn main() -> Measured<()> {
         "locks" => locks(service, count, lasting)?,
         "cached" => cell::cached(address, count, lasting)?,
         "fill" => fill(service, count)?,
-        "first" => first(service, lasting)?,
+        "ready" => waited(lasting, || service.session().map(|_| ()))?,
+        "first" => waited(lasting, || first(service))?,
         _ => return Err(format!("no such measure: {measure}").into()),
     };
     println!("{figure:.2}");
@@ -229,18 +230,21 @@ fn fill_some(service: Service<'_>, count: u32, next: &std::sync::atomic::AtomicU
     }
 }
 
-// Seconds until a file that `fill` made is read.
-fn first(service: Service<'_>, patience: Duration) -> Measured<f64> {
+// Seconds until it can be done.
+fn waited(patience: Duration, deed: impl Fn() -> Measured<()>) -> Measured<f64> {
     let begun = Instant::now();
     loop {
-        let read = service.session().and_then(|mut session| {
-            session.open("fill0/0")?;
-            session.read("fill0/0")
-        });
-        match read {
+        match deed() {
             Err(error) if begun.elapsed() > patience => return Err(error),
             Err(_) => thread::sleep(Duration::from_millis(10)),
             Ok(()) => return Ok(begun.elapsed().as_secs_f64()),
         }
     }
+}
+
+// Reads a file that `fill` made.
+fn first(service: Service<'_>) -> Measured<()> {
+    let mut session = service.session()?;
+    session.open("fill0/0")?;
+    session.read("fill0/0")
 }

@@ -9,6 +9,9 @@ use std::time::{Duration, Instant};
 const LEASE: i32 = 12_000;
 const KEPT: Duration = Duration::from_secs(4);
 
+/// So long an answer may take.
+const SILENCE: Duration = Duration::from_secs(10);
+
 const CREATE: i32 = 1;
 const DELETE: i32 = 2;
 const EXISTS: i32 = 3;
@@ -85,6 +88,7 @@ impl ZooKeeper {
     pub fn connect(address: &str) -> Measured<ZooKeeper> {
         let stream = TcpStream::connect(address)?;
         stream.set_nodelay(true)?;
+        stream.set_read_timeout(Some(SILENCE))?;
         let mut zookeeper = ZooKeeper { stream, number: 0, kept: Instant::now(), told: 0, held: None };
         let hello = Fields::default().word(0).word(0).word(0).word(LEASE).word(0).word(0).bytes(&[0; 16]);
         zookeeper.send(&hello.0)?;
