@@ -14,6 +14,7 @@ use Rattle.world_core.specs.World.{WorldView, opened}
 use Rattle.script_cell.specs.Ran.{EndsWith, EndsSurely}
 use Rattle.rows_sql.specs.Adopting.{Adopts, Takes}
 use Rattle.rows_sql.specs.Closed.{StandsAlone}
+use Rattle.rows_cell.specs.Opening.{opening}
 
 -- a store of these rows that was just taken over: a crash leaves them, nothing was refused, nothing is in doubt
 abbrev pub taken : Settled → Rows → Store
@@ -40,3 +41,8 @@ pub record RanAt {D : Type 0} (g : Ghosts D) (settings : Settled) (held : Image)
   pub takes : Takes settings had first
   pub ran : EndsWith status (EndsSurely text (opened (taken settings first) settings.lease) last) before after
   pub stands : StandsAlone g files last.world.rows
+
+-- a script ended so over a new store in memory: it led from the opening rows to those of its end, and the laws of runs hold of it
+pub record RanNew (settings : Settled) (text : Option (List ℕ)) (status : ℕ) (before after : Option (List ℕ)) : Type 0 where
+  pub last : WorldView
+  pub ran : EndsWith status (EndsSurely text (opened (taken settings (opening settings)) settings.lease) last) before after
