@@ -5,6 +5,7 @@ ghost use Rattle.cellctl.specs.Exits.{IsExit};
 use crate::check::check_store;
 use crate::exits::{unread_status, unwritten_status};
 use crate::lives::run_live;
+use crate::pipes::serve_rows;
 use crate::serves::serve_path;
 use crate::settings::settings;
 use crate::stores::run_over;
@@ -67,8 +68,7 @@ fn do_command<W: Threads + Wait + Sync>(
         return check(rt, found.get_str("settings"), path);
     }
     if let Some(found) = matches.subcommand_matches("serve") {
-        let path = found.get_str("store").unwrap_or_default();
-        return serve_path(rt, found.get_str("settings"), path);
+        return serve(rt, found);
     }
     if let Some(found) = matches.subcommand_matches("live") {
         return Ok(run_live(rt, threads, found));
@@ -84,6 +84,17 @@ fn do_command<W: Threads + Wait + Sync>(
             )
         }
         None => run_script(rt, None, None, false),
+    }
+}
+
+// Over the rows of another program where a folder is named, else over the store in a file.
+fn serve(rt: &HostRuntime, found: &ArgMatches<'_>) -> Result<u8>
+    ensures { IfOk result IsExit }
+{
+    let named = found.get_str("settings");
+    match found.get_str("rows") {
+        Some(folder) => serve_rows(rt, named, folder),
+        None => serve_path(rt, named, found.get_str("store").unwrap_or_default()),
     }
 }
 

@@ -7,6 +7,7 @@ mod commands;
 mod exits;
 mod help;
 mod lives;
+mod pipes;
 mod runs;
 mod serves;
 mod settings;

@@ -6,6 +6,7 @@ use crate::runs::Unclosed;
 use crate::settings::settings;
 use crate::stores::{left_open, unfound_status};
 use anyhow::{Context, Result};
+use rows_cell::Records;
 use rows_sql::SqlRecords;
 use serve_cell::{Seat, Stop, serve_on};
 use settings_core::Settings;
@@ -97,11 +98,12 @@ fn serve_records(
     }
 }
 
-fn serve_seat(
+/// Answers all frames of standard input, and gives the status behind the last one.
+pub(crate) fn serve_seat<R: Records>(
     rt: &HostRuntime,
     settings: &Settings,
-    seat: Seat<SqlRecords<FileStore<File>>>,
-) -> (Seat<SqlRecords<FileStore<File>>>, u8)
+    seat: Seat<R>,
+) -> (Seat<R>, u8)
     ensures { IsExit result.1 }
 {
     let alloc = rt.alloc();

@@ -159,7 +159,7 @@ fn remove_empty(rt: &HostRuntime, path: &str) {
     }
 }
 
-fn refused(rt: &HostRuntime, fault: StoreFault) -> u8
+pub(crate) fn refused(rt: &HostRuntime, fault: StoreFault) -> u8
     ensures { IsExit result }
 {
     let _ = eprintln!(rt; "cellctl: taking the store over: {fault}");

@@ -68,7 +68,21 @@ fn check_about<'a>(alloc: Global) -> Command<'a> {
 
 fn serve_words<'a>(alloc: Global) -> Result<Command<'a>, AllocError> {
     let serve = serve_about(alloc).arg(settings_word(alloc))?;
-    serve.arg(served_word(alloc))
+    let serve = with_word(serve, served_word(alloc))?;
+    with_word(serve, rows_word(alloc))
+}
+
+fn with_word<'a>(
+    command: Command<'a>,
+    word: Result<Arg<'a>, AllocError>,
+) -> Result<Command<'a>, AllocError> {
+    match word {
+        Ok(word) => command.arg(word),
+        Err(error) => {
+            drop(command);
+            Err(error)
+        }
+    }
 }
 
 fn serve_about<'a>(alloc: Global) -> Command<'a> {
@@ -77,13 +91,24 @@ fn serve_about<'a>(alloc: Global) -> Command<'a> {
         .after_help(FRAMES)
 }
 
-fn served_word<'a>(alloc: Global) -> Arg<'a> {
+fn served_word<'a>(alloc: Global) -> Result<Arg<'a>, AllocError> {
     Arg::new(alloc, "store")
         .long("store")
         .value_name("FILE")
         .help("The SQLite file of the store, which is made where there is none")
-        .required(true)
         .action(ArgAction::Set)
+        .required_unless_present("rows")
+}
+
+fn rows_word<'a>(alloc: Global) -> Result<Arg<'a>, AllocError> {
+    Arg::new(alloc, "rows")
+        .long("rows")
+        .value_name("FOLDER")
+        .help(
+            "In place of a store: the folder of two named pipes, `asked` and `answered`, to the program that keeps the rows",
+        )
+        .action(ArgAction::Set)
+        .conflicts_with("store")
 }
 
 fn settings_word<'a>(alloc: Global) -> Arg<'a> {

@@ -7,7 +7,7 @@ use crate::reaching::{Reach, Stream};
 use host_wire::{ANSWER_LIMIT, Blocks, Hello, Welcome, framed};
 use std::io::{self, ErrorKind};
 use std::sync::Arc;
-use std::time::Duration;
+use std::time::{Duration, Instant};
 use tokio::io::{AsyncRead, AsyncWrite, AsyncWriteExt};
 use tokio::sync::mpsc::{UnboundedReceiver, unbounded_channel};
 use tokio::time::{sleep, timeout};
@@ -43,16 +43,36 @@ pub struct Connection {
     pub welcome: Welcome,
 }
 
-/// Connects to a server, and greets it.
+/// Connects to the server that is tried now, and greets it. Where it can't be reached or turns the client away, another is tried next:
+/// the master, where it is told.
 pub async fn greet(reach: &Reach, hello: &Hello) -> Result<Connection, Error> {
-    let greeted = timeout(CONNECTING, async { welcomed(reach.connect().await?, hello).await });
-    greeted.await.unwrap_or_else(|_| Err(io::Error::from(ErrorKind::TimedOut).into()))
+    let mut master = None;
+    let greeted = timeout(CONNECTING, async { welcomed(reach.connect().await?, hello, &mut master).await });
+    let greeted = greeted.await.unwrap_or_else(|_| Err(io::Error::from(ErrorKind::TimedOut).into()));
+    if greeted.is_err() {
+        reach.turn(master.as_deref());
+    }
+    greeted
 }
 
-async fn welcomed(mut stream: Box<dyn Stream>, hello: &Hello) -> Result<Connection, Error> {
+/// The same, of several servers until one is master, or so long.
+pub async fn greet_any(reach: &Reach, hello: &Hello, patience: Duration) -> Result<Connection, Error> {
+    let begun = Instant::now();
+    let mut pause = PAUSES.0;
+    loop {
+        match greet(reach, hello).await {
+            Err(Error::TurnedAway(reason)) if !reason.is_for_now() => return Err(Error::TurnedAway(reason)),
+            Err(_) if reach.has_several() && begun.elapsed() < patience => pause = Keeper::rest(pause).await,
+            greeted => return greeted,
+        }
+    }
+}
+
+async fn welcomed(mut stream: Box<dyn Stream>, hello: &Hello, master: &mut Option<String>) -> Result<Connection, Error> {
     stream.write_all(&framed(&hello.write())?).await?;
     let mut blocks = Blocks::new(ANSWER_LIMIT);
     let block = blocks.next_of(&mut stream).await?.ok_or_else(|| io::Error::from(ErrorKind::UnexpectedEof))?;
+    *master = Welcome::master(&block);
     match Welcome::read(&block) {
         Ok(Ok(welcome)) => Ok(Connection { stream, blocks, welcome }),
         Ok(Err(reason)) => Err(Error::TurnedAway(reason)),

@@ -7,6 +7,7 @@ use std::io::{self, BufReader, ErrorKind};
 use std::net::IpAddr;
 use std::path::{Path, PathBuf};
 use std::sync::Arc;
+use std::sync::atomic::{AtomicUsize, Ordering};
 use tokio::io::{AsyncRead, AsyncWrite};
 use tokio::net::{TcpStream, UnixStream};
 use tokio_rustls::TlsConnector;
@@ -17,16 +18,18 @@ pub trait Stream: AsyncRead + AsyncWrite + Send + Unpin {}
 
 impl<S: AsyncRead + AsyncWrite + Send + Unpin> Stream for S {}
 
-/// Where a server is, and by what the two know each other.
+/// Where the servers of a cell are, of which one is master, and by what the client and a server know each other.
 #[derive(Clone)]
 pub struct Reach {
-    address: Address,
+    places: Arc<[Address]>,
+    // (the one that is tried next)
+    at: Arc<AtomicUsize>,
     tls: Option<Arc<ClientConfig>>,
 }
 
 impl std::fmt::Debug for Reach {
     fn fmt(&self, out: &mut std::fmt::Formatter<'_>) -> std::fmt::Result {
-        write!(out, "{}", self.address)
+        write!(out, "{}", self.address())
     }
 }
 
@@ -69,19 +72,34 @@ fn config(certificate: Option<&PathBuf>, own_key: Option<&PathBuf>, authority: O
 }
 
 impl Reach {
-    /// That of a word, with the files of certificates where it is a `tls:`.
-    pub fn new(server: &str, certificate: Option<&PathBuf>, own_key: Option<&PathBuf>, authority: Option<&PathBuf>) -> io::Result<Reach> {
-        let address: Address = server.parse().map_err(|error| fault(format!("{server}: {error}")))?;
-        let tls = match address {
-            Address::Tls(_) => Some(config(certificate, own_key, authority)?),
-            _ => None,
-        };
-        Ok(Reach { address, tls })
+    /// That of words between commas, with the files of certificates where one is a `tls:`.
+    pub fn new(servers: &str, certificate: Option<&PathBuf>, own_key: Option<&PathBuf>, authority: Option<&PathBuf>) -> io::Result<Reach> {
+        let read = |server: &str| server.parse().map_err(|error| fault(format!("{server}: {error}")));
+        let places = servers.split(',').map(read).collect::<io::Result<Arc<[Address]>>>()?;
+        let is_tls = places.iter().any(|address| matches!(address, Address::Tls(_)));
+        let tls = if is_tls { Some(config(certificate, own_key, authority)?) } else { None };
+        Ok(Reach { places, at: Arc::default(), tls })
     }
 
-    /// A stream to the server.
+    fn address(&self) -> &Address {
+        &self.places[self.at.load(Ordering::Relaxed) % self.places.len()]
+    }
+
+    /// Whether there are several servers.
+    pub fn has_several(&self) -> bool {
+        self.places.len() > 1
+    }
+
+    /// From here on the one that was told is tried, where it is one of them; else the next one.
+    pub fn turn(&self, told: Option<&str>) {
+        let known = told.and_then(|told| told.parse().ok()).and_then(|told: Address| self.places.iter().position(|place| *place == told));
+        let at = known.unwrap_or_else(|| (self.at.load(Ordering::Relaxed) + 1) % self.places.len());
+        self.at.store(at, Ordering::Relaxed);
+    }
+
+    /// A stream to the server that is tried now.
     pub async fn connect(&self) -> io::Result<Box<dyn Stream>> {
-        match (&self.address, &self.tls) {
+        match (self.address(), &self.tls) {
             (Address::Unix(path), _) => Ok(Box::new(UnixStream::connect(path).await?)),
             (Address::Tls(place), Some(config)) => {
                 let stream = stream(place).await?;
@@ -117,7 +135,7 @@ async fn stream(place: &str) -> io::Result<TcpStream> {
 /// ```
 #[must_use]
 pub fn own_principal(server: &str, certificate: Option<&Path>) -> Option<String> {
-    match server.parse().ok()? {
+    match server.split(',').next()?.parse().ok()? {
         Address::Unix(_) => User::from_uid(getuid()).ok()?.map(|user| user.name),
         Address::Tls(_) => common_name(&certificates(certificate?).ok()?.first()?.0),
         Address::Tcp(_) => None,
@@ -134,6 +152,18 @@ mod tests {
         for (place, wanted) in rows {
             assert_eq!(server_name(place).is_ok(), wanted, "{place}");
         }
+    }
+
+    #[test]
+    fn servers_are_tried_in_turn() {
+        let reach = Reach::new("h:7,tcp:i:7,unix:/s", None, None, None).unwrap();
+        let mut seen = vec![reach.address().to_string()];
+        for told in [None, None, None, Some("tcp:i:7"), Some("tcp:other:7")] {
+            reach.turn(told);
+            seen.push(reach.address().to_string());
+        }
+        assert_eq!(seen, ["tcp:h:7", "tcp:i:7", "unix:/s", "tcp:h:7", "tcp:i:7", "unix:/s"]);
+        assert!(Reach::new("h:7,i", None, None, None).is_err());
     }
 
     #[test]

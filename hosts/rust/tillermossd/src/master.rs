@@ -1,6 +1,7 @@
 //! The master, a child of this program, and the task that speaks with it.
 
 use crate::connections::Hall;
+use crate::etcd::Rows;
 use crate::lines::Message;
 use crate::pulse::Pulse;
 use crate::settings::Settings;
@@ -64,8 +65,10 @@ pub enum Ending {
 pub struct Making {
     /// The program.
     pub program: PathBuf,
-    /// The file of the store.
+    /// The file of the store, where the rows stand in one.
     pub store: PathBuf,
+    /// The rows in etcd, where they stand there.
+    pub rows: Option<Rows>,
     /// The settings of the cell.
     pub settings: Settings,
 }
@@ -88,7 +91,8 @@ pub struct Master {
     output: ChildStdout,
     blocks: Blocks,
     frames: mpsc::Sender<Vec<u8>>,
-    identity: Identity,
+    identity: Option<Identity>,
+    rows: Option<(Rows, TempDir)>,
     begun: Instant,
     pulse: Pulse,
     sent: VecDeque<Sent>,
@@ -100,7 +104,8 @@ impl Making {
     pub async fn start(&self, hall: &Arc<Hall>) -> Result<Master> {
         // (it is read before the first answer comes)
         let settings = self.settings.write()?;
-        let mut child = self.spawn(settings.path())?;
+        let kept = self.rows.as_ref().map(|rows| anyhow::Ok((rows.clone(), rows.keep()?))).transpose()?;
+        let mut child = self.spawn(settings.path(), kept.as_ref().map(|(_, folder)| folder.path()))?;
         let (Some(input), Some(output)) = (child.stdin.take(), child.stdout.take()) else {
             bail!("the master has no streams");
         };
@@ -111,15 +116,19 @@ impl Making {
         let coming = come_up(hall, &mut output, &mut blocks);
         let next = timeout(COMING_UP, coming).await.unwrap_or_else(|_| bail!("it took too long"));
         let next = next.context("the master didn't come up")?;
-        let identity = Identity::of(&self.store)?;
+        let identity = if kept.is_none() { Some(Identity::of(&self.store)?) } else { None };
         let (hall, pulse) = (hall.clone(), Pulse::new(0, next));
-        Ok(Master { hall, child, output, blocks, frames, identity, begun, pulse, sent: VecDeque::new(), copying: None })
+        Ok(Master { hall, child, output, blocks, frames, identity, rows: kept, begun, pulse, sent: VecDeque::new(), copying: None })
     }
 
     // In a process group of its own, so that what is typed at a terminal doesn't end it before its server.
-    fn spawn(&self, settings: &Path) -> Result<Child> {
+    fn spawn(&self, settings: &Path, pipes: Option<&Path>) -> Result<Child> {
         let mut command = std::process::Command::new(&self.program);
-        command.arg("serve").arg("--store").arg(&self.store).arg("--settings").arg(settings);
+        match pipes {
+            Some(folder) => command.arg("serve").arg("--rows").arg(folder),
+            None => command.arg("serve").arg("--store").arg(&self.store),
+        };
+        command.arg("--settings").arg(settings);
         command.stdin(Stdio::piped()).stdout(Stdio::piped()).process_group(0);
         Command::from(command).kill_on_drop(true).spawn().with_context(|| format!("starting {}", self.program.display()))
     }
@@ -259,7 +268,7 @@ impl Master {
             if message.is_none() && !is_due {
                 break;
             }
-            if let Some(fault) = self.identity.fault() {
+            if let Some(fault) = self.identity.as_ref().and_then(Identity::fault) {
                 return Ok(Some(fault));
             }
             self.send(message)?;
@@ -284,8 +293,11 @@ impl Master {
         Ok(())
     }
 
-    // What the master tells.
+    // What the master tells. Of one whose mastership has ended nothing is passed on: what it told before was done before.
     fn hear(&mut self, block: &[u8]) -> Result<()> {
+        if let Some((rows, _)) = &self.rows {
+            rows.mastership.check()?;
+        }
         match Told::read(block)? {
             Told::Message(client, message) => self.pass(client, message),
             Told::Line(line) => {
@@ -339,7 +351,10 @@ impl Master {
             return;
         }
         if let Some(reply) = self.copying.take() {
-            let path = self.identity.path().to_owned();
+            let Some(path) = self.identity.as_ref().map(|identity| identity.path().to_owned()) else {
+                let _ = reply.send(Err(io::Error::new(io::ErrorKind::Unsupported, "the rows stand in etcd")));
+                return;
+            };
             let copied = tokio::task::spawn_blocking(move || store::copy(&path)).await.unwrap_or_else(|error| Err(io::Error::other(error)));
             // (who asked may be gone; then the copy is, too)
             let _ = reply.send(copied);

@@ -1,8 +1,10 @@
 //! The command line.
 
+use crate::etcd::Place;
 use clap::{Parser, Subcommand, ValueEnum};
 use host_wire::Address;
 use std::path::PathBuf;
+use std::str::FromStr;
 
 /// Serves a cell: starts `cellctl serve`, and carries the messages of clients to it.
 #[derive(Debug, PartialEq, Eq, Parser)]
@@ -12,8 +14,15 @@ pub struct Options {
     #[arg(required = true)]
     pub listen: Vec<Address>,
     /// The SQLite file of the store, which is made where there is none
-    #[arg(long, required = true)]
+    #[arg(long, required_unless_present = "rows")]
     pub store: Option<PathBuf>,
+    /// In place of a store: the members of an etcd and the cell's prefix there, as etcd://H1:2379,H2:2379,H3:2379/CELL; of several
+    /// servers one is master, and the others stand by
+    #[arg(long, conflicts_with_all = ["store", "first"])]
+    pub rows: Option<Place>,
+    /// Where clients find this server, as the others tell them; without it the first address that it listens at
+    #[arg(long, requires = "rows")]
+    pub advertise: Option<Address>,
     /// The settings of the cell and the limits of the server, in TOML
     #[arg(long)]
     pub settings: Option<PathBuf>,
@@ -69,6 +78,32 @@ pub enum Command {
         #[arg(long)]
         store: PathBuf,
     },
+    /// Moves a cell from a store in a file into etcd, or back. Its servers have to be down
+    Copy {
+        /// Where its rows stand: FILE or etcd://HOST:PORT,HOST:PORT/CELL
+        #[arg(long)]
+        from: End,
+        /// Where no cell stands yet
+        #[arg(long)]
+        to: End,
+    },
+}
+
+/// Where the rows of a cell stand that are moved.
+#[derive(Clone, Debug, PartialEq, Eq)]
+pub enum End {
+    /// In a SQLite file.
+    File(PathBuf),
+    /// In etcd.
+    Etcd(Place),
+}
+
+impl FromStr for End {
+    type Err = anyhow::Error;
+
+    fn from_str(word: &str) -> Result<End, anyhow::Error> {
+        if word.starts_with("etcd:") { Ok(End::Etcd(word.parse()?)) } else { Ok(End::File(word.into())) }
+    }
 }
 
 /// How the log is written.
@@ -95,6 +130,8 @@ mod tests {
         let wanted = Options {
             listen: ["7", "unix:/s", "tls:h:8"].map(|word| word.parse().unwrap()).to_vec(),
             store: Some("s".into()),
+            rows: None,
+            advertise: None,
             settings: Some("t".into()),
             master: Some("m".into()),
             first: Some(5),
@@ -108,6 +145,9 @@ mod tests {
             command: None,
         };
         assert_eq!(read(line).unwrap(), wanted);
+        let options = read("7 --rows etcd://a:1,b:2/c --advertise h:7").unwrap();
+        assert_eq!(options.rows, Some(Place { members: vec!["a:1".to_owned(), "b:2".to_owned()], cell: "c".to_owned() }));
+        assert_eq!(options.advertise, Some("h:7".parse().unwrap()));
         let restore = Command::Restore { copy: "c".into(), store: "s".into() };
         assert_eq!(read("restore c --store s").unwrap().command, Some(restore));
     }
@@ -115,7 +155,13 @@ mod tests {
     #[test]
     fn other_words_are_refused() {
         let rows = ["", "7", "--store s", "7 --store", "7 --store s --who", "seven --store s", "7 --store s --first 0"];
-        for line in rows.into_iter().chain(["65536 --store s", "7 --store s --cert c", "restore c", "7 --store s --log x"]) {
+        let rows = rows.into_iter().chain([
+            "7 --rows etcd://a:1/c --store s",
+            "7 --rows a:1/c",
+            "7 --rows etcd://a:1",
+            "7 --store s --advertise h:7",
+        ]);
+        for line in rows.chain(["65536 --store s", "7 --store s --cert c", "restore c", "7 --store s --log x"]) {
             assert!(read(line).is_err(), "{line}");
         }
     }

@@ -3,6 +3,9 @@
 use crate::admin::{Admin, Desk};
 use crate::connections::{Hall, take_all};
 use crate::doors::{Certificates, Door};
+use crate::etcd::mastership::{Mastership, Seat};
+use crate::etcd::{self, gateway::Gateway};
+use crate::etcd::{Place, Rows};
 use crate::locks::take_lock;
 use crate::master::{Ending, Making, Master, Order};
 use crate::numbers::{Epochs, Numbers};
@@ -10,6 +13,7 @@ use crate::options::Options;
 use crate::picture::Picture;
 use crate::settings::Settings;
 use crate::showing::Showing;
+use crate::standby::{self, Known};
 use crate::store::{self, Head, beside};
 use anyhow::{Context, Result, bail};
 use host_wire::Address;
@@ -19,10 +23,12 @@ use sd_notify::NotifyState;
 use std::fs;
 use std::io::{self, Write};
 use std::os::unix::fs::PermissionsExt;
+use std::os::unix::process::CommandExt;
 use std::path::{Path, PathBuf};
 use std::process::Command;
 use std::sync::{Arc, PoisonError};
 use std::time::{Duration, Instant};
+use tokio::runtime::Runtime;
 use tokio::signal::unix::{Signal, SignalKind, signal};
 use tokio::sync::mpsc;
 use tokio::time::interval;
@@ -47,18 +53,72 @@ struct Found {
 pub fn serve(options: Options) -> Result<()> {
     // (whatever is made from here on is this user's alone)
     umask(Mode::from_bits_truncate(0o077));
+    if let Some(place) = &options.rows {
+        return serve_rows(place.clone(), options);
+    }
     let path = options.store.clone().context("--store is missing")?;
     let path = fs::canonicalize(&path).unwrap_or(path);
     let _lock = take_lock(&beside(&path, "lock"))?;
     store::forget_copies(&path)?;
     let found = look(&options, &path)?;
-    let (_, most) = getrlimit(Resource::RLIMIT_NOFILE)?;
-    setrlimit(Resource::RLIMIT_NOFILE, most, most)?;
-    let runtime = tokio::runtime::Builder::new_multi_thread().enable_all().build()?;
-    let served = runtime.block_on(run(Arc::new(options), path, found));
+    let runtime = begin()?;
+    let served = runtime.block_on(run(Arc::new(options), path, None, found));
     // (what still goes on goes with the process)
     runtime.shutdown_background();
     served
+}
+
+fn begin() -> Result<Runtime> {
+    let (_, most) = getrlimit(Resource::RLIMIT_NOFILE)?;
+    setrlimit(Resource::RLIMIT_NOFILE, most, most)?;
+    Ok(tokio::runtime::Builder::new_multi_thread().enable_all().build()?)
+}
+
+// Stands by until it is master, and serves then. Where the mastership has ended it stands by anew, as a new process.
+fn serve_rows(place: Place, options: Options) -> Result<()> {
+    let runtime = begin()?;
+    let options = Arc::new(options);
+    let gateway = Arc::new(Gateway::new(&place.members));
+    let seat = Seat { address: standby::address(&options), server: hex::encode(rand::random::<[u8; 8]>()) };
+    let mastership = runtime.block_on(wait_for_mastership(&options, &gateway, &place.prefix(), seat))?;
+    let rows = Rows { gateway, prefix: place.prefix(), mastership: mastership.clone() };
+    let served = look_beside(&options, &rows).and_then(|found| runtime.block_on(run(options, PathBuf::new(), Some(rows), found)));
+    runtime.shutdown_background();
+    if served.is_ok() || mastership.holds() {
+        // (where etcd isn't reached the mastership ends by itself)
+        let _ = mastership.end();
+        return served;
+    }
+    warn!("standing by again");
+    Err(Command::new(std::env::current_exe()?).args(std::env::args_os().skip(1)).exec().into())
+}
+
+async fn wait_for_mastership(options: &Options, gateway: &Arc<Gateway>, prefix: &str, seat: Seat) -> Result<Arc<Mastership>> {
+    let is_tls = options.listen.iter().any(|address| matches!(address, Address::Tls(_)));
+    let certificates = if is_tls { Some(Arc::new(Certificates::new(options)?)) } else { None };
+    let known: Known = Arc::default();
+    let mut tasks = standby::stand_by(options, certificates.as_ref(), &known).await?;
+    println!("standing by");
+    let (gateway, prefix) = (gateway.clone(), prefix.to_owned());
+    let waiting = tokio::task::spawn_blocking(move || {
+        Mastership::wait(&gateway, &prefix, &seat, |other| *known.lock().unwrap_or_else(PoisonError::into_inner) = other)
+    });
+    let mastership = waiting.await?;
+    // (the addresses are free behind it)
+    tasks.shutdown().await;
+    Ok(mastership)
+}
+
+// What the rows in etcd are, and what stands beside them.
+fn look_beside(options: &Options, rows: &Rows) -> Result<Found> {
+    let settings = Settings::read(options.settings.as_deref())?;
+    let mut numbers = Numbers::beside(rows)?;
+    if numbers.epochs().is_none() {
+        numbers.note(Epochs { last: 0, coming: 1 })?;
+    }
+    let mut picture = Picture::default();
+    picture.read(&etcd::found::Found::read(&rows.gateway, &rows.prefix)?.tables()?)?;
+    Ok(Found { picture, numbers, settings, warnings: Vec::new() })
 }
 
 // Looks at the store and what stands beside it. Nothing is written where they don't go together.
@@ -103,8 +163,8 @@ fn is_unproved(master: &Path) -> bool {
     told.is_ok_and(|told| String::from_utf8_lossy(&told.stdout).contains("without proof"))
 }
 
-// The program beside this one, else the one on the path.
-fn cellctl() -> PathBuf {
+/// The program beside this one, else the one on the path.
+pub fn cellctl() -> PathBuf {
     let own = std::env::current_exe().ok().and_then(|own| own.parent().map(|folder| folder.join("cellctl")));
     own.filter(|program| program.exists()).unwrap_or_else(|| PathBuf::from("cellctl"))
 }
@@ -120,7 +180,7 @@ async fn open(options: &Options) -> Result<(Vec<(Door, Address)>, Option<Arc<Cer
     Ok((doors, certificates))
 }
 
-async fn run(options: Arc<Options>, path: PathBuf, found: Found) -> Result<()> {
+async fn run(options: Arc<Options>, path: PathBuf, rows: Option<Rows>, found: Found) -> Result<()> {
     for warning in &found.warnings {
         warn!("{warning}");
     }
@@ -130,10 +190,10 @@ async fn run(options: Arc<Options>, path: PathBuf, found: Found) -> Result<()> {
         None => None,
     };
     let hall = Arc::new(Hall::new(found.numbers, found.picture, &found.settings.limits)?);
-    let making = Making { program: options.master.clone().unwrap_or_else(cellctl), store: path, settings: found.settings };
+    let making = Making { program: options.master.clone().unwrap_or_else(cellctl), store: path, rows, settings: found.settings };
     let (orders, ordered) = mpsc::channel(4);
     let master = up(&making, &hall).await?;
-    if hall.picture().nodes.is_empty() {
+    if making.rows.is_none() && hall.picture().nodes.is_empty() {
         // (a store that the master has made; it writes nothing before it gets a frame)
         let folder = store::copy(&making.store)?;
         hall.picture().read(&store::open(&store::copied(&folder))?)?;
@@ -177,6 +237,9 @@ async fn keep(mut master: Master, making: Making, hall: Arc<Hall>, mut orders: m
             Ending::StoreGone(reason) => bail!("{reason}; nothing more is written"),
             Ending::Gone(reason) => reason,
         };
+        if making.rows.as_ref().is_some_and(|rows| !rows.mastership.holds()) {
+            bail!("the mastership has ended");
+        }
         error!(reason, "the master is gone; another takes its place");
         hall.picture().is_up = false;
         hall.metrics.replaced();
