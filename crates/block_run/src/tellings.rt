@@ -1,7 +1,7 @@
 //! What a master and a client tell, in a few words.
 use crate::stages;
 use node_core::{Fault, Line};
-use serve_cell::Told;
+use serve_cell::{Counts, Told};
 use std::alloc::{AllocError, Global};
 use std::str;
 use tags_cell::{Alive, CallResult, Out, Reply};
@@ -67,7 +67,22 @@ pub(crate) fn put_told(text: &mut String, told: &Told) -> Result<(), AllocError>
         Told::Bad(fault) => write!(text, "bad: {fault}"),
         Told::End(Some(moment)) => write!(text, "end {moment}"),
         Told::End(None) => text.push_str("end"),
+        Told::Counts(counts) => put_counts(text, *counts),
+        Told::Recovers(until) => write!(text, "recovers until {until}"),
+        Told::Waits(number) => write!(text, "waits {number}"),
+        Told::Touches(name) => match str::from_utf8(name.as_slice()) {
+            Ok(name) => write!(text, "touches {name}"),
+            Err(_) => text.push_str("touches what is no text"),
+        },
+        Told::Awaited(client) => write!(text, "awaited {client}"),
     }
+}
+
+fn put_counts(text: &mut String, counts: Counts) -> Result<(), AllocError> {
+    let (epoch, sessions, nodes) = (counts.epoch, counts.sessions, counts.nodes);
+    let (rights, changes) = (counts.rights, counts.changes);
+    write!(text, "epoch {epoch} sessions {sessions} nodes {nodes} ")?;
+    write!(text, "rights {rights} changes {changes}")
 }
 
 fn push_lines(text: &mut String, lines: &[Line]) -> Result<(), AllocError> {

@@ -6,8 +6,9 @@ use crate::runs::Unclosed;
 use crate::settings::settings;
 use crate::stores::{left_open, unfound_status};
 use anyhow::{Context, Result};
+use group_rows::Grouped;
 use rows_sql::SqlRecords;
-use serve_cell::{Seat, Stop, serve_on};
+use serve_cell::{Seat, Stop, serve_groups};
 use settings_core::Settings;
 use sqlite::{Connection, FileStore, Files};
 use sqlite_disk::Unknown;
@@ -90,8 +91,9 @@ fn serve_records(
 ) -> Served
     ensures { IfOk result (λ r. IsExit r.0) }
 {
-    let (seat, status) = serve_seat(rt, settings, Seat::Down(records));
-    match seat.close().close() {
+    let grouped = Grouped::new(rt.alloc(), records);
+    let (seat, status) = serve_seat(rt, settings, Seat::Down(grouped));
+    match seat.close().into_inner().close() {
         Ok(files) => Ok((status, files)),
         Err((error, store)) => Err(Unclosed::Open(status, error, store)),
     }
@@ -100,8 +102,8 @@ fn serve_records(
 fn serve_seat(
     rt: &HostRuntime,
     settings: &Settings,
-    seat: Seat<SqlRecords<FileStore<File>>>,
-) -> (Seat<SqlRecords<FileStore<File>>>, u8)
+    seat: Seat<Grouped<SqlRecords<FileStore<File>>>>,
+) -> (Seat<Grouped<SqlRecords<FileStore<File>>>>, u8)
     ensures { IsExit result.1 }
 {
     let alloc = rt.alloc();
@@ -109,7 +111,7 @@ fn serve_seat(
         return (seat, 4);
     };
     let mut output = rt.stdout();
-    let (seat, ended) = serve_on(alloc, settings.lease(), seat, &mut input, &mut output);
+    let (seat, ended) = serve_groups(alloc, settings.lease(), seat, &mut input, &mut output);
     (seat, ended_status(rt, &ended))
 }
 
@@ -122,6 +124,10 @@ fn ended_status(rt: &HostRuntime, ended: &Result<(), Stop>) -> u8
         Err(Stop::Unread) => {
             let _ = eprintln!(rt; "cellctl: the input can't be read");
             1
+        }
+        Err(Stop::Unkept) => {
+            let _ = eprintln!(rt; "cellctl: the store refused what several frames changed");
+            3
         }
         Err(Stop::NoMemory) => {
             let _ = eprintln!(rt; "cellctl: out of memory");

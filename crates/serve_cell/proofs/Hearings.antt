@@ -17,38 +17,35 @@ use Rattle.serve_cell.specs.declared.tellings.Told.TheVariants as tells
 use Rattle.serve_cell.specs.declared.kinds.ToldKind.TheVariants as of
 use Rattle.serve_cell.specs.Frames.{all_of}
 use Rattle.serve_cell.specs.Told.{told_behind}
-use Rattle.serve_cell.proofs.Readings.{ends_made, joined, both_of, parts_of, word_read}
+use Rattle.serve_cell.proofs.Readings.{ends_made, wrapped, wraps, joined, both_of, parts_of, word_read}
 
--- ---- a line
+-- ---- a text
 
-abbrev lined : List ℕ × List ℕ → Result (Told × List ℕ) WireFault
-lined a = Ok (tells.Line a.0, a.1)
-
-pub line_unbegun : (bytes : List ℕ) → length bytes < 4 → all_of (told_behind of.Line bytes) ≡ Err Cut
+pub text_unbegun : (bytes : List ℕ) → length bytes < 4 → all_of (block.read bytes) ≡ Err Cut
 unfolding block
-line_unbegun bytes short = rw (lt-ltb (length bytes) 4 short) refl
+text_unbegun bytes short = rw (lt-ltb (length bytes) 4 short) refl
 
 block_read : (bytes : List ℕ) → 4 ≤ length bytes → block.read bytes ≡ next_at (big_number 4 (take 4 bytes)) (drop 4 bytes)
 unfolding block
 block_read bytes long = rw (le-ltb (length bytes) 4 long) refl
 
-line_at : (bytes front text : List ℕ) (count : ℕ) → 4 ≤ length bytes → front ≡ take 4 bytes → text ≡ drop 4 bytes → count ≡ big_number 4 front
-    → all_of (told_behind of.Line bytes) ≡ all_of (next_at count text >>= lined)
-line_at bytes front text count long f b n =
-    ap (λ (r : Result (List ℕ × List ℕ) WireFault). all_of (r >>= lined)) (block_read bytes long)
-    ∙ ap (λ (u : List ℕ). all_of (next_at (big_number 4 (take 4 bytes)) u >>= lined)) (sym b)
-    ∙ ap (λ (m : ℕ). all_of (next_at m text >>= lined)) (sym (n ∙ ap (λ (u : List ℕ). big_number 4 u) f))
+text_at : (bytes front text : List ℕ) (count : ℕ) → 4 ≤ length bytes → front ≡ take 4 bytes → text ≡ drop 4 bytes → count ≡ big_number 4 front
+    → all_of (block.read bytes) ≡ all_of (next_at count text)
+text_at bytes front text count long f b n =
+    ap (λ (r : Result (List ℕ × List ℕ) WireFault). all_of r) (block_read bytes long)
+    ∙ ap (λ (u : List ℕ). all_of (next_at (big_number 4 (take 4 bytes)) u)) (sym b)
+    ∙ ap (λ (m : ℕ). all_of (next_at m text)) (sym (n ∙ ap (λ (u : List ℕ). big_number 4 u) f))
 
-abbrev lined_at : Bool → ℕ → List ℕ → Result Told WireFault
-lined_at short count text = all_of (cond short (Err Cut) (Ok (take count text, drop count text)) >>= lined)
+abbrev text_by : Bool → ℕ → List ℕ → Result (List ℕ) WireFault
+text_by short count text = all_of (cond short (Err Cut) (Ok (take count text, drop count text)))
 
-pub line_cut : (bytes front text : List ℕ) (count : ℕ) → 4 ≤ length bytes → front ≡ take 4 bytes → text ≡ drop 4 bytes → count ≡ big_number 4 front → length text < count
-    → all_of (told_behind of.Line bytes) ≡ Err Cut
-line_cut bytes front text count long f b n lt = line_at bytes front text count long f b n ∙ ap (λ (s : Bool). lined_at s count text) (lt-ltb (length text) count lt)
+pub text_cut : (bytes front text : List ℕ) (count : ℕ) → 4 ≤ length bytes → front ≡ take 4 bytes → text ≡ drop 4 bytes → count ≡ big_number 4 front → length text < count
+    → all_of (block.read bytes) ≡ Err Cut
+text_cut bytes front text count long f b n lt = text_at bytes front text count long f b n ∙ ap (λ (s : Bool). text_by s count text) (lt-ltb (length text) count lt)
 
 -- what stands behind the text
-ended : (count : ℕ) (text : List ℕ) → count ≤ length text → all_of (next_at count text >>= lined) ≡ cond (length (drop count text) == 0) (Ok (tells.Line (take count text))) (Err Extra)
-ended count text le = ap (λ (s : Bool). lined_at s count text) (le-ltb (length text) count le)
+ended : (count : ℕ) (text : List ℕ) → count ≤ length text → all_of (next_at count text) ≡ cond (length (drop count text) == 0) (Ok (take count text)) (Err Extra)
+ended count text le = ap (λ (s : Bool). text_by s count text) (le-ltb (length text) count le)
 
 is_none : (n : ℕ) → n ≡ 0 → (n == 0) ≡ true
 is_none n e = rw e refl
@@ -56,18 +53,25 @@ is_none n e = rw e refl
 is_some : (n : ℕ) → 0 < n → (n == 0) ≡ false
 is_some n lt = grind (arith, nat_tests)
 
-pub line_over : (bytes front text : List ℕ) (count : ℕ) → 4 ≤ length bytes → front ≡ take 4 bytes → text ≡ drop 4 bytes → count ≡ big_number 4 front → count < length text
-    → all_of (told_behind of.Line bytes) ≡ Err Extra
-line_over bytes front text count long f b n lt =
-    line_at bytes front text count long f b n ∙ ended count text (omega (arith, lt))
-    ∙ ap (λ (e : Bool). cond e (Ok (tells.Line (take count text))) (Err Extra)) (is_some (length (drop count text)) (omega (arith, lt, length-drop count text)))
+pub text_over : (bytes front text : List ℕ) (count : ℕ) → 4 ≤ length bytes → front ≡ take 4 bytes → text ≡ drop 4 bytes → count ≡ big_number 4 front → count < length text
+    → all_of (block.read bytes) ≡ Err Extra
+text_over bytes front text count long f b n lt =
+    text_at bytes front text count long f b n ∙ ended count text (omega (arith, lt))
+    ∙ ap (λ (e : Bool). cond e (Ok (take count text)) (Err Extra)) (is_some (length (drop count text)) (omega (arith, lt, length-drop count text)))
 
-pub line_whole : (bytes front text : List ℕ) (count : ℕ) → 4 ≤ length bytes → front ≡ take 4 bytes → text ≡ drop 4 bytes → count ≡ big_number 4 front → count ≡ length text
-    → all_of (told_behind of.Line bytes) ≡ Ok (tells.Line text)
-line_whole bytes front text count long f b n same =
-    line_at bytes front text count long f b n ∙ ended count text (omega (arith, same))
-    ∙ ap (λ (e : Bool). cond e (Ok (tells.Line (take count text))) (Err Extra)) (is_none (length (drop count text)) (omega (arith, same, length-drop count text)))
-    ∙ ap (λ (u : List ℕ). Ok (tells.Line u)) (take_all count text (omega (arith, same)))
+pub text_whole : (bytes front text : List ℕ) (count : ℕ) → 4 ≤ length bytes → front ≡ take 4 bytes → text ≡ drop 4 bytes → count ≡ big_number 4 front → count ≡ length text
+    → all_of (block.read bytes) ≡ Ok text
+text_whole bytes front text count long f b n same =
+    text_at bytes front text count long f b n ∙ ended count text (omega (arith, same))
+    ∙ ap (λ (e : Bool). cond e (Ok (take count text)) (Err Extra)) (is_none (length (drop count text)) (omega (arith, same, length-drop count text)))
+    ∙ ap (λ (u : List ℕ). Ok u) (take_all count text (omega (arith, same)))
+
+-- what is made of a text is read where the text is
+pub text_made : (make : List ℕ → Told) (bytes text : List ℕ) → all_of (block.read bytes) ≡ Ok text → all_of (block.read bytes >>= wrapped make) ≡ Ok (make text)
+text_made make bytes text e = wraps make (block.read bytes) ∙ ap (λ (s : Result (List ℕ) WireFault). s >>= λ y. Ok (make y)) e
+
+pub text_refused : (make : List ℕ → Told) (bytes : List ℕ) (fault : WireFault) → all_of (block.read bytes) ≡ Err fault → all_of (block.read bytes >>= wrapped make) ≡ Err fault
+text_refused make bytes fault e = wraps make (block.read bytes) ∙ ap (λ (s : Result (List ℕ) WireFault). s >>= λ y. Ok (make y)) e
 
 -- ---- a message, and the client before it
 
@@ -148,3 +152,29 @@ mark_without place rest e = mark_at place rest ∙ ap (λ (o : Option Bool). all
 pub mark_with : (place : ℕ) (rest : List ℕ) → slice_get (false ∷ true ∷ []) place ≡ Some true
     → all_of (told_behind of.End (place ∷ rest)) ≡ (all_of (word.read rest) >>= λ m. Ok (tells.End (Some m)))
 mark_with place rest e = mark_at place rest ∙ ap (λ (o : Option Bool). all_of ((known o rest >>= moment_in) >>= marked)) e ∙ moment_made (word.read rest)
+
+-- ---- counts
+
+-- each of the words where it is read, and then nothing
+pub counts_read : (all b c d e rest : List ℕ) (epoch sessions nodes rights changes : ℕ) → word.read all ≡ Ok (epoch, b) → word.read b ≡ Ok (sessions, c) → word.read c ≡ Ok (nodes, d)
+    → word.read d ≡ Ok (rights, e) → word.read e ≡ Ok (changes, rest)
+    → all_of (told_behind of.Counts all) ≡ end_at (tells.Counts (record { epoch = epoch; sessions = sessions; nodes = nodes; rights = rights; changes = changes })) rest
+counts_read all b c d e rest epoch sessions nodes rights changes p q r s t = rw (p, q, r, s, t) refl
+
+pub counts_cut_first : (all : List ℕ) (fault : WireFault) → word.read all ≡ Err fault → all_of (told_behind of.Counts all) ≡ Err fault
+counts_cut_first all fault p = rw p refl
+
+pub counts_cut_second : (all b : List ℕ) (epoch : ℕ) (fault : WireFault) → word.read all ≡ Ok (epoch, b) → word.read b ≡ Err fault → all_of (told_behind of.Counts all) ≡ Err fault
+counts_cut_second all b epoch fault p q = rw (p, q) refl
+
+pub counts_cut_third : (all b c : List ℕ) (epoch sessions : ℕ) (fault : WireFault) → word.read all ≡ Ok (epoch, b) → word.read b ≡ Ok (sessions, c) → word.read c ≡ Err fault
+    → all_of (told_behind of.Counts all) ≡ Err fault
+counts_cut_third all b c epoch sessions fault p q r = rw (p, q, r) refl
+
+pub counts_cut_fourth : (all b c d : List ℕ) (epoch sessions nodes : ℕ) (fault : WireFault) → word.read all ≡ Ok (epoch, b) → word.read b ≡ Ok (sessions, c) → word.read c ≡ Ok (nodes, d)
+    → word.read d ≡ Err fault → all_of (told_behind of.Counts all) ≡ Err fault
+counts_cut_fourth all b c d epoch sessions nodes fault p q r s = rw (p, q, r, s) refl
+
+pub counts_cut_fifth : (all b c d e : List ℕ) (epoch sessions nodes rights : ℕ) (fault : WireFault) → word.read all ≡ Ok (epoch, b) → word.read b ≡ Ok (sessions, c)
+    → word.read c ≡ Ok (nodes, d) → word.read d ≡ Ok (rights, e) → word.read e ≡ Err fault → all_of (told_behind of.Counts all) ≡ Err fault
+counts_cut_fifth all b c d e epoch sessions nodes rights fault p q r s t = rw (p, q, r, s, t) refl

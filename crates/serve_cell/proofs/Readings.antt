@@ -16,7 +16,7 @@ use Rattle.serve_cell.specs.declared.frames.Frame.TheVariants as frames
 use Rattle.serve_cell.specs.declared.kinds.FrameKind.TheVariants as of
 use Rattle.serve_cell.specs.Frames.{all_of, frame_behind}
 
-abbrev wrapped : {A X : Type 0} → (A → X) → A × List ℕ → Result (X × List ℕ) WireFault
+abbrev pub wrapped : {A X : Type 0} → (A → X) → A × List ℕ → Result (X × List ℕ) WireFault
 wrapped make a = Ok (make a.0, a.1)
 
 -- all that was read of one thing is all that was read of what is made of it

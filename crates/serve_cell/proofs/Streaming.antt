@@ -9,8 +9,9 @@ use Rattle.over_core.specs.declared.swept.Swept.{Swept}
 use Rattle.serve_cell.specs.declared.tellings.Told.{Told}
 use Rattle.serve_cell.specs.Blocks.{framed}
 use Rattle.serve_cell.specs.Told.{told}
+use Rattle.serve_cell.specs.declared.standing.Delay.{Delay}
 use Rattle.serve_cell.specs.declared.answers.Answered.{Answered}
-use Rattle.serve_cell.specs.Replies.{step_told, sweeps_told, answered_told, AreBlocks, Puts}
+use Rattle.serve_cell.specs.Replies.{step_told, sweeps_told, delay_told, delays_told, answered_told, AreBlocks, Puts}
 
 blocks_behind : (front back : List Told) (xs ys : List ℕ) → AreBlocks front xs → AreBlocks back ys → AreBlocks (front ++ back) (xs ++ ys)
 blocks_behind [] back xs ys p q = let P : List ℕ → Type 0 = λ u. AreBlocks back (u ++ ys) in subst P (sym p) q
@@ -72,7 +73,30 @@ puts_sweep xs i x old mid new lt at p q =
 pub puts_sweeps : (xs : List Swept) (i : ℕ) (old new : List ℕ) → length xs ≤ i → Puts (sweeps_told (take i xs)) old new → Puts (sweeps_told xs) old new
 puts_sweeps xs i old new le p = let P : List Swept → Type 0 = λ u. Puts (sweeps_told u) old new in subst P (take_all i xs le) p
 
+delays_next : (xs : List Delay) (x : Delay) → delays_told (xs ++ x ∷ []) ≡ delays_told xs ++ delay_told x
+delays_next [] x = append-nil (delay_told x)
+delays_next (y ∷ xs) x = ap (λ (u : List Told). delay_told y ++ u) (delays_next xs x) ∙ sym (append_assoc (delay_told y) (delays_told xs) (delay_told x))
+
+pub puts_delay : (xs : List Delay) (i : ℕ) (x : Delay) (old mid new : List ℕ) → i < length xs → x ≡ get_or xs i x → Puts (delays_told (take i xs)) old mid
+    → Puts (delay_told x) mid new → Puts (delays_told (take (i + 1) xs)) old new
+puts_delay xs i x old mid new lt at p q =
+    let P : List Told → Type 0 = λ u. Puts u old new in
+    subst P (sym (ap (λ (u : List Delay). delays_told u) (take_next xs i x lt at) ∙ delays_next (take i xs) x))
+    (puts_behind (delays_told (take i xs)) (delay_told x) old mid new p q)
+
+pub puts_delays : (xs : List Delay) (i : ℕ) (old new : List ℕ) → length xs ≤ i → Puts (delays_told (take i xs)) old new → Puts (delays_told xs) old new
+puts_delays xs i old new le p = let P : List Delay → Type 0 = λ u. Puts (delays_told u) old new in subst P (take_all i xs le) p
+
 -- ---- the same lists
+
+pub puts_at : {X : Type 0} (f : X → Told) (xs ys : List X) (old new : List ℕ) → xs ≡ ys → Puts (map f xs) old new → Puts (map f ys) old new
+puts_at {X = X} f xs ys old new e p = let P : List X → Type 0 = λ u. Puts (map f u) old new in subst P e p
+
+pub puts_if_at : {X Y E : Type 0} (r : Result Y E) (f : X → Told) (xs ys : List X) (old new : List ℕ) → xs ≡ ys → OnOk r (Puts (map f xs) old new) → OnOk r (Puts (map f ys) old new)
+puts_if_at {X = X} r f xs ys old new e p = let P : List X → Type 0 = λ u. OnOk r (Puts (map f u) old new) in subst P e p
+
+pub delays_if_at : {Y E : Type 0} (r : Result Y E) (xs ys : List Delay) (old new : List ℕ) → xs ≡ ys → OnOk r (Puts (delays_told xs) old new) → OnOk r (Puts (delays_told ys) old new)
+delays_if_at r xs ys old new e p = let P : List Delay → Type 0 = λ u. OnOk r (Puts (delays_told u) old new) in subst P e p
 
 pub step_at : (lines printed : List Line) (outs sent : List Out) (old new : List ℕ) → lines ≡ printed → outs ≡ sent → Puts (step_told lines outs) old new
     → Puts (step_told printed sent) old new

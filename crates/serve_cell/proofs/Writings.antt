@@ -15,6 +15,7 @@ use Rattle.wire_core.specs.Fields.{word, client}
 use Rattle.wire_core.specs.Requests.{request}
 use Rattle.wire_core.specs.Outs.{out_message, has_bytes, out_written}
 use Rattle.serve_cell.specs.declared.frames.Frame.TheVariants as frames
+use Rattle.serve_cell.specs.declared.standing.Counts.{Counts}
 use Rattle.serve_cell.specs.declared.tellings.Told.TheVariants as tells
 use Rattle.serve_cell.specs.Blocks.{framed, framed_by}
 use Rattle.serve_cell.specs.Frames.{frame}
@@ -100,6 +101,22 @@ pub gives_out : (number : ℕ) (message : Out) (front bytes : List ℕ) (r : Res
 gives_out number message front bytes r e was given =
     let P : Result (List ℕ) WireFault → Type 0 = λ w. Gives NoMemory r w in
     subst P (ap (λ (u : List ℕ). framed_by (1 ∷ (u ++ bytes))) e ∙ sym (told_framed number message bytes was)) given
+
+-- ---- counts
+
+-- five parts, each put behind those before it
+parts_of : (a b c d e : List ℕ) → ((((([] ++ a) ++ b) ++ c) ++ d) ++ e) ≡ a ++ (b ++ (c ++ (d ++ e)))
+parts_of a b c d e =
+    append_assoc ((a ++ b) ++ c) d e ∙ append_assoc (a ++ b) c (d ++ e) ∙ append_assoc a b (c ++ (d ++ e))
+
+pub gives_counts : (counts : Counts) (all front : List ℕ) (r : Result (List ℕ) WireFault)
+    → all ≡ (((([] ++ big_bytes 8 counts.epoch) ++ big_bytes 8 counts.sessions) ++ big_bytes 8 counts.nodes) ++ big_bytes 8 counts.rights) ++ big_bytes 8 counts.changes
+    → front ≡ all → Gives NoMemory r (framed_by (4 ∷ (front ++ []))) → Gives NoMemory r (framed told (tells.Counts counts))
+unfolding told word
+gives_counts counts all front r is e given =
+    let P : List ℕ → Type 0 = λ u. Gives NoMemory r (framed_by (4 ∷ u)) in
+    let whole = parts_of (big_bytes 8 counts.epoch) (big_bytes 8 counts.sessions) (big_bytes 8 counts.nodes) (big_bytes 8 counts.rights) (big_bytes 8 counts.changes) in
+    subst P (append-nil front ∙ e ∙ is ∙ whole) given
 
 -- ---- where a message may have no bytes
 

@@ -3,7 +3,9 @@ pub mod Runs
 pub mod Blocks
 pub mod Frames
 pub mod Told
+pub mod Standing
 pub mod Laws
 pub mod Seats
 pub mod Replies
 pub mod Streams
+pub mod Groups

@@ -1,5 +1,5 @@
 -- What is told of a frame, and its bytes.
-use Rattle.std.specs.Prelude.{◌≡◌, ℕ, List, [], ◌∷◌, ◌++◌, map, Option, Ok}
+use Rattle.std.specs.Prelude.{◌≡◌, ℕ, List, [], ◌∷◌, ◌++◌, map, Option, Some, None, Ok}
 use Rattle.node_core.specs.declared.refusals.Fault.{Fault}
 use Rattle.node_core.specs.declared.lines.Line.{Line}
 use Rattle.node_core.specs.declared.lines.Line.TheVariants as lines
@@ -17,6 +17,9 @@ use Rattle.serve_cell.specs.declared.settling.End.TheVariants as ends
 use Rattle.serve_cell.specs.declared.settling.Settled.{Settled}
 use Rattle.serve_cell.specs.declared.answers.Answered.{Answered}
 use Rattle.serve_cell.specs.declared.answers.Answered.TheVariants as answers
+use Rattle.serve_cell.specs.declared.standing.Recovery.{Recovery}
+use Rattle.serve_cell.specs.declared.standing.Delay.{Delay}
+use Rattle.serve_cell.specs.declared.standing.Standing.{Standing}
 use Rattle.serve_cell.specs.declared.seats.Reply.{Reply}
 use Rattle.serve_cell.specs.declared.seats.Reply.TheVariants as replies
 
@@ -59,6 +62,22 @@ abbrev pub answered_told : Answered → List Told
 answered_told (answers.Refused fault) = refusal_told fault
 answered_told (answers.Taken taken settled) = step_told taken.lines taken.outs ++ settled_told settled
 
+-- a recovery, and each client that it waits for
+abbrev pub recovery_told : Option Recovery → List Told
+recovery_told None = []
+recovery_told (Some recovery) = tells.Recovers recovery.until ∷ map tells.Awaited recovery.awaited
+
+-- a change that waits, the names that it may change, and each client that it waits for
+abbrev pub delay_told : Delay → List Told
+delay_told delay = tells.Waits delay.number ∷ (map tells.Touches delay.touched ++ map tells.Awaited delay.awaited)
+
+abbrev pub delays_told : List Delay → List Told
+delays_told [] = []
+delays_told (delay ∷ rest) = delay_told delay ++ delays_told rest
+
+abbrev pub standing_told : Standing → List Told
+standing_told standing = tells.Counts standing.counts ∷ (recovery_told standing.recovery ++ delays_told standing.longest)
+
 abbrev pub reply_told : Reply → List Told
 reply_told (replies.Bad fault) = bad_told fault
 reply_told (replies.Refused fault) = refusal_told fault
@@ -66,6 +85,7 @@ reply_told (replies.Came epoch settled) = line_told (lines.Up epoch) ∷ settled
 reply_told (replies.Answered answered) = answered_told answered
 reply_told (replies.Swept settled) = settled_told settled
 reply_told replies.Gone = line_told lines.Down ∷ []
+reply_told (replies.Stands standing) = standing_told standing
 
 -- all that is told of a frame, and the mark behind it
 abbrev pub all_told : Reply → Option ℕ → List Told

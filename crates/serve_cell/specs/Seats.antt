@@ -1,6 +1,6 @@
 -- A master that a program hosts, and what it does by a frame.
 use Rattle.std.specs.Prelude.{◌≡◌, ℕ, Option, Some, None, Result, Ok, Err}
-use Rattle.node_core.specs.declared.refusals.Fault.TheVariants.{MasterDown, MasterUp}
+use Rattle.node_core.specs.declared.refusals.Fault.TheVariants.{NoMemory, MasterDown, MasterUp}
 use Rattle.rows_cell.specs.Stores.{Store}
 use Rattle.tags_cell.specs.declared.messages.requests.Request.{Request}
 use Rattle.cell_state.specs.State.{MasterState}
@@ -11,7 +11,9 @@ use Rattle.wire_core.specs.declared.faults.WireFault.{WireFault}
 use Rattle.serve_cell.specs.declared.frames.Frame.{Frame}
 use Rattle.serve_cell.specs.declared.frames.Frame.TheVariants as frames
 use Rattle.serve_cell.specs.declared.settling.Settled.{Settled}
+use Rattle.serve_cell.specs.declared.standing.Standing.{Standing}
 use Rattle.serve_cell.specs.Serving.{EndsIn, Answers}
+use Rattle.serve_cell.specs.Standing.{standing_of}
 use Rattle.serve_cell.specs.declared.seats.Seat.{Seat}
 use Rattle.serve_cell.specs.declared.seats.Seat.TheVariants as seats
 use Rattle.serve_cell.specs.declared.seats.Reply.{Reply}
@@ -93,11 +95,23 @@ abbrev pub Leaves : Option MasterState → Store → Reply → Hosted → Type 0
 Leaves None store reply new = IsTurnedAway (without_master store) (replies.Refused MasterDown) reply new
 Leaves (Some master) store reply new = (reply ≡ replies.Gone) × (new ≡ without_master store)
 
+-- it is told how the master stands; memory alone may be wanting
+abbrev pub Shows : Standing → Reply → Type 0
+Shows wanted (replies.Stands standing) = standing ≡ wanted
+Shows wanted (replies.Refused fault) = fault ≡ NoMemory
+Shows wanted _ = ⊥
+
+-- which changes nothing
+abbrev pub Stands : Option MasterState → Store → Reply → Hosted → Type 0
+Stands None store reply new = IsTurnedAway (without_master store) (replies.Refused MasterDown) reply new
+Stands (Some master) store reply new = Shows (standing_of master) reply × (new ≡ with_master (cell_of master store))
+
 abbrev pub DoesFrame : ℕ → Frame → Hosted → Reply → Hosted → Type 0
 DoesFrame lease (frames.Up now) old reply new = Arrives lease now old.master old.store reply new
 DoesFrame lease (frames.Message now message) old reply new = Listens now message old.master old.store reply new
 DoesFrame lease (frames.Tick now) old reply new = Ticks now old.master old.store reply new
 DoesFrame lease frames.Down old reply new = Leaves old.master old.store reply new
+DoesFrame lease frames.State old reply new = Stands old.master old.store reply new
 
 -- what was sent is a frame, and is done; or it is none, which is told, and nothing changes
 abbrev pub Does : ℕ → Result Frame WireFault → Hosted → Reply → Hosted → Type 0

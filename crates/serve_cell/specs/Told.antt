@@ -5,10 +5,11 @@ use Rattle.tags_cell.specs.Messages.{out_client}
 use Rattle.wire_core.specs.declared.faults.WireFault.{WireFault}
 use Rattle.wire_core.specs.declared.faults.WireFault.TheVariants as wire
 use Rattle.wire_core.specs.Forms.{Form, ◌⊗◌, choice, of_kind, behind}
-use Rattle.wire_core.specs.Fields.{client, block, optional_word}
+use Rattle.wire_core.specs.Fields.{word, client, block, optional_word}
 use Rattle.wire_core.specs.Outs.{out_message, has_bytes}
 use Rattle.serve_cell.specs.declared.tellings.Told.{Told}
 use Rattle.serve_cell.specs.declared.tellings.Told.TheVariants as tells
+use Rattle.serve_cell.specs.declared.standing.Counts.{Counts}
 use Rattle.serve_cell.specs.declared.kinds.ToldKind.{ToldKind}
 use Rattle.serve_cell.specs.declared.kinds.ToldKind.TheVariants as of
 use Rattle.serve_cell.specs.Blocks.{versioned, framed}
@@ -16,6 +17,19 @@ use Rattle.serve_cell.specs.Blocks.{versioned, framed}
 -- the client that it goes to, and all bytes of the message
 abbrev pub out_fields : Form (ℕ × Out)
 out_fields = client ⊗ versioned out_message
+
+-- one number behind the other
+abbrev pub Words : Type 0
+Words = ℕ × ℕ × ℕ × ℕ × ℕ
+
+abbrev pub counts_by : Words → Counts
+counts_by w = record { epoch = w.0; sessions = w.1.0; nodes = w.1.1.0; rights = w.1.1.1.0; changes = w.1.1.1.1 }
+
+abbrev pub words_of : Counts → Words
+words_of c = (c.epoch, c.sessions, c.nodes, c.rights, c.changes)
+
+abbrev pub count_fields : Form Words
+count_fields = word ⊗ word ⊗ word ⊗ word ⊗ word
 
 -- ---- what is wrong with a frame
 
@@ -38,37 +52,62 @@ wire_fault = choice all_wire_faults fault_place
 -- ---- what is told
 
 abbrev pub all_told : List ToldKind
-all_told = of.Line ∷ of.Message ∷ of.Bad ∷ of.End ∷ []
+all_told = of.Line ∷ of.Message ∷ of.Bad ∷ of.End ∷ of.Counts ∷ of.Recovers ∷ of.Waits ∷ of.Touches ∷ of.Awaited ∷ []
 
 abbrev pub told_place : ToldKind → ℕ
 told_place of.Line = 0
 told_place of.Message = 1
 told_place of.Bad = 2
 told_place of.End = 3
+told_place of.Counts = 4
+told_place of.Recovers = 5
+told_place of.Waits = 6
+told_place of.Touches = 7
+told_place of.Awaited = 8
 
 abbrev pub told_kind : Told → ToldKind
 told_kind (tells.Line text) = of.Line
 told_kind (tells.Message number message) = of.Message
 told_kind (tells.Bad fault) = of.Bad
 told_kind (tells.End deadline) = of.End
+told_kind (tells.Counts counts) = of.Counts
+told_kind (tells.Recovers until) = of.Recovers
+told_kind (tells.Waits number) = of.Waits
+told_kind (tells.Touches name) = of.Touches
+told_kind (tells.Awaited number) = of.Awaited
 
 abbrev pub told_is : Told → Type 0
 told_is (tells.Line text) = block.is text
 told_is (tells.Message number message) = out_fields.is (number, message)
 told_is (tells.Bad fault) = wire_fault.is fault
 told_is (tells.End deadline) = optional_word.is deadline
+told_is (tells.Counts counts) = count_fields.is (words_of counts)
+told_is (tells.Recovers until) = word.is until
+told_is (tells.Waits number) = word.is number
+told_is (tells.Touches name) = block.is name
+told_is (tells.Awaited number) = word.is number
 
 abbrev pub told_bytes : Told → List ℕ
 told_bytes (tells.Line text) = block.write text
 told_bytes (tells.Message number message) = out_fields.write (number, message)
 told_bytes (tells.Bad fault) = wire_fault.write fault
 told_bytes (tells.End deadline) = optional_word.write deadline
+told_bytes (tells.Counts counts) = count_fields.write (words_of counts)
+told_bytes (tells.Recovers until) = word.write until
+told_bytes (tells.Waits number) = word.write number
+told_bytes (tells.Touches name) = block.write name
+told_bytes (tells.Awaited number) = word.write number
 
 abbrev pub told_behind : ToldKind → List ℕ → Result (Told × List ℕ) WireFault
 told_behind of.Line rest = behind tells.Line block rest
 told_behind of.Message rest = behind (λ x. tells.Message x.0 x.1) out_fields rest
 told_behind of.Bad rest = behind tells.Bad wire_fault rest
 told_behind of.End rest = behind tells.End optional_word rest
+told_behind of.Counts rest = behind (λ w. tells.Counts (counts_by w)) count_fields rest
+told_behind of.Recovers rest = behind tells.Recovers word rest
+told_behind of.Waits rest = behind tells.Waits word rest
+told_behind of.Touches rest = behind tells.Touches block rest
+told_behind of.Awaited rest = behind tells.Awaited word rest
 
 -- the kind of what is told, and its fields
 unfoldable pub told : Form Told

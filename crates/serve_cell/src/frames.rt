@@ -25,6 +25,8 @@ pub enum Frame {
     Tick(u64),
     /// The master goes.
     Down,
+    /// How does the master stand? Nothing changes.
+    State,
 }
 
 /// The frame of all of these bytes, without their number in front; or what is wrong with them, the first from the left.
@@ -77,7 +79,8 @@ fn read_fields_of(alloc: Global, kind: FrameKind, bytes: &[u8]) -> Result<Frame,
         FrameKind::Up => Ok(Frame::Up(read_moment(bytes)?)),
         FrameKind::Message => read_message(alloc, bytes),
         FrameKind::Tick => Ok(Frame::Tick(read_moment(bytes)?)),
-        FrameKind::Down => read_nothing(bytes),
+        FrameKind::Down => read_down(bytes),
+        FrameKind::State => read_state(bytes),
     }
 }
 
@@ -112,7 +115,7 @@ fn read_message(alloc: Global, bytes: &[u8]) -> Result<Frame, WireFault>
     }
 }
 
-fn read_nothing(bytes: &[u8]) -> Result<Frame, WireFault>
+fn read_down(bytes: &[u8]) -> Result<Frame, WireFault>
     ensures { result ≡ all_of (frame_behind FrameKind.Down bytes.now) }
 {
     if !bytes.is_empty() {
@@ -121,23 +124,34 @@ fn read_nothing(bytes: &[u8]) -> Result<Frame, WireFault>
     Ok(Frame::Down)
 }
 
+fn read_state(bytes: &[u8]) -> Result<Frame, WireFault>
+    ensures { result ≡ all_of (frame_behind FrameKind.State bytes.now) }
+{
+    if !bytes.is_empty() {
+        return Err(WireFault::Extra);
+    }
+    Ok(Frame::State)
+}
+
 /// The bytes of a frame, with their number in front. Refused is a frame of 2^32 bytes or more.
 #[tactic(auto, unfolding(crate::specs::Frames::frame))]
 pub fn write_frame(alloc: Global, sent: &Frame) -> Result<Bytes, WireFault>
     ensures { Gives WireFault.NoMemory result (framed frame sent.now) }
 {
     match sent {
-        Frame::Up(now) => write_moment(alloc, 0, *now),
+        Frame::Up(now) => write_word(alloc, 0, *now),
         Frame::Message(now, request) => write_message(alloc, *now, request),
-        Frame::Tick(now) => write_moment(alloc, 2, *now),
+        Frame::Tick(now) => write_word(alloc, 2, *now),
         Frame::Down => write_framed(alloc, 3, &[], &[]),
+        Frame::State => write_framed(alloc, 4, &[], &[]),
     }
 }
 
-fn write_moment(alloc: Global, kind: u8, now: u64) -> Result<Bytes, WireFault>
-    ensures { Gives WireFault.NoMemory result (framed_by (kind ∷ word.write now)) }
+// A number alone.
+pub(crate) fn write_word(alloc: Global, kind: u8, number: u64) -> Result<Bytes, WireFault>
+    ensures { Gives WireFault.NoMemory result (framed_by (kind ∷ word.write number)) }
 {
-    write_framed(alloc, kind, &bytes_of(now), &[])
+    write_framed(alloc, kind, &bytes_of(number), &[])
 }
 
 // A moment, and behind it all bytes of a message.

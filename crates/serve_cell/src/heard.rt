@@ -1,12 +1,14 @@
 //! What a program reads of what a master tells it.
-ghost use Rattle.std.specs.Prelude.{◌≡◌, ◌<◌, ◌^◌, length, Ok, IfOk};
+ghost use Rattle.std.specs.Prelude.{◌≡◌, ◌<◌, ◌^◌, length, Ok, Err, IfOk, IfErr};
 ghost use Rattle.plain.specs.Results.{Gives};
 ghost use Rattle.wire_core.specs.Forms.{Form, written, read_whole};
+ghost use Rattle.wire_core.specs.Fields.{word, block};
 ghost use Rattle.serve_cell.specs.Frames.{all_of};
 ghost use Rattle.serve_cell.specs.Told.{told, told_behind};
 
 use crate::frames::{fields_of, read_moment};
 use crate::kinds::{FLAGS, TOLD_KINDS, ToldKind, WIRE_FAULTS};
+use crate::standing::Counts;
 use crate::tellings::Told;
 use byteorder::{BigEndian, ByteOrder};
 use plain::Bytes;
@@ -49,12 +51,17 @@ fn read_fields_of(alloc: Global, kind: ToldKind, bytes: &[u8]) -> Result<Told, W
         ToldKind::Message => read_message(alloc, bytes),
         ToldKind::Bad => read_bad(bytes),
         ToldKind::End => read_end(bytes),
+        ToldKind::Counts => read_counts(bytes),
+        ToldKind::Recovers => Ok(Told::Recovers(read_moment(bytes)?)),
+        ToldKind::Waits => Ok(Told::Waits(read_moment(bytes)?)),
+        ToldKind::Touches => read_name(alloc, bytes),
+        ToldKind::Awaited => Ok(Told::Awaited(read_moment(bytes)?)),
     }
 }
 
 // The number of a text's bytes in four, and the text.
-fn read_line(alloc: Global, bytes: &[u8]) -> Result<Told, WireFault>
-    ensures { Gives WireFault.NoMemory result (all_of (told_behind ToldKind.Line bytes.now)) }
+fn read_text(alloc: Global, bytes: &[u8]) -> Result<Bytes, WireFault>
+    ensures { Gives WireFault.NoMemory result (all_of (block.read bytes.now)) }
 {
     if bytes.len() < 4 {
         return Err(WireFault::Cut);
@@ -67,7 +74,25 @@ fn read_line(alloc: Global, bytes: &[u8]) -> Result<Told, WireFault>
     if text.len() > count {
         return Err(WireFault::Extra);
     }
-    Ok(Told::Line(Bytes::copy_of(alloc, text)?))
+    Ok(Bytes::copy_of(alloc, text)?)
+}
+
+fn read_line(alloc: Global, bytes: &[u8]) -> Result<Told, WireFault>
+    ensures { Gives WireFault.NoMemory result (all_of (told_behind ToldKind.Line bytes.now)) }
+{
+    match read_text(alloc, bytes) {
+        Ok(text) => Ok(Told::Line(text)),
+        Err(fault) => Err(fault),
+    }
+}
+
+fn read_name(alloc: Global, bytes: &[u8]) -> Result<Told, WireFault>
+    ensures { Gives WireFault.NoMemory result (all_of (told_behind ToldKind.Touches bytes.now)) }
+{
+    match read_text(alloc, bytes) {
+        Ok(text) => Ok(Told::Touches(text)),
+        Err(fault) => Err(fault),
+    }
 }
 
 // A client, and behind it all bytes of a message.
@@ -118,4 +143,38 @@ fn read_end(bytes: &[u8]) -> Result<Told, WireFault>
         Some(false) => Err(WireFault::Extra),
         None => Err(WireFault::BadKind),
     }
+}
+
+// A word, and what stands behind it.
+#[tactic(auto, unfolding(wire_core::specs::Fields::word))]
+fn next_word(bytes: &[u8]) -> Result<(u64, &[u8]), WireFault>
+    ensures word { IfOk result (λ r. word.read bytes.now ≡ Ok (r.0, r.1.now)) }
+    ensures short { IfErr result (λ e. word.read bytes.now ≡ Err e) }
+{
+    if bytes.len() < 8 {
+        return Err(WireFault::Cut);
+    }
+    let (front, back) = bytes.split_at(8);
+    Ok((BigEndian::read_u64(front), back))
+}
+
+// Five words, and nothing behind them.
+fn read_counts(bytes: &[u8]) -> Result<Told, WireFault>
+    ensures { result ≡ all_of (told_behind ToldKind.Counts bytes.now) }
+{
+    let (epoch, bytes) = next_word(bytes)?;
+    let (sessions, bytes) = next_word(bytes)?;
+    let (nodes, bytes) = next_word(bytes)?;
+    let (rights, bytes) = next_word(bytes)?;
+    let (changes, bytes) = next_word(bytes)?;
+    if !bytes.is_empty() {
+        return Err(WireFault::Extra);
+    }
+    Ok(Told::Counts(Counts {
+        epoch,
+        sessions,
+        nodes,
+        rights,
+        changes,
+    }))
 }

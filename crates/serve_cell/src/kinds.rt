@@ -11,13 +11,15 @@ pub enum FrameKind {
     Message,
     Tick,
     Down,
+    State,
 }
 
-pub(crate) const FRAME_KINDS: [FrameKind; 4] = [
+pub(crate) const FRAME_KINDS: [FrameKind; 5] = [
     FrameKind::Up,
     FrameKind::Message,
     FrameKind::Tick,
     FrameKind::Down,
+    FrameKind::State,
 ];
 
 /// Of which kind a frame is that a master sends.
@@ -27,13 +29,23 @@ pub enum ToldKind {
     Message,
     Bad,
     End,
+    Counts,
+    Recovers,
+    Waits,
+    Touches,
+    Awaited,
 }
 
-pub(crate) const TOLD_KINDS: [ToldKind; 4] = [
+pub(crate) const TOLD_KINDS: [ToldKind; 9] = [
     ToldKind::Line,
     ToldKind::Message,
     ToldKind::Bad,
     ToldKind::End,
+    ToldKind::Counts,
+    ToldKind::Recovers,
+    ToldKind::Waits,
+    ToldKind::Touches,
+    ToldKind::Awaited,
 ];
 
 // What may be wrong with a frame, each at its place.

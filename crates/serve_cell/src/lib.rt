@@ -5,6 +5,7 @@
 mod answers;
 mod blocks;
 mod frames;
+mod groups;
 mod heard;
 mod inputs;
 mod kinds;
@@ -13,6 +14,7 @@ mod outputs;
 mod runs;
 mod seats;
 mod settling;
+mod standing;
 mod stops;
 mod streams;
 mod tellings;
@@ -20,6 +22,7 @@ mod tellings;
 pub use answers::{Answered, answer};
 pub use blocks::{ANSWER_LIMIT, BLOCK_LIMIT};
 pub use frames::{Frame, read_frame, write_frame};
+pub use groups::{GROUP_LIMIT, serve_groups};
 pub use heard::read_told;
 pub use kinds::{FrameKind, ToldKind};
 pub use laws::{
@@ -30,6 +33,10 @@ pub use outputs::write_reply;
 pub use runs::{Asked, serve};
 pub use seats::{Reply, Seat};
 pub use settling::{End, Settled, settle};
+pub use standing::{Counts, Delay, LONGEST_LIMIT, Recovery, Standing, standing_of};
 pub use stops::Stop;
 pub use streams::{Turned, serve_on};
-pub use tellings::{Told, write_bad, write_end, write_line, write_message};
+pub use tellings::{
+    Told, write_awaited, write_bad, write_counts, write_end, write_line, write_message,
+    write_recovers, write_touches, write_waits,
+};

@@ -1,12 +1,17 @@
 //! The bytes of what is told.
 ghost use Rattle.std.specs.Prelude.{◌∷◌, ◌++◌, [], map, OnOk, IfOk};
-ghost use Rattle.serve_cell.specs.Replies.{line_told, out_told, refusal_told, bad_told, mark_told, step_told, sweeps_told, end_told, settled_told, answered_told, reply_told, all_told, AreBlocks, Puts};
+ghost use Rattle.serve_cell.specs.Replies.{line_told, out_told, refusal_told, bad_told, mark_told, step_told, sweeps_told, end_told, settled_told, answered_told, recovery_told, delay_told, delays_told, standing_told, reply_told, all_told, AreBlocks, Puts};
 
 use crate::answers::Answered;
 use crate::seats::Reply;
 use crate::settling::{End, Settled};
+use crate::standing::{Counts, Delay, Recovery, Standing};
 use crate::stops::Stop;
-use crate::tellings::{write_bad, write_end, write_line, write_message};
+use crate::tellings::{
+    Told, write_awaited, write_bad, write_counts, write_end, write_line, write_message,
+    write_recovers, write_touches, write_waits,
+};
+use names_cell::Name;
 use node_core::{Fault, Line};
 use over_core::Swept;
 use std::alloc::Global;
@@ -40,6 +45,7 @@ fn put_reply(alloc: Global, out: &mut Vec<u8>, reply: &Reply) -> Result<(), Stop
         Reply::Answered(answered) => put_answered(alloc, out, answered),
         Reply::Swept(settled) => put_settled(alloc, out, settled),
         Reply::Gone => put_own_line(alloc, out, Line::Down),
+        Reply::Stands(standing) => put_standing(alloc, out, standing),
     }
 }
 
@@ -147,5 +153,95 @@ fn put_out(alloc: Global, out: &mut Vec<u8>, message: &Out) -> Result<(), Stop>
     ensures { OnOk result (Puts (out_told message.now ∷ []) out.old.items out.new.items) }
 {
     let block = write_message(alloc, message)?;
+    Ok(out.extend_from_slice(block.as_slice())?)
+}
+
+fn put_standing(alloc: Global, out: &mut Vec<u8>, standing: &Standing) -> Result<(), Stop>
+    ensures { OnOk result (Puts (standing_told standing.now) out.old.items out.new.items) }
+{
+    put_counts(alloc, out, standing.counts)?;
+    put_recovery(alloc, out, &standing.recovery)?;
+    put_delays(alloc, out, standing.longest.as_slice())
+}
+
+fn put_counts(alloc: Global, out: &mut Vec<u8>, counts: Counts) -> Result<(), Stop>
+    ensures { OnOk result (Puts (Told.Counts counts ∷ []) out.old.items out.new.items) }
+{
+    let block = write_counts(alloc, counts)?;
+    Ok(out.extend_from_slice(block.as_slice())?)
+}
+
+fn put_recovery(alloc: Global, out: &mut Vec<u8>, recovery: &Option<Recovery>) -> Result<(), Stop>
+    ensures { OnOk result (Puts (recovery_told recovery.now) out.old.items out.new.items) }
+{
+    match recovery {
+        None => Ok(()),
+        Some(recovery) => {
+            put_until(alloc, out, recovery.until)?;
+            put_awaited(alloc, out, recovery.awaited.as_slice())
+        }
+    }
+}
+
+fn put_until(alloc: Global, out: &mut Vec<u8>, until: u64) -> Result<(), Stop>
+    ensures { OnOk result (Puts (Told.Recovers until ∷ []) out.old.items out.new.items) }
+{
+    let block = write_recovers(alloc, until)?;
+    Ok(out.extend_from_slice(block.as_slice())?)
+}
+
+fn put_delays(alloc: Global, out: &mut Vec<u8>, delays: &[Delay]) -> Result<(), Stop>
+    ensures { OnOk result (Puts (delays_told delays.now) out.old.items out.new.items) }
+{
+    for delay in delays {
+        put_delay(alloc, out, delay)?;
+    }
+    Ok(())
+}
+
+fn put_delay(alloc: Global, out: &mut Vec<u8>, delay: &Delay) -> Result<(), Stop>
+    ensures { OnOk result (Puts (delay_told delay.now) out.old.items out.new.items) }
+{
+    put_number(alloc, out, delay.number)?;
+    put_names(alloc, out, delay.touched.as_slice())?;
+    put_awaited(alloc, out, delay.awaited.as_slice())
+}
+
+fn put_number(alloc: Global, out: &mut Vec<u8>, number: u64) -> Result<(), Stop>
+    ensures { OnOk result (Puts (Told.Waits number ∷ []) out.old.items out.new.items) }
+{
+    let block = write_waits(alloc, number)?;
+    Ok(out.extend_from_slice(block.as_slice())?)
+}
+
+fn put_names(alloc: Global, out: &mut Vec<u8>, names: &[Name]) -> Result<(), Stop>
+    ensures { OnOk result (Puts (map Told.Touches names.now) out.old.items out.new.items) }
+{
+    for name in names {
+        put_name(alloc, out, name)?;
+    }
+    Ok(())
+}
+
+fn put_name(alloc: Global, out: &mut Vec<u8>, name: &Name) -> Result<(), Stop>
+    ensures { OnOk result (Puts (Told.Touches name.now ∷ []) out.old.items out.new.items) }
+{
+    let block = write_touches(alloc, name.as_str().as_bytes())?;
+    Ok(out.extend_from_slice(block.as_slice())?)
+}
+
+fn put_awaited(alloc: Global, out: &mut Vec<u8>, clients: &[u64]) -> Result<(), Stop>
+    ensures { OnOk result (Puts (map Told.Awaited clients.now) out.old.items out.new.items) }
+{
+    for client in clients {
+        put_client(alloc, out, *client)?;
+    }
+    Ok(())
+}
+
+fn put_client(alloc: Global, out: &mut Vec<u8>, client: u64) -> Result<(), Stop>
+    ensures { OnOk result (Puts (Told.Awaited client ∷ []) out.old.items out.new.items) }
+{
+    let block = write_awaited(alloc, client)?;
     Ok(out.extend_from_slice(block.as_slice())?)
 }

@@ -1,10 +1,13 @@
 //! A master that a program hosts, and what it does by a frame.
 ghost use Rattle.std.specs.Prelude.{◌≡◌, ◌≤◌, IfOk};
-ghost use Rattle.serve_cell.specs.Seats.{hosted, Does, DoesFrame, Arrives, Listens, Ticks, Leaves, IsDue};
+ghost use Rattle.serve_cell.specs.Seats.{hosted, Does, DoesFrame, Arrives, Listens, Ticks, Leaves, Shows, Stands, IsDue};
+ghost use Rattle.serve_cell.specs.Standing.{standing_of};
 
 use crate::answers::{Answered, answer};
 use crate::frames::Frame;
 use crate::settling::{Settled, settle};
+use crate::standing::{Standing, standing_of};
+use cell_state::Master;
 use node_core::Fault;
 use over_core::Cell;
 use rows_cell::Records;
@@ -32,6 +35,7 @@ pub enum Reply {
     Swept(Settled),
     /// The master is gone.
     Gone,
+    Stands(Standing),
 }
 
 impl<R: Records> Seat<R> {
@@ -82,6 +86,7 @@ impl<R: Records> Seat<R> {
             Frame::Message(now, request) => self.hear(alloc, *now, request),
             Frame::Tick(now) => self.sweep(alloc, *now),
             Frame::Down => self.go(),
+            Frame::State => self.stand(alloc),
         }
     }
 
@@ -133,5 +138,27 @@ impl<R: Records> Seat<R> {
             Seat::Up(cell) => (Seat::Down(cell.down()), Reply::Gone),
             Seat::Down(records) => (Seat::Down(records), Reply::Refused(Fault::MasterDown)),
         }
+    }
+
+    fn stand(self, alloc: Global) -> (Seat<R>, Reply)
+        ensures { Stands (hosted R.store self).master (hosted R.store self).store result.1 (hosted R.store result.0) }
+    {
+        match self {
+            Seat::Up(cell) => {
+                let reply = shown(alloc, cell.master());
+                (Seat::Up(cell), reply)
+            }
+            Seat::Down(records) => (Seat::Down(records), Reply::Refused(Fault::MasterDown)),
+        }
+    }
+}
+
+// How a master stands, unless memory is wanting.
+fn shown(alloc: Global, master: &Master) -> Reply
+    ensures { Shows (standing_of master.now) result }
+{
+    match standing_of(alloc, master) {
+        Ok(standing) => Reply::Stands(standing),
+        Err(_) => Reply::Refused(Fault::NoMemory),
     }
 }

@@ -12,6 +12,8 @@ pub enum Stop {
     Unwritten,
     /// There is no memory for an answer.
     NoMemory,
+    /// The store refused what several frames changed together.
+    Unkept,
 }
 
 impl From<AllocError> for Stop {
