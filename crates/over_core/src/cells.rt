@@ -196,6 +196,24 @@ impl<R: Records> Cell<R> {
         let _master = &self.master;
     }
 
+    /// The master and its records, each by itself.
+    pub fn into_parts(self) -> (cell_core::Cell, R)
+        ensures master { result.0 ≡ self.master }
+        ensures store { R.store result.1 ≡ self.store }
+        ensures kept { IsKept self.store.cell self.store.rows self.master }
+    {
+        let Cell { records, master } = self;
+        (master, records)
+    }
+
+    /// A master over records that hold what it knows of them.
+    pub fn of_parts(master: cell_core::Cell, records: R) -> Cell<R>
+        requires { IsKept (R.store records).cell (R.store records).rows master }
+        ensures { result ≡ record { master = master; store = R.store records } }
+    {
+        Cell { records, master }
+    }
+
     /// The master is gone, and the records come back. What waited is lost.
     pub fn down(self) -> R
         ensures { R.store result ≡ self.store }
