@@ -1,18 +1,24 @@
 //! The command line.
-ghost use Rattle.std.specs.Prelude.{IfOk};
+ghost use Rattle.std.specs.Prelude.{IfErr, IfOk};
 ghost use Rattle.cellctl.specs.Exits.{IsExit};
 
 use crate::check::check_store;
-use crate::exits::{unread_status, unwritten_status};
+use crate::exits::{tell_unwritten, unread_status};
+use crate::fresh::write_fresh;
 use crate::lives::run_live;
+use crate::pipes::serve_rows;
 use crate::serves::serve_path;
 use crate::settings::settings;
-use crate::stores::run_over;
+use crate::sources::Source;
+use crate::stores::{Asked, run_over};
+use crate::texts::Trouble;
+use crate::troubles::{Subject, tell, trouble_of};
 use crate::words::program;
 use anyhow::{Context, Result, bail};
 use clap::ArgMatches;
 use clap::error::{Error, ErrorKind};
 use std::env::{self, Args};
+use std::fs::{self, File};
 use std::sync::Wait;
 use std::thread::Threads;
 
@@ -49,7 +55,7 @@ fn run_command<W: Threads + Wait + Sync>(rt: &HostRuntime, threads: &W, words: A
             if error.kind() == ErrorKind::OutOfMemory {
                 bail!("out of memory");
             }
-            Ok(tell(rt, &error))
+            Ok(tell_words(rt, &error))
         }
     }
 }
@@ -67,29 +73,34 @@ fn do_command<W: Threads + Wait + Sync>(
         return check(rt, found.get_str("settings"), path);
     }
     if let Some(found) = matches.subcommand_matches("serve") {
-        let path = found.get_str("store").unwrap_or_default();
-        return serve_path(rt, found.get_str("settings"), path);
+        return serve(rt, found);
     }
     if let Some(found) = matches.subcommand_matches("live") {
         return Ok(run_live(rt, threads, found));
     }
+    if let Some(found) = matches.subcommand_matches("new-settings") {
+        return Ok(write_fresh(rt, found.get_str("FILE").unwrap_or_default()));
+    }
     match matches.subcommand_matches("run") {
-        Some(found) => {
-            let is_traced = found.get_flag("trace");
-            run_script(
-                rt,
-                found.get_str("settings"),
-                found.get_str("store"),
-                is_traced,
-            )
-        }
-        None => run_script(rt, None, None, false),
+        Some(found) => run_script(rt, found),
+        None => Ok(2),
+    }
+}
+
+// Over the rows of another program where a folder is named, else over the store in a file.
+fn serve(rt: &HostRuntime, found: &ArgMatches<'_>) -> Result<u8>
+    ensures { IfOk result IsExit }
+{
+    let named = found.get_str("settings");
+    match found.get_str("rows") {
+        Some(folder) => serve_rows(rt, named, folder),
+        None => serve_path(rt, named, found.get_str("store").unwrap_or_default()),
     }
 }
 
 // Tells what stands in place of a script: what is wrong with the command line, whether or not these words can be
 // written; or help or the version, which have to be.
-fn tell(rt: &HostRuntime, words: &Error) -> u8
+fn tell_words(rt: &HostRuntime, words: &Error) -> u8
     ensures { IsExit result }
 {
     let written = words.print(rt);
@@ -98,23 +109,66 @@ fn tell(rt: &HostRuntime, words: &Error) -> u8
     }
     match written {
         Ok(()) => 0,
-        Err(error) => unwritten_status(error.kind()),
+        Err(error) => tell_unwritten(rt, &error),
     }
 }
 
-// A script of standard input, with the settings of a file or the standard ones, over the store in a file or a new one in
-// memory.
-fn run_script(
-    rt: &HostRuntime,
-    named: Option<&str>,
-    store: Option<&str>,
-    is_traced: bool,
-) -> Result<u8>
+// A script of a file or of the standard input, with the settings of a file or the standard ones, over the store in a file or a new
+// one in memory.
+fn run_script(rt: &HostRuntime, words: &ArgMatches<'_>) -> Result<u8>
     ensures { IfOk result IsExit }
 {
-    match settings(rt, named) {
-        Ok(settings) => run_over(rt, &settings, store, is_traced),
+    match settings(rt, words.get_str("settings")) {
+        Ok(chosen) => match source_of(rt, words.get_str("FILE")) {
+            Ok(source) => {
+                let asked = Asked {
+                    source,
+                    is_traced: words.get_flag("trace"),
+                };
+                run_over(rt, &chosen, words.get_str("store"), asked)
+            }
+            Err(status) => Ok(status),
+        },
         Err(status) => Ok(status),
+    }
+}
+
+// Where the steps come from: a file, or the standard input, for which `-` stands too.
+fn source_of(rt: &HostRuntime, path: Option<&str>) -> Result<Source, u8>
+    ensures { IfErr result IsExit }
+{
+    match path {
+        Some("-") => input_of(rt),
+        Some(path) => file_of(rt, path),
+        None => input_of(rt),
+    }
+}
+
+fn input_of(rt: &HostRuntime) -> Result<Source, u8>
+    ensures { IfErr result IsExit }
+{
+    match Source::input(rt.alloc(), rt.stdin(), rt.stderr()) {
+        Ok(source) => Ok(source),
+        Err(_) => Err(tell(rt, Subject::Script, "-", Trouble::NoMemory)),
+    }
+}
+
+fn file_of(rt: &HostRuntime, path: &str) -> Result<Source, u8>
+    ensures { IfErr result IsExit }
+{
+    if is_folder(rt, path) {
+        return Err(tell(rt, Subject::Script, path, Trouble::IsFolder));
+    }
+    match File::open(rt, path) {
+        Ok(file) => Ok(Source::File(file)),
+        Err(error) => Err(tell(rt, Subject::Script, path, trouble_of(error.kind()))),
+    }
+}
+
+fn is_folder(rt: &HostRuntime, path: &str) -> bool {
+    match fs::metadata(rt, path) {
+        Ok(found) => found.is_dir(),
+        Err(_) => false,
     }
 }
 
@@ -123,7 +177,7 @@ fn check(rt: &HostRuntime, named: Option<&str>, path: &str) -> Result<u8>
     ensures { IfOk result IsExit }
 {
     match settings(rt, named) {
-        Ok(settings) => check_store(rt, settings.cell(), path),
+        Ok(chosen) => check_store(rt, chosen.settings.cell(), path),
         Err(status) => Ok(status),
     }
 }

@@ -1,6 +1,7 @@
 //! How the program ends where something can't be read or written.
 ghost use Rattle.cellctl.specs.Exits.{IsExit};
 
+use crate::troubles::{Subject, output_trouble, tell};
 use std::io;
 
 /// Why the command line or the settings can't be read: there is no memory for it, or it is theirs.
@@ -13,12 +14,9 @@ pub(crate) fn unread_status(kind: io::ErrorKind) -> u8
     }
 }
 
-/// Why a line can't be written.
-pub(crate) fn unwritten_status(kind: io::ErrorKind) -> u8
+/// Tells why the standard output can't be written, and answers the exit status.
+pub(crate) fn tell_unwritten(rt: &HostRuntime, error: &io::Error) -> u8
     ensures { IsExit result }
 {
-    match kind {
-        io::ErrorKind::OutOfMemory => 4,
-        _ => 1,
-    }
+    tell(rt, Subject::Output, "", output_trouble(error))
 }

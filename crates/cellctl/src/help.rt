@@ -60,14 +60,15 @@ Limits:
 Exit status:
   0                 the script ran to its end; a refused step is a line like others
   1                 a bad step, behind which nothing is done; or the output can't be written
-  2                 a wrong command line, or settings that aren't any
-  3                 the store can't be opened or closed, or holds no rows of a cell
+  2                 a wrong command line, a script that can't be opened, or settings that aren't any
+  3                 the store can't be opened or closed, is another cell's, or holds no rows of a cell
   4                 memory ran out outside a step
+Behind each but 0 the standard error says what is wrong, and what cures it. Of a refused step it tells the line.
 
 The store is a SQLite file. Where it isn't there, or has no table, a new store is made in it; one of version 1 is made one of
 version 2, for good; else its rows are taken as they are. Nobody else may write it meanwhile. Behind the script it is closed:
-the rows stand in that one file. A script in a file is up to 1,500 commits ahead of its lines: where such a run is killed,
-these stand in the store, and their lines weren't written; the log beside the file (FILE-wal) is then a part of the store.
+the rows stand in that one file. What a step printed is written before the next line is begun. Where a run is killed, the log
+beside the file (FILE-wal) is a part of the store. A file that is made is for its owner alone.
 
 With --trace a line on standard error tells of each message that is sent: its number, from whom to whom, and its kind:
   message 9 client 1 -> master Call read
@@ -79,7 +80,8 @@ Settings are a table in TOML. A key that isn't there has its value here:
   cell       = \"c\"               a component
   lease      = 12000             milliseconds, 1000 to 60000
   principals = [\"ann\", \"bob\"]  those of the ACL file acl/base, a line each, 262,144 bytes at most
-  secret     = \"00..\"            64 hexadecimal digits in lower case; zeros where it isn't there";
+  secret     = \"00..\"            64 hexadecimal digits in lower case; zeros where it isn't there
+cellctl new-settings FILE writes such a file with a random secret.";
 
 /// What a test of a store prints, and how it ends.
 pub(crate) const STORES: &str = "\

@@ -10,7 +10,7 @@ use rows_cell::StoreFault;
 use rows_sql::SqlRecords;
 use script_cell::script_on;
 use settings_core::Settings;
-use sqlite::{Connection, Error, FileStore, Files, Leftover};
+use sqlite::{Connection, Error, FileStore, Files, Leftover, MemStore};
 use sqlite_disk::{Disk, Start};
 use sqlite_std_file::FileFrom;
 use std::alloc::Global;
@@ -30,6 +30,8 @@ pub(crate) struct Script<I, E> {
 pub(crate) enum Unclosed<D: Disk> {
     /// They can't be opened.
     Unopened(Error, Option<Leftover<D>>),
+    /// It is another cell's, which was told, and the program ends with this status.
+    OtherCell(u8, FileStore<D>),
     /// The store isn't taken over.
     Refused(StoreFault, FileStore<D>),
     /// A script ended over it with this status, and it can't be closed.
@@ -84,4 +86,48 @@ pub(crate) fn run_files<D: Disk + Drop, I: Read + Drop, W: Write, E: Write + Dro
         Ok(files) => Ok((status, files)),
         Err((error, store)) => Err(Unclosed::Open(status, error, store)),
     }
+}
+
+/// Runs a script over a new store in memory.
+pub(crate) fn run_new<I: Read + Drop, W: Write, E: Write + Drop>(
+    alloc: Global,
+    settings: &Settings,
+    script: Script<I, E>,
+    writer: &mut W,
+) -> Result<u8, StoreFault>
+    ensures { IfOk result IsStatus }
+{
+    match Connection::open_in_memory(alloc) {
+        Ok(conn) => run_empty(alloc, settings, conn, script, writer),
+        Err(_) => Err(StoreFault::NoMemory),
+    }
+}
+
+// The same over a connection of memory that has no table yet.
+fn run_empty<I: Read + Drop, W: Write, E: Write + Drop>(
+    alloc: Global,
+    settings: &Settings,
+    conn: Connection<MemStore>,
+    script: Script<I, E>,
+    writer: &mut W,
+) -> Result<u8, StoreFault>
+    ensures { IfOk result IsStatus }
+{
+    let Script {
+        reader,
+        errors,
+        is_traced,
+    } = script;
+    let records = match SqlRecords::adopt(alloc, conn, settings) {
+        Ok(records) => records,
+        Err((fault, store)) => {
+            drop(store);
+            return Err(fault);
+        }
+    };
+    let mut world = World::new(alloc, records, settings);
+    let ended = script_on(alloc, &mut world, reader, writer, errors, is_traced);
+    let conn = world.close().release();
+    drop(conn);
+    Ok(ended)
 }

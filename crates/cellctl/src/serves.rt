@@ -2,10 +2,12 @@
 ghost use Rattle.std.specs.Prelude.{IfOk};
 ghost use Rattle.cellctl.specs.Exits.{IsExit};
 
+use crate::admission::{admit_open, make_file};
 use crate::runs::Unclosed;
-use crate::settings::settings;
-use crate::stores::{left_open, unfound_status};
+use crate::settings::{Chosen, settings};
+use crate::stores::{left_open, tell_unfound};
 use anyhow::{Context, Result};
+use rows_cell::Records;
 use rows_sql::SqlRecords;
 use serve_cell::{Seat, Stop, serve_on};
 use settings_core::Settings;
@@ -28,48 +30,63 @@ pub(crate) fn serve_path(rt: &HostRuntime, named: Option<&str>, path: &str) -> R
     ensures { IfOk result IsExit }
 {
     match settings(rt, named) {
-        Ok(settings) => serve_at(rt, &settings, path),
+        Ok(chosen) => serve_at(rt, &chosen, path),
         Err(status) => Ok(status),
     }
 }
 
 // The files lie where a link leads.
-fn serve_at(rt: &HostRuntime, settings: &Settings, path: &str) -> Result<u8>
+fn serve_at(rt: &HostRuntime, chosen: &Chosen, path: &str) -> Result<u8>
     ensures { IfOk result IsExit }
 {
     match fs::canonicalize(rt, path) {
-        Ok(real) => serve_real(rt, settings, real.as_str()),
+        Ok(real) => serve_real(rt, chosen, real.as_str()),
         Err(error) => match error.kind() {
-            io::ErrorKind::NotFound => serve_real(rt, settings, path),
-            kind => {
-                let _ = eprintln!(rt; "cellctl: finding the store {path}: {error}");
-                Ok(unfound_status(kind))
+            io::ErrorKind::NotFound => {
+                let _ = make_file(rt, path);
+                serve_real(rt, chosen, path)
             }
+            kind => Ok(tell_unfound(rt, path, kind)),
         },
     }
 }
 
 // Behind the last frame the log is removed: the database file alone has the rows.
-fn serve_real(rt: &HostRuntime, settings: &Settings, path: &str) -> Result<u8>
+fn serve_real(rt: &HostRuntime, chosen: &Chosen, path: &str) -> Result<u8>
     ensures { IfOk result IsExit }
 {
     let log = format!(in rt.alloc(); "{path}-wal").context("naming the log")?;
-    match serve_file(rt, settings, path) {
+    match serve_file(rt, chosen, path) {
         Ok((status, files)) => {
             let _ = fs::remove_file(rt, log.as_str());
             drop(files);
             Ok(status)
         }
-        Err(unclosed) => Ok(left_open(rt, path, log.as_str(), unclosed)),
+        Err(unclosed) => Ok(left_open(rt, chosen, path, log.as_str(), unclosed)),
     }
 }
 
-fn serve_file(rt: &HostRuntime, settings: &Settings, path: &str) -> Served
+fn serve_file(rt: &HostRuntime, chosen: &Chosen, path: &str) -> Served
     ensures { IfOk result (λ r. IsExit r.0) }
 {
     match Connection::open_from(rt, path, false, Unknown) {
-        Ok(conn) => serve_store(rt, settings, conn),
+        Ok(conn) => serve_seen(rt, chosen, path, conn),
         Err((error, left)) => Err(Unclosed::Unopened(error, left)),
+    }
+}
+
+// Looks whose the store is, before it is taken over.
+fn serve_seen(
+    rt: &HostRuntime,
+    chosen: &Chosen,
+    path: &str,
+    mut conn: Connection<FileStore<File>>,
+) -> Served
+    ensures { IfOk result (λ r. IsExit r.0) }
+{
+    match admit_open(rt, chosen, path, &mut conn) {
+        Ok(()) => serve_store(rt, &chosen.settings, conn),
+        Err(status) => Err(Unclosed::OtherCell(status, conn.into_store())),
     }
 }
 
@@ -97,11 +114,12 @@ fn serve_records(
     }
 }
 
-fn serve_seat(
+/// Answers all frames of standard input, and gives the status behind the last one.
+pub(crate) fn serve_seat<R: Records>(
     rt: &HostRuntime,
     settings: &Settings,
-    seat: Seat<SqlRecords<FileStore<File>>>,
-) -> (Seat<SqlRecords<FileStore<File>>>, u8)
+    seat: Seat<R>,
+) -> (Seat<R>, u8)
     ensures { IsExit result.1 }
 {
     let alloc = rt.alloc();

@@ -2,14 +2,26 @@
 ghost use Rattle.std.specs.Prelude.{IfErr};
 ghost use Rattle.cellctl.specs.Exits.{IsExit};
 
-use crate::exits::unread_status;
+use crate::texts::Trouble;
+use crate::troubles::{Subject, tell, trouble_of};
 use settings_core::Settings;
 use settings_file::{TextFault, read_settings};
 use std::fs;
 
+/// What cures settings that are none.
+const CURE: &str = "mend that, or begin with those of cellctl new-settings FILE";
+
+/// The settings of a run, and how they were chosen.
+#[derive(Drop)]
+pub(crate) struct Chosen {
+    pub(crate) settings: Settings,
+    /// Whether a file names the principals.
+    pub(crate) says_principals: bool,
+}
+
 /// The settings that a file says, or the standard ones where no file is named. Where there are none, the words of it go
 /// to the standard error, and the answer is the exit status.
-pub(crate) fn settings(rt: &HostRuntime, path: Option<&str>) -> Result<Settings, u8>
+pub(crate) fn settings(rt: &HostRuntime, path: Option<&str>) -> Result<Chosen, u8>
     ensures { IfErr result IsExit }
 {
     match path {
@@ -18,11 +30,14 @@ pub(crate) fn settings(rt: &HostRuntime, path: Option<&str>) -> Result<Settings,
     }
 }
 
-fn standard(rt: &HostRuntime) -> Result<Settings, u8>
+fn standard(rt: &HostRuntime) -> Result<Chosen, u8>
     ensures { IfErr result IsExit }
 {
     match Settings::standard(rt.alloc()) {
-        Ok(settings) => Ok(settings),
+        Ok(settings) => Ok(Chosen {
+            settings,
+            says_principals: false,
+        }),
         Err(fault) => {
             let _ = eprintln!(rt; "cellctl: making the settings: {fault}");
             Err(4)
@@ -30,35 +45,34 @@ fn standard(rt: &HostRuntime) -> Result<Settings, u8>
     }
 }
 
-fn settings_at(rt: &HostRuntime, path: &str) -> Result<Settings, u8>
+fn settings_at(rt: &HostRuntime, path: &str) -> Result<Chosen, u8>
     ensures { IfErr result IsExit }
 {
     match fs::read_to_string(rt, path) {
         Ok(text) => said(rt, path, text.as_str()),
-        Err(error) => {
-            let _ = eprintln!(rt; "cellctl: reading the settings {path}: {error}");
-            Err(unread_status(error.kind()))
-        }
+        Err(error) => Err(tell(rt, Subject::Settings, path, trouble_of(error.kind()))),
     }
 }
 
-fn said(rt: &HostRuntime, path: &str, text: &str) -> Result<Settings, u8>
+fn said(rt: &HostRuntime, path: &str, text: &str) -> Result<Chosen, u8>
     ensures { IfErr result IsExit }
 {
     match read_settings(rt.alloc(), text) {
-        Ok(settings) => Ok(settings),
-        Err(fault) => {
-            let _ = eprintln!(rt; "cellctl: the settings {path}: {fault}");
-            Err(fault_status(&fault))
-        }
+        Ok(settings) => Ok(Chosen {
+            settings,
+            says_principals: text.contains("principals"),
+        }),
+        Err(fault) => Err(tell_fault(rt, path, &fault)),
     }
 }
 
-fn fault_status(fault: &TextFault) -> u8
+fn tell_fault(rt: &HostRuntime, path: &str, fault: &TextFault) -> u8
     ensures { IsExit result }
 {
-    match fault {
-        TextFault::NoMemory => 4,
-        _ => 2,
+    if matches!(fault, TextFault::NoMemory) {
+        return tell(rt, Subject::Settings, path, Trouble::NoMemory);
     }
+    let _ = eprintln!(rt; "cellctl: the settings {path}: {fault}");
+    let _ = eprintln!(rt; "  status 2: {CURE}");
+    2
 }

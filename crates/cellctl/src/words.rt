@@ -8,7 +8,7 @@ use std::alloc::{AllocError, Global};
 pub(crate) fn program<'a>(alloc: Global) -> Result<Command<'a>, AllocError> {
     let run = run_words(alloc)?;
     let program = with_serve(alloc, with_check(alloc, with_run(alloc, run)?)?)?;
-    with_live(alloc, program)
+    with_live(alloc, with_fresh(alloc, program)?)
 }
 
 fn with_run<'a>(alloc: Global, run: Command<'a>) -> Result<Command<'a>, AllocError> {
@@ -41,16 +41,45 @@ fn with_serve<'a>(alloc: Global, program: Command<'a>) -> Result<Command<'a>, Al
     }
 }
 
+fn with_fresh<'a>(alloc: Global, program: Command<'a>) -> Result<Command<'a>, AllocError> {
+    match fresh_words(alloc) {
+        Ok(fresh) => program.subcommand(fresh),
+        Err(error) => {
+            drop(program);
+            Err(error)
+        }
+    }
+}
+
+fn fresh_words<'a>(alloc: Global) -> Result<Command<'a>, AllocError> {
+    Command::new(alloc, "new-settings")
+        .about("Writes settings with a random secret into a new file, for its owner alone")
+        .arg(fresh_word(alloc))
+}
+
+fn fresh_word<'a>(alloc: Global) -> Arg<'a> {
+    Arg::new(alloc, "FILE")
+        .help("The new file, in TOML; one that is there is never written over")
+        .required(true)
+        .action(ArgAction::Set)
+}
+
 fn run_words<'a>(alloc: Global) -> Result<Command<'a>, AllocError> {
     let run = run_about(alloc).arg(settings_word(alloc))?;
-    let run = run.arg(store_word(alloc))?;
-    run.arg(trace_word(alloc))
+    let run = run.arg(store_word(alloc))?.arg(trace_word(alloc))?;
+    run.arg(script_word(alloc))
+}
+
+fn script_word<'a>(alloc: Global) -> Arg<'a> {
+    Arg::new(alloc, "FILE")
+        .help("The script; without it, or as -, that of standard input")
+        .action(ArgAction::Set)
 }
 
 fn run_about<'a>(alloc: Global) -> Command<'a> {
     Command::new(alloc, "run")
         .about(
-            "Runs a script: its steps on standard input, the lines that they print on standard output",
+            "Runs a script, of a file or of standard input, and prints the lines of its steps on standard output",
         )
         .after_help(SCRIPTS)
 }
@@ -68,7 +97,21 @@ fn check_about<'a>(alloc: Global) -> Command<'a> {
 
 fn serve_words<'a>(alloc: Global) -> Result<Command<'a>, AllocError> {
     let serve = serve_about(alloc).arg(settings_word(alloc))?;
-    serve.arg(served_word(alloc))
+    let serve = with_word(serve, served_word(alloc))?;
+    with_word(serve, rows_word(alloc))
+}
+
+fn with_word<'a>(
+    command: Command<'a>,
+    word: Result<Arg<'a>, AllocError>,
+) -> Result<Command<'a>, AllocError> {
+    match word {
+        Ok(word) => command.arg(word),
+        Err(error) => {
+            drop(command);
+            Err(error)
+        }
+    }
 }
 
 fn serve_about<'a>(alloc: Global) -> Command<'a> {
@@ -77,13 +120,24 @@ fn serve_about<'a>(alloc: Global) -> Command<'a> {
         .after_help(FRAMES)
 }
 
-fn served_word<'a>(alloc: Global) -> Arg<'a> {
+fn served_word<'a>(alloc: Global) -> Result<Arg<'a>, AllocError> {
     Arg::new(alloc, "store")
         .long("store")
         .value_name("FILE")
         .help("The SQLite file of the store, which is made where there is none")
-        .required(true)
         .action(ArgAction::Set)
+        .required_unless_present("rows")
+}
+
+fn rows_word<'a>(alloc: Global) -> Result<Arg<'a>, AllocError> {
+    Arg::new(alloc, "rows")
+        .long("rows")
+        .value_name("FOLDER")
+        .help(
+            "In place of a store: the folder of two named pipes, `asked` and `answered`, to the program that keeps the rows",
+        )
+        .action(ArgAction::Set)
+        .conflicts_with("store")
 }
 
 fn settings_word<'a>(alloc: Global) -> Arg<'a> {

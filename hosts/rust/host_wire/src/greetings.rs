@@ -4,7 +4,7 @@
 //! hello     = version 00 principal                    a new client, for this principal
 //!           | version 01 principal client token       the client of this number, as its welcome named it
 //! welcome   = version 00 client token                 the connection is bound to this number
-//!           | version 01 reason                       it isn't bound, and is closed
+//!           | version 01 reason address               it isn't bound, and is closed; the address, as bytes, stands behind 7 alone
 //! version   = 01
 //! ```
 //!
@@ -78,6 +78,9 @@ pub enum TurnedAway {
     /// As many clients of this principal are connected as the server takes of one.
     #[error("too many clients of this principal")]
     FullForPrincipal = 6,
+    /// The server isn't master: it stands by. The address of the one that is stands behind the reason, where it is known.
+    #[error("the server isn't master")]
+    NotMaster = 7,
 }
 
 impl TurnedAway {
@@ -86,15 +89,15 @@ impl TurnedAway {
     }
 
     /// Each of them.
-    pub const ALL: [TurnedAway; 7] = {
-        use TurnedAway::{BadPrincipal, Full, FullForPrincipal, NoNumber, NotUnderstood, OtherPrincipal, WrongToken};
-        [NotUnderstood, BadPrincipal, WrongToken, NoNumber, Full, OtherPrincipal, FullForPrincipal]
+    pub const ALL: [TurnedAway; 8] = {
+        use TurnedAway::{BadPrincipal, Full, FullForPrincipal, NoNumber, NotMaster, NotUnderstood, OtherPrincipal, WrongToken};
+        [NotUnderstood, BadPrincipal, WrongToken, NoNumber, Full, OtherPrincipal, FullForPrincipal, NotMaster]
     };
 
     /// Whether it may be otherwise a little later.
     #[must_use]
     pub fn is_for_now(self) -> bool {
-        matches!(self, TurnedAway::Full | TurnedAway::FullForPrincipal | TurnedAway::NoNumber)
+        matches!(self, TurnedAway::Full | TurnedAway::FullForPrincipal | TurnedAway::NoNumber | TurnedAway::NotMaster)
     }
 }
 
@@ -166,6 +169,23 @@ impl Welcome {
         }
     }
 
+    /// The bytes by which a server that stands by turns clients away: the address of the master, empty where it isn't known.
+    #[must_use]
+    pub fn not_master(address: &str) -> Vec<u8> {
+        let mut out = Welcome::write(&Err(TurnedAway::NotMaster));
+        put_bytes(&mut out, address.as_bytes());
+        out
+    }
+
+    /// The address of the master in such bytes.
+    #[must_use]
+    pub fn master(bytes: &[u8]) -> Option<String> {
+        let mut fields = Fields(bytes);
+        let is_it = fields.take(3)? == Welcome::write(&Err(TurnedAway::NotMaster));
+        let address = fields.text().filter(|_| is_it && fields.is_done())?;
+        (!address.is_empty()).then(|| address.to_owned())
+    }
+
     /// The welcome of these bytes, or the reason why there is none.
     ///
     /// # Errors
@@ -182,7 +202,11 @@ impl Welcome {
         }
         let answer = match fields.byte()? {
             0 => Ok(Welcome { client: fields.word()?, token: fields.word()? }),
-            1 => Err(TurnedAway::read(fields.byte()?)?),
+            1 => match TurnedAway::read(fields.byte()?)? {
+                // (who wants the address reads it by `master`)
+                TurnedAway::NotMaster => fields.text().map(|_| Err(TurnedAway::NotMaster))?,
+                reason => Err(reason),
+            },
             _ => return None,
         };
         fields.is_done().then_some(answer)
@@ -228,6 +252,16 @@ mod tests {
     }
 
     #[test]
+    fn the_master_is_told() {
+        let told = Welcome::not_master("tcp:h:7");
+        assert_eq!(told, b"\x01\x01\x07\0\0\0\x07tcp:h:7");
+        assert_eq!((Welcome::read(&told), Welcome::master(&told)), (Ok(Err(TurnedAway::NotMaster)), Some("tcp:h:7".to_owned())));
+        let unknown = Welcome::not_master("");
+        assert_eq!((Welcome::read(&unknown), Welcome::master(&unknown)), (Ok(Err(TurnedAway::NotMaster)), None));
+        assert_eq!(Welcome::master(b"\x01\x01\x06\0\0\0\x07tcp:h:7"), None);
+    }
+
+    #[test]
     fn an_answer_is_read_as_it_was_written() {
         let welcome = Welcome { client: 1, token: 2 };
         let rows: &[(Result<Welcome, TurnedAway>, &[u8])] = &[
@@ -245,6 +279,7 @@ mod tests {
             assert_eq!(Welcome::read(bytes).as_ref(), Ok(answer));
         }
         assert_eq!(Welcome::read(b"\x01\x01\x07"), Err(Malformed));
+        assert_eq!(Welcome::read(b"\x01\x01\x08"), Err(Malformed));
         assert_eq!(Welcome::read(b"\x01\x02"), Err(Malformed));
     }
 }

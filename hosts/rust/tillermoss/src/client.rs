@@ -4,7 +4,7 @@ use crate::calls::{Call, Create, Opening};
 use crate::core::{Core, Reply, Standing, State, Tried};
 use crate::errors::Error;
 use crate::events::{Event, Events};
-use crate::keeper::{Keeper, greet};
+use crate::keeper::{Keeper, greet_any};
 use crate::library::Library;
 use crate::lines::{Answer, Shown};
 use crate::nodes::{LockMode, Mode, Stat, View};
@@ -32,7 +32,8 @@ const PAUSE: Duration = Duration::from_millis(50);
 /// ```
 #[derive(Clone, Debug, PartialEq, Eq)]
 pub struct Options {
-    /// Where the server is: `unix:PATH`, `tls:HOST:PORT`, `tcp:HOST:PORT` or `HOST:PORT`.
+    /// Where the server is: `unix:PATH`, `tls:HOST:PORT`, `tcp:HOST:PORT` or `HOST:PORT`; several of one cell between commas, of
+    /// which the one that is master is found.
     pub server: String,
     /// Whom the client acts for: 1 to 64 of `a-z 0-9 . _ -`.
     pub principal: String,
@@ -142,7 +143,7 @@ impl Client {
         let principal = options.principal.clone();
         let reach = Reach::new(&options.server, options.certificate.as_ref(), options.key.as_ref(), options.authority.as_ref())?;
         let runtime = Builder::new_current_thread().enable_all().build()?;
-        let connection = runtime.block_on(greet(&reach, &Hello::New { principal: principal.clone() }))?;
+        let connection = runtime.block_on(greet_any(&reach, &Hello::New { principal: principal.clone() }, options.patience))?;
         let Welcome { client, token } = connection.welcome;
         let library =
             Library::open(client, &principal).map_err(|status| Error::Malformed(format!("the client's number, as {status:?}")))?;

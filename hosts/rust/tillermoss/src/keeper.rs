@@ -6,10 +6,10 @@ use crate::errors::Error;
 use crate::reaching::{Reach, Stream};
 use host_wire::messages::number_of_master;
 use host_wire::messages::of_master::{ALIVE, NOTICE, REFUSED, STARTED};
-use host_wire::{ANSWER_LIMIT, Blocks, Hello, Notice, Welcome, framed};
+use host_wire::{ANSWER_LIMIT, Blocks, Hello, Notice, TurnedAway, Welcome, framed};
 use std::io::{self, ErrorKind};
 use std::sync::Arc;
-use std::time::Duration;
+use std::time::{Duration, Instant};
 use tokio::io::{AsyncRead, AsyncWrite, AsyncWriteExt};
 use tokio::sync::mpsc::{UnboundedReceiver, unbounded_channel};
 use tokio::time::{sleep, timeout};
@@ -30,6 +30,9 @@ const PACE: u64 = 20;
 /// many, else a session couldn't go on where an answer takes longer.
 const AGAIN: (u64, u64) = (200, 10_000);
 
+/// So many milliseconds behind the end of its lease a client waits for an answer before it tries another server.
+const SILENCE: u64 = 3_000;
+
 /// So many milliseconds a master has kept a Beat where the next one is sent once more in the middle.
 const LONG: u64 = 20_000;
 
@@ -48,16 +51,37 @@ pub struct Connection {
     pub welcome: Welcome,
 }
 
-/// Connects to a server, and greets it.
+/// Connects to the server that is tried now, and greets it. Where it can't be reached or turns the client away, another is tried next:
+/// the master, where it is told.
 pub async fn greet(reach: &Reach, hello: &Hello) -> Result<Connection, Error> {
-    let greeted = timeout(CONNECTING, async { welcomed(reach.connect().await?, hello).await });
-    greeted.await.unwrap_or_else(|_| Err(io::Error::from(ErrorKind::TimedOut).into()))
+    let mut master = None;
+    let greeted = timeout(CONNECTING, async { welcomed(reach.connect().await?, hello, &mut master).await });
+    let greeted = greeted.await.unwrap_or_else(|_| Err(io::Error::from(ErrorKind::TimedOut).into()));
+    if greeted.is_err() {
+        reach.turn(master.as_deref());
+    }
+    greeted
 }
 
-async fn welcomed(mut stream: Box<dyn Stream>, hello: &Hello) -> Result<Connection, Error> {
+/// The same, of several servers until one is master, or so long; also of one that stands by.
+pub async fn greet_any(reach: &Reach, hello: &Hello, patience: Duration) -> Result<Connection, Error> {
+    let begun = Instant::now();
+    let mut pause = PAUSES.0;
+    loop {
+        match greet(reach, hello).await {
+            Err(Error::TurnedAway(reason)) if !reason.is_for_now() => return Err(Error::TurnedAway(reason)),
+            Err(Error::TurnedAway(TurnedAway::NotMaster)) if begun.elapsed() < patience => pause = Keeper::rest(pause).await,
+            Err(_) if reach.has_several() && begun.elapsed() < patience => pause = Keeper::rest(pause).await,
+            greeted => return greeted,
+        }
+    }
+}
+
+async fn welcomed(mut stream: Box<dyn Stream>, hello: &Hello, master: &mut Option<String>) -> Result<Connection, Error> {
     stream.write_all(&framed(&hello.write())?).await?;
     let mut blocks = Blocks::new(ANSWER_LIMIT);
     let block = blocks.next_of(&mut stream).await?.ok_or_else(|| io::Error::from(ErrorKind::UnexpectedEof))?;
+    *master = Welcome::master(&block);
     match Welcome::read(&block) {
         Ok(Ok(welcome)) => Ok(Connection { stream, blocks, welcome }),
         Ok(Err(reason)) => Err(Error::TurnedAway(reason)),
@@ -70,9 +94,10 @@ async fn welcomed(mut stream: Box<dyn Stream>, hello: &Hello) -> Result<Connecti
 struct Schedule {
     /// The number of the last one.
     number: Option<u64>,
-    /// When that was sent, and when the first one behind an answer.
+    /// When that was sent, and when the first one behind an answer; and until when the lease lasted then.
     sent: u64,
     first: u64,
+    until: u64,
     due: u64,
     /// So many milliseconds an answer is waited for at least.
     pause: u64,
@@ -85,17 +110,24 @@ struct Schedule {
 impl Schedule {
     // None was sent yet.
     fn new() -> Schedule {
-        Schedule { number: None, sent: 0, first: 0, due: 0, pause: AGAIN.0, usual: 0, is_answered: true }
+        Schedule { number: None, sent: 0, first: 0, until: 0, due: 0, pause: AGAIN.0, usual: 0, is_answered: true }
     }
 
     // One is sent now, under a lease until that moment. An answer to it counts only until the next one is sent: so that goes when an
     // answer has come, else when the lease has ended; and once in the middle, where the master keeps a Beat for long, since what a clock
     // may lose meanwhile is taken off the lease.
     fn sent(&self, now: u64, (number, leased_until): (Option<u64>, u64)) -> Schedule {
-        let (first, pause) = if self.is_answered { (now, AGAIN.0) } else { (self.first, (2 * self.pause).min(AGAIN.1)) };
+        let (first, until, pause) =
+            if self.is_answered { (now, leased_until, AGAIN.0) } else { (self.first, self.until, (2 * self.pause).min(AGAIN.1)) };
         let left = leased_until.saturating_sub(now);
         let wait = if self.is_answered && self.usual >= LONG { left.min(self.usual / 2) } else { left };
-        Schedule { number, sent: now, first, due: now.saturating_add(wait.max(pause)), pause, usual: self.usual, is_answered: false }
+        let due = now.saturating_add(wait.max(pause));
+        Schedule { number, sent: now, first, until, due, pause, usual: self.usual, is_answered: false }
+    }
+
+    // From when on the server has been silent for so long that another may be master.
+    fn silent_from(&self) -> u64 {
+        if self.is_answered { u64::MAX } else { self.first.max(self.until).saturating_add(SILENCE) }
     }
 
     // A message came. Behind the answer to the last Beat the next one goes: at once where there is something to acknowledge. Where another
@@ -181,7 +213,8 @@ impl Keeper {
     async fn hear(&self, mut read: impl AsyncRead + Unpin, mut blocks: Blocks, has_heard: &mut bool) -> io::Result<()> {
         let mut schedule = self.beat(true, &Schedule::new());
         loop {
-            let rest = schedule.due.saturating_sub(clock::now()).max(1);
+            let silent_from = if self.reach.has_several() { schedule.silent_from() } else { u64::MAX };
+            let rest = schedule.due.min(silent_from).saturating_sub(clock::now()).max(1);
             match timeout(Duration::from_millis(rest), blocks.next_of(&mut read)).await {
                 Ok(Ok(None)) => return Ok(()),
                 Ok(Ok(Some(message))) => {
@@ -190,6 +223,10 @@ impl Keeper {
                 }
                 Ok(Err(error)) => return Err(error),
                 Err(_) => {}
+            }
+            if clock::now() >= silent_from && !schedule.is_answered {
+                self.reach.turn(None);
+                return Err(ErrorKind::TimedOut.into());
             }
             // (of a client that is closed the last Beat is written first)
             if self.core.lock().goes_on() && clock::now() >= schedule.due {
@@ -271,6 +308,20 @@ mod tests {
         assert_eq!(dues, [200, 600, 1400, 3000, 6200, 12_600, 22_600, 32_600]);
         schedule.give(40_000, &message(ALIVE, 8, EMPTY_ALIVE));
         assert_eq!((schedule.usual, schedule.sent(40_020, (Some(9), 0)).due), (40_000, 40_220));
+    }
+
+    // (one that didn't answer the Beat of moment 1000: 3 s behind that, or behind the lease)
+    #[test]
+    fn a_silent_server_is_left() {
+        for (leased_until, silent_from) in [(0, 4000), (5000, 8000)] {
+            let mut schedule = Schedule::new().sent(1000, (Some(7), leased_until));
+            assert_eq!(schedule.silent_from(), silent_from, "{leased_until}");
+            schedule = schedule.sent(schedule.due, (Some(8), leased_until));
+            assert_eq!(schedule.silent_from(), silent_from, "{leased_until}");
+            schedule.give(6000, &message(ALIVE, 8, EMPTY_ALIVE));
+            assert_eq!(schedule.silent_from(), u64::MAX, "{leased_until}");
+        }
+        assert_eq!(Schedule::new().silent_from(), u64::MAX);
     }
 
     #[test]

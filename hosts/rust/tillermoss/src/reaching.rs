@@ -6,7 +6,7 @@ use std::fs::File;
 use std::io::{self, BufReader, ErrorKind};
 use std::net::IpAddr;
 use std::path::{Path, PathBuf};
-use std::sync::Arc;
+use std::sync::{Arc, Mutex, MutexGuard, PoisonError};
 use tokio::io::{AsyncRead, AsyncWrite};
 use tokio::net::{TcpStream, UnixStream};
 use tokio_rustls::TlsConnector;
@@ -17,16 +17,24 @@ pub trait Stream: AsyncRead + AsyncWrite + Send + Unpin {}
 
 impl<S: AsyncRead + AsyncWrite + Send + Unpin> Stream for S {}
 
-/// Where a server is, and by what the two know each other.
+/// Where the servers of a cell are, of which one is master, and by what the client and a server know each other.
 #[derive(Clone)]
 pub struct Reach {
-    address: Address,
+    places: Arc<[Address]>,
+    turn: Arc<Mutex<Turn>>,
     tls: Option<Arc<ClientConfig>>,
+}
+
+/// Which server is tried next: one of the places, or another that was told.
+#[derive(Default)]
+struct Turn {
+    at: usize,
+    told: Option<Address>,
 }
 
 impl std::fmt::Debug for Reach {
     fn fmt(&self, out: &mut std::fmt::Formatter<'_>) -> std::fmt::Result {
-        write!(out, "{}", self.address)
+        write!(out, "{}", self.address())
     }
 }
 
@@ -69,19 +77,44 @@ fn config(certificate: Option<&PathBuf>, own_key: Option<&PathBuf>, authority: O
 }
 
 impl Reach {
-    /// That of a word, with the files of certificates where it is a `tls:`.
-    pub fn new(server: &str, certificate: Option<&PathBuf>, own_key: Option<&PathBuf>, authority: Option<&PathBuf>) -> io::Result<Reach> {
-        let address: Address = server.parse().map_err(|error| fault(format!("{server}: {error}")))?;
-        let tls = match address {
-            Address::Tls(_) => Some(config(certificate, own_key, authority)?),
-            _ => None,
-        };
-        Ok(Reach { address, tls })
+    /// That of words between commas, with the files of certificates where one is a `tls:`.
+    pub fn new(servers: &str, certificate: Option<&PathBuf>, own_key: Option<&PathBuf>, authority: Option<&PathBuf>) -> io::Result<Reach> {
+        let read = |server: &str| server.parse().map_err(|error| fault(format!("{server}: {error}")));
+        let places = servers.split(',').map(read).collect::<io::Result<Arc<[Address]>>>()?;
+        let is_tls = places.iter().any(|address| matches!(address, Address::Tls(_)));
+        let tls = if is_tls { Some(config(certificate, own_key, authority)?) } else { None };
+        Ok(Reach { places, turn: Arc::default(), tls })
     }
 
-    /// A stream to the server.
+    fn lock(&self) -> MutexGuard<'_, Turn> {
+        self.turn.lock().unwrap_or_else(PoisonError::into_inner)
+    }
+
+    fn address(&self) -> Address {
+        let turn = self.lock();
+        turn.told.clone().unwrap_or_else(|| self.places[turn.at].clone())
+    }
+
+    /// Whether there is another server to try.
+    pub fn has_several(&self) -> bool {
+        self.places.len() > 1 || self.lock().told.is_some()
+    }
+
+    /// From here on the one that was told is tried, where it is one of them or reached in the same way; else the next one.
+    pub fn turn(&self, told: Option<&str>) {
+        let present = self.address();
+        let told = told.and_then(|told| told.parse().ok()).filter(|told| is_alike(told, &present) || self.places.contains(told));
+        let mut turn = self.lock();
+        match told.as_ref().and_then(|told| self.places.iter().position(|place| place == told)) {
+            Some(at) => *turn = Turn { at, told: None },
+            None if told.is_some() => turn.told = told,
+            None => *turn = Turn { at: (turn.at + 1) % self.places.len(), told: None },
+        }
+    }
+
+    /// A stream to the server that is tried now.
     pub async fn connect(&self) -> io::Result<Box<dyn Stream>> {
-        match (&self.address, &self.tls) {
+        match (&self.address(), &self.tls) {
             (Address::Unix(path), _) => Ok(Box::new(UnixStream::connect(path).await?)),
             (Address::Tls(place), Some(config)) => {
                 let stream = stream(place).await?;
@@ -90,6 +123,11 @@ impl Reach {
             (Address::Tls(place) | Address::Tcp(place), _) => Ok(Box::new(stream(place).await?)),
         }
     }
+}
+
+// Whether a client that trusts the one is right to go to the other.
+fn is_alike(told: &Address, present: &Address) -> bool {
+    matches!((told, present), (Address::Tcp(_), Address::Tcp(_)) | (Address::Tls(_), Address::Tls(_)))
 }
 
 // The name that the server's certificate has to have. It is that of a host, never a number; this machine's is `localhost`.
@@ -117,7 +155,7 @@ async fn stream(place: &str) -> io::Result<TcpStream> {
 /// ```
 #[must_use]
 pub fn own_principal(server: &str, certificate: Option<&Path>) -> Option<String> {
-    match server.parse().ok()? {
+    match server.split(',').next()?.parse().ok()? {
         Address::Unix(_) => User::from_uid(getuid()).ok()?.map(|user| user.name),
         Address::Tls(_) => common_name(&certificates(certificate?).ok()?.first()?.0),
         Address::Tcp(_) => None,
@@ -134,6 +172,31 @@ mod tests {
         for (place, wanted) in rows {
             assert_eq!(server_name(place).is_ok(), wanted, "{place}");
         }
+    }
+
+    #[test]
+    fn servers_are_tried_in_turn() {
+        let rows: &[(&str, &[Option<&str>], &str)] = &[
+            ("h:7,tcp:i:7,unix:/s", &[], "tcp:h:7"),
+            ("h:7,tcp:i:7,unix:/s", &[None], "tcp:i:7"),
+            ("h:7,tcp:i:7,unix:/s", &[None, None], "unix:/s"),
+            ("h:7,tcp:i:7,unix:/s", &[None, None, None], "tcp:h:7"),
+            ("h:7,tcp:i:7,unix:/s", &[Some("tcp:i:7")], "tcp:i:7"),
+            ("h:7,tcp:i:7,unix:/s", &[Some("unix:/s")], "unix:/s"),
+            // (one that isn't among them is tried once)
+            ("h:7", &[Some("tcp:other:7")], "tcp:other:7"),
+            ("h:7", &[Some("tcp:other:7"), None], "tcp:h:7"),
+            ("h:7", &[Some("tls:other:7")], "tcp:h:7"),
+            ("unix:/s", &[Some("unix:/t")], "unix:/s"),
+            ("h:7,i:7", &[Some("no address")], "tcp:i:7"),
+        ];
+        for (servers, turns, wanted) in rows {
+            let reach = Reach::new(servers, None, None, None).unwrap();
+            turns.iter().for_each(|told| reach.turn(*told));
+            assert_eq!(reach.address().to_string(), *wanted, "{servers} {turns:?}");
+            assert_eq!(reach.has_several(), servers.contains(',') || wanted.contains("other"), "{servers} {turns:?}");
+        }
+        assert!(Reach::new("h:7,i", None, None, None).is_err());
     }
 
     #[test]

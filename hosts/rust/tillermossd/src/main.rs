@@ -4,6 +4,7 @@
 mod admin;
 mod connections;
 mod doors;
+mod etcd;
 mod lines;
 mod lobby;
 mod locks;
@@ -20,6 +21,7 @@ mod routes;
 mod serving;
 mod settings;
 mod showing;
+mod standby;
 mod store;
 mod tls;
 mod told;
@@ -36,6 +38,9 @@ fn main() -> ExitCode {
     begin_log(&options);
     let done = match &options.command {
         Some(Command::Restore { copy, store }) => restoring::restore(copy, store),
+        Some(Command::Copy { from, to, master, trust }) => {
+            etcd::copying::copy(from, to, trust, &master.clone().unwrap_or_else(serving::cellctl))
+        }
         None => serving::serve(options),
     };
     match done {

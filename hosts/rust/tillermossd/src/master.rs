@@ -1,6 +1,8 @@
 //! The master, a child of this program, and the task that speaks with it.
 
 use crate::connections::Hall;
+use crate::etcd::Rows;
+use crate::etcd::pipes::Kept;
 use crate::lines::Message;
 use crate::pulse::Pulse;
 use crate::settings::Settings;
@@ -30,6 +32,9 @@ const AT_ONCE: usize = 2;
 /// So long a master may take for a frame.
 const PATIENCE: Duration = Duration::from_secs(10);
 
+/// How often it is looked whether the mastership lasts, where nothing comes.
+const LOOKING: Duration = Duration::from_millis(500);
+
 /// So long it may take to come up: it reads the whole store.
 const COMING_UP: Duration = Duration::from_secs(600);
 
@@ -58,8 +63,10 @@ pub enum Ending {
 pub struct Making {
     /// The program.
     pub program: PathBuf,
-    /// The file of the store.
+    /// The file of the store, where the rows stand in one.
     pub store: PathBuf,
+    /// The rows in etcd, where they stand there.
+    pub rows: Option<Rows>,
     /// The settings of the cell.
     pub settings: Settings,
 }
@@ -82,7 +89,8 @@ pub struct Master {
     output: ChildStdout,
     blocks: Blocks,
     frames: mpsc::Sender<Vec<u8>>,
-    identity: Identity,
+    identity: Option<Identity>,
+    rows: Option<(Rows, Kept)>,
     begun: Instant,
     pulse: Pulse,
     sent: VecDeque<Sent>,
@@ -94,7 +102,8 @@ impl Making {
     pub async fn start(&self, hall: &Arc<Hall>) -> Result<Master> {
         // (it is read before the first answer comes)
         let settings = self.settings.write()?;
-        let mut child = self.spawn(settings.path())?;
+        let kept = self.rows.as_ref().map(|rows| anyhow::Ok((rows.clone(), rows.keep()?))).transpose()?;
+        let mut child = self.spawn(settings.path(), kept.as_ref().map(|(_, kept)| kept.folder()))?;
         let (Some(input), Some(output)) = (child.stdin.take(), child.stdout.take()) else {
             bail!("the master has no streams");
         };
@@ -105,15 +114,19 @@ impl Making {
         let coming = come_up(hall, &mut output, &mut blocks);
         let next = timeout(COMING_UP, coming).await.unwrap_or_else(|_| bail!("it took too long"));
         let next = next.context("the master didn't come up")?;
-        let identity = Identity::of(&self.store)?;
+        let identity = if kept.is_none() { Some(Identity::of(&self.store)?) } else { None };
         let (hall, pulse) = (hall.clone(), Pulse::new(0, next));
-        Ok(Master { hall, child, output, blocks, frames, identity, begun, pulse, sent: VecDeque::new(), copying: None })
+        Ok(Master { hall, child, output, blocks, frames, identity, rows: kept, begun, pulse, sent: VecDeque::new(), copying: None })
     }
 
     // In a process group of its own, so that what is typed at a terminal doesn't end it before its server.
-    fn spawn(&self, settings: &Path) -> Result<Child> {
+    fn spawn(&self, settings: &Path, pipes: Option<&Path>) -> Result<Child> {
         let mut command = std::process::Command::new(&self.program);
-        command.arg("serve").arg("--store").arg(&self.store).arg("--settings").arg(settings);
+        match pipes {
+            Some(folder) => command.arg("serve").arg("--rows").arg(folder),
+            None => command.arg("serve").arg("--store").arg(&self.store),
+        };
+        command.arg("--settings").arg(settings);
         command.stdin(Stdio::piped()).stdout(Stdio::piped()).process_group(0);
         Command::from(command).kill_on_drop(true).spawn().with_context(|| format!("starting {}", self.program.display()))
     }
@@ -207,6 +220,7 @@ impl Master {
 
     async fn serve(&mut self, orders: &mut mpsc::Receiver<Order>) -> Result<Ending> {
         loop {
+            self.check_mastership()?;
             if let Some(fault) = self.fill()? {
                 return Ok(Ending::StoreGone(fault));
             }
@@ -219,6 +233,7 @@ impl Master {
                     Some(Order::Down) | None => return self.stop().await,
                 },
                 () = self.hall.lines.filled(), if self.has_room() => {}
+                () = sleep(LOOKING), if self.rows.is_some() => {}
                 () = sleep(rest.unwrap_or(PATIENCE)), if rest.is_some() => {
                     if self.sent.front().is_some_and(|sent| sent.at.elapsed() >= PATIENCE) {
                         bail!("it doesn't answer");
@@ -253,7 +268,7 @@ impl Master {
             if message.is_none() && !is_due {
                 break;
             }
-            if let Some(fault) = self.identity.fault() {
+            if let Some(fault) = self.identity.as_ref().and_then(Identity::fault) {
                 return Ok(Some(fault));
             }
             self.send(message)?;
@@ -278,8 +293,13 @@ impl Master {
         Ok(())
     }
 
-    // What the master tells.
+    fn check_mastership(&self) -> Result<()> {
+        self.rows.as_ref().map_or(Ok(()), |(rows, _)| rows.mastership.check())
+    }
+
+    // What the master tells. Of one whose mastership has ended nothing is passed on: what it told before was done before.
     fn hear(&mut self, block: &[u8]) -> Result<()> {
+        self.check_mastership()?;
         match Told::read(block)? {
             Told::Message(client, message) => self.pass(client, message),
             Told::Line(line) => {
@@ -302,6 +322,9 @@ impl Master {
                 self.pulse.answer(next, sent.as_ref().is_some_and(|sent| sent.is_refused));
                 if let Some(sent) = sent {
                     self.hall.metrics.answered(sent.at.elapsed(), sent.has_committed);
+                }
+                if self.rows.as_ref().is_some_and(|(_, kept)| kept.has_ended()) {
+                    bail!("no commit of it is kept any more");
                 }
             }
         }
@@ -333,7 +356,10 @@ impl Master {
             return;
         }
         if let Some(reply) = self.copying.take() {
-            let path = self.identity.path().to_owned();
+            let Some(path) = self.identity.as_ref().map(|identity| identity.path().to_owned()) else {
+                let _ = reply.send(Err(io::Error::new(io::ErrorKind::Unsupported, "the rows stand in etcd")));
+                return;
+            };
             let copied = tokio::task::spawn_blocking(move || store::copy(&path)).await.unwrap_or_else(|error| Err(io::Error::other(error)));
             // (who asked may be gone; then the copy is, too)
             let _ = reply.send(copied);

@@ -4,6 +4,8 @@
 //! They stand in a small file beside the store, which is written and synced before a number is given, a hundred numbers ahead. So
 //! a number that was given, and one whose giving was cut by a crash, isn't given again.
 
+use crate::etcd::Rows;
+use crate::etcd::gateway::Deed;
 use anyhow::{Context, Result, bail};
 use siphasher::sip::SipHasher24;
 use std::fs::{self, File};
@@ -31,10 +33,20 @@ pub struct Epochs {
     pub coming: u64,
 }
 
+impl Epochs {
+    /// Those by which a store of this epoch is an older copy: it was moved elsewhere.
+    #[must_use]
+    pub fn behind(epoch: u64) -> Epochs {
+        Epochs { last: epoch + 1, coming: epoch + 2 }
+    }
+}
+
 /// The numbers that are left, and the key by which a number's token is made.
 #[derive(Debug)]
 pub struct Numbers {
     path: PathBuf,
+    // (in etcd they stand beside the rows, and no file has them)
+    rows: Option<Rows>,
     next: u64,
     written: u64,
     key: [u8; 16],
@@ -65,7 +77,19 @@ impl Numbers {
     /// New ones from a number on.
     #[must_use]
     pub fn from(path: &Path, first: u64) -> Numbers {
-        Numbers { path: path.to_owned(), next: first, written: first, key: rand::random(), epochs: None }
+        Numbers { path: path.to_owned(), rows: None, next: first, written: first, key: rand::random(), epochs: None }
+    }
+
+    /// Those that stand beside rows in etcd; new ones from a number on where none do.
+    pub fn beside(rows: &Rows, first: u64) -> Result<Numbers> {
+        let path = PathBuf::from(format!("{}numbers", rows.prefix));
+        let numbers = match rows.gateway.get(&path.display().to_string())? {
+            Some(pair) => {
+                Numbers::read(&path, std::str::from_utf8(&pair.value)?).with_context(|| format!("{} has no numbers", path.display()))?
+            }
+            None => Numbers::from(&path, first),
+        };
+        Ok(Numbers { rows: Some(rows.clone()), ..numbers })
     }
 
     fn read(path: &Path, text: &str) -> Option<Numbers> {
@@ -80,7 +104,7 @@ impl Numbers {
             OLD_TITLE => None,
             _ => return None,
         };
-        lines.next().is_none().then(|| Numbers { path: path.to_owned(), next, written: next, key, epochs })
+        lines.next().is_none().then(|| Numbers { path: path.to_owned(), rows: None, next, written: next, key, epochs })
     }
 
     // No master came up, and no number was given: where the first start ended early.
@@ -101,12 +125,11 @@ impl Numbers {
 
     // The file is written anew and then put in place of the old one: a crash leaves the one or the other.
     fn write(&mut self, next: u64, epochs: Epochs) -> Result<()> {
-        let folder = self.path.parent().filter(|folder| !folder.as_os_str().is_empty()).unwrap_or(Path::new("."));
-        let mut file = NamedTempFile::new_in(folder)?;
-        writeln!(file, "{TITLE}\nnext {next}\nkey {}\nepoch {}\ncoming {}", hex::encode(self.key), epochs.last, epochs.coming)?;
-        file.as_file().sync_all()?;
-        file.persist(&self.path)?;
-        File::open(folder)?.sync_all()?;
+        let text = format!("{TITLE}\nnext {next}\nkey {}\nepoch {}\ncoming {}\n", hex::encode(self.key), epochs.last, epochs.coming);
+        match &self.rows {
+            Some(rows) => write_beside(rows, &self.path, text)?,
+            None => write_file(&self.path, &text)?,
+        }
         (self.written, self.epochs) = (next, Some(epochs));
         Ok(())
     }
@@ -135,6 +158,25 @@ impl Numbers {
     #[must_use]
     pub fn is_token(&self, number: u64, principal: &str, token: u64) -> bool {
         (1..self.next).contains(&number) && self.token(number, principal) == token
+    }
+}
+
+fn write_file(path: &Path, text: &str) -> Result<()> {
+    let folder = path.parent().filter(|folder| !folder.as_os_str().is_empty()).unwrap_or(Path::new("."));
+    let mut file = NamedTempFile::new_in(folder)?;
+    file.write_all(text.as_bytes())?;
+    file.as_file().sync_all()?;
+    file.persist(path)?;
+    File::open(folder)?.sync_all()?;
+    Ok(())
+}
+
+// (where the outcome gets lost, numbers may be written that aren't given)
+fn write_beside(rows: &Rows, key: &Path, text: String) -> Result<()> {
+    rows.mastership.check()?;
+    match rows.gateway.change(&[rows.mastership.fence()], &[Deed::Put(key.display().to_string(), text.into_bytes())])? {
+        Some(_) => Ok(()),
+        None => bail!("another server is master"),
     }
 }
 

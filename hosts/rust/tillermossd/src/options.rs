@@ -1,8 +1,11 @@
 //! The command line.
 
+use crate::etcd::mastership::SPAN;
+use crate::etcd::{Place, Trust};
 use clap::{Parser, Subcommand, ValueEnum};
 use host_wire::Address;
 use std::path::PathBuf;
+use std::str::FromStr;
 
 /// Serves a cell: starts `cellctl serve`, and carries the messages of clients to it.
 #[derive(Debug, PartialEq, Eq, Parser)]
@@ -12,8 +15,21 @@ pub struct Options {
     #[arg(required = true)]
     pub listen: Vec<Address>,
     /// The SQLite file of the store, which is made where there is none
-    #[arg(long, required = true)]
+    #[arg(long, required_unless_present = "rows")]
     pub store: Option<PathBuf>,
+    /// In place of a store: the members of an etcd and the cell's prefix there, as etcd://H1:2379,H2:2379,H3:2379/CELL; of several
+    /// servers one is master, and the others stand by
+    #[arg(long, conflicts_with_all = ["store", "first"])]
+    pub rows: Option<Place>,
+    /// Where clients find this server, as the others tell them; without it the first address that it listens at
+    #[arg(long, requires = "rows", conflicts_with = "store")]
+    pub advertise: Option<Address>,
+    /// So many seconds a mastership lasts that its server doesn't renew: for so long a cell has no master whose server was killed
+    #[arg(long, requires = "rows", conflicts_with = "store", default_value_t = SPAN, value_parser = clap::value_parser!(u64).range(2..=60))]
+    pub mastership: u64,
+    /// How etcd is reached by TLS
+    #[command(flatten)]
+    pub trust: Trust,
     /// The settings of the cell and the limits of the server, in TOML
     #[arg(long)]
     pub settings: Option<PathBuf>,
@@ -69,6 +85,38 @@ pub enum Command {
         #[arg(long)]
         store: PathBuf,
     },
+    /// Moves a cell from a store in a file into etcd, or back. Its servers have to be down
+    Copy {
+        /// Where its rows stand: FILE or etcd://HOST:PORT,HOST:PORT/CELL
+        #[arg(long)]
+        from: End,
+        /// Where no cell stands yet
+        #[arg(long)]
+        to: End,
+        /// The program cellctl, as in serving
+        #[arg(long)]
+        master: Option<PathBuf>,
+        /// How etcd is reached by TLS
+        #[command(flatten)]
+        trust: Trust,
+    },
+}
+
+/// Where the rows of a cell stand that are moved.
+#[derive(Clone, Debug, PartialEq, Eq)]
+pub enum End {
+    /// In a SQLite file.
+    File(PathBuf),
+    /// In etcd.
+    Etcd(Place),
+}
+
+impl FromStr for End {
+    type Err = anyhow::Error;
+
+    fn from_str(word: &str) -> Result<End, anyhow::Error> {
+        if word.starts_with("etcd:") { Ok(End::Etcd(word.parse()?)) } else { Ok(End::File(word.into())) }
+    }
 }
 
 /// How the log is written.
@@ -95,6 +143,10 @@ mod tests {
         let wanted = Options {
             listen: ["7", "unix:/s", "tls:h:8"].map(|word| word.parse().unwrap()).to_vec(),
             store: Some("s".into()),
+            rows: None,
+            advertise: None,
+            mastership: 5,
+            trust: Trust::default(),
             settings: Some("t".into()),
             master: Some("m".into()),
             first: Some(5),
@@ -108,6 +160,15 @@ mod tests {
             command: None,
         };
         assert_eq!(read(line).unwrap(), wanted);
+        let options = read("7 --rows etcd://a:1,b:2/c --advertise h:7").unwrap();
+        assert_eq!(options.rows, Some(Place { members: vec!["a:1".to_owned(), "b:2".to_owned()], cell: "c".to_owned() }));
+        assert_eq!(options.advertise, Some("h:7".parse().unwrap()));
+        let trust = Trust { etcd_ca: Some("a".into()), etcd_cert: Some("c".into()), etcd_key: Some("k".into()) };
+        let by_tls = "--etcd-ca a --etcd-cert c --etcd-key k";
+        assert_eq!(read(&format!("7 --rows etcd://a:1/c {by_tls}")).unwrap().trust, trust);
+        let copy = read(&format!("copy --from s --to etcd://a:1/c {by_tls}")).unwrap().command;
+        let to = End::Etcd(Place { members: vec!["a:1".to_owned()], cell: "c".to_owned() });
+        assert_eq!(copy, Some(Command::Copy { from: End::File("s".into()), to, master: None, trust }));
         let restore = Command::Restore { copy: "c".into(), store: "s".into() };
         assert_eq!(read("restore c --store s").unwrap().command, Some(restore));
     }
@@ -115,7 +176,16 @@ mod tests {
     #[test]
     fn other_words_are_refused() {
         let rows = ["", "7", "--store s", "7 --store", "7 --store s --who", "seven --store s", "7 --store s --first 0"];
-        for line in rows.into_iter().chain(["65536 --store s", "7 --store s --cert c", "restore c", "7 --store s --log x"]) {
+        let rows = rows.into_iter().chain([
+            "7 --rows etcd://a:1/c --store s",
+            "7 --rows a:1/c",
+            "7 --rows etcd://a:1",
+            "7 --store s --advertise h:7",
+            "7 --rows etcd://a:1/c --mastership 1",
+            "7 --rows etcd://a:1/c --etcd-cert c --etcd-key k",
+            "7 --rows etcd://a:1/c --etcd-ca a --etcd-cert c",
+        ]);
+        for line in rows.chain(["65536 --store s", "7 --store s --cert c", "restore c", "7 --store s --log x"]) {
             assert!(read(line).is_err(), "{line}");
         }
     }

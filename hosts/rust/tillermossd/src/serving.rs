@@ -3,6 +3,9 @@
 use crate::admin::{Admin, Desk};
 use crate::connections::{Hall, take_all};
 use crate::doors::{Certificates, Door};
+use crate::etcd::mastership::{Mastership, Seat};
+use crate::etcd::{self, gateway::Gateway};
+use crate::etcd::{Place, Rows};
 use crate::locks::take_lock;
 use crate::master::{Ending, Making, Master, Order};
 use crate::numbers::{Epochs, Numbers};
@@ -10,6 +13,7 @@ use crate::options::Options;
 use crate::picture::Picture;
 use crate::settings::Settings;
 use crate::showing::Showing;
+use crate::standby::{self, Known};
 use crate::store::{self, Head, beside};
 use anyhow::{Context, Result, bail};
 use host_wire::{Address, Notice};
@@ -19,10 +23,12 @@ use sd_notify::NotifyState;
 use std::fs;
 use std::io::{self, Write};
 use std::os::unix::fs::PermissionsExt;
+use std::os::unix::process::CommandExt;
 use std::path::{Path, PathBuf};
 use std::process::Command;
 use std::sync::{Arc, PoisonError};
 use std::time::{Duration, Instant};
+use tokio::runtime::Runtime;
 use tokio::signal::unix::{Signal, SignalKind, signal};
 use tokio::sync::mpsc;
 use tokio::time::interval;
@@ -31,6 +37,9 @@ use tracing::{error, info, warn};
 /// So many masters are started in so long at most: more of them don't help.
 const MASTERS: usize = 5;
 const WHILE: Duration = Duration::from_secs(60);
+
+/// So many edits a commit may have: all sessions of a cell that end at once, with their locks and nodes.
+const OPERATIONS: usize = 10_000;
 
 /// How often the service manager hears that the server lives.
 const WATCHDOG: Duration = Duration::from_secs(5);
@@ -47,18 +56,104 @@ struct Found {
 pub fn serve(options: Options) -> Result<()> {
     // (whatever is made from here on is this user's alone)
     umask(Mode::from_bits_truncate(0o077));
+    if let Some(place) = &options.rows {
+        return serve_rows(place.clone(), options);
+    }
     let path = options.store.clone().context("--store is missing")?;
     let path = fs::canonicalize(&path).unwrap_or(path);
     let _lock = take_lock(&beside(&path, "lock"))?;
     store::forget_copies(&path)?;
     let found = look(&options, &path)?;
-    let (_, most) = getrlimit(Resource::RLIMIT_NOFILE)?;
-    setrlimit(Resource::RLIMIT_NOFILE, most, most)?;
-    let runtime = tokio::runtime::Builder::new_multi_thread().enable_all().build()?;
-    let served = runtime.block_on(run(Arc::new(options), path, found));
+    let runtime = begin()?;
+    let served = runtime.block_on(run(Arc::new(options), path, None, found));
     // (what still goes on goes with the process)
     runtime.shutdown_background();
     served
+}
+
+fn begin() -> Result<Runtime> {
+    let (_, most) = getrlimit(Resource::RLIMIT_NOFILE)?;
+    setrlimit(Resource::RLIMIT_NOFILE, most, most)?;
+    Ok(tokio::runtime::Builder::new_multi_thread().enable_all().build()?)
+}
+
+// Stands by until it is master, and serves then. Where the mastership has ended it stands by anew, as a new process.
+fn serve_rows(place: Place, options: Options) -> Result<()> {
+    let runtime = begin()?;
+    let options = Arc::new(options);
+    let gateway = place.gateway(&options.trust)?;
+    let seat = Seat { address: standby::address(&options), server: hex::encode(rand::random::<[u8; 8]>()) };
+    let mastership = runtime.block_on(wait_for_mastership(&options, &gateway, &place.prefix(), seat))?;
+    let rows = Rows { gateway, prefix: place.prefix(), mastership: mastership.clone() };
+    let served = look_beside(&options, &rows).and_then(|found| runtime.block_on(run(options, PathBuf::new(), Some(rows), found)));
+    runtime.shutdown_background();
+    if served.is_ok() || mastership.holds() {
+        // (where etcd isn't reached the mastership ends by itself)
+        let _ = mastership.end();
+        return served;
+    }
+    warn!("standing by again");
+    Err(Command::new(std::env::current_exe()?).args(std::env::args_os().skip(1)).exec().into())
+}
+
+async fn wait_for_mastership(options: &Options, gateway: &Arc<Gateway>, prefix: &str, seat: Seat) -> Result<Arc<Mastership>> {
+    let is_tls = options.listen.iter().any(|address| matches!(address, Address::Tls(_)));
+    let certificates = if is_tls { Some(Arc::new(Certificates::new(options)?)) } else { None };
+    let known: Known = Arc::default();
+    let mut tasks = standby::stand_by(options, certificates.as_ref(), &known).await?;
+    println!("standing by");
+    let (gateway, prefix, span) = (gateway.clone(), prefix.to_owned(), options.mastership);
+    let mut waiting = tokio::task::spawn_blocking(move || {
+        Mastership::wait(&gateway, &prefix, &seat, span, |other| *known.lock().unwrap_or_else(PoisonError::into_inner) = other)
+    });
+    // (where no service manager waits for it nothing is told)
+    let _ = sd_notify::notify(false, &[NotifyState::Ready]);
+    let mut beats = interval(WATCHDOG);
+    let mastership = loop {
+        tokio::select! {
+            taken = &mut waiting => break taken?,
+            _ = beats.tick() => drop(sd_notify::notify(false, &[NotifyState::Watchdog])),
+        }
+    };
+    // (the addresses are free behind it)
+    tasks.shutdown().await;
+    Ok(mastership)
+}
+
+// What the rows in etcd are, and what stands beside them.
+fn look_beside(options: &Options, rows: &Rows) -> Result<Found> {
+    let settings = Settings::read(options.settings.as_deref())?;
+    let found = etcd::found::Found::read(&rows.gateway, &rows.prefix)?;
+    let mut numbers = Numbers::beside(rows, found.first_client())?;
+    let head = Head { epoch: found.epoch(), coming: found.epoch() + 1, has_known_secret: found.has_known_secret() };
+    let epochs = head.check(numbers.epochs())?;
+    let mut warnings = warnings(options, head.has_known_secret);
+    if !rows.gateway.takes(OPERATIONS, &rows.prefix)? {
+        warnings.push(format!(
+            "etcd takes no transaction of {OPERATIONS} operations, and refuses a commit of more than it takes: set --max-txn-ops {OPERATIONS}"
+        ));
+    }
+    numbers.note(epochs)?;
+    let mut picture = Picture::default();
+    picture.read(&found.tables()?)?;
+    Ok(Found { picture, numbers, settings, warnings })
+}
+
+// What an operator is told of at the start.
+fn warnings(options: &Options, has_known_secret: bool) -> Vec<String> {
+    let mut warnings = Vec::new();
+    if has_known_secret {
+        warnings.push("the store's secret is all zeros: whoever knows that can forge a handle".to_owned());
+    }
+    let is_open = |address: &&Address| matches!(address, Address::Tcp(_));
+    for address in options.listen.iter().filter(is_open) {
+        let place = if address.is_local() { "this machine" } else { "everywhere" };
+        warnings.push(format!("{address}: who connects from {place} acts for anybody, and nothing is encrypted"));
+    }
+    if is_unproved(&options.master.clone().unwrap_or_else(cellctl)) {
+        warnings.push("the master was built without proof".to_owned());
+    }
+    warnings
 }
 
 // Looks at the store and what stands beside it. Nothing is written where they don't go together.
@@ -66,7 +161,6 @@ fn look(options: &Options, path: &Path) -> Result<Found> {
     let has_store = store::is_there(path);
     let settings = Settings::read(options.settings.as_deref())?;
     let mut numbers = Numbers::open(&beside(path, "numbers"), has_store, options.first)?;
-    let mut warnings = Vec::new();
     let mut picture = Picture::default();
     let mut epochs = Epochs { last: 0, coming: 1 };
     let mut has_known_secret = settings.has_known_secret();
@@ -78,19 +172,9 @@ fn look(options: &Options, path: &Path) -> Result<Found> {
         epochs = head.check(numbers.epochs())?;
         picture.read(&connection)?;
     }
-    if has_known_secret {
-        warnings.push("the store's secret is all zeros: whoever knows that can forge a handle".to_owned());
-    }
+    let mut warnings = warnings(options, has_known_secret);
     if has_store && fs::metadata(path)?.permissions().mode() & 0o077 != 0 {
         warnings.push(format!("others than its user may read {}", path.display()));
-    }
-    let is_open = |address: &&Address| matches!(address, Address::Tcp(_));
-    for address in options.listen.iter().filter(is_open) {
-        let place = if address.is_local() { "this machine" } else { "everywhere" };
-        warnings.push(format!("{address}: who connects from {place} acts for anybody, and nothing is encrypted"));
-    }
-    if is_unproved(&options.master.clone().unwrap_or_else(cellctl)) {
-        warnings.push("the master was built without proof".to_owned());
     }
     numbers.note(epochs)?;
     let settings = if has_store { settings } else { settings.with_secret() };
@@ -103,8 +187,8 @@ fn is_unproved(master: &Path) -> bool {
     told.is_ok_and(|told| String::from_utf8_lossy(&told.stdout).contains("without proof"))
 }
 
-// The program beside this one, else the one on the path.
-fn cellctl() -> PathBuf {
+/// The program beside this one, else the one on the path.
+pub fn cellctl() -> PathBuf {
     let own = std::env::current_exe().ok().and_then(|own| own.parent().map(|folder| folder.join("cellctl")));
     own.filter(|program| program.exists()).unwrap_or_else(|| PathBuf::from("cellctl"))
 }
@@ -120,7 +204,7 @@ async fn open(options: &Options) -> Result<(Vec<(Door, Address)>, Option<Arc<Cer
     Ok((doors, certificates))
 }
 
-async fn run(options: Arc<Options>, path: PathBuf, found: Found) -> Result<()> {
+async fn run(options: Arc<Options>, path: PathBuf, rows: Option<Rows>, found: Found) -> Result<()> {
     for warning in &found.warnings {
         warn!("{warning}");
     }
@@ -130,10 +214,10 @@ async fn run(options: Arc<Options>, path: PathBuf, found: Found) -> Result<()> {
         None => None,
     };
     let hall = Arc::new(Hall::new(found.numbers, found.picture, &found.settings.limits)?);
-    let making = Making { program: options.master.clone().unwrap_or_else(cellctl), store: path, settings: found.settings };
+    let making = Making { program: options.master.clone().unwrap_or_else(cellctl), store: path, rows, settings: found.settings };
     let (orders, ordered) = mpsc::channel(4);
     let master = up(&making, &hall).await?;
-    if hall.picture().nodes.is_empty() {
+    if making.rows.is_none() && hall.picture().nodes.is_empty() {
         // (a store that the master has made; it writes nothing before it gets a frame)
         let folder = store::copy(&making.store)?;
         hall.picture().read(&store::open(&store::copied(&folder))?)?;
@@ -177,6 +261,9 @@ async fn keep(mut master: Master, making: Making, hall: Arc<Hall>, mut orders: m
             Ending::StoreGone(reason) => bail!("{reason}; nothing more is written"),
             Ending::Gone(reason) => reason,
         };
+        if making.rows.as_ref().is_some_and(|rows| !rows.mastership.holds()) {
+            bail!("the mastership has ended");
+        }
         error!(reason, "the master is gone; another takes its place");
         hall.picture().is_up = false;
         hall.metrics.replaced();

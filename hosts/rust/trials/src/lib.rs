@@ -7,7 +7,9 @@ mod history;
 mod holds;
 mod plain;
 mod proxy;
+mod relay;
 mod servers;
+mod workers;
 
 pub use calls::{ask, call, forged, handle, open_call, read_call, set_call};
 pub use fail_overs::{Noticed, fail_over, write_beside_one_that_keeps, write_beside_one_that_stays_behind};
@@ -16,4 +18,6 @@ pub use history::{Read, Write, check_history};
 pub use holds::{Hold, check_holds};
 pub use plain::{Plain, again, message, new, start};
 pub use proxy::{Counts, Proxy};
+pub use relay::{Passing, Relay};
 pub use servers::{Kill, Server, Start, certificates, folder, master_program, program, server_of_its_own, with_client};
+pub use workers::{Deeds, FILES, Rules, Worker, check_deeds};

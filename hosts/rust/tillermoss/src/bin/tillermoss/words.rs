@@ -40,8 +40,8 @@ pub struct Words {
 /// Where the server is, for whom it is asked, and whose names are short.
 #[derive(Clone, Debug, Args)]
 pub struct Reach {
-    /// The server's address: unix:PATH, tls:HOST:PORT, tcp:HOST:PORT or HOST:PORT
-    #[arg(long, global = true, env = "TILLERMOSS_SERVER", default_value = "127.0.0.1:7171", value_name = "ADDRESS")]
+    /// The server's address: unix:PATH, tls:HOST:PORT, tcp:HOST:PORT or HOST:PORT; of several servers of one cell all, between commas
+    #[arg(long, alias = "servers", global = true, env = "TILLERMOSS_SERVER", default_value = "127.0.0.1:7171", value_name = "ADDRESS")]
     pub server: String,
     /// The principal to act for; without it the user at unix:, the certificate's common name at tls:, and ann at tcp:
     #[arg(long = "as", global = true, env = "TILLERMOSS_PRINCIPAL", value_name = "PRINCIPAL")]

@@ -1,0 +1,74 @@
+//! A master whose rows another program keeps.
+ghost use Rattle.std.specs.Prelude.{IfOk};
+ghost use Rattle.cellctl.specs.Exits.{IsExit};
+
+use crate::serves::serve_seat;
+use crate::settings::settings;
+use crate::texts::Trouble;
+use crate::troubles::{Subject, tell, trouble_of};
+use anyhow::{Context, Result};
+use frame_rows::FrameRecords;
+use rows_cell::StoreFault;
+use serve_cell::Seat;
+use settings_core::Settings;
+use std::fs::File;
+
+/// Answers the frames of standard input over the rows that another program keeps, with the settings of a file or the standard
+/// ones. It asks for them in the named pipe `asked` of a folder, and reads the answers from `answered`. Where one can't be opened,
+/// or no rows come, the words of it go to the standard error, and the status is 3.
+pub(crate) fn serve_rows(rt: &HostRuntime, named: Option<&str>, folder: &str) -> Result<u8>
+    ensures { IfOk result IsExit }
+{
+    match settings(rt, named) {
+        Ok(chosen) => serve_folder(rt, &chosen.settings, folder),
+        Err(status) => Ok(status),
+    }
+}
+
+// An open waits until the other end is opened: the one of the questions first.
+fn serve_folder(rt: &HostRuntime, settings: &Settings, folder: &str) -> Result<u8>
+    ensures { IfOk result IsExit }
+{
+    let path = format!(in rt.alloc(); "{folder}/asked").context("naming the pipe")?;
+    match File::create(rt, path.as_str()) {
+        Ok(asked) => serve_asked(rt, settings, folder, asked),
+        Err(error) => Ok(tell(rt, Subject::Pipe, path.as_str(), trouble_of(error.kind()))),
+    }
+}
+
+fn serve_asked(rt: &HostRuntime, settings: &Settings, folder: &str, asked: File) -> Result<u8>
+    ensures { IfOk result IsExit }
+{
+    let path = format!(in rt.alloc(); "{folder}/answered").context("naming the pipe")?;
+    match File::open(rt, path.as_str()) {
+        Ok(answered) => serve_pipes(rt, settings, folder, asked, answered),
+        Err(error) => Ok(tell(rt, Subject::Pipe, path.as_str(), trouble_of(error.kind()))),
+    }
+}
+
+fn serve_pipes(
+    rt: &HostRuntime,
+    settings: &Settings,
+    folder: &str,
+    asked: File,
+    answered: File,
+) -> Result<u8>
+    ensures { IfOk result IsExit }
+{
+    let cell = settings.cell().clone().context("naming the cell")?;
+    match FrameRecords::open(rt.alloc(), cell, asked, answered) {
+        Ok(records) => {
+            let (seat, status) = serve_seat(rt, settings, Seat::Down(records));
+            drop(seat.close());
+            Ok(status)
+        }
+        Err(fault) => Ok(tell(rt, Subject::Rows, folder, trouble_of_rows(fault))),
+    }
+}
+
+fn trouble_of_rows(fault: StoreFault) -> Trouble {
+    match fault {
+        StoreFault::NoMemory => Trouble::NoMemory,
+        _ => Trouble::NoRows,
+    }
+}

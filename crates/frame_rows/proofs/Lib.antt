@@ -1,0 +1,4 @@
+pub mod RowForms
+pub mod FrameForms
+pub mod SameRows
+pub mod Keepings

@@ -1,0 +1,102 @@
+-- The forms of what is asked and of what is answered.
+use Rattle.std.specs.Prelude.{◌≡◌, ⊤, ℕ, List, [], ◌∷◌, Option, Some, None, Result, Ok, Err}
+use Rattle.rows_cell.specs.declared.tables.Edit.{Edit}
+use Rattle.wire_core.specs.declared.faults.WireFault.{WireFault}
+use Rattle.wire_core.specs.Forms.{◌>>=◌, Form, nothing, ◌⊗◌, choice, of_kind, behind, counted, short_of, written, read_whole}
+use Rattle.wire_core.specs.Fields.{word}
+use Rattle.frame_rows.specs.declared.frames.Asked.{Asked}
+use Rattle.frame_rows.specs.declared.frames.Asked.TheVariants as asks
+use Rattle.frame_rows.specs.declared.frames.Answer.{Answer}
+use Rattle.frame_rows.specs.declared.frames.Answer.TheVariants as answers
+use Rattle.frame_rows.specs.declared.kinds.AskedKind.{AskedKind}
+use Rattle.frame_rows.specs.declared.kinds.AskedKind.TheVariants as ask_of
+use Rattle.frame_rows.specs.declared.kinds.AnswerKind.{AnswerKind}
+use Rattle.frame_rows.specs.declared.kinds.AnswerKind.TheVariants as answer_of
+use Rattle.frame_rows.specs.Forms.{whole, all_of_edits}
+
+-- ---- what is asked
+
+-- the number of a commit, and its edits
+unfoldable pub change : Form (ℕ × List Edit)
+change = word ⊗ all_of_edits
+
+abbrev pub all_asked : List AskedKind
+all_asked = ask_of.Load ∷ ask_of.Commit ∷ []
+
+abbrev pub asked_place : AskedKind → ℕ
+asked_place ask_of.Load = 0
+asked_place ask_of.Commit = 1
+
+abbrev pub asked_kind : Asked → AskedKind
+asked_kind asks.Load = ask_of.Load
+asked_kind (asks.Commit number edits) = ask_of.Commit
+
+abbrev pub asked_is : Asked → Type 0
+asked_is asks.Load = Unit {0}
+asked_is (asks.Commit number edits) = change.is (number, edits)
+
+abbrev pub asked_bytes : Asked → List ℕ
+asked_bytes asks.Load = []
+asked_bytes (asks.Commit number edits) = change.write (number, edits)
+
+abbrev pub asked_behind : AskedKind → List ℕ → Result (Asked × List ℕ) WireFault
+asked_behind ask_of.Load rest = behind (λ _. asks.Load) nothing rest
+asked_behind ask_of.Commit rest = behind (λ x. asks.Commit x.0 x.1) change rest
+
+-- the kind of it, and its fields
+unfoldable pub asked : Form Asked
+asked = of_kind (choice all_asked asked_place) asked_kind asked_is asked_bytes asked_behind
+
+-- ---- what is answered
+
+abbrev pub all_answers : List AnswerKind
+all_answers = answer_of.Rows ∷ answer_of.Kept ∷ answer_of.Refused ∷ []
+
+abbrev pub answer_place : AnswerKind → ℕ
+answer_place answer_of.Rows = 0
+answer_place answer_of.Kept = 1
+answer_place answer_of.Refused = 2
+
+abbrev pub answer_kind : Answer → AnswerKind
+answer_kind (answers.Rows all) = answer_of.Rows
+answer_kind answers.Kept = answer_of.Kept
+answer_kind answers.Refused = answer_of.Refused
+
+abbrev pub answer_is : Answer → Type 0
+answer_is (answers.Rows all) = whole.is all
+answer_is answers.Kept = Unit {0}
+answer_is answers.Refused = Unit {0}
+
+abbrev pub answer_bytes : Answer → List ℕ
+answer_bytes (answers.Rows all) = whole.write all
+answer_bytes answers.Kept = []
+answer_bytes answers.Refused = []
+
+abbrev pub answer_behind : AnswerKind → List ℕ → Result (Answer × List ℕ) WireFault
+answer_behind answer_of.Rows rest = behind answers.Rows whole rest
+answer_behind answer_of.Kept rest = behind (λ _. answers.Kept) nothing rest
+answer_behind answer_of.Refused rest = behind (λ _. answers.Refused) nothing rest
+
+-- the kind of it, and its fields
+unfoldable pub answer : Form Answer
+answer = of_kind (choice all_answers answer_place) answer_kind answer_is answer_bytes answer_behind
+
+-- ---- in a stream
+
+-- bytes with their number in front; or that there would be too many
+abbrev pub framed_bytes : List ℕ → Result (List ℕ) WireFault
+framed_bytes bytes = short_of bytes >>= λ short. Ok (counted.write short)
+
+-- all bytes of it with their number in front; or that there would be too many
+abbrev pub framed : {X : Type 0} → Form X → X → Result (List ℕ) WireFault
+framed f x = written f x >>= λ bytes. Ok (counted.write bytes)
+
+-- the answer that stands at the front, and what stands behind it
+abbrev pub answer_at : List ℕ → Result (Answer × List ℕ) WireFault
+answer_at bytes = counted.read bytes >>= λ block. read_whole answer block.0 >>= λ told. Ok (told, block.1)
+
+-- a block stands at the front of the text, and behind it stands the rest, where it is known
+abbrev pub HoldsBlock : Option (List ℕ) → List ℕ → Option (List ℕ) → Type 0
+HoldsBlock None block after = ⊤
+HoldsBlock (Some text) block None = ⊥
+HoldsBlock (Some text) block (Some rest) = counted.read text ≡ Ok (block, rest)

@@ -1,0 +1,53 @@
+//! Of which kind a row, an edit, a question or an answer is: the byte in front of its fields.
+use rows_cell::LockState;
+
+/// Of which kind a row is.
+#[derive(Clone, Copy)]
+pub enum RowKind {
+    Node,
+    Session,
+    Lock,
+}
+
+pub(crate) const ROW_KINDS: [RowKind; 3] = [RowKind::Node, RowKind::Session, RowKind::Lock];
+
+/// Of which kind an edit is.
+#[derive(Clone, Copy)]
+pub enum EditKind {
+    Epoch,
+    NextInstance,
+    PutNode,
+    LockGeneration,
+    RemoveNode,
+    PutSession,
+    PutLock,
+    RemoveLock,
+}
+
+/// Of which kind it is what is asked.
+#[derive(Clone, Copy)]
+pub enum AskedKind {
+    Load,
+    Commit,
+}
+
+/// Of which kind an answer is.
+#[derive(Clone, Copy)]
+pub enum AnswerKind {
+    Rows,
+    Kept,
+    Refused,
+}
+
+pub(crate) const ANSWER_KINDS: [AnswerKind; 3] = [
+    AnswerKind::Rows,
+    AnswerKind::Kept,
+    AnswerKind::Refused,
+];
+
+// How a lock may stand, each at its place.
+pub(crate) const LOCK_STATES: [LockState; 3] = [
+    LockState::Lapsed,
+    LockState::Exclusive,
+    LockState::Shared,
+];

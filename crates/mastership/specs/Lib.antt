@@ -1,0 +1,2 @@
+pub use Rattle.lease_core.specs.Lease
+pub mod Ends

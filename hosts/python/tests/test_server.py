@@ -1,0 +1,252 @@
+"""The client beside a real server: TILLERMOSSD and CELLCTL name the two programs."""
+
+import getpass
+import os
+import signal
+import subprocess
+import sys
+import tempfile
+import threading
+import time
+import unittest
+from pathlib import Path
+
+from tillermoss import Client, Handle, Refused, TurnedAway
+
+NAME = "/ls/c/f"
+
+
+class Server:
+    """A server over a store of its own, which can go and come again at the same port."""
+
+    def __init__(self):
+        self.folder = tempfile.TemporaryDirectory()
+        self.port = "0"
+        self.start()
+
+    def start(self) -> None:
+        folder = Path(self.folder.name)
+        words = [os.environ["TILLERMOSSD"], self.port, f"unix:{folder}/cell", "--store", folder / "store.db", "--master", os.environ["CELLCTL"]]
+        with open(folder / "log", "a") as log:
+            self.child = subprocess.Popen(words, stdout=subprocess.PIPE, stderr=log, text=True)
+        self.address = self.child.stdout.readline().split()[1].removeprefix("tcp:")
+        self.socket = self.child.stdout.readline().split()[1]
+        self.port = self.address.rpartition(":")[2]
+
+    def stop(self, how: int = signal.SIGTERM) -> None:
+        self.child.send_signal(how)
+        self.child.wait(30)
+        self.child.stdout.close()
+
+
+class WithServer(unittest.TestCase):
+    @classmethod
+    def setUpClass(cls):
+        cls.server = Server()
+
+    @classmethod
+    def tearDownClass(cls):
+        cls.server.stop()
+        cls.server.folder.cleanup()
+
+    def client(self, principal: str = "ann") -> Client:
+        client = Client(self.server.address, principal)
+        self.addCleanup(client.close)
+        return client
+
+    def set_again(self, client: Client, file: Handle, content: bytes) -> None:
+        """Sets a content, once more where it isn't known whether that was done."""
+        try:
+            client.set(file, content)
+        except Refused as why:
+            self.assertEqual(why.refusal.name, "Unknown")
+            client.set(file, content)
+
+    def refusal(self, call, *words) -> str:
+        with self.assertRaises(Refused) as found:
+            call(*words)
+        return found.exception.refusal.name
+
+
+class Files(WithServer):
+    def test_a_file_from_its_making_to_its_end(self):
+        client = self.client()
+        name = "/ls/c/all"
+        self.assertEqual(self.refusal(client.open, name), "NotFound")
+        file = client.open(name, "rw", make=b"one", must=True)
+        self.assertEqual((client.read(file).content, file.served), (b"one", False))
+        self.assertEqual((client.read(file).content, file.served), (b"one", True))
+        client.set(file, b"two", generation=1)
+        self.assertEqual(client.read(file).content, b"two")
+        self.assertEqual(self.refusal(client.set, file, b"three", 1), "WrongGeneration")
+        stat = client.stat(file)
+        self.assertEqual((stat.length, stat.content_generation, stat.is_directory), (3, 2, False))
+        client.delete(file)
+        self.assertEqual(self.refusal(client.read, file), "StaleInstance")
+
+    def test_directories(self):
+        client = self.client()
+        directory = client.open("/ls/c/d", directory=True)
+        for name in ("b", "a"):
+            client.open(f"/ls/c/d/{name}", "rw", make=b"")
+        self.assertEqual((client.list(directory), directory.served), (("a", "b"), False))
+        self.assertEqual((client.list(directory), directory.served), (("a", "b"), True))
+
+    def test_what_is_made(self):
+        client = self.client()
+        rows = [("file", {"make": b""}, (False, False)), ("here", {"make": b"", "ephemeral": True}, (False, True)), ("dir", {"directory": True}, (True, False))]
+        for name, made, wanted in rows:
+            stat = client.stat(client.open(f"/ls/c/{name}", "rw", must=True, acls=("base",) * 3, delay=1000, **made))
+            self.assertEqual((stat.is_directory, stat.is_ephemeral, stat.acls), (*wanted, ("base",) * 3), name)
+
+    def test_many_bytes(self):
+        client = self.client()
+        content = bytes(range(256)) * 1024
+        file = client.open("/ls/c/large", "rw", make=content)
+        self.assertEqual(client.read(file).content, content)
+        self.assertEqual(self.refusal(client.set, file, content + b"x"), "TooLarge")
+
+
+class Coherence(WithServer):
+    def test_a_cache_never_shows_what_a_write_has_replaced(self):
+        writer, readers = self.client(), [self.client("bob") for _ in range(3)]
+        file = writer.open("/ls/c/count", "rw", make=b"0")
+        written, stale, served = [0], [], [0]
+
+        def read(client: Client) -> None:
+            handle = client.open("/ls/c/count")
+            while written[0] < 40:
+                least = written[0]
+                found = int(client.read(handle).content)
+                served[0] += handle.served
+                if found < least:
+                    stale.append((least, found))
+
+        threads = [threading.Thread(target=read, args=(client,)) for client in readers]
+        for thread in threads:
+            thread.start()
+        for number in range(1, 41):
+            writer.set(file, str(number).encode())
+            written[0] = number
+            time.sleep(0.01)
+        for thread in threads:
+            thread.join()
+        self.assertEqual(stale, [])
+        self.assertGreater(served[0], 0)
+
+    def test_a_client_that_is_closed_holds_up_no_write(self):
+        writer, reader = self.client(), self.client("bob")
+        file = writer.open("/ls/c/left", "rw", make=b"a")
+        reader.read(reader.open("/ls/c/left"))
+        reader.close()
+        begun = time.monotonic()
+        writer.set(file, b"b")
+        self.assertLess(time.monotonic() - begun, 5)
+
+
+class Locks(WithServer):
+    def test_one_holder_and_one_who_waits(self):
+        first, second = self.client(), self.client("bob")
+        file = first.open("/ls/c/lock", "rw", make=b"")
+        other = second.open("/ls/c/lock", "rw")
+        first.acquire(file)
+        self.assertEqual(self.refusal(second.acquire, other, False, False), "Held")
+        sequencer = first.sequencer(file)
+        second.check_sequencer(sequencer)
+        waiter = threading.Thread(target=second.acquire, args=(other,))
+        waiter.start()
+        time.sleep(0.2)
+        self.assertTrue(waiter.is_alive())
+        first.release(file)
+        waiter.join(10)
+        self.assertFalse(waiter.is_alive())
+        self.assertEqual(self.refusal(first.check_sequencer, sequencer), "SequencerStale")
+        first.set_sequencer(file, second.sequencer(other))
+        first.set(file, b"under a sequencer")
+        second.release(other)
+        self.assertEqual(self.refusal(first.set, file, b"late"), "SequencerStale")
+
+
+class Examples(WithServer):
+    def run_example(self, name: str, *words: str) -> subprocess.Popen:
+        program = Path(__file__).parents[1] / "examples" / name
+        return subprocess.Popen([sys.executable, program, self.server.address, *words], stdout=subprocess.PIPE, text=True)
+
+    def test_a_primary_and_the_next_one(self):
+        name = "/ls/c/primary"
+        first = self.run_example("elect.py", name, "alpha")
+        self.assertRegex(first.stdout.readline(), "^alpha is primary, by [0-9a-f]{60,}\n$")
+        second = self.run_example("elect.py", name, "beta")
+        client = self.client()
+        self.assertEqual(client.read(client.open(name)).content, b"alpha")
+        first.send_signal(signal.SIGINT)
+        self.assertEqual(first.stdout.readline(), "alpha stands down\n")
+        self.assertRegex(second.stdout.readline(), "^beta is primary")
+        self.assertEqual(client.read(client.open(name)).content, b"beta")
+        second.kill()
+        for program in (first, second):
+            program.wait()
+            program.stdout.close()
+
+    def test_a_configuration_that_changes(self):
+        client = self.client()
+        file = client.open("/ls/c/configuration", "rw", make=b"one")
+        program = self.run_example("configuration.py", "/ls/c/configuration", "300")
+        self.assertEqual(program.stdout.readline(), "configured: one\n")
+        client.set(file, b"two")
+        self.assertEqual(program.stdout.readline(), "configured: two\n")
+        last = program.stdout.readline()
+        program.wait(60)
+        program.stdout.close()
+        self.assertRegex(last, "^300 reads, 29[0-8] of them out of the cache\n$")
+
+
+class Connections(WithServer):
+    def test_a_lost_connection_is_made_again(self):
+        client = self.client()
+        file = client.open("/ls/c/cut", "rw", make=b"")
+        client.connection.stream.shutdown(2)
+        client.set(file, b"again")
+        self.assertEqual(client.read(file).content, b"again")
+
+
+class Told(WithServer):
+    def test_events(self):
+        client, other = self.client(), self.client("bob")
+        client.open(NAME, "rw", make=b"")
+        handle = client.open(NAME, events="ml")
+        file = other.open(NAME, "rw")
+        other.set(file, b"new")
+        event = client.events.get(timeout=10)
+        self.assertEqual((event.kind, event.opened, event.generation), ("contents", handle.opened, 2))
+        other.acquire(file)
+        self.assertEqual(client.events.get(timeout=10).kind, "locked")
+
+
+class FailOvers(WithServer):
+    def test_sessions_handles_and_locks_outlive_a_server(self):
+        client, other = self.client(), self.client("bob")
+        file = client.open(NAME, "rw", make=b"before")
+        handle = other.open(NAME)
+        client.acquire(file)
+        other.read(handle)
+        for how in (signal.SIGTERM, signal.SIGKILL):
+            self.server.stop(how)
+            self.server.start()
+            self.set_again(client, file, str(how).encode())
+            self.assertEqual(other.read(handle).content, str(how).encode())
+            self.assertEqual(self.refusal(other.acquire, other.open(NAME, "w"), False, False), "Held")
+        kinds = [client.events.get_nowait().kind for _ in range(client.events.qsize())]
+        self.assertEqual(kinds, ["failover"] * 2)
+
+
+class Doors(WithServer):
+    def test_a_socket_knows_who_comes(self):
+        with Client(self.server.socket, getpass.getuser()) as client:
+            self.assertEqual(self.refusal(client.open, "/ls/c/acl/base", "w"), "Denied")
+        with self.assertRaises(TurnedAway):
+            Client(self.server.socket, "somebody-else")
+
+
+if __name__ == "__main__":
+    unittest.main()

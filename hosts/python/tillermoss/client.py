@@ -1,0 +1,300 @@
+"""A client that keeps its session by a thread of its own."""
+
+import queue
+import ssl
+import threading
+import time
+from dataclasses import dataclass
+from typing import Optional
+
+from . import codec
+from .codec import Malformed, NodeStat, Refusal, View
+from .connection import CONNECTING, Connection, Schedule
+from .session import EXPIRED, NO_SESSION, NOT_FOUND, UNKNOWN, Session, leased_until
+
+MODES = {"r": 1, "w": 2, "c": 4}
+EVENT_LETTERS = {"m": 1, "d": 2, "l": 4, "x": 8}
+STALE_INSTANCE, BUSY, RECOVERING, IN_JEOPARDY = 14, 22, 29, 30
+# Between two tries to connect, at first and at most, in seconds.
+PAUSES = 0.02, 0.5
+
+
+class Refused(Exception):
+    """The master refused a call, or the client did: `refusal` says why, `limit` which limit of the server stands behind it."""
+
+    def __init__(self, refusal: Refusal, limit: Optional[str] = None):
+        super().__init__(limit or str(refusal))
+        self.refusal, self.limit = refusal, limit
+
+
+class TurnedAway(Exception):
+    """The server binds no connection for this principal."""
+
+
+@dataclass(eq=False)
+class Handle:
+    """A node that is open; `opened` is the number by which events of it are told, `served` whether the last read was the cache's."""
+
+    name: str
+    content: bytes
+    instance: int
+    opened: int
+    may_read: bool
+    sequencer: Optional[bytes] = None
+    served: bool = False
+
+
+def now() -> int:
+    """Milliseconds by a clock that goes on while the machine sleeps."""
+    return time.clock_gettime_ns(time.CLOCK_BOOTTIME) // 1_000_000
+
+
+class Client:
+    """A client that keeps its session by a thread of its own, and connects again where a connection is lost."""
+
+    def __init__(self, server: str, principal: str, patience: float = 90.0, tls: Optional[ssl.SSLContext] = None):
+        self.server, self.principal, self.patience, self.tls = server, principal, patience, tls
+        self.changed = threading.Condition()
+        self.calling = threading.Lock()
+        self.events: queue.Queue = queue.Queue()
+        self.connection: Optional[Connection] = None
+        self.fault: Optional[Exception] = None
+        connection = self.greet(codec.hello(principal))
+        self.session = Session(self.number, principal)
+        self.schedule = Schedule()
+        self.keeper = threading.Thread(target=self.keep, args=(connection,), name="tillermoss", daemon=True)
+        self.keeper.start()
+        with self.changed:
+            self.changed.wait_for(lambda: self.session.state != "unstarted" or self.fault, patience)
+            self.check()
+
+    def __enter__(self) -> "Client":
+        return self
+
+    def __exit__(self, *_) -> None:
+        self.close()
+
+    def close(self) -> None:
+        """Ends it. The server acknowledges for it from then on what its master asks back, so no write waits for its cache."""
+        with self.changed:
+            block = self.session.last_beat() if self.fault is None else None
+            self.fault = self.fault or ConnectionError("the client is closed")
+            if block:
+                self.send(block)
+            if self.connection:
+                self.connection.end()
+            self.session.end((Refusal(EXPIRED), None))
+            self.changed.notify_all()
+        self.keeper.join(2.0)
+
+    # ---- the keeper's thread
+
+    def greet(self, greeting: bytes) -> Connection:
+        connection = Connection(self.server, self.tls)
+        try:
+            self.number, self.token = self.welcomed(connection, greeting)
+        except BaseException:
+            connection.close()
+            raise
+        return connection
+
+    def welcomed(self, connection: Connection, greeting: bytes) -> tuple:
+        connection.send(greeting)
+        block = connection.next(CONNECTING)
+        if block is None:
+            raise ConnectionError("the server doesn't greet")
+        number, other = codec.read_welcome(block)
+        if number is not None:
+            return number, other
+        reason = codec.TURNED_AWAY[other] if other < len(codec.TURNED_AWAY) else f"reason {other}"
+        raise ConnectionError(reason) if other in codec.TURNED_AWAY_FOR_NOW else TurnedAway(reason)
+
+    def keep(self, connection: Optional[Connection]) -> None:
+        pause = PAUSES[0]
+        while self.goes_on():
+            try:
+                connection = connection or self.greet(codec.hello(self.principal, self.number, self.token))
+                pause = PAUSES[0]
+                self.hear(connection)
+            except TurnedAway as why:
+                self.give_up(why)
+            except (OSError, Malformed):
+                pass  # (whatever ends a connection, another is made)
+            with self.changed:
+                self.connection = None
+                self.tell(self.session.note(now()))
+            if connection:
+                connection.close()
+                connection = None
+            if self.goes_on():
+                time.sleep(pause)
+                pause = min(2 * pause, PAUSES[1])
+
+    def goes_on(self) -> bool:
+        return self.fault is None and self.session.state in ("unstarted", "live")
+
+    def hear(self, connection: Connection) -> None:
+        with self.changed:
+            self.connection = connection
+            self.schedule.is_answered = True
+            self.beat(is_again=True)
+        while self.goes_on():
+            block = connection.next((self.schedule.due - now()) / 1000)
+            with self.changed:
+                if block is not None:
+                    self.take(codec.read_message(block))
+                if now() >= self.schedule.due:
+                    self.beat(is_again=not self.schedule.is_answered)
+
+    def take(self, message: codec.Message) -> None:
+        waiting = self.session.waiting
+        if message.kind == codec.NOTICE and waiting and message.number == waiting.number:
+            waiting.limit = message.text
+        elif message.kind != codec.NOTICE:
+            self.tell(self.session.give(now(), message))
+        self.schedule.heard(now(), message)
+
+    def beat(self, is_again: bool) -> None:
+        """Beats; and sends the call that has no reply yet again, where its message or the reply may be lost."""
+        moment = now()
+        self.tell(self.session.note(moment))
+        block = self.session.beat(moment)
+        if block is not None:
+            self.send(block)
+            self.schedule.beaten(moment, self.session.beats, leased_until(self.session.lease))
+        if is_again and self.session.waiting:
+            self.send(self.session.waiting.block)
+
+    def send(self, block: bytes) -> None:
+        try:
+            if self.connection:
+                self.connection.send(block)
+        except OSError:
+            pass  # (what is lost with a connection goes again with the next one)
+
+    def tell(self, events: list) -> None:
+        for event in events:
+            self.events.put(event)
+        self.changed.notify_all()
+
+    def give_up(self, why: Exception) -> None:
+        with self.changed:
+            self.fault = why
+            self.session.end((Refusal(EXPIRED), None))
+            self.changed.notify_all()
+
+    # ---- calls
+
+    def check(self) -> None:
+        if self.fault:
+            raise self.fault
+        if self.session.state != "live":
+            raise Refused(Refusal(EXPIRED if self.session.state == "lost" else NO_SESSION))
+        if self.session.jeopardy is not None:
+            raise Refused(Refusal(IN_JEOPARDY))
+
+    def call(self, body: bytes, only_reads: bool = False, handle: Optional[Handle] = None, name: Optional[str] = None, sequencer: Optional[bytes] = None) -> object:
+        """Makes a call, again while it is refused for now; one that only reads also where its outcome got lost."""
+        ends = time.monotonic() + self.patience
+        for_now = {BUSY, RECOVERING, IN_JEOPARDY} | ({UNKNOWN} if only_reads else set())
+        while True:
+            try:
+                return self.call_once(body, handle, name, sequencer)
+            except Refused as why:
+                if why.limit or why.refusal.number not in for_now or time.monotonic() >= ends:
+                    raise
+                time.sleep(0.05)
+
+    def call_once(self, body: bytes, handle: Optional[Handle], name: Optional[str], sequencer: Optional[bytes]) -> object:
+        with self.calling, self.changed:
+            self.tell(self.session.note(now()))
+            self.check()
+            under = sequencer or (handle.sequencer if handle else None)
+            waiting = self.session.ask(body, handle.name if handle else name, under, handle is None)
+            self.send(waiting.block)
+            self.changed.wait_for(lambda: waiting.ends)
+            result, limit = waiting.ends
+            if isinstance(result, Refusal):
+                raise Refused(result, limit)
+            self.opened = waiting.number
+            return result
+
+    def open(self, name: str, mode: str = "r", make: Optional[bytes] = None, directory: bool = False, must: bool = False,
+             ephemeral: bool = False, acls: Optional[tuple] = None, events: str = "", delay: int = 0) -> Handle:
+        """Opens a node; one that isn't there is made with the content `make`, or as a `directory`. With `must` it may not be there."""
+        letters = sum(MODES[letter] for letter in mode)
+        told = sum(EVENT_LETTERS[letter] for letter in events)
+        makes = make is not None or directory
+        if not must:
+            try:
+                return self.open_as(name, letters, None, delay, told)
+            except Refused as why:
+                if not makes or why.refusal.number != NOT_FOUND:
+                    raise
+        made = codec.create(None if directory else make or b"", must, ephemeral, acls)
+        return self.open_as(name, letters, made, delay, told)
+
+    def open_as(self, name: str, mode: int, made: Optional[bytes], delay: int, events: int) -> Handle:
+        if made is None:
+            with self.changed:
+                self.tell(self.session.note(now()))
+                is_served, view = self.session.cached(now(), name)
+            if is_served and view is None:
+                raise Refused(Refusal(NOT_FOUND))
+        with_number = self.call(codec.opening(name, mode, made, delay, events), name=name if made is None else None)
+        return Handle(name, with_number.handle, with_number.instance, self.opened, bool(mode & 1))
+
+    def read(self, handle: Handle) -> View:
+        """Reads a node, out of the cache where that holds it under a lease that runs."""
+        return self.view(handle, codec.READ)
+
+    def list(self, handle: Handle) -> tuple:
+        """The last components of a directory's children, in the order of their bytes."""
+        return self.view(handle, codec.LIST).children
+
+    def view(self, handle: Handle, kind: int) -> View:
+        with self.changed:
+            self.tell(self.session.note(now()))
+            self.check()
+            is_served, view = self.session.cached(now(), handle.name)
+        handle.served = is_served and handle.may_read and handle.sequencer is None and (kind == codec.READ or view is None or view.is_directory)
+        if not handle.served:
+            return self.call(codec.on_handle(kind, handle.content), True, handle)
+        if view is None or view.instance != handle.instance:
+            raise Refused(Refusal(STALE_INSTANCE))
+        return view
+
+    def stat(self, handle: Handle) -> NodeStat:
+        return self.call(codec.on_handle(codec.STAT, handle.content), True, handle)
+
+    def set(self, handle: Handle, content: bytes, generation: Optional[int] = None) -> None:
+        """A new content; with a generation only where the node has that one."""
+        rest = codec.sized(content) + codec.optional(None if generation is None else codec.word(generation))
+        self.call(codec.on_handle(codec.SET, handle.content, rest), handle=handle)
+
+    def delete(self, handle: Handle) -> None:
+        self.call(codec.on_handle(codec.DELETE, handle.content), handle=handle)
+
+    def close_handle(self, handle: Handle) -> None:
+        self.call(codec.on_handle(codec.CLOSE, handle.content))
+
+    def acquire(self, handle: Handle, shared: bool = False, wait: bool = True) -> None:
+        """Gets the node's lock; without `wait` it is refused where it can't be had at once."""
+        kind = codec.ACQUIRE if wait else codec.TRY_ACQUIRE
+        self.call(codec.on_handle(kind, handle.content, bytes([int(shared)])), handle=handle)
+
+    def release(self, handle: Handle) -> None:
+        self.call(codec.on_handle(codec.RELEASE, handle.content), handle=handle)
+
+    def sequencer(self, handle: Handle) -> bytes:
+        """Bytes by which another program can test that the lock is still held."""
+        return self.call(codec.on_handle(codec.GET_SEQUENCER, handle.content), True, handle)
+
+    def set_sequencer(self, handle: Handle, sequencer: bytes) -> None:
+        """The handle's later calls stand under this sequencer, and the cache answers none of them."""
+        self.call(codec.on_handle(codec.SET_SEQUENCER, handle.content), handle=handle, sequencer=sequencer)
+        handle.sequencer = sequencer
+
+    def check_sequencer(self, sequencer: bytes) -> None:
+        """Refused as SequencerStale where it isn't valid any more."""
+        self.call(bytes([codec.CHECK_SEQUENCER]) + codec.sized(sequencer), True)

@@ -1,0 +1,99 @@
+"""How a server is reached, and when a client beats."""
+
+import select
+import socket
+import ssl
+import threading
+from typing import Optional
+
+from . import codec
+from .session import OLD_EPOCH
+
+CONNECTING = 5.0
+WRITING = 10.0
+ANSWER_PAUSES = 200, 10_000
+PACE = 20
+KEPT_LONG = 20_000
+
+
+class Schedule:
+    """When the next Beat goes."""
+
+    def __init__(self):
+        self.number, self.sent, self.first, self.due = None, 0, 0, 0
+        self.pause, self.usual, self.is_answered = ANSWER_PAUSES[0], 0, True
+
+    def beaten(self, moment: int, number: int, until: int) -> None:
+        """One was sent. None follows while its answer may be on its way, which a master keeps until the lease is near its end."""
+        wait = max(until - moment, 0)
+        if self.is_answered:
+            self.first, self.pause = moment, ANSWER_PAUSES[0]
+            wait = min(wait, self.usual // 2) if self.usual >= KEPT_LONG else wait
+        else:
+            self.pause = min(2 * self.pause, ANSWER_PAUSES[1])
+        self.number, self.sent, self.due, self.is_answered = number, moment, moment + max(wait, self.pause), False
+
+    def heard(self, moment: int, message: codec.Message) -> None:
+        is_answer = message.kind != codec.NOTICE and message.kind != codec.REPLY and message.number == self.number
+        paced = max(moment, self.sent + PACE)
+        if message.kind == codec.NOTICE and message.number == 0:
+            self.due = moment
+        elif is_answer and (message.invalidations or message.events):
+            self.due = moment
+        elif is_answer or (message.kind == codec.REFUSED and message.result.number == OLD_EPOCH):
+            self.due = min(self.due, paced)
+        if is_answer:
+            self.usual, self.is_answered = moment - self.first, True
+
+
+class Connection:
+    """Blocks over a stream, each behind its length in four bytes."""
+
+    def __init__(self, server: str, tls: Optional[ssl.SSLContext]):
+        kind, _, place = server.partition(":")
+        if kind == "unix":
+            self.stream = socket.socket(socket.AF_UNIX)
+            self.stream.settimeout(WRITING)
+            self.stream.connect(place)
+        else:
+            host, _, port = (place if kind in ("tcp", "tls") else server).rpartition(":")
+            host = host.strip("[]") or "127.0.0.1"
+            self.stream = socket.create_connection((host, int(port)), CONNECTING)
+            self.stream.settimeout(WRITING)
+            self.stream.setsockopt(socket.IPPROTO_TCP, socket.TCP_NODELAY, 1)
+            if kind == "tls":
+                self.stream = tls.wrap_socket(self.stream, server_hostname="localhost" if host in ("127.0.0.1", "::1") else host)
+        self.held, self.using = bytearray(), threading.Lock()
+
+    def send(self, block: bytes) -> None:
+        with self.using:
+            self.stream.sendall(codec.sized(block))
+
+    def next(self, patience: float) -> Optional[bytes]:
+        """The next block; None where none came in so many seconds. At the stream's end a ConnectionError."""
+        while len(self.held) < 4 or len(self.held) < 4 + int.from_bytes(self.held[:4], "big"):
+            if not self.has_more(max(patience, 0.0)):
+                return None
+            with self.using:
+                more = self.stream.recv(65536)
+            if not more:
+                raise ConnectionError("the server closed the connection")
+            self.held += more
+        length = 4 + int.from_bytes(self.held[:4], "big")
+        block = bytes(self.held[4:length])
+        del self.held[:length]
+        return block
+
+    def has_more(self, patience: float) -> bool:
+        is_held = isinstance(self.stream, ssl.SSLSocket) and self.stream.pending() > 0
+        return is_held or bool(select.select([self.stream], [], [], patience)[0])
+
+    def end(self) -> None:
+        """Nothing more is sent; who waits for a block hears that the stream has ended."""
+        try:
+            self.stream.shutdown(socket.SHUT_RDWR)
+        except OSError:
+            pass  # (it has ended already)
+
+    def close(self) -> None:
+        self.stream.close()

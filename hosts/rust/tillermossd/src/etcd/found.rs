@@ -1,0 +1,297 @@
+//! All rows of a cell: as they stand in etcd, as they are told, and as they stand in a SQLite file.
+
+use crate::etcd::gateway::{Gateway, Pair};
+use crate::etcd::rows::{Content, KINDS, LIVES, Lock, LockKey, Meta, Node, STATES, Session, chosen, place};
+use anyhow::{Context, Result};
+use rusqlite::{Connection, params};
+use std::collections::{BTreeMap, HashMap};
+
+/// So many pairs are read at once: 200 of the longest contents are 100 MB.
+const PAGE: usize = 200;
+
+/// So much higher clients' numbers go on where nobody knows the last one.
+const CLIENTS: u64 = 1 << 20;
+
+/// The tables of a store, as far as they are read here.
+const TABLES: &str = "
+    CREATE TABLE nodes (name, instance, kind, life, content_gen, acl_gen, lock_gen, acl_read, acl_write, acl_change, content);
+    CREATE TABLE sessions (client, principal, live);
+    CREATE TABLE locks (instance, client, handle, mode, delay);
+    CREATE TABLE children (parent, child);
+    CREATE TABLE meta (id, version, cell, secret, epoch, next_instance);
+    INSERT INTO meta VALUES (1, 2, '', '', 0, 0);";
+
+/// What was found.
+#[derive(Debug, Default, PartialEq, Eq)]
+pub struct Found {
+    /// The cell's own row, and the revision that changed it last.
+    pub meta: Option<(Meta, i64)>,
+    /// By name.
+    pub nodes: BTreeMap<String, Node>,
+    /// Those of nodes' locks, where they aren't 0.
+    pub generations: BTreeMap<String, u64>,
+    /// By client number.
+    pub sessions: BTreeMap<u64, Session>,
+    /// By key.
+    pub locks: BTreeMap<LockKey, Lock>,
+    /// What a server keeps of clients' numbers.
+    pub numbers: Option<String>,
+}
+
+/// What stands at a lock's row, behind the prefix.
+#[must_use]
+pub fn lock_key(key: LockKey) -> String {
+    format!("locks/{}/{}/{}", key.0, key.1, key.2)
+}
+
+fn key_of(text: &str) -> Option<LockKey> {
+    let words: Option<Vec<u64>> = text.split('/').map(|word| word.parse().ok()).collect();
+    match words?[..] {
+        [instance, client, handle] => Some((instance, client, handle)),
+        _ => None,
+    }
+}
+
+impl Found {
+    /// All that stands there now, page by page at one revision.
+    pub fn read(gateway: &Gateway, prefix: &str) -> Result<Found> {
+        let mut found = Found::default();
+        let (mut from, mut at) = (prefix.to_owned(), 0);
+        loop {
+            let (pairs, revision) = gateway.page(prefix, &from, at, PAGE)?;
+            at = revision;
+            for pair in &pairs {
+                found.take(pair, prefix).with_context(|| format!("{} isn't understood", pair.key))?;
+            }
+            match pairs.last() {
+                Some(last) if pairs.len() == PAGE => from = format!("{}\0", last.key),
+                _ => return Ok(found),
+            }
+        }
+    }
+
+    fn take(&mut self, pair: &Pair, prefix: &str) -> Result<()> {
+        let key = pair.key.strip_prefix(prefix).context("it begins otherwise")?;
+        let (kind, rest) = key.split_once('/').unwrap_or((key, ""));
+        match kind {
+            "meta" => self.meta = Some((serde_json::from_slice(&pair.value)?, pair.changed)),
+            "nodes" => drop(self.nodes.insert(format!("/{rest}"), serde_json::from_slice(&pair.value)?)),
+            "generations" => drop(self.generations.insert(format!("/{rest}"), std::str::from_utf8(&pair.value)?.parse()?)),
+            "sessions" => drop(self.sessions.insert(rest.parse()?, serde_json::from_slice(&pair.value)?)),
+            "locks" => drop(self.locks.insert(key_of(rest).context("not a lock's key")?, serde_json::from_slice(&pair.value)?)),
+            "numbers" => self.numbers = Some(String::from_utf8(pair.value.clone())?),
+            _ => {}
+        }
+        Ok(())
+    }
+
+    /// The epoch of the last master; 0 where no cell stands there.
+    #[must_use]
+    pub fn epoch(&self) -> u64 {
+        self.meta.as_ref().map_or(0, |(meta, _)| meta.epoch)
+    }
+
+    /// A number that no client has, where nobody has noted the next one.
+    #[must_use]
+    pub fn first_client(&self) -> u64 {
+        self.sessions.keys().last().map_or(1, |last| last + CLIENTS)
+    }
+
+    /// Whether everybody knows the cell's secret.
+    #[must_use]
+    pub fn has_known_secret(&self) -> bool {
+        self.meta.as_ref().is_some_and(|(meta, _)| meta.secret.bytes().all(|digit| digit == b'0'))
+    }
+
+    /// The pairs, each behind the prefix, without the cell's own row.
+    pub fn pairs(&self) -> Result<Vec<(String, Vec<u8>)>> {
+        let mut pairs = Vec::new();
+        for (name, node) in &self.nodes {
+            pairs.push((format!("nodes{name}"), serde_json::to_vec(node)?));
+        }
+        for (name, generation) in &self.generations {
+            pairs.push((format!("generations{name}"), generation.to_string().into_bytes()));
+        }
+        for (client, session) in &self.sessions {
+            pairs.push((format!("sessions/{client}"), serde_json::to_vec(session)?));
+        }
+        for (key, lock) in &self.locks {
+            pairs.push((lock_key(*key), serde_json::to_vec(lock)?));
+        }
+        Ok(pairs)
+    }
+
+    /// As they are told to a master.
+    pub fn rows(&self) -> Result<Vec<Vec<u8>>> {
+        let mut rows = Vec::new();
+        for (name, node) in &self.nodes {
+            rows.push(node.write(name, self.generations.get(name).copied().unwrap_or(0))?);
+        }
+        rows.extend(self.sessions.iter().map(|(client, session)| session.write(*client)));
+        for (key, lock) in &self.locks {
+            rows.push(lock.write(*key)?);
+        }
+        Ok(rows)
+    }
+
+    /// The instance of each node.
+    #[must_use]
+    pub fn instances(&self) -> HashMap<String, u64> {
+        self.nodes.iter().map(|(name, node)| (name.clone(), node.instance)).collect()
+    }
+
+    /// As tables in memory.
+    pub fn tables(&self) -> Result<Connection> {
+        let connection = Connection::open_in_memory()?;
+        connection.execute_batch(TABLES)?;
+        self.fill(&connection)?;
+        Ok(connection)
+    }
+
+    /// Puts them into the tables of a store, in the place of what stands there.
+    pub fn fill(&self, connection: &Connection) -> Result<()> {
+        connection.execute_batch("DELETE FROM locks; DELETE FROM children; DELETE FROM sessions; DELETE FROM nodes;")?;
+        if let Some((meta, _)) = &self.meta {
+            let secret = hex::decode(&meta.secret)?;
+            let set = "UPDATE meta SET cell = ?, secret = ?, epoch = ?, next_instance = ? WHERE id = 1";
+            connection.execute(set, params![meta.cell, secret, meta.epoch, meta.next_instance])?;
+        }
+        let mut put = connection.prepare(
+            "INSERT INTO nodes (name, instance, kind, life, content_gen, acl_gen, lock_gen, acl_read, acl_write, acl_change, content)
+             VALUES (?, ?, ?, ?, ?, ?, ?, ?, ?, ?, ?)",
+        )?;
+        let mut child = connection.prepare("INSERT INTO children (parent, child) VALUES (?, ?)")?;
+        // (a parent stands before its children)
+        for (name, node) in &self.nodes {
+            let (kind, life) = (place(&KINDS, &node.kind)?, place(&LIVES, &node.life)?);
+            let generation = self.generations.get(name).copied().unwrap_or(0);
+            let content = node.content.bytes()?;
+            put.execute(params![
+                name,
+                node.instance,
+                kind,
+                life,
+                node.content_generation,
+                node.acl_generation,
+                generation,
+                node.read,
+                node.write,
+                node.change,
+                content
+            ])?;
+        }
+        for name in self.nodes.keys() {
+            if let Some((parent, _)) = name.rsplit_once('/').filter(|(parent, _)| *parent != "/ls") {
+                child.execute(params![parent, name])?;
+            }
+        }
+        for (client, session) in &self.sessions {
+            connection.execute(
+                "INSERT INTO sessions (client, principal, live) VALUES (?, ?, ?)",
+                params![client, session.principal, session.live],
+            )?;
+        }
+        for (key, lock) in &self.locks {
+            let state = place(&STATES, &lock.state)?;
+            let put = "INSERT INTO locks (instance, client, handle, mode, delay) VALUES (?, ?, ?, ?, ?)";
+            connection.execute(put, params![key.0, key.1, key.2, state, lock.delay])?;
+        }
+        Ok(())
+    }
+
+    /// Those of the tables of a store.
+    pub fn of_tables(connection: &Connection) -> Result<Found> {
+        let mut found = Found::default();
+        let read = |row: &rusqlite::Row| {
+            let secret: Vec<u8> = row.get(1)?;
+            Ok(Meta { cell: row.get(0)?, secret: hex::encode(secret), epoch: row.get(2)?, next_instance: row.get(3)?, number: 0, by: 0 })
+        };
+        found.meta = Some((connection.query_row("SELECT cell, secret, epoch, next_instance FROM meta WHERE id = 1", [], read)?, 0));
+        let mut nodes = connection.prepare(
+            "SELECT name, kind, instance, content_gen, acl_gen, acl_read, acl_write, acl_change, life, content, lock_gen FROM nodes",
+        )?;
+        let mut rows = nodes.query([])?;
+        while let Some(row) = rows.next()? {
+            let name: String = row.get(0)?;
+            let node = Node {
+                kind: chosen(&KINDS, row.get(1)?).context("not a kind")?,
+                instance: row.get(2)?,
+                content_generation: row.get(3)?,
+                acl_generation: row.get(4)?,
+                read: row.get(5)?,
+                write: row.get(6)?,
+                change: row.get(7)?,
+                life: chosen(&LIVES, row.get(8)?).context("not a life")?,
+                content: Content::of(&row.get::<_, Vec<u8>>(9)?),
+            };
+            let generation: u64 = row.get(10)?;
+            if generation > 0 {
+                found.generations.insert(name.clone(), generation);
+            }
+            found.nodes.insert(name, node);
+        }
+        found.read_others(connection)?;
+        Ok(found)
+    }
+
+    fn read_others(&mut self, connection: &Connection) -> Result<()> {
+        let mut sessions = connection.prepare("SELECT client, principal, live FROM sessions")?;
+        let mut rows = sessions.query([])?;
+        while let Some(row) = rows.next()? {
+            self.sessions.insert(row.get(0)?, Session { principal: row.get(1)?, live: row.get(2)? });
+        }
+        let mut locks = connection.prepare("SELECT instance, client, handle, mode, delay FROM locks")?;
+        let mut rows = locks.query([])?;
+        while let Some(row) = rows.next()? {
+            let lock = Lock { state: chosen(&STATES, row.get(3)?).context("not a lock")?, delay: row.get(4)? };
+            self.locks.insert((row.get(0)?, row.get(1)?, row.get(2)?), lock);
+        }
+        Ok(())
+    }
+}
+
+#[cfg(test)]
+mod tests {
+    use super::*;
+
+    fn found() -> Found {
+        let meta = Meta { cell: "c".to_owned(), secret: "00".repeat(32), epoch: 3, next_instance: 5, number: 0, by: 0 };
+        let node = |kind: &str, instance, content: &[u8]| Node {
+            kind: kind.to_owned(),
+            instance,
+            content_generation: 1,
+            acl_generation: 2,
+            read: "base".to_owned(),
+            write: "base".to_owned(),
+            change: "base".to_owned(),
+            life: "permanent".to_owned(),
+            content: Content::of(content),
+        };
+        let mut found = Found { meta: Some((meta, 0)), ..Found::default() };
+        found.nodes.insert("/ls/c".to_owned(), node("dir", 1, b""));
+        found.nodes.insert("/ls/c/f".to_owned(), node("file", 4, b"\0\xff"));
+        found.generations.insert("/ls/c/f".to_owned(), 7);
+        found.sessions.insert(1, Session { principal: "ann".to_owned(), live: true });
+        found.locks.insert((4, 1, 2), Lock { state: "exclusive".to_owned(), delay: 10 });
+        found
+    }
+
+    #[test]
+    fn tables_have_the_same_rows() {
+        let wanted = found();
+        assert_eq!(Found::of_tables(&wanted.tables().unwrap()).unwrap(), wanted);
+        let children = "SELECT parent || ' ' || child FROM children";
+        let told: String = wanted.tables().unwrap().query_row(children, [], |row| row.get(0)).unwrap();
+        assert_eq!(told, "/ls/c /ls/c/f");
+    }
+
+    #[test]
+    fn pairs_have_the_same_rows() {
+        let wanted = found();
+        let mut read = Found { meta: wanted.meta.clone(), ..Found::default() };
+        for (key, value) in wanted.pairs().unwrap() {
+            read.take(&Pair { key: format!("c/{key}"), value, created: 1, changed: 1, lease: 0 }, "c/").unwrap();
+        }
+        assert_eq!(read, wanted);
+    }
+}

@@ -1,0 +1,270 @@
+//! One server of several is master: it holds a key of etcd under a lease, and renews that. Its mastership ends by its own clock
+//! before etcd lets the key go: the arithmetic of that is the proved one of crates/mastership.
+
+use crate::etcd::gateway::{Compare, Deed, Gateway, Lost, Pair};
+use anyhow::{Result, bail};
+use nix::time::{ClockId, clock_gettime};
+use serde::{Deserialize, Serialize};
+use std::sync::atomic::{AtomicU64, Ordering};
+use std::sync::{Arc, Mutex, PoisonError};
+use std::thread;
+use std::time::Duration;
+use tracing::{info, warn};
+
+/// So many seconds a mastership lasts that isn't renewed, unless an operator says otherwise; etcd may make it longer.
+pub const SPAN: u64 = 5;
+
+/// So long between two looks at who is master.
+const PAUSE: Duration = Duration::from_millis(250);
+
+/// So many renewals in a span.
+const RENEWALS: u64 = 4;
+
+unsafe extern "C" {
+    fn mastership_end(sent: u64, span: u64) -> u64;
+}
+
+/// The present moment by the clock that goes on while the machine sleeps, in milliseconds. Where there is none it is the end of all
+/// moments, at which nobody is master.
+#[must_use]
+pub fn now() -> u64 {
+    let Ok(time) = clock_gettime(ClockId::CLOCK_BOOTTIME) else {
+        return u64::MAX;
+    };
+    time.tv_sec().cast_unsigned().saturating_mul(1000).saturating_add(time.tv_nsec().cast_unsigned() / 1_000_000)
+}
+
+// When a mastership ends whose last renewal was sent then, and answered with so many seconds.
+fn end_of(sent: u64, seconds: u64) -> u64 {
+    // SAFETY: it takes and gives numbers alone.
+    unsafe { mastership_end(sent, seconds.saturating_mul(1000)) }
+}
+
+/// What stands at the key of the master.
+#[derive(Clone, Debug, PartialEq, Eq, Serialize, Deserialize)]
+pub struct Seat {
+    /// Where clients find it.
+    pub address: String,
+    /// Which process of all that ever stood by it is.
+    pub server: String,
+}
+
+/// A mastership.
+#[derive(Debug)]
+pub struct Mastership {
+    gateway: Arc<Gateway>,
+    key: String,
+    value: Vec<u8>,
+    /// The revision by which it began, which no other mastership has.
+    pub revision: i64,
+    grant: Mutex<Grant>,
+    end: AtomicU64,
+}
+
+// Only the first of many faults is logged.
+fn note_reached(was_reached: bool, fault: Option<&Lost>) -> bool {
+    match fault {
+        Some(lost) if was_reached => warn!(reason = %lost, "etcd isn't reached"),
+        None if !was_reached => info!("etcd is reached again"),
+        _ => {}
+    }
+    fault.is_none()
+}
+
+/// By which lease the key stands there.
+#[derive(Clone, Copy, Debug)]
+struct Grant {
+    lease: i64,
+    /// The revision that put it there under this lease.
+    changed: i64,
+}
+
+impl Mastership {
+    /// Waits until no other server is master, and takes over, for so many seconds at a time. Tells each other one of it that it sees
+    /// meanwhile.
+    pub fn wait(gateway: &Arc<Gateway>, prefix: &str, seat: &Seat, span: u64, mut tell: impl FnMut(Option<Seat>)) -> Arc<Mastership> {
+        let key = format!("{prefix}master");
+        let mut is_reached = true;
+        loop {
+            let found = gateway.get(&key);
+            is_reached = note_reached(is_reached, found.as_ref().err());
+            match found {
+                Ok(Some(other)) => tell(serde_json::from_slice(&other.value).ok()),
+                Ok(None) => match Mastership::take(gateway, &key, seat, span) {
+                    Ok(Some(taken)) => return taken,
+                    Ok(None) => continue,
+                    Err(error) => warn!(reason = %format_args!("{error:#}"), "the mastership can't be taken"),
+                },
+                Err(_) => tell(None),
+            }
+            thread::sleep(PAUSE);
+        }
+    }
+
+    // Takes it, where nobody else has.
+    fn take(gateway: &Arc<Gateway>, key: &str, seat: &Seat, span: u64) -> Result<Option<Arc<Mastership>>> {
+        let sent = now();
+        let (lease, seconds) = gateway.lend(span)?;
+        let value = serde_json::to_vec(seat)?;
+        let taken = gateway.change(&[Compare::Created(key, 0)], &[Deed::Lend(key.to_owned(), value.clone(), lease)]);
+        let revision = match taken {
+            Ok(revision) => revision,
+            // (an outcome that got lost: whose lease it stands under says it. One that is done later goes with its lease)
+            Err(Lost::Unknown(_)) => gateway.get(key)?.filter(|pair| pair.lease == lease).map(|pair: Pair| pair.created),
+            Err(lost) => return Err(lost.into()),
+        };
+        let Some(revision) = revision else {
+            let _ = gateway.give_back(lease);
+            return Ok(None);
+        };
+        let (end, grant) = (AtomicU64::new(end_of(sent, seconds)), Mutex::new(Grant { lease, changed: revision }));
+        let taken = Arc::new(Mastership { gateway: gateway.clone(), key: key.to_owned(), value, revision, grant, end });
+        info!(revision, "this server is master");
+        let renewing = taken.clone();
+        thread::spawn(move || renewing.renew(span));
+        Ok(Some(taken))
+    }
+
+    // Renews it until it has ended.
+    fn renew(&self, span: u64) {
+        while self.holds() {
+            thread::sleep(Duration::from_millis(span * 1000 / RENEWALS));
+            match self.renew_once(span) {
+                Ok(end) => self.lengthen(end),
+                Err(error) => warn!(reason = %format_args!("{error:#}"), "the mastership wasn't renewed"),
+            }
+        }
+        warn!("the mastership has ended");
+    }
+
+    // (one that was let go, or whose key was gone, stays so)
+    fn lengthen(&self, end: u64) {
+        let longer = |present: u64| (present > 0).then(|| present.max(end));
+        let _ = self.end.fetch_update(Ordering::SeqCst, Ordering::SeqCst, longer);
+    }
+
+    // Puts the key once more, under a new lease: that is agreed on by etcd's members and lasts from then on, whoever leads them, which
+    // isn't so of a lease that is kept alive. Gives the moment of its end.
+    fn renew_once(&self, span: u64) -> Result<u64> {
+        let mut grant = self.grant.lock().unwrap_or_else(PoisonError::into_inner);
+        self.check()?;
+        let sent = now();
+        let (lease, seconds) = self.gateway.lend(span)?;
+        // (of puts that got lost none can be done behind this one)
+        let same = [self.fence(), Compare::Changed(&self.key, grant.changed)];
+        let next = match self.gateway.change(&same, &[Deed::Lend(self.key.clone(), self.value.clone(), lease)]) {
+            Ok(Some(changed)) => Grant { lease, changed },
+            Ok(None) | Err(Lost::Unknown(_)) => self.read_grant()?,
+            Err(lost) => return Err(lost.into()),
+        };
+        let before = std::mem::replace(&mut *grant, next);
+        if next.lease != lease {
+            bail!("its key wasn't put");
+        }
+        // (a lease that isn't given back ends by itself)
+        let _ = self.gateway.give_back(before.lease);
+        Ok(end_of(sent, seconds))
+    }
+
+    // How the key stands there.
+    fn read_grant(&self) -> Result<Grant> {
+        match self.gateway.get(&self.key)? {
+            Some(pair) if pair.created == self.revision => Ok(Grant { lease: pair.lease, changed: pair.changed }),
+            _ => {
+                self.end.store(0, Ordering::SeqCst);
+                bail!("its key is gone")
+            }
+        }
+    }
+
+    /// Whether it lasts still: then all that was done up to now was done before another server could be master.
+    #[must_use]
+    pub fn holds(&self) -> bool {
+        now() < self.end.load(Ordering::SeqCst)
+    }
+
+    /// The condition that it is still this one.
+    #[must_use]
+    pub fn fence(&self) -> Compare<'_> {
+        Compare::Created(&self.key, self.revision)
+    }
+
+    /// Whether its key is there, where etcd tells that: without it the mastership has ended.
+    pub fn check_key(&self) -> Result<()> {
+        match self.read_grant() {
+            Err(fault) if !self.holds() => Err(fault),
+            _ => Ok(()),
+        }
+    }
+
+    /// Lets it go: from here on nothing is passed on.
+    pub fn end(&self) -> Result<()> {
+        self.end.store(0, Ordering::SeqCst);
+        let lease = self.grant.lock().unwrap_or_else(PoisonError::into_inner).lease;
+        self.gateway.give_back(lease)
+    }
+
+    /// One that was let go, or has ended.
+    pub fn check(&self) -> Result<()> {
+        if !self.holds() {
+            bail!("the mastership has ended");
+        }
+        Ok(())
+    }
+}
+
+#[cfg(test)]
+mod tests {
+    use super::*;
+    use crate::etcd::pretended::{Pretended, Way};
+
+    fn take(etcd: &Pretended, server: &str) -> Option<Arc<Mastership>> {
+        let seat = Seat { address: "tcp:h:7".to_owned(), server: server.to_owned() };
+        Mastership::take(&etcd.gateway(), "c/master", &seat, 60).unwrap()
+    }
+
+    #[test]
+    fn one_is_master_at_a_time() {
+        let etcd = Pretended::start();
+        let first = take(&etcd, "first").unwrap();
+        assert!(first.holds() && take(&etcd, "second").is_none());
+        first.end().unwrap();
+        assert!(!first.holds() && first.check().is_err());
+        let second = take(&etcd, "second").unwrap();
+        assert!(second.revision > first.revision && etcd.shown()[0].1.contains("second"));
+    }
+
+    #[test]
+    fn an_outcome_that_got_lost_is_settled() {
+        for (way, is_taken) in [(Way::Done, true), (Way::Unanswered, true), (Way::Lost, false)] {
+            let etcd = Pretended::start();
+            etcd.go(&[way]);
+            assert_eq!(take(&etcd, "first").is_some(), is_taken, "{way:?}");
+        }
+    }
+
+    #[test]
+    fn a_mastership_is_renewed_while_its_key_is_there() {
+        for (way, is_renewed) in [(Way::Done, true), (Way::Unanswered, true), (Way::Lost, false), (Way::Refused, false)] {
+            let etcd = Pretended::start();
+            let taken = take(&etcd, "first").unwrap();
+            thread::sleep(Duration::from_millis(5));
+            etcd.go(&[way]);
+            let renewed = taken.renew_once(60);
+            assert_eq!(renewed.is_ok_and(|end| end > taken.end.load(Ordering::SeqCst)), is_renewed, "{way:?}");
+            assert!(taken.renew_once(60).is_ok(), "{way:?}");
+            etcd.remove("c/master");
+            assert!(taken.renew_once(60).is_err(), "{way:?}");
+            assert!(take(&etcd, "second").is_some(), "{way:?}");
+            assert!(taken.renew_once(60).is_err(), "{way:?}");
+        }
+    }
+
+    // (5,000 ms: 80,000 sixteenths, less than that in seventeenths is 4,705)
+    #[test]
+    fn a_mastership_ends_before_its_lease() {
+        assert_eq!(end_of(1000, 5), 1000 + 4705);
+        assert_eq!(end_of(1000, 0), 0);
+        assert_eq!(end_of(1 << 53, 5), 0);
+    }
+}

@@ -1,0 +1,185 @@
+//! An etcd of one member for tests, in memory, whose transactions may be refused or lose their way.
+
+use crate::etcd::gateway::Gateway;
+use base64::{decode, encode};
+use serde_json::{Value, json};
+use std::collections::{BTreeMap, VecDeque};
+use std::io::{BufRead, BufReader, Read, Write};
+use std::net::{TcpListener, TcpStream};
+use std::sync::{Arc, Mutex, MutexGuard};
+use std::thread;
+
+/// What becomes of a transaction.
+#[derive(Clone, Copy, Debug, PartialEq, Eq)]
+pub enum Way {
+    /// It is done and answered.
+    Done,
+    /// It is done, and the answer gets lost.
+    Unanswered,
+    /// It gets lost.
+    Lost,
+    /// It is refused.
+    Refused,
+}
+
+#[derive(Clone, Debug)]
+struct Stands {
+    value: Vec<u8>,
+    created: i64,
+    changed: i64,
+    lease: i64,
+}
+
+#[derive(Debug, Default)]
+struct State {
+    revision: i64,
+    pairs: BTreeMap<Vec<u8>, Stands>,
+    leases: i64,
+    ways: VecDeque<Way>,
+}
+
+/// The etcd, whose thread goes on until the process ends.
+#[derive(Clone, Debug)]
+pub struct Pretended {
+    place: String,
+    state: Arc<Mutex<State>>,
+}
+
+fn bytes(value: &Value, name: &str) -> Vec<u8> {
+    decode(value[name].as_str().unwrap_or_default()).unwrap()
+}
+
+fn number(value: &Value, name: &str) -> i64 {
+    value[name].as_str().map_or(0, |text| text.parse().unwrap())
+}
+
+// The keys that a range or a deletion is of.
+fn keys(state: &State, asked: &Value) -> Vec<Vec<u8>> {
+    let (from, end) = (bytes(asked, "key"), bytes(asked, "range_end"));
+    let is_in = |key: &&Vec<u8>| if end.is_empty() { **key == from } else { (&from..&end).contains(key) };
+    state.pairs.keys().filter(is_in).cloned().collect()
+}
+
+impl State {
+    fn answer(&mut self, path: &str, asked: &Value) -> Value {
+        let header = |revision: i64| json!({ "revision": revision.to_string() });
+        match path {
+            "kv/range" => {
+                let found = keys(self, asked).into_iter().map(|key| (key.clone(), self.pairs[&key].clone()));
+                let found: Vec<Value> = found.map(|(key, stands)| self.shown(&key, &stands)).collect();
+                json!({ "header": header(self.revision), "kvs": found })
+            }
+            "kv/txn" => {
+                let holds = asked["compare"].as_array().unwrap().iter().all(|compare| self.holds(compare));
+                if holds {
+                    self.revision += 1;
+                    asked["success"].as_array().unwrap().iter().for_each(|deed| self.act(deed));
+                }
+                json!({ "header": header(self.revision), "succeeded": holds })
+            }
+            "lease/grant" => {
+                self.leases += 1;
+                json!({ "ID": self.leases.to_string(), "TTL": asked["TTL"] })
+            }
+            "lease/revoke" => {
+                let lease = number(asked, "ID");
+                self.pairs.retain(|_, stands| stands.lease != lease);
+                json!({ "header": header(self.revision) })
+            }
+            _ => panic!("{path}"),
+        }
+    }
+
+    fn shown(&self, key: &[u8], stands: &Stands) -> Value {
+        let Stands { value, created, changed, lease } = stands;
+        let words = [created, changed, lease].map(i64::to_string);
+        json!({ "key": encode(key), "value": encode(value), "create_revision": words[0], "mod_revision": words[1], "lease": words[2] })
+    }
+
+    fn holds(&self, compare: &Value) -> bool {
+        let stands = self.pairs.get(&bytes(compare, "key"));
+        match compare["target"].as_str() {
+            Some("CREATE") => stands.map_or(0, |stands| stands.created) == number(compare, "create_revision"),
+            Some("MOD") => stands.map_or(0, |stands| stands.changed) == number(compare, "mod_revision"),
+            target => panic!("{target:?}"),
+        }
+    }
+
+    fn act(&mut self, deed: &Value) {
+        if let Some(put) = deed.get("request_put") {
+            let key = bytes(put, "key");
+            let created = self.pairs.get(&key).map_or(self.revision, |stands| stands.created);
+            let stands = Stands { value: bytes(put, "value"), created, changed: self.revision, lease: number(put, "lease") };
+            self.pairs.insert(key, stands);
+        } else {
+            for key in keys(self, &deed["request_delete_range"]) {
+                self.pairs.remove(&key);
+            }
+        }
+    }
+}
+
+impl Pretended {
+    /// One that has nothing.
+    pub fn start() -> Pretended {
+        let listener = TcpListener::bind("127.0.0.1:0").unwrap();
+        let place = listener.local_addr().unwrap().to_string();
+        let etcd = Pretended { place, state: Arc::default() };
+        let serving = etcd.clone();
+        thread::spawn(move || listener.incoming().for_each(|stream| serving.serve(stream.unwrap())));
+        etcd
+    }
+
+    fn state(&self) -> MutexGuard<'_, State> {
+        self.state.lock().unwrap()
+    }
+
+    fn serve(&self, mut stream: TcpStream) {
+        let mut reader = BufReader::new(stream.try_clone().unwrap());
+        let (mut line, mut length) = (String::new(), 0);
+        reader.read_line(&mut line).unwrap();
+        let path = line.split(' ').nth(1).unwrap_or_default().trim_start_matches("/v3/").to_owned();
+        while line.trim() != "" {
+            line.clear();
+            reader.read_line(&mut line).unwrap();
+            if let Some(count) = line.to_lowercase().strip_prefix("content-length: ") {
+                length = count.trim().parse().unwrap();
+            }
+        }
+        let mut body = vec![0; length];
+        reader.read_exact(&mut body).unwrap();
+        let asked: Value = serde_json::from_slice(&body).unwrap();
+        let mut state = self.state();
+        let way = if path == "kv/txn" { state.ways.pop_front().unwrap_or(Way::Done) } else { Way::Done };
+        let answer = match way {
+            Way::Lost => return,
+            Way::Refused => ("400 Bad Request", json!({ "error": "too many operations" })),
+            Way::Done | Way::Unanswered => ("200 OK", state.answer(&path, &asked)),
+        };
+        if way != Way::Unanswered {
+            let (status, text) = (answer.0, answer.1.to_string());
+            write!(stream, "HTTP/1.1 {status}\r\nContent-Length: {}\r\nConnection: close\r\n\r\n{text}", text.len()).unwrap();
+        }
+    }
+
+    /// By which it is asked.
+    pub fn gateway(&self) -> Arc<Gateway> {
+        Arc::new(Gateway::new(&[self.place.clone()], None))
+    }
+
+    /// What becomes of the next transactions.
+    pub fn go(&self, ways: &[Way]) {
+        self.state().ways = ways.iter().copied().collect();
+    }
+
+    /// Takes a key away, as another program does.
+    pub fn remove(&self, key: &str) {
+        self.state().pairs.remove(key.as_bytes());
+    }
+
+    /// The keys and their values.
+    pub fn shown(&self) -> Vec<(String, String)> {
+        let text = |bytes: &[u8]| String::from_utf8(bytes.to_vec()).unwrap();
+        self.state().pairs.iter().map(|(key, stands)| (text(key), text(&stands.value))).collect()
+    }
+}
