@@ -3,6 +3,7 @@ use crate::blocks::block_words;
 use crate::dice::Dice;
 use crate::flushes::flushed;
 use crate::garbled::garbled;
+use crate::groups::whole_words;
 use crate::reports::Report;
 use crate::sheets::Sheet;
 use crate::stops::Stop;
@@ -73,7 +74,8 @@ fn put_tellings(alloc: Global, text: &mut String, told: &[u8]) -> Result<(), Sto
     Ok(())
 }
 
-fn hexadecimal(alloc: Global, bytes: &[u8]) -> Result<String, AllocError> {
+/// Bytes in hexadecimal.
+pub(crate) fn hexadecimal(alloc: Global, bytes: &[u8]) -> Result<String, AllocError> {
     hex::encode(alloc, bytes)
 }
 
@@ -122,7 +124,7 @@ fn whole(alloc: Global, rows: &[Part<'_, '_>], word: &str) -> Result<Vec<u8>, St
     Ok(all)
 }
 
-// Tells of all frames as one stream: what is told of them, and that it is flushed before more is read.
+// Tells of all frames as one stream, one by one and together: what is told of them, and that it is flushed before more is read.
 fn tell_stream(
     rt: &HostRuntime,
     report: &mut Report,
@@ -141,6 +143,9 @@ fn tell_stream(
         all.as_str(),
         came.as_str(),
     );
+    let all = format!(in alloc; "whole {all}; then ")?;
+    let came = whole_words(alloc, sent.as_slice())?;
+    report.tell(rt, (table.name, "together"), all.as_str(), came.as_str());
     let count = wanted.len();
     let all = format!(in alloc; "{count} flushed before more is read")?;
     let came = flushed(alloc, sent.as_slice())?;

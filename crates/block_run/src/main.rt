@@ -13,6 +13,7 @@ mod dice;
 mod flushes;
 mod frames;
 mod garbled;
+mod groups;
 mod guesses;
 mod hostile;
 mod masters;

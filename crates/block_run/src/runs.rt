@@ -1,6 +1,7 @@
 //! The files that are run.
 use crate::blocks::run_blocks;
 use crate::frames::{run_session, run_streams};
+use crate::groups::run_groups;
 use crate::hostile::run_hostile;
 use crate::random::run_random;
 use crate::replays::run_replays;
@@ -88,6 +89,7 @@ fn run_table(
         | "settings" => run_texts(rt, report, table),
         "session" => run_session(rt, report, table),
         "streams" => run_streams(rt, report, table),
+        "groups" => run_groups(rt, report, table),
         "hostile" => run_hostile(rt, report, before, table),
         "replays" => run_replays(rt, report, before, table),
         "walks" => run_walks(rt, report, before, table),

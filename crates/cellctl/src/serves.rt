@@ -9,7 +9,7 @@ use crate::stores::{left_open, tell_unfound};
 use anyhow::{Context, Result};
 use rows_cell::Records;
 use rows_sql::SqlRecords;
-use serve_cell::{Seat, Stop, serve_on};
+use serve_cell::{GroupStop, Seat, Stop, serve_groups};
 use settings_core::Settings;
 use sqlite::{Connection, FileStore, Files};
 use sqlite_disk::Unknown;
@@ -127,21 +127,35 @@ pub(crate) fn serve_seat<R: Records>(
         return (seat, 4);
     };
     let mut output = rt.stdout();
-    let (seat, ended) = serve_on(alloc, settings.lease(), seat, &mut input, &mut output);
+    let (seat, ended) = serve_groups(alloc, settings.lease(), seat, &mut input, &mut output);
     (seat, ended_status(rt, &ended))
 }
 
-fn ended_status(rt: &HostRuntime, ended: &Result<(), Stop>) -> u8
+fn ended_status(rt: &HostRuntime, ended: &Result<(), GroupStop>) -> u8
     ensures { IsExit result }
 {
     match ended {
         Ok(()) => 0,
-        Err(Stop::Unwritten) => 1,
-        Err(Stop::Unread) => {
+        Err(GroupStop::Stopped(stop)) => stopped_status(rt, stop),
+        Err(GroupStop::Refused(fault)) => {
+            let _ = eprintln!(rt;
+                "cellctl: the store refused what several frames changed: {fault}"
+            );
+            3
+        }
+    }
+}
+
+fn stopped_status(rt: &HostRuntime, stop: &Stop) -> u8
+    ensures { IsExit result }
+{
+    match stop {
+        Stop::Unwritten => 1,
+        Stop::Unread => {
             let _ = eprintln!(rt; "cellctl: the input can't be read");
             1
         }
-        Err(Stop::NoMemory) => {
+        Stop::NoMemory => {
             let _ = eprintln!(rt; "cellctl: out of memory");
             4
         }

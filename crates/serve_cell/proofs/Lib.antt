@@ -10,3 +10,8 @@ pub mod Streaming
 pub mod Passages
 pub mod Served
 pub mod Standings
+pub mod HeldBack
+pub mod HeldKept
+pub mod HeldSweeps
+pub mod Grouped
+pub mod Gathering

@@ -8,3 +8,5 @@ pub mod Laws
 pub mod Seats
 pub mod Replies
 pub mod Streams
+pub mod Held
+pub mod Groups

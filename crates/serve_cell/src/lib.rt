@@ -5,7 +5,11 @@
 mod answers;
 mod blocks;
 mod frames;
+mod gathers;
+mod groups;
 mod heard;
+mod held;
+mod holds;
 mod inputs;
 mod kinds;
 mod laws;
@@ -16,12 +20,16 @@ mod settling;
 mod standing;
 mod stops;
 mod streams;
+mod sweeping;
 mod tellings;
 
 pub use answers::{Answered, answer};
 pub use blocks::{ANSWER_LIMIT, BLOCK_LIMIT};
 pub use frames::{Frame, read_frame, write_frame};
+pub use gathers::GROUP_LIMIT;
+pub use groups::serve_groups;
 pub use heard::read_told;
+pub use holds::Group;
 pub use kinds::{FrameKind, ToldKind};
 pub use laws::{
     framed_is_next, frames_are_of_format, read_frame_was_written, read_told_was_written,
@@ -32,7 +40,7 @@ pub use runs::{Asked, serve};
 pub use seats::{Reply, Seat};
 pub use settling::{End, Settled, settle};
 pub use standing::{Counts, Delay, LONGEST_LIMIT, Recovery, Standing, standing_of};
-pub use stops::Stop;
+pub use stops::{GroupStop, Stop};
 pub use streams::{Turned, serve_on};
 pub use tellings::{
     Told, write_awaited, write_bad, write_counts, write_end, write_line, write_message,

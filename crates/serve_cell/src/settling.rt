@@ -46,7 +46,7 @@ pub fn settle<R: Records>(alloc: Global, cell: &mut Cell<R>, now: u64) -> Settle
     ended_in(sweeps, End::Unfinished)
 }
 
-fn ended_in(sweeps: Vec<Swept>, end: End) -> Settled
+pub(crate) fn ended_in(sweeps: Vec<Swept>, end: End) -> Settled
     ensures { result ≡ record { sweeps = sweeps.items; end = end } }
 {
     Settled {

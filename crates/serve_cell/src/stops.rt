@@ -1,4 +1,5 @@
 //! Why the frames of a stream are answered no further.
+use node_core::Fault;
 use std::alloc::{AllocError, AllocFailed};
 use std::io;
 use wire_core::WireFault;
@@ -12,6 +13,14 @@ pub enum Stop {
     Unwritten,
     /// There is no memory for an answer.
     NoMemory,
+}
+
+/// Why groups of frames are answered no further.
+#[derive(Clone, Copy)]
+pub enum GroupStop {
+    Stopped(Stop),
+    /// The store refused what a group changed.
+    Refused(Fault),
 }
 
 impl From<AllocError> for Stop {

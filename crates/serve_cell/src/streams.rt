@@ -45,7 +45,7 @@ pub fn serve_on<R: Records, I: Read, W: Write>(
 }
 
 // Room for a block.
-fn block_room(alloc: Global) -> Result<Vec<u8>, AllocError>
+pub(crate) fn block_room(alloc: Global) -> Result<Vec<u8>, AllocError>
     ensures { IfOk result (λ room. length room.items ≡ 1048576) }
 {
     let mut room = Vec::new(alloc);
@@ -98,7 +98,7 @@ fn serve_frame<R: Records, I: Read, W: Write>(
 }
 
 // Does what was found in a stream, and tells of it.
-fn serve_found<R: Records, W: Write>(
+pub(crate) fn serve_found<R: Records, W: Write>(
     alloc: Global,
     lease: u64,
     seat: Seat<R>,
@@ -148,7 +148,7 @@ fn tell_all<W: Write>(alloc: Global, reply: &Reply, deadline: Option<u64>, write
     }
 }
 
-fn write_bytes<W: Write>(writer: &mut W, bytes: &[u8]) -> io::Result<()>
+pub(crate) fn write_bytes<W: Write>(writer: &mut W, bytes: &[u8]) -> io::Result<()>
     ensures { OnOk result (Appends (W.contents writer.old) (W.contents writer.new) bytes.now) }
 {
     writer.write_all(bytes)?;

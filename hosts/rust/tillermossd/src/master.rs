@@ -13,6 +13,8 @@ use host_wire::messages::of_master::{ALIVE, REPLY, STARTED};
 use host_wire::messages::{REFUSAL, VERSION};
 use host_wire::{ANSWER_LIMIT, Blocks, Fields, ended_call, framed};
 use std::collections::VecDeque;
+use std::error::Error;
+use std::fmt::{self, Display, Formatter};
 use std::io;
 use std::os::unix::process::CommandExt;
 use std::path::{Path, PathBuf};
@@ -26,8 +28,16 @@ use tokio::sync::{mpsc, oneshot};
 use tokio::time::{sleep, timeout};
 use tracing::{debug, error, info, trace, warn};
 
-/// So many frames are at the master at once: it has the next one when it is done, and who waits has the turn after that.
-const AT_ONCE: usize = 2;
+/// So many frames are at the master at once, of so many bytes: those that wait there together it does as a group, which is one commit.
+const AT_ONCE: usize = 256;
+const BYTES_AT_ONCE: usize = 1 << 20;
+
+/// So long a master has one frame at a time, where the store refused a group of the one before it: a frame that is alone is refused
+/// alone.
+const ALONE: Duration = Duration::from_secs(60);
+
+/// What a master ends with where the store refused what a group of frames changed.
+const GROUP_REFUSED: i32 = 3;
 
 /// So long a master may take for a frame.
 const PATIENCE: Duration = Duration::from_secs(10);
@@ -54,6 +64,8 @@ pub enum Ending {
     Asked(ExitStatus),
     /// It is gone by itself, or doesn't answer.
     Gone(String),
+    /// It is gone, since the store refused what a group of frames changed. Nobody was told of that group.
+    Refused(String),
     /// The store isn't the same file any more.
     StoreGone(String),
 }
@@ -75,6 +87,7 @@ pub struct Making {
 #[derive(Debug)]
 struct Sent {
     at: Instant,
+    bytes: usize,
     client: Option<(u64, Arc<str>)>,
     has_committed: bool,
     is_refused: bool,
@@ -94,12 +107,14 @@ pub struct Master {
     begun: Instant,
     pulse: Pulse,
     sent: VecDeque<Sent>,
+    bytes_sent: usize,
+    is_alone: bool,
     copying: Option<oneshot::Sender<io::Result<TempDir>>>,
 }
 
 impl Making {
-    /// Starts a master, and waits until it is up.
-    pub async fn start(&self, hall: &Arc<Hall>) -> Result<Master> {
+    /// Starts a master, and waits until it is up. It may have one frame at a time for a while.
+    pub async fn start(&self, hall: &Arc<Hall>, is_alone: bool) -> Result<Master> {
         // (it is read before the first answer comes)
         let settings = self.settings.write()?;
         let kept = self.rows.as_ref().map(|rows| anyhow::Ok((rows.clone(), rows.keep()?))).transpose()?;
@@ -116,7 +131,8 @@ impl Making {
         let next = next.context("the master didn't come up")?;
         let identity = if kept.is_none() { Some(Identity::of(&self.store)?) } else { None };
         let (hall, pulse) = (hall.clone(), Pulse::new(0, next));
-        Ok(Master { hall, child, output, blocks, frames, identity, rows: kept, begun, pulse, sent: VecDeque::new(), copying: None })
+        let (sent, bytes_sent, copying) = (VecDeque::new(), 0, None);
+        Ok(Master { hall, child, output, blocks, frames, identity, rows: kept, begun, pulse, sent, bytes_sent, is_alone, copying })
     }
 
     // In a process group of its own, so that what is typed at a terminal doesn't end it before its server.
@@ -132,12 +148,18 @@ impl Making {
     }
 }
 
-// Writes frames until none comes any more: then the stream ends, too.
+// Writes frames until none comes any more: then the stream ends, too. Those that wait together are written together.
 async fn write_all(mut input: ChildStdin, mut frames: mpsc::Receiver<Vec<u8>>) {
     while let Some(frame) = frames.recv().await {
-        let Ok(bytes) = framed(&frame) else {
-            return;
-        };
+        let mut bytes = Vec::new();
+        let mut next = Some(frame);
+        while let Some(frame) = next {
+            let Ok(frame) = framed(&frame) else {
+                return;
+            };
+            bytes.extend(frame);
+            next = frames.try_recv().ok();
+        }
         // (where the master is gone its reader tells it)
         if input.write_all(&bytes).await.is_err() || input.flush().await.is_err() {
             return;
@@ -156,6 +178,9 @@ async fn come_up(hall: &Hall, output: &mut ChildStdout, blocks: &mut Blocks) -> 
             Told::Line(line) => {
                 follow(hall, &line, None);
                 is_up |= line.starts_with("up ");
+                if is_refused(&line) {
+                    return Err(StoreRefused(line).into());
+                }
                 if line.starts_with("refused ") {
                     bail!("{line}");
                 }
@@ -164,6 +189,23 @@ async fn come_up(hall: &Hall, output: &mut ChildStdout, blocks: &mut Blocks) -> 
             Told::Bad(reason) => bail!("it takes no frames: {reason}"),
         }
     }
+}
+
+/// The store refused a master's epoch, so that none came up. It may take one a little later.
+#[derive(Debug)]
+pub struct StoreRefused(String);
+
+impl Display for StoreRefused {
+    fn fmt(&self, out: &mut Formatter<'_>) -> fmt::Result {
+        out.write_str(&self.0)
+    }
+}
+
+impl Error for StoreRefused {}
+
+// Whether a line tells that the store refused.
+fn is_refused(line: &str) -> bool {
+    ["refused 15 ", "refused 16 "].iter().any(|words| line.starts_with(words))
 }
 
 // What a line tells is noted and, where an operator wants to know it, logged.
@@ -213,6 +255,7 @@ impl Master {
         // (one that is gone can't be killed)
         let _ = self.child.start_kill();
         match (ending, self.child.wait().await) {
+            (Ending::Gone(reason), Ok(status)) if status.code() == Some(GROUP_REFUSED) => Ending::Refused(reason),
             (Ending::Gone(reason), Ok(status)) => Ending::Gone(format!("{reason}; {status}")),
             (ending, _) => ending,
         }
@@ -245,7 +288,9 @@ impl Master {
     }
 
     fn has_room(&self) -> bool {
-        self.copying.is_none() && self.sent.len() < AT_ONCE
+        let is_alone = self.is_alone && self.begun.elapsed() < ALONE;
+        let most = if is_alone { 1 } else { AT_ONCE };
+        self.copying.is_none() && self.sent.len() < most && self.bytes_sent < BYTES_AT_ONCE
     }
 
     fn now(&self) -> u64 {
@@ -282,14 +327,17 @@ impl Master {
             Some(message) => Frame::Message(moment, &message.bytes),
             None => Frame::Tick(moment),
         };
-        self.frames.try_send(frame.write()).context("it takes no frames")?;
+        let frame = frame.write();
+        let bytes = frame.len();
+        self.frames.try_send(frame).context("it takes no frames")?;
+        self.bytes_sent += bytes;
         self.pulse.send(moment);
         self.hall.metrics.sent(message.is_some());
         let client = message.map(|Message { client, principal, place, .. }| {
             drop(place);
             (client, principal)
         });
-        self.sent.push_back(Sent { at: Instant::now(), client, has_committed: false, is_refused: false });
+        self.sent.push_back(Sent { at: Instant::now(), bytes, client, has_committed: false, is_refused: false });
         Ok(())
     }
 
@@ -305,7 +353,7 @@ impl Master {
             Told::Line(line) => {
                 let front = self.sent.front_mut();
                 let is_commit = ["applied", "started", "ended", "locked", "freed", "lapsed"].iter().any(|word| line.starts_with(word));
-                let is_refused = ["refused 15 ", "refused 16 "].iter().any(|words| line.starts_with(words));
+                let is_refused = is_refused(&line);
                 let from = front.and_then(|sent| {
                     sent.has_committed |= is_commit;
                     sent.is_refused |= is_refused;
@@ -321,6 +369,7 @@ impl Master {
                 let sent = self.sent.pop_front();
                 self.pulse.answer(next, sent.as_ref().is_some_and(|sent| sent.is_refused));
                 if let Some(sent) = sent {
+                    self.bytes_sent -= sent.bytes;
                     self.hall.metrics.answered(sent.at.elapsed(), sent.has_committed);
                 }
                 if self.rows.as_ref().is_some_and(|(_, kept)| kept.has_ended()) {

@@ -7,7 +7,7 @@ use crate::etcd::mastership::{Mastership, Seat};
 use crate::etcd::{self, gateway::Gateway};
 use crate::etcd::{Place, Rows};
 use crate::locks::take_lock;
-use crate::master::{Ending, Making, Master, Order};
+use crate::master::{Ending, Making, Master, Order, StoreRefused};
 use crate::numbers::{Epochs, Numbers};
 use crate::options::Options;
 use crate::picture::Picture;
@@ -40,6 +40,9 @@ const WHILE: Duration = Duration::from_secs(60);
 
 /// So many edits a commit may have: all sessions of a cell that end at once, with their locks and nodes.
 const OPERATIONS: usize = 10_000;
+
+/// So long behind a master whose epoch the store refused the next one is tried.
+const AGAIN: Duration = Duration::from_millis(500);
 
 /// How often the service manager hears that the server lives.
 const WATCHDOG: Duration = Duration::from_secs(5);
@@ -216,7 +219,7 @@ async fn run(options: Arc<Options>, path: PathBuf, rows: Option<Rows>, found: Fo
     let hall = Arc::new(Hall::new(found.numbers, found.picture, &found.settings.limits)?);
     let making = Making { program: options.master.clone().unwrap_or_else(cellctl), store: path, rows, settings: found.settings };
     let (orders, ordered) = mpsc::channel(4);
-    let master = up(&making, &hall).await?;
+    let master = up(&making, &hall, false).await?;
     if making.rows.is_none() && hall.picture().nodes.is_empty() {
         // (a store that the master has made; it writes nothing before it gets a frame)
         let folder = store::copy(&making.store)?;
@@ -243,8 +246,8 @@ async fn run(options: Arc<Options>, path: PathBuf, rows: Option<Rows>, found: Fo
 }
 
 // Starts a master, and notes its epoch.
-async fn up(making: &Making, hall: &Arc<Hall>) -> Result<Master> {
-    let master = making.start(hall).await?;
+async fn up(making: &Making, hall: &Arc<Hall>, is_alone: bool) -> Result<Master> {
+    let master = making.start(hall, is_alone).await?;
     let epoch = hall.picture().epoch;
     hall.numbers.lock().unwrap_or_else(PoisonError::into_inner).note(Epochs { last: epoch, coming: epoch + 1 })?;
     info!(process = master.process(), epoch, "serving");
@@ -255,11 +258,12 @@ async fn up(making: &Making, hall: &Arc<Hall>) -> Result<Master> {
 async fn keep(mut master: Master, making: Making, hall: Arc<Hall>, mut orders: mpsc::Receiver<Order>) -> Result<()> {
     let mut starts = Vec::new();
     loop {
-        let reason = match master.run(&mut orders).await {
+        let (reason, is_alone) = match master.run(&mut orders).await {
             Ending::Asked(status) if status.success() => return Ok(()),
             Ending::Asked(status) => bail!("the master is gone: {status}"),
             Ending::StoreGone(reason) => bail!("{reason}; nothing more is written"),
-            Ending::Gone(reason) => reason,
+            Ending::Gone(reason) => (reason, false),
+            Ending::Refused(reason) => (format!("{reason}; the store refused what several frames changed"), true),
         };
         if making.rows.as_ref().is_some_and(|rows| !rows.mastership.holds()) {
             bail!("the mastership has ended");
@@ -272,9 +276,35 @@ async fn keep(mut master: Master, making: Making, hall: Arc<Hall>, mut orders: m
         if starts.len() > MASTERS {
             bail!("the master is gone again and again: {reason}");
         }
-        master = up(&making, &hall).await?;
+        let next = up_again(&making, &hall, is_alone, &mut orders).await?;
+        let Some(next) = next else {
+            return Ok(());
+        };
+        master = next;
         // (what was on its way to the last one is lost, also Beats that it kept)
         hall.routes.send_to_all(&Notice::of_new_master().write());
+    }
+}
+
+// Starts a master; while the store refuses its epoch it is tried again a little later. None where it was told to go meanwhile.
+async fn up_again(making: &Making, hall: &Arc<Hall>, is_alone: bool, orders: &mut mpsc::Receiver<Order>) -> Result<Option<Master>> {
+    loop {
+        if making.rows.as_ref().is_some_and(|rows| !rows.mastership.holds()) {
+            bail!("the mastership has ended");
+        }
+        match up(making, hall, is_alone).await {
+            Err(error) if error.is::<StoreRefused>() => {
+                error!(reason = %format_args!("{error:#}"), "no master comes up; it is tried again")
+            }
+            started => return started.map(Some),
+        }
+        let until = tokio::time::Instant::now() + AGAIN;
+        while let Ok(order) = tokio::time::timeout_at(until, orders.recv()).await {
+            // (a copy waits for a master: who asked for one learns that there is none)
+            if matches!(order, Some(Order::Down) | None) {
+                return Ok(None);
+            }
+        }
     }
 }
 

@@ -190,8 +190,12 @@ fn settle(gateway: &Gateway, mastership: &Mastership, key: &str, known: &Known, 
                 if meta.by == mastership.revision && meta.number == number {
                     return Ok(Outcome::Stands(pair.changed));
                 }
-                if pair.changed != known.changed {
+                if pair.changed != known.changed && meta != known.meta {
                     bail!("another server has written the rows");
+                }
+                // (it was written as it was, and the answer to that got lost)
+                if pair.changed != known.changed {
+                    return Ok(Outcome::IsOff(pair.changed));
                 }
                 let same = [Deed::Put(key.to_owned(), pair.value)];
                 match gateway.change(&[Compare::Changed(key, known.changed), mastership.fence()], &same) {
@@ -283,7 +287,8 @@ mod tests {
     fn rows_that_another_wrote_are_left() {
         let etcd = Pretended::start();
         let mut keeper = keeper(&etcd);
-        etcd.gateway().change(&[], &[Deed::Put("c/meta".to_owned(), META.as_bytes().to_vec())]).unwrap();
+        let other = META.replace(r#""epoch":1"#, r#""epoch":9"#).into_bytes();
+        etcd.gateway().change(&[], &[Deed::Put("c/meta".to_owned(), other)]).unwrap();
         assert!(keeper.commit(1, &edits()).is_err());
         assert_eq!(stands(&etcd), (0, false));
     }

@@ -164,7 +164,7 @@ impl Pretended {
 
     /// By which it is asked.
     pub fn gateway(&self) -> Arc<Gateway> {
-        Arc::new(Gateway::new(&[self.place.clone()], None))
+        Arc::new(Gateway::new(std::slice::from_ref(&self.place), None))
     }
 
     /// What becomes of the next transactions.

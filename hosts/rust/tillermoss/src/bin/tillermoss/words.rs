@@ -41,7 +41,14 @@ pub struct Words {
 #[derive(Clone, Debug, Args)]
 pub struct Reach {
     /// The server's address: unix:PATH, tls:HOST:PORT, tcp:HOST:PORT or HOST:PORT; of several servers of one cell all, between commas
-    #[arg(long, alias = "servers", global = true, env = "TILLERMOSS_SERVER", default_value = "127.0.0.1:7171", value_name = "ADDRESS")]
+    #[arg(
+        long,
+        visible_alias = "servers",
+        global = true,
+        env = "TILLERMOSS_SERVER",
+        default_value = "127.0.0.1:7171",
+        value_name = "ADDRESS"
+    )]
     pub server: String,
     /// The principal to act for; without it the user at unix:, the certificate's common name at tls:, and ann at tcp:
     #[arg(long = "as", global = true, env = "TILLERMOSS_PRINCIPAL", value_name = "PRINCIPAL")]
@@ -271,6 +278,14 @@ mod tests {
             let words = Words::try_parse_from(["tillermoss"].into_iter().chain(line.split(' '))).unwrap();
             assert_eq!((words.reach.principal.as_deref(), words.output), (Some("bob"), Output::Json), "{line}");
             assert_eq!(words.verb.words(), ("get", Some("f")), "{line}");
+        }
+    }
+
+    #[test]
+    fn several_servers_are_one_word() {
+        for line in ["--servers h:7,tls:i:8 get f", "get f --server h:7,tls:i:8"] {
+            let words = Words::try_parse_from(["tillermoss"].into_iter().chain(line.split(' '))).unwrap();
+            assert_eq!(words.reach.server, "h:7,tls:i:8", "{line}");
         }
     }
 

@@ -91,7 +91,18 @@ fn worker(cell: &Cell, number: u64, begun: Instant) -> Tried<Worker> {
         Some(at) => cell.place(at as usize),
         None => cell.places(),
     };
-    Ok(Worker::new(&options(&places), SEED + number, begun)?)
+    come(&places, SEED + number, begun)
+}
+
+// (the network may cut off one that comes)
+fn come(places: &str, seed: u64, begun: Instant) -> Tried<Worker> {
+    let trying = Instant::now();
+    loop {
+        match Worker::new(&options(places), seed, begun) {
+            Err(_) if trying.elapsed() < PATIENCE => thread::sleep(Duration::from_millis(100)),
+            worker => return Ok(worker?),
+        }
+    }
 }
 
 fn options(places: &str) -> Options {
@@ -127,7 +138,7 @@ fn stay_quiet(cell: &Cell, at: usize, begun: Instant, rules: &Rules) -> Tried<De
     thread::sleep(Duration::from_secs(2));
     cell.cut(at, Passing::Nothing);
     thread::sleep(Duration::from_secs(8));
-    let writer = Worker::new(&options(&cell.places_but(at)), SEED + CLIENTS + begun.elapsed().as_secs(), begun)?;
+    let writer = come(&cell.places_but(at), SEED + CLIENTS + begun.elapsed().as_secs(), begun)?;
     let is_over = AtomicBool::new(false);
     let wrote = thread::scope(|scope| {
         let writing = scope.spawn(|| writer.write_on(&is_over));
@@ -142,7 +153,7 @@ fn stay_quiet(cell: &Cell, at: usize, begun: Instant, rules: &Rules) -> Tried<De
 
 // What a new client reads at the end.
 fn finish(cell: &Cell, begun: Instant) -> Tried<Deeds> {
-    let mut worker = Worker::new(&options(&cell.places()), SEED, begun)?;
+    let mut worker = come(&cell.places(), SEED, begun)?;
     worker.read_all()?;
     Ok(worker.deeds())
 }

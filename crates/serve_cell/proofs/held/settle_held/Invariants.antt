@@ -1,0 +1,11 @@
+use Rattle.std.proofs.Common.{◌≡◌, length}
+use Rattle.serve_cell.specs.Held.{seen}
+use Rattle.serve_cell.proofs.Sweeps.{Going}
+use Rattle.serve_cell.proofs.held.settle_held.Given as goal
+
+abbrev pub invariant-loop-done : goal.invariant-loop-done
+invariant-loop-done g l = record {
+  going : Going l.now (seen l.fn.group) l.sweeps.items (seen l.group);
+  counted : length l.sweeps.items ≡ l._done;
+  store : l.group.store ≡ l.fn.group.store;
+}
