@@ -104,7 +104,12 @@ class Read(unittest.TestCase):
         self.assertEqual((found.kind, found.number, found.text), (codec.NOTICE, 258, "no room"))
 
     def test_welcomes(self):
-        rows = [("01 00 0000000000000007 0000000000000009", (7, 9)), ("01 01 04", (None, 4))]
+        rows = [
+            ("01 00 0000000000000007 0000000000000009", (7, 9, "")),
+            ("01 01 04", (None, 4, "")),
+            ("01 01 07 00000007 7463703a683a37", (None, 7, "tcp:h:7")),
+            ("01 01 07 00000000", (None, 7, "")),
+        ]
         for block, wanted in rows:
             self.assertEqual(codec.read_welcome(bytes.fromhex(block)), wanted)
 

@@ -3,6 +3,7 @@
 import getpass
 import os
 import signal
+import socket
 import subprocess
 import sys
 import tempfile
@@ -238,6 +239,35 @@ class FailOvers(WithServer):
             self.assertEqual(self.refusal(other.acquire, other.open(NAME, "w"), False, False), "Held")
         kinds = [client.events.get_nowait().kind for _ in range(client.events.qsize())]
         self.assertEqual(kinds, ["failover"] * 2)
+
+
+class Standby(threading.Thread):
+    """A server that isn't master, and says where the one is that is, so many times."""
+
+    def __init__(self, master: str, times: int):
+        super().__init__(daemon=True)
+        self.master, self.times = master, times
+        self.door = socket.create_server(("127.0.0.1", 0))
+        self.address = f"127.0.0.1:{self.door.getsockname()[1]}"
+
+    def run(self) -> None:
+        for _ in range(self.times):
+            stream, _ = self.door.accept()
+            with stream:
+                stream.recv(256)
+                block = b"\1\1\7" + len(self.master).to_bytes(4, "big") + self.master.encode()
+                stream.sendall(len(block).to_bytes(4, "big") + block)
+        self.door.close()
+
+
+class Several(WithServer):
+    def test_a_client_goes_to_the_master(self):
+        for told in (self.server.address, ""):
+            standby = Standby(told, 1)
+            standby.start()
+            with Client(f"{standby.address},{self.server.address}", "ann") as client:
+                self.assertEqual(client.list(client.open("/ls/c/acl")), ("base",))
+            standby.join()
 
 
 class Doors(WithServer):

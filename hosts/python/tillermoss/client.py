@@ -50,16 +50,18 @@ def now() -> int:
 
 
 class Client:
-    """A client that keeps its session by a thread of its own, and connects again where a connection is lost."""
+    """A client that keeps its session by a thread of its own, and connects again where a connection is lost. Of several servers,
+    with commas between, it goes to the one that is master."""
 
-    def __init__(self, server: str, principal: str, patience: float = 90.0, tls: Optional[ssl.SSLContext] = None):
-        self.server, self.principal, self.patience, self.tls = server, principal, patience, tls
+    def __init__(self, servers: str, principal: str, patience: float = 90.0, tls: Optional[ssl.SSLContext] = None):
+        self.principal, self.patience, self.tls = principal, patience, tls
+        self.servers, self.told = servers.split(","), ""
         self.changed = threading.Condition()
         self.calling = threading.Lock()
         self.events: queue.Queue = queue.Queue()
         self.connection: Optional[Connection] = None
         self.fault: Optional[Exception] = None
-        connection = self.greet(codec.hello(principal))
+        connection = self.greet_one(codec.hello(principal))
         self.session = Session(self.number, principal)
         self.schedule = Schedule()
         self.keeper = threading.Thread(target=self.keep, args=(connection,), name="tillermoss", daemon=True)
@@ -89,12 +91,29 @@ class Client:
 
     # ---- the keeper's thread
 
+    def greet_one(self, greeting: bytes) -> Connection:
+        """Greets until a server takes the client, where there are several."""
+        ends = time.monotonic() + self.patience
+        while True:
+            try:
+                return self.greet(greeting)
+            except OSError:
+                if len(self.servers) == 1 and not self.told or time.monotonic() >= ends:
+                    raise
+                time.sleep(PAUSES[0])
+
     def greet(self, greeting: bytes) -> Connection:
-        connection = Connection(self.server, self.tls)
+        server, self.told = self.told or self.servers[0], ""
         try:
-            self.number, self.token = self.welcomed(connection, greeting)
-        except BaseException:
-            connection.close()
+            connection = Connection(server, self.tls)
+            try:
+                self.number, self.token = self.welcomed(connection, greeting)
+            except BaseException:
+                connection.close()
+                raise
+        except OSError:
+            # (the next time another one)
+            self.servers.append(self.servers.pop(0))
             raise
         return connection
 
@@ -103,7 +122,7 @@ class Client:
         block = connection.next(CONNECTING)
         if block is None:
             raise ConnectionError("the server doesn't greet")
-        number, other = codec.read_welcome(block)
+        number, other, self.told = codec.read_welcome(block)
         if number is not None:
             return number, other
         reason = codec.TURNED_AWAY[other] if other < len(codec.TURNED_AWAY) else f"reason {other}"

@@ -24,9 +24,11 @@ TURNED_AWAY = (
     "too many clients",
     "the connection is that of another principal",
     "too many clients of this principal",
+    "the server isn't master",
 )
+NOT_MASTER = 7
 # What of these may be otherwise a little later.
-TURNED_AWAY_FOR_NOW = (3, 4, 6)
+TURNED_AWAY_FOR_NOW = (3, 4, 6, NOT_MASTER)
 EVENTS = "failover contents child-added child-removed child-modified invalid locked conflict lost".split()
 
 
@@ -212,11 +214,16 @@ def on_handle(kind: int, handle: bytes, rest: bytes = b"") -> bytes:
 
 
 def read_welcome(block: bytes) -> tuple:
-    """The client's number and its token; or the reason why there is none, behind None."""
+    """The client's number and its token; or None and the reason why there is none. Behind them where the master is, as a server
+    says that isn't."""
     fields = Fields(block)
     if fields.byte() != GREETING:
         raise Malformed("a greeting of another version")
-    found = (None, fields.byte()) if fields.choice(2) else (fields.word(), fields.word())
+    if not fields.choice(2):
+        found = fields.word(), fields.word(), ""
+    else:
+        reason = fields.byte()
+        found = None, reason, fields.text() if reason == NOT_MASTER else ""
     fields.end()
     return found
 
