@@ -33,7 +33,7 @@ use Rattle.client_core.specs.Asks.{send_plan, served_or, close_plan, poison_plan
 use Rattle.client_core.specs.Gives.{give_step}
 use Rattle.client_core.specs.Cases.{noted_moment, AskCase, asked_in, GiveCase, given_in}
 use Rattle.client_core.specs.Cases.AskCase.{AskedTooLate, Unsafe, Refused, ReadServed, AbsenceServed, Shared, OutOfHandles, Released, OutOfCalls, Sent, Poisoned}
-use Rattle.client_core.specs.Cases.GiveCase.{GivenTooLate, OfAnother, Started, StartedUnfit, StartedDropped, LeaseTaken, LeaseStays, AliveUnfit, AliveDropped, OutOfNumbers, Replied, Installed, ReplyDropped, NotAwaited, Learns, Lost, TurnedAway, RefusalDropped}
+use Rattle.client_core.specs.Cases.GiveCase.{GivenTooLate, OfAnother, Started, StartedUnfit, StartedDropped, LeaseTaken, LeaseStays, AliveUnfit, AliveDropped, OutOfNumbers, Replied, Installed, Departed, ReplyDropped, NotAwaited, Learns, Lost, TurnedAway, RefusalDropped}
 use Rattle.client_core.proofs.AskCases.{ask_case}
 use Rattle.client_core.proofs.Cached.{cached_is}
 use Rattle.client_core.proofs.GiveCases.{give_case}
@@ -124,6 +124,7 @@ plan_own s moment (asks.Node number call) = node_own s moment number call (usabl
 plan_own s moment (asks.SetSequencer number sequencer) =
     sequencer_own s number sequencer (usable_handle (handle_of s.handles number)) (usable_own (handle_of s.handles number))
 plan_own s moment (asks.CheckSequencer bytes) = sent_own s (calls.CheckSequencer bytes) None targets.Checking
+plan_own s moment asks.Leave = sent_own s calls.Leave None targets.Leaving
 
 -- ---- an ask
 
@@ -148,7 +149,7 @@ asked_own s now ask (AskedTooLate late) = tt
 asked_own s now ask (Unsafe fault early is) = subst OwnSome is (session_own s.session (standing_then s (noted_moment s now)))
 asked_own s now ask (Refused fault safe is) = subst OwnErr is (plan_own s (noted_moment s now) ask)
 asked_own s now ask (ReadServed number handle call entry given safe is readable) = cached_is OwnAnswer (λ view. tt) (λ names. tt) stale_own handle call entry given readable.answers
-asked_own s now ask (AbsenceServed opening safe is plain cached) = record { no_want = λ e. cc; no_end = λ e. cc }
+asked_own s now ask (AbsenceServed opening safe stays is plain cached) = record { no_want = λ e. cc; no_end = λ e. cc }
 asked_own s now ask (Shared opening view handle safe is shared room) = tt
 asked_own s now ask (OutOfHandles opening view handle safe is shared last) = tt
 asked_own s now ask (Released number handle safe is found shared) = tt
@@ -181,6 +182,7 @@ given_own s now out (AliveDropped message heard is strange) = tt
 given_own s now out (OutOfNumbers message call heard is for last) = tt
 given_own s now out (Replied message call heard is for room kept plain) = tt
 given_own s now out (Installed message call taught stamp heard is for learned) = tt
+given_own s now out (Departed message call heard is for leaving done) = tt
 given_own s now out (ReplyDropped message call heard is for dropped) = tt
 given_own s now out (NotAwaited message heard is none) = tt
 given_own s now out (Learns message present heard is later) = tt

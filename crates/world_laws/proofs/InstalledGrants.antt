@@ -89,6 +89,7 @@ is_open (calls.Release bytes) opening h = cc
 is_open (calls.GetSequencer bytes) opening h = cc
 is_open (calls.SetSequencer bytes) opening h = cc
 is_open (calls.CheckSequencer bytes) opening h = cc
+is_open calls.Leave opening h = cc
 
 module _ (sent : List Message) (secret : List ℕ) (s : ClientState) (message : Reply) (call : Outstanding) (handles : AreHandles s.opened s.handles) (r : IsReplied sent secret s message call) (name x : List ℕ) (entry : Option View) (asks : name_asked secret r.asked.message.call ≡ Some name) where
   by_handle : (view : View) (number : ℕ) (o : Option ClientHandle) → call.target ≡ targets.Handle number → handle_of s.handles number ≡ o → viewed o view ≡ Some (x, entry) → Learned name x (Some view) entry
