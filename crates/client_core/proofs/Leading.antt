@@ -1,5 +1,5 @@
 -- The changes of the cache that are asked for before a step lead to the cache behind it.
-use Rattle.std.proofs.Common.{◌≡◌, ℕ, ◌+◌, ◌<◌, Bool, true, false, cond, List, [], ◌∷◌, ◌++◌, Option, Some, None, Result, Ok, Err, refl, sym, ap, ◌∙◌, subst, arith, ◌⊎◌, inl, inr}
+use Rattle.std.proofs.Common.{◌≡◌, ◌≢◌, ℕ, ◌+◌, ◌<◌, Bool, true, false, cond, List, [], ◌∷◌, ◌++◌, Option, Some, None, Result, Ok, Err, refl, sym, ap, ◌∙◌, subst, arith, ◌⊎◌, inl, inr}
 use Rattle.std.specs.Prelude.{◌==◌, ◌&&◌, nat_lt, IfOk, is_none, is_some, not}
 use Rattle.std.proofs.lemmas.Bool.Decides.{nat_tests}
 use Rattle.std.proofs.lemmas.List.Sums.{fold-append}
@@ -13,6 +13,7 @@ use Rattle.node_core.specs.declared.refusals.Fault.TheVariants as faults
 use Rattle.tags_cell.specs.declared.messages.beats.Alive.{Alive}
 use Rattle.tags_cell.specs.declared.messages.beats.Invalidation.{Invalidation}
 use Rattle.tags_cell.specs.declared.messages.outs.CallResult.{CallResult}
+use Rattle.tags_cell.specs.declared.messages.outs.Reply.{Reply}
 use Rattle.tags_cell.specs.declared.messages.outs.CallResult.TheVariants as results
 use Rattle.client_core.specs.declared.parts.asks.Ask.{Ask}
 use Rattle.client_core.specs.declared.parts.targets.Target.{Target}
@@ -23,7 +24,7 @@ use Rattle.client_core.specs.PartOps.{losses, with_flushes, lease_ops}
 use Rattle.client_core.specs.State.{ClientState, note_in, note, standing_then, session_then, session_in, session_behind}
 use Rattle.client_core.specs.Asks.{ask_step, ask_at, asks_to_leave, fault_then, fault_for, leaves, plan_of}
 use Rattle.client_core.specs.Beats.{beat_step}
-use Rattle.client_core.specs.Gives.{offered, takes_offer, with_processed, with_lease, ended_plainly, is_live}
+use Rattle.client_core.specs.Gives.{offered, takes_offer, with_processed, with_lease, ended_plainly, is_live, leave_step, finish_step}
 use Rattle.client_core.specs.Ops.{LeadTo}
 use Rattle.client_core.specs.Cases.{noted_moment, IsSafe, AskCase, asked_in, BeatCase, beaten_in, IsSendable}
 use Rattle.client_core.specs.Cases.AskCase.{AskedTooLate, Unsafe, Refused, ReadServed, AbsenceServed, Shared, OutOfHandles, Released, OutOfCalls, Sent, Poisoned}
@@ -39,6 +40,7 @@ use Rattle.client_core.specs.declared.parts.targets.Outstanding.{Outstanding}
 use Rattle.client_core.specs.declared.parts.targets.Target.TheVariants as targets
 use Rattle.client_core.specs.declared.parts.asks.Ask.TheVariants as asks
 use Rattle.client_core.specs.declared.parts.sessions.Session.{Session}
+use Rattle.client_core.specs.declared.parts.sessions.Session.TheVariants as sessions
 use Rattle.tags_cell.specs.declared.messages.calls.Call.TheVariants as calls
 use Rattle.cache_core.specs.Standings.{standing_at}
 use Rattle.cache_core.specs.declared.standings.Standing.TheVariants as standings
@@ -109,7 +111,7 @@ shuts cache ops behind h = loses cache ops behind h
 
 -- the changes behind which a client that ends its session has nothing
 abbrev pub shut_ops : Bool → List CacheOp → List CacheOp
-shut_ops leaving ops = if leaving then ops ++ losses else ops
+shut_ops leaving ops = cond leaving (ops ++ losses) ops
 
 shuts_if : (b : Bool) (cache : CacheState) (ops : List CacheOp) (behind : CacheState) → applied_all cache ops ≡ behind → applied_all cache (shut_ops b ops) ≡ shut_if b behind
 shuts_if true cache ops behind h = shuts cache ops behind h
@@ -128,6 +130,17 @@ goes_under s moment message ops h better =
     ∙ (ap (λ x. shut_if s.leaving (under p.cache (record { sent = x; span = message.span }) moment)) (sym k.of_beats.sent)
     ∙ (ap (λ b. shut_if b (under p.cache (offered p message.span) moment)) (sym (note_leaving s s.session moment)) ∙ taken_cache p moment message (takes_offer p message) same refl))
 
+-- by a client that ends its session, and by one that doesn't
+pub goes_shut : (s : ClientState) (moment : ℕ) (message : Alive) (ops : List CacheOp) → applied_all s.cache ops ≡ (note s moment).cache → takes_offer s message ≡ true → s.leaving ≡ true → applied_all s.cache ((with_flushes s.processed ops message.invalidations ++ lease_ops (offered s message.span) moment) ++ losses) ≡ (with_lease (with_processed (note s moment) message) moment message).cache
+goes_shut s moment message ops h better leaves =
+    ap (λ b. applied_all s.cache (shut_ops b (with_flushes s.processed ops message.invalidations ++ lease_ops (offered s message.span) moment))) (sym leaves)
+    ∙ goes_under s moment message ops h better
+
+pub goes_on : (s : ClientState) (moment : ℕ) (message : Alive) (ops : List CacheOp) → applied_all s.cache ops ≡ (note s moment).cache → takes_offer s message ≡ true → s.leaving ≡ false → applied_all s.cache (with_flushes s.processed ops message.invalidations ++ lease_ops (offered s message.span) moment) ≡ (with_lease (with_processed (note s moment) message) moment message).cache
+goes_on s moment message ops h better stays =
+    ap (λ b. applied_all s.cache (shut_ops b (with_flushes s.processed ops message.invalidations ++ lease_ops (offered s message.span) moment))) (sym stays)
+    ∙ goes_under s moment message ops h better
+
 -- ---- a Reply
 
 -- its end leaves the cache
@@ -140,6 +153,28 @@ plainly n target (results.Listed view) = refl
 plainly n target (results.Sequencer bytes) = refl
 plainly n target results.Done = refl
 plainly n target (results.Refused fault) = refl
+
+-- the session is over that the client has ended
+pub left : (s : ClientState) (moment : ℕ) (message : Reply) (result : CallResult) → result ≡ results.Done → (ops more : List CacheOp) → applied_all s.cache ops ≡ (note s moment).cache → more ≡ ops ++ losses → LeadTo s.cache more (leave_step s moment message result)
+left s moment message results.Done is ops more h j = ap (applied_all s.cache) j ∙ shuts s.cache ops (note s moment).cache h
+left s moment message (results.Opened handle) is ops more h j = cc
+left s moment message results.Closed is ops more h j = cc
+left s moment message (results.Viewed view) is ops more h j = cc
+left s moment message (results.Stated stat) is ops more h j = cc
+left s moment message (results.Listed view) is ops more h j = cc
+left s moment message (results.Sequencer bytes) is ops more h j = cc
+left s moment message (results.Refused fault) is ops more h j = cc
+
+-- its end was refused
+pub left_refused : (s : ClientState) (moment : ℕ) (message : Reply) (result : CallResult) → result ≢ results.Done → leave_step s moment message result ≡ finish_step s moment message targets.Leaving
+left_refused s moment message results.Done other = absurd (other refl)
+left_refused s moment message (results.Opened handle) other = refl
+left_refused s moment message results.Closed other = refl
+left_refused s moment message (results.Viewed view) other = refl
+left_refused s moment message (results.Stated stat) other = refl
+left_refused s moment message (results.Listed view) other = refl
+left_refused s moment message (results.Sequencer bytes) other = refl
+left_refused s moment message (results.Refused fault) other = refl
 
 -- a step that may be refused
 pub leads_if : {X : Type 0} (b : Bool) (cache : CacheState) (ops : List CacheOp) (new old : ClientState) (answer : X) (fault : Fault) → applied_all cache ops ≡ new.cache → LeadTo cache ops (cond b (new, Ok answer) (old, Err fault))

@@ -24,7 +24,7 @@ use Rattle.client_core.specs.declared.parts.targets.Target.{Target}
 use Rattle.client_core.specs.State.{ClientState, standing_then, session_behind, session_in, note_in, note, note_live, note_lines}
 use Rattle.client_core.specs.Asks.{ask_step}
 use Rattle.client_core.specs.Beats.{start_message, beat_message, with_beat, beaten, beat_step}
-use Rattle.client_core.specs.Gives.{offered, ended_plainly, give_step}
+use Rattle.client_core.specs.Gives.{offered, with_processed, ended_plainly, give_step}
 use Rattle.client_core.specs.Invalidations.{last_number}
 use Rattle.client_core.specs.Cases.{noted_moment, IsLive, IsStarted, IsFit, IsTaken, IsLater, AskCase, asked_in, BeatCase, beaten_in, GiveCase, given_in, noted}
 use Rattle.client_core.specs.Cases.AskCase.{AskedTooLate, Unsafe, Refused, ReadServed, AbsenceServed, Shared, OutOfHandles, Released, OutOfCalls, Sent, Poisoned}

@@ -21,10 +21,13 @@ use tags_cell::{Call, CallMessage, MessageNumber, Request};
 
 impl Client {
     /// Asks for a call. First the time is noted; where that prints lines they come first, also where the call is refused.
-    /// Refused, in this order: without a session as NoSession, in jeopardy as InJeopardy, and where the session was lost
-    /// as SessionExpired, and first of all where its end was asked for before as NoSession, but for that call while the session lives; for a handle number that isn't open as BadHandle; for a poisoned handle, but for a Close, as
-    /// Poisoned; and, if the client doesn't answer it by itself, while a call is outstanding as CallOutstanding. These
-    /// change nothing but what the noting of the time does. A CheckSequencer is on no handle.
+    /// Refused, in this order: where the end of the session was asked for before, as NoSession, but for that call while the
+    /// session lives; without a session as NoSession, in jeopardy as InJeopardy, and where the session was lost as
+    /// SessionExpired; for a handle number that isn't open as BadHandle; for a poisoned handle, but for a Close, as Poisoned;
+    /// and, if the client doesn't answer it by itself, while a call is outstanding as CallOutstanding. These change nothing but
+    /// what the noting of the time does. A CheckSequencer is on no handle, nor is a Leave.
+    ///
+    /// Before a Leave goes out the cache is emptied and turned off, and it stays so.
     ///
     /// The client answers by itself, also beside an outstanding call: a read on a handle to read without a sequencer under
     /// whose name its cache holds something, as StaleInstance where that is no view of the handle's instance; a ReadDir

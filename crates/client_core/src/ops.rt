@@ -188,7 +188,10 @@ impl Client {
         ensures { IfOk result (λ ops. LeadTo self.now.cache ops.items (leave_step self.now moment reply.now reply.now.result)) }
     {
         match &reply.result {
-            CallResult::Done => with_losses(self.ops_noted(moment)?),
+            CallResult::Done => {
+                let noted = self.ops_noted(moment)?;
+                with_losses(noted)
+            }
             _ => self.ops_finished(moment, reply, Target::Leaving),
         }
     }

@@ -28,7 +28,7 @@ use Rattle.cell_state.specs.State.{MasterState}
 use Rattle.cell_state.specs.Lookups.{granted_lines, repeated_reply, noted}
 use Rattle.cell_core.specs.Step.{queued, asking, asking_for, names_of, with_call, take_step}
 use Rattle.cell_core.specs.Cases.{TakeCase, taken_by}
-use Rattle.cell_core.specs.Cases.TakeCase.{StartRefused, OldBeat, BeatRefused, BeatParked, OldEpoch, NoSession, LeftBefore, Repeated, OlderCall, Outstanding, Answered, Granted, Waits, LeftBefore}
+use Rattle.cell_core.specs.Cases.TakeCase.{StartRefused, OldBeat, BeatRefused, BeatParked, OldEpoch, NoSession, LeftBefore, Repeated, OlderCall, Outstanding, Answered, Granted, Waits}
 use Rattle.cell_state.specs.Updates.{with_note}
 use Rattle.cell_state.specs.Replies.{locked_line, locked_lines, line_if}
 use Rattle.cell_state.specs.Lapses.{lapse_lines, lapses_lines, lapses_of, parting_lines}

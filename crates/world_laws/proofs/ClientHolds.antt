@@ -344,6 +344,7 @@ module _ (s : ClientState) where
   made_plan moment (asks.Node number node) = made_node moment number node (handle_of s.handles number) refl
   made_plan moment (asks.SetSequencer number sequencer) = made_sequencer number sequencer (usable_handle (handle_of s.handles number))
   made_plan moment (asks.CheckSequencer bytes) = made_send (calls.CheckSequencer bytes) None targets.Checking (λ number at. cc)
+  made_plan moment asks.Leave = made_send calls.Leave None targets.Leaving (λ number at. cc)
 
 -- it is the next call, which nobody sent before
 pub grips_sent : (sent : List Message) (s : ClientState) (moment : ℕ) (ask : Ask) (call : Call) (sequencer : Option (List ℕ)) (target : Target) → Grips sent s → plan_of s moment ask ≡ Ok (plans.Send call sequencer target) → call_of sent s.number (s.calls + 1) ≡ None → Grips (sent ++ ToMaster (message_of s call sequencer) ∷ []) (with_call s moment call sequencer target)

@@ -106,6 +106,7 @@ module _ (sent : List Message) (secret : List ℕ) (s : ClientState) (message : 
   by_view view (targets.Handle number) at h = by_handle view number (handle_of s.handles number) at refl h
   by_view view (targets.Sequencing number) at h = cc
   by_view view targets.Checking at h = cc
+  by_view view targets.Leaving at h = cc
   by_view view targets.Dropped at h = cc
 
   by_plain : (opening : Open) (b : Bool) → opening_in r.asked.message.call ≡ Some opening → cond {A = Option Lesson} b (Some (opening.name, None)) None ≡ Some (x, entry) → Learned name x None entry

@@ -70,7 +70,7 @@ use Rattle.over_core.proofs.SweepCases.{action_tellings}
 use Rattle.over_core.proofs.Touching.{change_is_touched}
 use Rattle.over_core.proofs.Unacknowledged.{IsAskedFor, each_is_asked, asked_is_named}
 use Rattle.world_core.specs.declared.mail.Message.TheVariants.{ToClient}
-use Rattle.world_core.specs.World.{WorldState}
+use Rattle.world_core.specs.World.{WorldState, member_of}
 use Rattle.world_laws.specs.Slices.{Shown, slice, standing_so, standing_of, standing_in, parked_list, seen_of, heard_from, right_of, put_start, start_of, starts_of, beats_of, name_number, put_offer, offers_of, grants_of, client_of}
 use Rattle.world_laws.proofs.RelockedRows.{IsBeside, HasRow, let_go, relocked_rows}
 use Rattle.world_laws.proofs.LockReplies.{AreUnstamped, waiters_unstamped, application_unstamped, lapses_unstamped, replies_offer_none, replies_grant_none, told_lease, told_seen}
