@@ -1,5 +1,5 @@
 -- A client that ends its session serves nothing any more, whatever it is asked for and given.
-use Rattle.std.proofs.Common.{◌≡◌, ◌≢◌, ℕ, Bool, true, false, cond, [], Option, Some, None, refl, sym, ap, ◌∙◌, absurd}
+use Rattle.std.proofs.Common.{◌≡◌, ◌≢◌, ℕ, Bool, true, false, cond, [], Option, Some, None, refl, sym, ap, ◌∙◌}
 use Rattle.std.specs.Prelude.{◌||◌}
 use Rattle.lease_core.specs.Lease.{LeaseTerms, is_unexpired}
 use Rattle.cache_core.specs.Caches.{CacheState, is_leased, noted as noted_cache}
