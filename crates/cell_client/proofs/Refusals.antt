@@ -29,7 +29,7 @@ use Rattle.client_core.specs.declared.plans.Plan.{Plan}
 use Rattle.client_core.specs.declared.plans.Plan.TheVariants as plans
 use Rattle.client_core.specs.State.{ClientState, standing_then}
 use Rattle.client_core.specs.Serves.{open_served, read_served}
-use Rattle.client_core.specs.Asks.{send_plan, served_or, close_plan, poison_plan, node_plan, sequencer_plan, plan_of, ask_step}
+use Rattle.client_core.specs.Asks.{fault_then, has_given_up, send_plan, served_or, close_plan, poison_plan, node_plan, sequencer_plan, plan_of, ask_step}
 use Rattle.client_core.specs.Gives.{give_step}
 use Rattle.client_core.specs.Cases.{noted_moment, AskCase, asked_in, GiveCase, given_in}
 use Rattle.client_core.specs.Cases.AskCase.{AskedTooLate, Unsafe, Refused, ReadServed, AbsenceServed, Shared, OutOfHandles, Released, OutOfCalls, Sent, Poisoned}
@@ -139,6 +139,11 @@ session_own sessions.Live standing = standing_own standing
 session_own sessions.Lost standing = record { no_want = λ e. cc; no_end = λ e. cc }
 session_own sessions.TurnedAway standing = record { no_want = λ e. cc; no_end = λ e. cc }
 
+-- also where the client has asked for the end of its session
+given_up_own : (b : Bool) (o : Option Fault) → OwnSome o → OwnSome (cond b (Some faults.NoSession) o)
+given_up_own true o h = record { no_want = λ e. cc; no_end = λ e. cc }
+given_up_own false o h = h
+
 -- the refusal by which an answered ask ends
 abbrev OwnAsked : ClientState × Result Asked Fault → Type 0
 OwnAsked (new, Ok asked) = OwnOutcome asked.outcome
@@ -146,7 +151,9 @@ OwnAsked (new, Err fault) = Unit {0}
 
 asked_own : (s : ClientState) (now : ℕ) (ask : Ask) (c : AskCase s now ask) → OwnAsked (asked_in s now ask c)
 asked_own s now ask (AskedTooLate late) = tt
-asked_own s now ask (Unsafe fault early is) = subst OwnSome is (session_own s.session (standing_then s (noted_moment s now)))
+asked_own s now ask (Unsafe fault early is) =
+    let moment = noted_moment s now in
+    subst OwnSome is (given_up_own (has_given_up s moment ask) (fault_then s moment) (session_own s.session (standing_then s moment)))
 asked_own s now ask (Refused fault safe is) = subst OwnErr is (plan_own s (noted_moment s now) ask)
 asked_own s now ask (ReadServed number handle call entry given safe is readable) = cached_is OwnAnswer (λ view. tt) (λ names. tt) stale_own handle call entry given readable.answers
 asked_own s now ask (AbsenceServed opening safe stays is plain cached) = record { no_want = λ e. cc; no_end = λ e. cc }

@@ -361,8 +361,8 @@ module _ (parting : Parting) (cell : List ℕ) (rows : Rows) (s : MasterState) (
   less_none gate new told old h l = omega (arith, h, l)
 
   -- its client waits for nothing then, if it waited for nothing before
-  pub none_then : count_in s.gate.waiting s.locks client ≡ 0 → outstanding (with_locks (parted parting s client) puts) client ≡ 0
-  none_then none =
+  pub waits_for_none : count_in s.gate.waiting s.locks client ≡ 0 → outstanding (with_locks (parted parting s client) puts) client ≡ 0
+  waits_for_none none =
       less_none (sum_by (call_count client) s.gate.waiting) (waits_in parting cell rows s client k client (with_locks s puts).locks) (told_of_all client (lapses_of parting s client)) (waits_in parting cell rows s client k client s.locks) (waits_less client) none
 
   pub without_session_kept : (own : List Reply) → AreTo (λ q. outstanding (with_locks (parted parting s client) puts) q ≡ 0) own → IsKept cell (changed_rows rows (parting_edits parting s client session.principal)) (without_session parting s client own)

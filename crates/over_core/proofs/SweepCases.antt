@@ -258,9 +258,7 @@ module _ (s : MasterState) (front : List (Waiting Task)) (w : Waiting Task) (bac
       let own : List Reply = left_reply s asked ∷ [] in
       let lapses : List Lapse = lapses_of partings.Leave s asked.client in
       let P : Option (Session Reply) → Type 0 = λ o. IsPlan s w.number (option_map_or (λ (session : Session Reply). parting_plan partings.Leave s asked.client session.principal lapses own) o no_plan) in
-      let puts = rest_puts s front back lapses in
-      let replies = rest_replies s front back lapses in
-      subst P (sym t.1) (Departed front back asked call sequencer t.0 turn work leave t.1 t.2, rw (behind, puts, replies) refl, append-nil (parting_edits partings.Leave s asked.client t.0.principal))
+      subst P (sym t.1) (Departed front back asked call sequencer t.0 turn work leave t.1 t.2, rw behind refl, append-nil (parting_edits partings.Leave s asked.client t.0.principal))
 
   live_case : (call : Call) (sequencer : Option (List ℕ)) → asked.work ≡ works.Calls call sequencer → is_live s asked.client ≡ true → IsPlan s w.number (plan_live s asked.client asked.number call sequencer)
   live_case call sequencer work live =
@@ -364,8 +362,8 @@ module _ (s : MasterState) (order : HasSessionsInOrder s) (orderly : IsOrderly s
       answer_by client t.0 (inl is) t.1 t.2
 
   -- the same where the store refuses
-  spared_case : (client : ℕ) → lowest s.sessions (is_client_answerable s.sessions.lease s.clock) ≡ Some client → IsDone s (actions.Answer client)
-  spared_case client is =
+  answerable_case : (client : ℕ) → lowest s.sessions (is_client_answerable s.sessions.lease s.clock) ≡ Some client → IsDone s (actions.Answer client)
+  answerable_case client is =
       let t = some_passes (is_client_answerable s.sessions.lease s.clock client) (session_of s client) (passed s (is_client_answerable s.sessions.lease s.clock) client order is) in
       answer_by client t.0 (inr is) t.1 (due_of s.sessions.lease s.clock client t.0 t.2)
 
@@ -447,7 +445,7 @@ beats_case : (s : MasterState) → HasSessionsInOrder s → IsOrderly s.gate →
 beats_case s order orderly =
     (elim (lowest s.sessions (is_client_answerable s.sessions.lease s.clock)) as (λ o. lowest s.sessions (is_client_answerable s.sessions.lease s.clock) ≡ o → IsSwept s (swept_by_plan s (plan_of s (option_map_or actions.Answer o actions.Quiet)) (is_quiet (option_map_or actions.Answer o actions.Quiet))) []) [
       | None ↦ (λ h. (Quiet (inr (ap (λ o. option_map_or actions.Answer o actions.Quiet) h)), refl, refl))
-      | Some client ↦ (λ h. let c = spared_case s order orderly client h in (c.0, c.1, answer_edits s client (offer_of s.sessions client s.clock) ∙ c.2))
+      | Some client ↦ (λ h. let c = answerable_case s order orderly client h in (c.0, c.1, answer_edits s client (offer_of s.sessions client s.clock) ∙ c.2))
     ]) refl
 
 -- one of the cases is what is done, and nothing is committed

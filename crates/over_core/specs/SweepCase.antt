@@ -189,8 +189,8 @@ swept_by s (Started front back asked principal received turn work none) = (
 )
 swept_by s (OfEnded front back asked call sequencer turn work gone) = (rest s front back, swept_with [] [])
 swept_by s (Departed front back asked call sequencer session turn work leave found live) = (
-  without_session partings.Leave (rest s front back) asked.client (left_reply s asked ∷ []),
-  swept_with (parting_lines partings.Leave s asked.client (lapses_of partings.Leave s asked.client)) (parting_replies partings.Leave (rest s front back) asked.client (left_reply s asked ∷ [])),
+  told (with_locks (parted partings.Leave (rest s front back) asked.client) (lapses_puts s (lapses_of partings.Leave s asked.client))) (left_reply s asked ∷ lapses_replies s (lapses_of partings.Leave s asked.client)),
+  swept_with (parting_lines partings.Leave s asked.client (lapses_of partings.Leave s asked.client)) (parting_replies partings.Leave s asked.client (left_reply s asked ∷ [])),
 )
 swept_by s (Ended front back asked call sequencer note answer turn work live made) =
     (ended (rest s front back) asked note answer, swept_with [] (replied_with s asked answer []))

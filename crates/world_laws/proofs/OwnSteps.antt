@@ -307,7 +307,7 @@ module _ (w : WorldState) (number : ℕ) (member : WorldClient) (found : member_
   beat_comes (OutOfBeats early last) = tt
   beat_comes (Starts early unstarted room) = sends_beat (with_beat member.client then) [] (start_message member.client) tt tt refl refl refl refl (SameEpoch refl (λ e. e) (λ e. e))
   beat_comes (Beats early live safe room) =
-      sends_beat (with_beat (note_live member.client then) then) (note_lines member.client then) (beat_message member.client) tt (noted_quiet member.client then) refl refl refl
+      sends_beat (with_beat (note_live member.client then) then) (note_lines member.client then) (beat_message member.client) tt (noted_quiet member.client then) refl refl refl refl
       (SameEpoch refl (in_session (record { live = live; then = safe })) (λ e. live))
   beat_comes (Quiet early started live) = notes_only (note_lines member.client then) (noted_quiet member.client then)
 

@@ -69,7 +69,7 @@ seven_same f a g b h c i d j e k l m n o p q r s t u v = cc
 
 -- the lease that is shown stays with what it is shown of
 same_shown : (a b : Bool) (o p : Option LeaseTerms) → a ≡ b → o ≡ p → lease_shown a o ≡ lease_shown b p
-same_shown a b o p h k = cc
+same_shown a b o p h k = ap (λ (x : Bool). lease_shown x o) h ∙ ap (lease_shown b) k
 
 module _ (x : List ℕ) (w : WorldState) (number : ℕ) (member : WorldClient) (client : ClientState) where
   abbrev member_then : WorldClient
