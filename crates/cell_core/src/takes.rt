@@ -21,7 +21,9 @@ use plain::Items;
 use rights_core::Ending;
 use session_core::Kept;
 use std::alloc::AllocError;
-use tags_cell::{Beat, CallMessage, CallResult, ClientNumber, MessageNumber, Request, Start};
+use tags_cell::{
+    Beat, CallMessage, CallResult, ClientNumber, MessageNumber, Reply, Request, Start,
+};
 
 impl Cell {
     /// One step by a request that came. A moment, in milliseconds, that is earlier than the last one counts as that;
@@ -151,12 +153,25 @@ fn of_ended(master: &Master, message: &CallMessage) -> Result<Taken, AllocError>
 {
     let client = message.client;
     let number = message.number;
-    if let Ok(Some(kept)) = master.sessions().kept(client, number) {
-        if is_leave(&message.call) && kept.reply.is_some() {
-            return master.repeated(kept);
-        }
+    match master.sessions().kept(client, number) {
+        Ok(Some(kept)) => left_before(master, message, kept),
+        Ok(None) => master.refusal(client, number, Fault::NoSession),
+        Err(_) => master.refusal(client, number, Fault::NoSession),
     }
-    master.refusal(client, number, Fault::NoSession)
+}
+
+// Where the last call is that one, and was answered.
+fn left_before(
+    master: &Master,
+    message: &CallMessage,
+    kept: &Kept<Reply>,
+) -> Result<Taken, AllocError>
+    ensures { IfOk result (λ taken. ended_step master.now message.now (Ok (Some kept.now)) ≡ (master.now, taken)) }
+{
+    if is_leave(&message.call) && kept.reply.is_some() {
+        return master.repeated(kept);
+    }
+    master.refusal(message.client, message.number, Fault::NoSession)
 }
 
 // By the last call of the client.
