@@ -1,5 +1,8 @@
 //! What becomes of the locks of a session that ends.
-ghost use Rattle.std.specs.Prelude.{◌≡◌, map, IfOk};
+ghost use Rattle.std.specs.Prelude.{◌≡◌, ◌++◌, map, not, IfOk};
+ghost use Rattle.node_core.specs.declared.lines.Line.TheVariants as lines;
+ghost use Rattle.lock_core.specs.Turns.{is_nobody};
+ghost use Rattle.cell_state.specs.Replies.{line_if, locked_lines};
 ghost use Rattle.cell_state.specs.Lapses.{lapse_lines, lapses_lines, lapses_replies, lapses_puts, parting_lines};
 ghost use Rattle.cell_state.specs.Partings.{right_line};
 
@@ -64,8 +67,15 @@ fn lapse_lines(
 ) -> Result<Items<Line>, AllocError>
     ensures { IfOk result (λ printed. printed ≡ lapse_lines parting client lapse.now) }
 {
-    let held = !lapse.ended.as_slice().is_empty();
-    let mut printed = line_if(alloc, held, lock_line(parting, client, lapse.instance))?;
+    lines_behind(alloc, lock_line(parting, client, lapse.instance), lapse)
+}
+
+// The same, with the line of what it held.
+fn lines_behind(alloc: Global, held: Line, lapse: &Lapse) -> Result<Items<Line>, AllocError>
+    ensures { IfOk result (λ printed. printed ≡ line_if (not (is_nobody lapse.now.ended)) held ++ line_if lapse.now.reopens (lines.Reopened lapse.now.instance) ++ locked_lines lapse.now.instance lapse.now.turn) }
+{
+    let holds = !lapse.ended.as_slice().is_empty();
+    let mut printed = line_if(alloc, holds, held)?;
     printed.append(line_if(alloc, lapse.reopens, Line::Reopened(lapse.instance))?)?;
     printed.append(locked_lines(alloc, lapse.instance, &lapse.turn)?)?;
     Ok(printed)
