@@ -293,7 +293,8 @@ async fn up_again(making: &Making, hall: &Arc<Hall>, is_alone: bool, orders: &mu
             bail!("the mastership has ended");
         }
         match up(making, hall, is_alone).await {
-            Err(error) if error.is::<StoreRefused>() => {
+            // (over a store that has just refused a change the master itself may find no room to open it)
+            Err(error) if is_alone || error.is::<StoreRefused>() => {
                 error!(reason = %format_args!("{error:#}"), "no master comes up; it is tried again")
             }
             started => return started.map(Some),
